@@ -10,6 +10,7 @@ use Rattle.gc_lines.specs.Frames.{lines, rest_of, rest_behind}
 use Rattle.gc_lines.proofs.Cutting.{rest-append}
 use Rattle.gc_lines.proofs.InOrder.{all_of-append}
 use Rattle.gc_lines.proofs.Known.{Appends-append, Appends-nil, Appends-is}
+use Rattle.gc_catalogue.specs.declared.call.Call.{Call}
 use Rattle.gc_client.specs.declared.settlement.Settlement
 use Rattle.gc_client.specs.Rule.{ById, Settlement, heard, fits, hears, met, place_in}
 use Rattle.gc_client.specs.Settlements.{settlement_seen}
@@ -54,7 +55,8 @@ all_texts_one done c =
     ∙ ap (λ t. all_of (request_texts 0 done) ++ t) (append-nil (request_text (length done) c))
 
 -- the line of one more settlement comes behind those before it
-pub lines_last : (settled : List Settlement) (k : ℕ) (next : Settlement) → length settled ≡ k → settlement_lines (settled ++ next ∷ []) ≡ settlement_lines settled ++ lines_from k (next ∷ [])
+pub lines_last : (settled : List (Settlement Call)) (k : ℕ) (next : Settlement Call) → length settled ≡ k
+    → settlement_lines (settled ++ next ∷ []) ≡ settlement_lines settled ++ lines_from k (next ∷ [])
 lines_last settled k next is =
     let place : 0 + length settled ≡ k = omega (arith, is) in
     lines_one 0 settled next ∙ ap (λ n. settlement_lines settled ++ settlement_line n next) place ∙ ap (λ t. settlement_lines settled ++ t) (sym (append-nil (settlement_line k next)))
@@ -77,10 +79,10 @@ more_came given left more now looked seen rests = (
 
 -- the course of a run so far: the commands `done` were asked and settled by the bytes `given`, of which `left` weren't looked
 -- at yet. `looked` are the lines looked at, and `now` is the rest of a line that the assembler keeps
-pub record Course (done : List Command) (given left : List ℕ) (kept : Kept) (client : ById) (link_old link_new sink_old sink_new : Option (List ℕ)) : Type 0 where
+pub record Course (done : List Command) (given left : List ℕ) (kept : Kept) (client : ById Call) (link_old link_new sink_old sink_new : Option (List ℕ)) : Type 0 where
   pub now : List ℕ
   pub looked : List (List ℕ)
-  pub settled : List Settlement
+  pub settled : List (Settlement Call)
   pub stands : StandsFor kept now
   pub seen : lines given ≡ looked ++ lines_behind now left
   pub rests : rest_of given ≡ rest_behind now left
@@ -91,7 +93,7 @@ pub record Course (done : List Command) (given left : List ℕ) (kept : Kept) (c
   pub sink : Appends sink_old sink_new (settlement_lines settled)
 
 -- before anything is asked, `Course` is true with no commands asked and no bytes given
-pub course_start : (kept : Kept) (client : ById) (link sink : Option (List ℕ)) → StandsFor kept [] → client ≡ idle 0 → Course [] [] [] kept client link link sink sink
+pub course_start : (kept : Kept) (client : ById Call) (link sink : Option (List ℕ)) → StandsFor kept [] → client ≡ idle 0 → Course [] [] [] kept client link link sink sink
 course_start kept client link sink s is = record {
   now = [];
   looked = [];
@@ -107,7 +109,7 @@ course_start kept client link sink s is = record {
 }
 
 -- by all bytes that came, also by those that come next, the commands asked so far are settled as the course says
-pub asked_so : (done : List Command) (given left : List ℕ) (kept : Kept) (client : ById) (a b c d : Option (List ℕ)) (more : List ℕ)
+pub asked_so : (done : List Command) (given left : List ℕ) (kept : Kept) (client : ById Call) (a b c d : Option (List ℕ)) (more : List ℕ)
     (at : Course done given left kept client a b c d) → asked done (given ++ more) ≡ at.settled
 asked_so done given left kept client a b c d more at =
     let came = lines_behind at.now (left ++ more) in
@@ -116,7 +118,7 @@ asked_so done given left kept client a b c d more at =
 
 -- where `r` is the first reply to one more command, the bytes that came settle what the course says, then that command by `r`,
 -- and then the later ones by the lines behind `r`; without a reply they settle what the course says, and no more
-asked_on : (done : List Command) (given left : List ℕ) (kept : Kept) (client : ById) (a b c d : Option (List ℕ)) (more : List ℕ)
+asked_on : (done : List Command) (given left : List ℕ) (kept : Kept) (client : ById Call) (a b c d : Option (List ℕ)) (more : List ℕ)
     (at : Course done given left kept client a b c d) (command : Command) (later : List Command) (r : Option Reply)
     → first_reply (waiting_for (length done) command) (lines_behind at.now (left ++ more)) ≡ r
     → asked (done ++ command ∷ later) (given ++ more) ≡ at.settled ++ settled_by (waiting_for (length done) command) (asked_from (length done + 1) later) r
@@ -127,13 +129,13 @@ asked_on done given left kept client a b c d more at command later r is =
 
 -- client `from`, with `rest` as the bytes of the line under way, is given `bytes`, and a line of them settles its request (`Settles`; `to`
 -- is the client then, and `left` the bytes behind that line). That line is the first reply, and the lines of `left` come after it
-first_is : (rest bytes left : List ℕ) (kept : Kept) (from to : ById) (settled : List Settlement.Settlement)
+first_is : (rest bytes left : List ℕ) (kept : Kept) (from to : ById Call) (settled : List (Settlement.Settlement Call))
     (s : Settles from (record { rest = rest; bytes = bytes; left = left; kept = kept; client = to; settled = settled }))
     → first_reply from (lines_behind rest bytes) ≡ Some (record { line = s.line; later = lines_behind [] left })
 first_is rest bytes left kept from to settled s = ap (first_reply from) s.seen ∙ first_reply-at from s.front s.line (lines_behind [] left) s.none s.fits
 
 -- what the client settled is that one request, by that line, and then it waits for nothing
-pub settled_is : (k : ℕ) (command : Command) (rest bytes left : List ℕ) (kept : Kept) (to : ById) (settled : List Settlement.Settlement)
+pub settled_is : (k : ℕ) (command : Command) (rest bytes left : List ℕ) (kept : Kept) (to : ById Call) (settled : List (Settlement.Settlement Call))
     (s : Settles (waiting_for k command) (record { rest = rest; bytes = bytes; left = left; kept = kept; client = to; settled = settled }))
     → (map settlement_seen settled ≡ met (asked_for command) s.line ∷ []) × (to ≡ idle (k + 1))
 settled_is k command rest bytes left kept to settled s =
@@ -142,9 +144,9 @@ settled_is k command rest bytes left kept to settled s =
 
 -- where one more command was sent, and a line settles it, the bytes that came settle what the course says, and then this
 -- command by that line
-pub asked_with : (done : List Command) (given left : List ℕ) (kept : Kept) (client : ById) (a b c d : Option (List ℕ)) (more : List ℕ)
+pub asked_with : (done : List Command) (given left : List ℕ) (kept : Kept) (client : ById Call) (a b c d : Option (List ℕ)) (more : List ℕ)
     (at : Course done given left kept client a b c d) (command : Command)
-    (left' : List ℕ) (kept' : Kept) (to : ById) (settled : List Settlement.Settlement)
+    (left' : List ℕ) (kept' : Kept) (to : ById Call) (settled : List (Settlement.Settlement Call))
     (s : Settles (waiting_for (length done) command) (record {
       rest = at.now;
       bytes = left ++ more;
@@ -161,8 +163,8 @@ asked_with done given left kept client a b c d more at command left' kept' to se
     ∙ ap (λ zs. at.settled ++ (zs ++ [])) (hears_one (length done) command s.line s.fits).0
 
 -- where one more command was asked and settled, the course goes on with that command
-pub course_more : (done : List Command) (command : Command) (given left more left' : List ℕ) (kept kept' : Kept) (client to : ById)
-    (a b b' c d d' : Option (List ℕ)) (settled : List Settlement.Settlement)
+pub course_more : (done : List Command) (command : Command) (given left more left' : List ℕ) (kept kept' : Kept) (client to : ById Call)
+    (a b b' c d d' : Option (List ℕ)) (settled : List (Settlement.Settlement Call))
     → (at : Course done given left kept client a b c d) → Settles (waiting_for (length done) command)
     (record { rest = at.now; bytes = left ++ more; left = left'; kept = kept'; client = to; settled = settled })
     → Appends b b' (request_text (length done) command) → Appends d d' (lines_from (length done) (map settlement_seen settled))
@@ -200,7 +202,7 @@ course_more done command given left more left' kept kept' client to a b b' c d d
 -- Ends.
 
 -- where the course has all commands, all were asked and settled, as `AsksAll` has it
-pub course_all : (commands : List Command) (given left : List ℕ) (kept : Kept) (client : ById) (a b c d : Option (List ℕ))
+pub course_all : (commands : List Command) (given left : List ℕ) (kept : Kept) (client : ById Call) (a b c d : Option (List ℕ))
     → Course commands given left kept client a b c d → AsksAll commands given (record { link_old = a; link_new = b; sink_old = c; sink_new = d })
 course_all commands given left kept client a b c d at =
     let all : asked commands given ≡ at.settled = ap (asked commands) (sym (append-nil given)) ∙ asked_so commands given left kept client a b c d [] at in
@@ -211,7 +213,7 @@ course_all commands given left kept client a b c d at =
     }
 
 -- where the next command was sent, and is lost, asking stops there (`StopsAt`)
-pub course_stops : (alone : Bool) (commands done later : List Command) (command : Command) (given left more : List ℕ) (kept : Kept) (client : ById) (a b b' c d d' : Option (List ℕ))
+pub course_stops : (alone : Bool) (commands done later : List Command) (command : Command) (given left more : List ℕ) (kept : Kept) (client : ById Call) (a b b' c d d' : Option (List ℕ))
     → (at : Course done given left kept client a b c d) → commands ≡ done ++ command ∷ later
     → (alone ≡ true → first_reply (waiting_for (length done) command) (lines_behind at.now (left ++ more)) ≡ None)
     → Appends b b' (request_text (length done) command) → Appends d d' (lines_from (length done) (lost_of command ∷ []))
@@ -231,7 +233,7 @@ course_stops alone commands done later command given left more kept client a b b
     }
 
 -- where the next command's request or its reply was cut, asking was cut there (`IsCut`)
-pub course_cut : (alone : Bool) (commands done later : List Command) (command : Command) (given left more : List ℕ) (kept : Kept) (client : ById)
+pub course_cut : (alone : Bool) (commands done later : List Command) (command : Command) (given left more : List ℕ) (kept : Kept) (client : ById Call)
     (a b b' c d d' : Option (List ℕ)) (count part bytes : ℕ)
     → Course done given left kept client a b c d → commands ≡ done ++ command ∷ later → count ≡ length done
     → (alone ≡ true → (bytes ≡ part) × (part < length (request_text (length done) command)))
@@ -254,8 +256,8 @@ course_cut alone commands done later command given left more kept client a b b' 
     }
 
 -- where the sink failed as it took the line of the next settlement, asking ended there (`TellsPart`)
-pub course_tells : (commands done later : List Command) (command : Command) (given left more : List ℕ) (kept : Kept) (client : ById)
-    (a b b' c d d' : Option (List ℕ)) (bytes : ℕ) (next : Settlement) (over : LinkEnd → Type 0) (link : LinkEnd)
+pub course_tells : (commands done later : List Command) (command : Command) (given left more : List ℕ) (kept : Kept) (client : ById Call)
+    (a b b' c d d' : Option (List ℕ)) (bytes : ℕ) (next : Settlement Call) (over : LinkEnd → Type 0) (link : LinkEnd)
     → (at : Course done given left kept client a b c d) → commands ≡ done ++ command ∷ later
     → over link → (asked done (given ++ more) ≡ at.settled → IsNext done command (given ++ more) next link)
     → Appends b b' (take bytes (request_text (length done) command)) → ToldPart (length done) (next ∷ []) d d'
@@ -263,7 +265,7 @@ pub course_tells : (commands done later : List Command) (command : Command) (giv
 course_tells commands done later command given left more kept client a b b' c d d' bytes next over link at order ends is sent told =
     let so : asked done (given ++ more) ≡ at.settled = asked_so done given left kept client a b c d more at in
     let alone = alone_in told.earlier told.later told.next next told.order in
-    let same : length done + length told.earlier ≡ length done = ap (λ (xs : List Settlement). length done + length xs) alone.0 ∙ omega arith in
+    let same : length done + length told.earlier ≡ length done = ap (λ (xs : List (Settlement Call)). length done + length xs) alone.0 ∙ omega arith in
     record {
       earlier = done;
       command = command;
@@ -279,15 +281,15 @@ course_tells commands done later command given left more kept client a b b' c d 
       part = told.part;
       not_all = subst (λ (t : List ℕ). told.part < length t) (the_line same alone.1) told.not_all;
       told = Appends-is _ _ _ _ (ap (λ zs. settlement_lines zs ++ take told.part (settlement_line (length done) next)) (sym so))
-          (Appends-append _ _ _ _ _ at.sink (Appends-is _ _ _ _ (ap (λ (xs : List Settlement). lines_from (length done) xs ++ take told.part
+          (Appends-append _ _ _ _ _ at.sink (Appends-is _ _ _ _ (ap (λ (xs : List (Settlement Call)). lines_from (length done) xs ++ take told.part
           (settlement_line (length done + length told.earlier) told.next)) alone.0 ∙ ap (take told.part) (the_line same alone.1)) told.took));
     } where
       -- a list of one element that is split round an element has that one, with nothing before it
-      alone_in : (xs ys : List Settlement) (x y : Settlement) → y ∷ [] ≡ xs ++ x ∷ ys → (xs ≡ []) × (x ≡ y)
+      alone_in : (xs ys : List (Settlement Call)) (x y : Settlement Call) → y ∷ [] ≡ xs ++ x ∷ ys → (xs ≡ []) × (x ≡ y)
       alone_in [] ys x y e = (refl, cc)
       alone_in (z ∷ []) ys x y e = absurd (omega (arith, ap length e))
       alone_in (z ∷ w ∷ zs) ys x y e = absurd (omega (arith, ap length e))
 
       -- the line of a settlement is determined by its place and the settlement
-      the_line : {j k : ℕ} {x y : Settlement} → j ≡ k → x ≡ y → settlement_line j x ≡ settlement_line k y
+      the_line : {j k : ℕ} {x y : Settlement Call} → j ≡ k → x ≡ y → settlement_line j x ≡ settlement_line k y
       the_line e f = cc

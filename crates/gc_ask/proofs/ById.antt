@@ -1,5 +1,6 @@
 -- A request that waits alone is settled by its id.
 use Rattle.std.proofs.Common.{◌≡◌, ℕ, ◌+◌, ◌-◌, ◌%◌, ◌<◌, true, false, cond, List, [], ◌∷◌, ◌++◌, Option, Some, None, IfSome, refl, ap, ◌∙◌, subst, arith}
+use Rattle.gc_catalogue.specs.declared.call.Call.{Call}
 use Rattle.gc_client.specs.Ids.{IsWindow, Waits}
 use Rattle.gc_client.specs.Rule.{heard, fits, Settlement}
 use Rattle.gc_client.proofs.Digits.{fits_where_it_waits, heard_by_grammar}
@@ -55,6 +56,6 @@ asks_by_id k command later = record {
   settled = λ front line rest none its.
       let fit = fits_its k command line its in
       ap (settled_by (waiting_for k command) (asked_from (k + 1) later)) (first_reply-at (waiting_for k command) front line rest (no_reply k command front none) fit)
-      ∙ ap (λ (zs : List Settlement). zs ++ asked_from (k + 1) later rest) (hears_one k command line fit).0;
+      ∙ ap (λ (zs : List (Settlement Call)). zs ++ asked_from (k + 1) later rest) (hears_one k command line fit).0;
   unsettled = λ came none. ap (settled_by (waiting_for k command) (asked_from (k + 1) later)) (no_reply k command came none);
 }

@@ -8,6 +8,7 @@ use Rattle.std.proofs.lemmas.List.{take_all}
 use Rattle.gc_lines.specs.Answering.{Ports}
 use Rattle.gc_lines.specs.Assembler.{Kept}
 use Rattle.gc_lines.proofs.Known.{Appends-is}
+use Rattle.gc_catalogue.specs.declared.call.Call.{Call}
 use Rattle.gc_client.specs.declared.settlement.Settlement.{Settlement}
 use Rattle.gc_client.specs.Rule.{ById, met, restarts}
 use Rattle.gc_client.specs.Rule
@@ -53,17 +54,17 @@ unsent alone place command h a b (Write count part) t is = (t, is)
 unsent alone place command h a b other t is = (t.0, (λ so. absurd (t.1 so)), is)
 
 -- where a request was sent, and its reply was waited for, the exchange ended as the waiting did
-pub exchanged : (alone : Bool) (place : ℕ) (command : Command) (from : ById) (h : Heard) (a b : Option (List ℕ)) (old new : Input) (after : ℕ) (r : LinkEnd)
+pub exchanged : (alone : Bool) (place : ℕ) (command : Command) (from : ById Call) (h : Heard) (a b : Option (List ℕ)) (old new : Input) (after : ℕ) (r : LinkEnd)
     → Appends a b (request_text place command) → from ≡ waiting_for place command → HearsReply from h r → ReadEnds old new after r → Exchanges alone place command h a b r
 exchanged alone place command from h a b old new after r sent is heard ends = by_end r heard ends where
   -- lines without a first reply to the client `from`, which waits for this command, have no first reply to a client that waits
   -- for it
   missed : first_reply from (lines_behind h.rest h.bytes) ≡ None → alone ≡ true → first_reply (waiting_for place command) (lines_behind h.rest h.bytes) ≡ None
-  missed none so = subst (λ (c : ById). first_reply c (lines_behind h.rest h.bytes) ≡ None) is none
+  missed none so = subst (λ (c : ById Call). first_reply c (lines_behind h.rest h.bytes) ≡ None) is none
 
   -- by how the waiting ended, the exchange ended so
   by_end : (r : LinkEnd) → HearsReply from h r → ReadEnds old new after r → Exchanges alone place command h a b r
-  by_end (Ok u) heard ends = (sent, subst (λ (c : ById). Settles c h) is heard)
+  by_end (Ok u) heard ends = (sent, subst (λ (c : ById Call). Settles c h) is heard)
   by_end (Err (Write count part)) heard ends = absurd ends
   by_end (Err other) heard ends = (sent, missed heard.0, heard.1 ∙ is)
 
@@ -73,7 +74,7 @@ still_waits alone place command h a b (Write count part) x = x.1
 still_waits alone place command h a b other x = x.2
 
 -- a restart of the client that waits for a command settles that command as lost
-pub lost_alone : (place : ℕ) (command : Command) (to : ById) (settled now : List Settlement) → to ≡ waiting_for place command
+pub lost_alone : (place : ℕ) (command : Command) (to : ById Call) (settled now : List (Settlement Call)) → to ≡ waiting_for place command
     → AreSettlements settled (restarts to).settlements → now ≡ settled → map settlement_seen now ≡ lost_of command ∷ []
 lost_alone place command to settled now waits are is = ap (map settlement_seen) is ∙ are.seen ∙ ap (λ c. (restarts c).settlements) waits
 
@@ -84,11 +85,11 @@ sent_part alone place command h a b (Write count part) x = (x.0.1.0, x.0.1.1)
 sent_part alone place command h a b other x = (length (request_text place command), whole a b (request_text place command) x.0)
 
 -- what was heard, but with this client in place of the one then
-abbrev with_client : Heard → ById → Heard
+abbrev with_client : Heard → ById Call → Heard
 with_client h to = record { rest = h.rest; bytes = h.bytes; left = h.left; kept = h.kept; client = to; settled = h.settled }
 
 -- where a fault came, and the line of the lost command was written, asking this command ended with the fault (`AsksOne`)
-pub asks_lost : (alone : Bool) (place : ℕ) (command : Command) (h : Heard) (to : ById) (lost now : List Settlement) (w : Written) (e : RunFault)
+pub asks_lost : (alone : Bool) (place : ℕ) (command : Command) (h : Heard) (to : ById Call) (lost now : List (Settlement Call)) (w : Written) (e : RunFault)
     (over : LinkEnd → Type 0) → (over (Err Output) → ⊥) → over (Err e)
     → Exchanges alone place command h w.link_old w.link_new (Err e) → AreSettlements lost (restarts h.client).settlements → now ≡ lost
     → Appends w.sink_old w.sink_new (lines_from place (map settlement_seen now)) → AsksOne alone place command (with_client h to) w over (Err e)
@@ -102,12 +103,12 @@ asks_lost alone place command h to lost now w e over none ends x are is told =
       by_fault other ends x told = (x.0, x.1, told)
 
 -- where a fault came, and the sink failed as it took the line of the lost command, asking this command ended with the fault of the sink
-pub asks_untold : (alone : Bool) (place : ℕ) (command : Command) (h : Heard) (to : ById) (lost now : List Settlement) (w : Written) (x y : Bool)
+pub asks_untold : (alone : Bool) (place : ℕ) (command : Command) (h : Heard) (to : ById Call) (lost now : List (Settlement Call)) (w : Written) (x y : Bool)
     (e f : RunFault) (over : LinkEnd → Type 0) → over (Err e)
     → Exchanges alone place command h w.link_old w.link_new (Err e) → AreSettlements lost (restarts h.client).settlements → now ≡ lost
     → Told place (map settlement_seen now) w.sink_old w.sink_new x y (Err f) → AsksOne alone place command (with_client h to) w over (Err f)
 asks_untold alone place command h to lost now w x y e f over ends ex are is told =
-    by_fault f (subst (λ (zs : List Rule.Settlement). Told place zs w.sink_old w.sink_new x y (Err f))
+    by_fault f (subst (λ (zs : List (Rule.Settlement Call)). Told place zs w.sink_old w.sink_new x y (Err f))
     (lost_alone place command h.client lost now (still_waits alone place command h w.link_old w.link_new e ex) are is) told) where
       -- by the fault f of the writing, which is the sink's: asking ended with it
       by_fault : (f : RunFault) → Told place (lost_of command ∷ []) w.sink_old w.sink_new x y (Err f) → AsksOne alone place command (with_client h to) w over (Err f)
@@ -115,17 +116,17 @@ asks_untold alone place command h to lost now w x y e f over ends ex are is told
       by_fault other t = absurd t
 
 -- where a reply settled the request, and its line was written, or the sink failed, asking this command ended as that writing did
-pub asks_told : (alone : Bool) (place : ℕ) (command : Command) (h : Heard) (now : List Settlement) (w : Written) (x y : Bool) (over : LinkEnd → Type 0) (r : LinkEnd)
+pub asks_told : (alone : Bool) (place : ℕ) (command : Command) (h : Heard) (now : List (Settlement Call)) (w : Written) (x y : Bool) (over : LinkEnd → Type 0) (r : LinkEnd)
     → over (Ok tt) → Appends w.link_old w.link_new (request_text place command) → Settles (waiting_for place command) h → now ≡ h.settled
     → Told place (map settlement_seen now) w.sink_old w.sink_new x y r → AsksOne alone place command h w over r
 asks_told alone place command h now w x y over (Ok u) link sent s is told =
-    (sent, s, subst (λ (zs : List Settlement). Appends w.sink_old w.sink_new (lines_from place (map settlement_seen zs))) is told.0)
+    (sent, s, subst (λ (zs : List (Settlement Call)). Appends w.sink_old w.sink_new (lines_from place (map settlement_seen zs))) is told.0)
 asks_told alone place command h now w x y over (Err Output) link sent s is told =
-    inl (link, sent, s, subst (λ (zs : List Settlement). ToldPart place (map settlement_seen zs) w.sink_old w.sink_new) is told.0)
+    inl (link, sent, s, subst (λ (zs : List (Settlement Call)). ToldPart place (map settlement_seen zs) w.sink_old w.sink_new) is told.0)
 asks_told alone place command h now w x y over (Err other) link sent s is told = absurd told
 
 -- where the use of the link ended well, asking a command ended as the writing of its settlement did
-pub ends_told : (over : LinkEnd → Type 0) (place : ℕ) (settled : List Rule.Settlement) (c d : Option (List ℕ)) (x y : Bool) (r : LinkEnd) → over (Ok tt)
+pub ends_told : (over : LinkEnd → Type 0) (place : ℕ) (settled : List (Rule.Settlement Call)) (c d : Option (List ℕ)) (x y : Bool) (r : LinkEnd) → over (Ok tt)
     → Told place settled c d x y r → EndsWith over x y r
 ends_told over place settled c d x y (Ok u) ends told = (ends, told.1)
 ends_told over place settled c d x y (Err Output) ends told = (told.1, (Ok tt, ends))
@@ -137,7 +138,7 @@ ends_lost over x y Output none ends same = absurd (none ends)
 ends_lost over x y other none ends same = (ends, same)
 
 -- where the sink failed as it took the line of the lost command, asking the command ended with the fault of the sink
-pub ends_untold : (over : LinkEnd → Type 0) (place : ℕ) (settled : List Rule.Settlement) (c d : Option (List ℕ)) (x y : Bool) (e f : RunFault) → over (Err e)
+pub ends_untold : (over : LinkEnd → Type 0) (place : ℕ) (settled : List (Rule.Settlement Call)) (c d : Option (List ℕ)) (x y : Bool) (e f : RunFault) → over (Err e)
     → Told place settled c d x y (Err f) → EndsWith over x y (Err f)
 ends_untold over place settled c d x y e Output ends told = (told.1, (Err e, ends))
 ends_untold over place settled c d x y e other ends told = absurd told
@@ -149,7 +150,7 @@ ends_untold over place settled c d x y e other ends told = absurd told
 -- `b'` are what the link had taken at first, before this command and after it, `c`, `d` and `d'` what the sink had taken then,
 -- `c0`, `p` and `p'` the client's end, and `i0`, `q` and `q'` the instrument's
 pub run_fault : (alone : Bool) (commands done later : List Command) (command : Command) (place : ℕ) (given left more left' : List ℕ) (kept kept' : Kept)
-    (client to : ById) (settled : List Settlement) (a b b' c d d' : Option (List ℕ)) (e : RunFault) (c0 p p' i0 q q' : Ports) (x y : Bool)
+    (client to : ById Call) (settled : List (Settlement Call)) (a b b' c d d' : Option (List ℕ)) (e : RunFault) (c0 p p' i0 q q' : Ports) (x y : Bool)
     → Sound c0 p → Sound i0 q → (at : Course done given left kept client a b c d) → length done ≡ place → commands ≡ done ++ command ∷ later
     → AsksOne alone place command (record { rest = at.now; bytes = left ++ more; left = left'; kept = kept'; client = to; settled = settled })
     (record { link_old = b; link_new = b'; sink_old = d; sink_new = d' }) (BothStep p p' q q') (Err e) → EndsWith (BothStep p p' q q') x y (Err e)
@@ -182,7 +183,7 @@ run_fault alone commands done later command place given left more left' kept kep
           (both_end c0 p p' i0 q q' (Ok tt) gc gi o.0)
           (λ so. asked_with done given left kept client a b c d more at command _ _ _ _ o.2 ∙ ap (λ zs. zs ++ next ∷ []) (sym so))
           (whole b b' text o.1)
-          (subst (λ (zs : List Rule.Settlement). ToldPart (length done) zs d d') is.0 o.3)
+          (subst (λ (zs : List (Rule.Settlement Call)). ToldPart (length done) zs d d') is.0 o.3)
       by_fault Output (inr o) ends =
           course_tells commands done later command given left more kept client a b b' c d d' o.2.0 (lost_of command) (BothEnd c0 p' i0 q') (Err o.0) at order
           (both_end c0 p p' i0 q q' (Err o.0) gc gi o.1) (λ so. refl) o.2.1 o.2.2
@@ -190,7 +191,7 @@ run_fault alone commands done later command place given left more left' kept kep
 
 -- where one more command was asked and settled, the course goes on with that command
 pub course_next : (alone : Bool) (commands done later : List Command) (command : Command) (place : ℕ) (given left more left' : List ℕ) (kept kept' : Kept)
-    (client to : ById) (settled : List Settlement) (a b b' c d d' : Option (List ℕ)) (over : LinkEnd → Type 0)
+    (client to : ById Call) (settled : List (Settlement Call)) (a b b' c d d' : Option (List ℕ)) (over : LinkEnd → Type 0)
     → (at : Course done given left kept client a b c d) → length done ≡ place
     → AsksOne alone place command (record { rest = at.now; bytes = left ++ more; left = left'; kept = kept'; client = to; settled = settled })
     (record { link_old = b; link_new = b'; sink_old = d; sink_new = d' }) over (Ok tt)

@@ -13,6 +13,7 @@ use Rattle.gc_lines.specs.declared.frame.Frame.{Frame}
 use Rattle.gc_lines.specs.declared.frame.Frame.TheVariants.{Line, Cleared, Overlong, More}
 use Rattle.gc_lines.proofs.Cutting.{cut_some, pieces-append, rest-append}
 use Rattle.gc_lines.proofs.Passing.{Takes}
+use Rattle.gc_catalogue.specs.declared.call.Call.{Call}
 use Rattle.gc_client.specs.declared.settlement.Settlement.{Settlement}
 use Rattle.gc_client.specs.Rule.{ById, heard, fits, hears}
 use Rattle.gc_client.specs.Settlements.{AreSettlements}
@@ -32,7 +33,7 @@ pub lines_behind-append : (rest xs ys : List ℕ) → lines_behind rest (xs ++ y
 lines_behind-append rest xs ys = ap lines_of (pieces-append rest xs ys) ∙ lines_of-append (pieces_behind rest xs) (pieces_behind (rest_behind rest xs) ys)
 
 -- where the lines in front have no first reply, the first reply of all lines is that of the others
-pub first_reply-none : (c : ById) (xs ys : List (List ℕ)) → first_reply c xs ≡ None → first_reply c (xs ++ ys) ≡ first_reply c ys
+pub first_reply-none : (c : ById Call) (xs ys : List (List ℕ)) → first_reply c xs ≡ None → first_reply c (xs ++ ys) ≡ first_reply c ys
 first_reply-none c [] ys e = refl
 first_reply-none c (x ∷ xs) ys e = (elim (fits c (heard x)) as (λ v. cond v (Some (record { line = x; later = xs })) (first_reply c xs) ≡ None
     → cond v (Some (record { line = x; later = xs ++ ys })) (first_reply c (xs ++ ys)) ≡ first_reply c ys) [
@@ -41,14 +42,14 @@ first_reply-none c (x ∷ xs) ys e = (elim (fits c (heard x)) as (λ v. cond v (
     ]) e
 
 -- a line that fits is the first reply where none before it is
-pub first_reply-at : (c : ById) (front : List (List ℕ)) (line : List ℕ) (later : List (List ℕ)) → first_reply c front ≡ None → fits c (heard line) ≡ true
+pub first_reply-at : (c : ById Call) (front : List (List ℕ)) (line : List ℕ) (later : List (List ℕ)) → first_reply c front ≡ None → fits c (heard line) ≡ true
     → first_reply c (front ++ line ∷ later) ≡ Some (record { line = line; later = later })
 first_reply-at c front line later none fit = first_reply-none c front (line ∷ later) none ∙ rw fit refl
 
 -- Quiet pieces.
 
 -- where a piece settles nothing, and neither does the piece behind it, the two together settle nothing
-pub quiet_then : (rest xs ys : List ℕ) (kept kept' : Kept) (a b c : ById) → IsQuiet rest xs kept a b → IsQuiet (rest_behind rest xs) ys kept' b c → IsQuiet rest (xs ++ ys) kept' a c
+pub quiet_then : (rest xs ys : List ℕ) (kept kept' : Kept) (a b c : ById Call) → IsQuiet rest xs kept a b → IsQuiet (rest_behind rest xs) ys kept' b c → IsQuiet rest (xs ++ ys) kept' a c
 quiet_then rest xs ys kept kept' a b c q r = record {
   none = ap (first_reply a) (lines_behind-append rest xs ys) ∙ first_reply-none a (lines_behind rest xs) (lines_behind (rest_behind rest xs) ys) q.none
       ∙ ap (λ x. first_reply x (lines_behind (rest_behind rest xs) ys)) (sym q.same) ∙ r.none;
@@ -57,13 +58,13 @@ quiet_then rest xs ys kept kept' a b c q r = record {
 }
 
 -- where a piece settles nothing, and the piece behind it settles a request, the two together settle that request
-pub settles_then : (rest xs ys left : List ℕ) (kept kept' : Kept) (a b c : ById) (settled : List Settlement) → IsQuiet rest xs kept a b
+pub settles_then : (rest xs ys left : List ℕ) (kept kept' : Kept) (a b c : ById Call) (settled : List (Settlement Call)) → IsQuiet rest xs kept a b
     → Settles b (record { rest = rest_behind rest xs; bytes = ys; left = left; kept = kept'; client = c; settled = settled })
     → Settles a (record { rest = rest; bytes = xs ++ ys; left = left; kept = kept'; client = c; settled = settled })
 settles_then rest xs ys left kept kept' a b c settled q s =
     let front : List (List ℕ) = lines_behind rest xs in
     let at : Settles a (record { rest = rest_behind rest xs; bytes = ys; left = left; kept = kept'; client = c; settled = settled }) =
-    subst (λ (x : ById). Settles x (record { rest = rest_behind rest xs; bytes = ys; left = left; kept = kept'; client = c; settled = settled })) q.same s
+    subst (λ (x : ById Call). Settles x (record { rest = rest_behind rest xs; bytes = ys; left = left; kept = kept'; client = c; settled = settled })) q.same s
     in
     record {
       front = front ++ at.front;
@@ -81,7 +82,7 @@ settles_then rest xs ys left kept kept' a b c settled q s =
 
 -- a piece was looked at as far as `left`, and none of its lines so far, which are `front`, settled a request. `now` is what the
 -- assembler keeps of a line whose end hasn't come
-pub record Passed (rest piece left : List ℕ) (kept : Kept) (from to : ById) : Type 0 where
+pub record Passed (rest piece left : List ℕ) (kept : Kept) (from to : ById Call) : Type 0 where
   pub now : List ℕ
   pub front : List (List ℕ)
   pub stands : StandsFor kept now
@@ -91,7 +92,7 @@ pub record Passed (rest piece left : List ℕ) (kept : Kept) (from to : ById) : 
   pub same : to ≡ from
 
 -- where a piece was passed to its end, so that nothing of it is left, it settled nothing
-pub passed_end : (rest piece : List ℕ) (kept : Kept) (a b : ById) → Passed rest piece [] kept a b → IsQuiet rest piece kept a b
+pub passed_end : (rest piece : List ℕ) (kept : Kept) (a b : ById Call) → Passed rest piece [] kept a b → IsQuiet rest piece kept a b
 passed_end rest piece kept a b p = record {
   none = ap (first_reply a) (p.seen ∙ append-nil p.front) ∙ p.none;
   stands = subst (λ (zs : List ℕ). StandsFor kept zs) (sym p.rests) p.stands;
@@ -106,12 +107,12 @@ completed_lines Overlong = refl
 completed_lines More = refl
 
 -- where the line of a frame, if it has one, settles nothing, it is no first reply
-no_reply : (c : ById) (line : Option (List ℕ)) → SettlesNothing c line → first_reply c (option_to_list line) ≡ None
+no_reply : (c : ById Call) (line : Option (List ℕ)) → SettlesNothing c line → first_reply c (option_to_list line) ≡ None
 no_reply c None q = refl
 no_reply c (Some line) q = rw q refl
 
 -- where the line of the next frame, if it has one, settles nothing, that frame is passed, too
-pub passed_on : (rest piece left : List ℕ) (used : ℕ) (frame : Frame) (kept kept' : Kept) (a b c : ById) → (p : Passed rest piece left kept a b)
+pub passed_on : (rest piece left : List ℕ) (used : ℕ) (frame : Frame) (kept kept' : Kept) (a b c : ById Call) → (p : Passed rest piece left kept a b)
     → Takes p.now left used frame kept' → c ≡ b → SettlesNothing b (line_in frame)
     → Passed rest piece (drop used left) kept' a c
 passed_on rest piece left used frame kept kept' a b c p t same nothing =
@@ -119,7 +120,7 @@ passed_on rest piece left used frame kept kept' a b c p t same nothing =
     let next : lines_behind p.now left ≡ option_to_list (line_in frame) ++ later =
     ap (λ fs. filter_map line_in fs) t.seen ∙ filter_map-append line_in (completed frame) (frames_behind t.now (drop used left))
     ∙ ap (λ zs. zs ++ later) (completed_lines frame) in
-    let silent : SettlesNothing a (line_in frame) = subst (λ (x : ById). SettlesNothing x (line_in frame)) p.same nothing in
+    let silent : SettlesNothing a (line_in frame) = subst (λ (x : ById Call). SettlesNothing x (line_in frame)) p.same nothing in
     record {
       now = t.now;
       front = p.front ++ option_to_list (line_in frame);
@@ -169,7 +170,7 @@ takes_line rest left used frame line kept is more whole = elim (position is_line
 
 -- where the line of the next frame settles a request, the piece settles that request; `used` and `frame` are what the assembler
 -- gave for `left`
-pub passed_settles : (rest piece left : List ℕ) (used : ℕ) (frame : Frame) (line : List ℕ) (kept kept' : Kept) (a b c : ById) (settled : List Settlement)
+pub passed_settles : (rest piece left : List ℕ) (used : ℕ) (frame : Frame) (line : List ℕ) (kept kept' : Kept) (a b c : ById Call) (settled : List (Settlement Call))
     → (p : Passed rest piece left kept a b) → line_in frame ≡ Some line
     → (position is_line_feed left ≡ None → frame ≡ More)
     → ((at : ℕ) → position is_line_feed left ≡ Some at → (used ≡ at + 1) × (frame ≡ frame_of (p.now ++ take at left)) × StandsFor kept' [])
@@ -183,14 +184,14 @@ passed_settles rest piece left used frame line kept kept' a b c settled p is mor
       seen = p.seen ∙ ap (λ zs. p.front ++ zs) t.seen;
       rests = p.rests ∙ t.rests;
       none = p.none;
-      fits = subst (λ (x : ById). fits x (heard line) ≡ true) p.same fit;
+      fits = subst (λ (x : ById Call). fits x (heard line) ≡ true) p.same fit;
       stands = t.stands;
-      settles = subst (λ (x : ById). AreSettlements settled (hears x line (heard line)).settlements) p.same settles;
-      client = subst (λ (x : ById). c ≡ (hears x line (heard line)).client) p.same client;
+      settles = subst (λ (x : ById Call). AreSettlements settled (hears x line (heard line)).settlements) p.same settles;
+      client = subst (λ (x : ById Call). c ≡ (hears x line (heard line)).client) p.same client;
     }
 
 -- a frame that settled a request has a line, which fits
-pub taken_line : (a b : ById) (o : Option (List ℕ)) (settled : List Settlement) → TakesFrame a b o settled true
+pub taken_line : (a b : ById Call) (o : Option (List ℕ)) (settled : List (Settlement Call)) → TakesFrame a b o settled true
     → (line : List ℕ) × (o ≡ Some line) × (fits a (heard line) ≡ true) × AreSettlements settled (hears a line (heard line)).settlements × (b ≡ (hears a line (heard line)).client)
 taken_line a b None settled t = absurd t
 taken_line a b (Some line) settled t = (line, refl, t.0, t.1, t.2)
@@ -199,13 +200,14 @@ taken_line a b (Some line) settled t = (line, refl, t.0, t.1, t.2)
 
 -- reading goes on: behind the bytes `start`, which were left from before, `given` came. Of all these, `heard_so` were heard and
 -- settle nothing, and `ahead` weren't heard yet
-pub record Reading (rest start given ahead : List ℕ) (kept : Kept) (from to : ById) : Type 0 where
+pub record Reading (rest start given ahead : List ℕ) (kept : Kept) (from to : ById Call) : Type 0 where
   pub heard_so : List ℕ
   pub order : start ++ given ≡ heard_so ++ ahead
   pub quiet : IsQuiet rest heard_so kept from to
 
 -- where all that was ahead settles nothing, and one more piece was read, the reading goes on with that piece
-pub reading_more : (rest start given ahead piece : List ℕ) (kept kept' : Kept) (a b c : ById) → (r : Reading rest start given ahead kept a b) → IsQuiet (rest_behind rest r.heard_so) ahead kept' b c
+pub reading_more : (rest start given ahead piece : List ℕ) (kept kept' : Kept) (a b c : ById Call) → (r : Reading rest start given ahead kept a b)
+    → IsQuiet (rest_behind rest r.heard_so) ahead kept' b c
     → Reading rest start (given ++ piece) piece kept' a c
 reading_more rest start given ahead piece kept kept' a b c r q = record {
   heard_so = r.heard_so ++ ahead;
@@ -214,14 +216,14 @@ reading_more rest start given ahead piece kept kept' a b c r q = record {
 }
 
 -- where all that is ahead settles nothing either, nothing that was given does
-pub reading_quiet : (rest start given ahead : List ℕ) (kept kept' : Kept) (a b c : ById) → (r : Reading rest start given ahead kept a b) → IsQuiet (rest_behind rest r.heard_so) ahead kept' b c
+pub reading_quiet : (rest start given ahead : List ℕ) (kept kept' : Kept) (a b c : ById Call) → (r : Reading rest start given ahead kept a b) → IsQuiet (rest_behind rest r.heard_so) ahead kept' b c
     → (first_reply a (lines_behind rest (start ++ given)) ≡ None) × (c ≡ a)
 reading_quiet rest start given ahead kept kept' a b c r q =
     let all = quiet_then rest r.heard_so ahead kept kept' a b c r.quiet q in
     (ap (λ zs. first_reply a (lines_behind rest zs)) r.order ∙ all.none, all.same)
 
 -- where the bytes that are ahead settle a request behind those that were heard, all bytes since the start settle it
-pub reading_settles : (rest start given ahead left : List ℕ) (kept kept' : Kept) (a b c : ById) (settled : List Settlement)
+pub reading_settles : (rest start given ahead left : List ℕ) (kept kept' : Kept) (a b c : ById Call) (settled : List (Settlement Call))
     → (r : Reading rest start given ahead kept a b) → Settles b (record
     { rest = rest_behind rest r.heard_so; bytes = ahead; left = left; kept = kept'; client = c; settled = settled })
     → Settles a (record { rest = rest; bytes = start ++ given; left = left; kept = kept'; client = c; settled = settled })

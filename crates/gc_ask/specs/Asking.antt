@@ -8,6 +8,7 @@ use Rattle.gc_lines.specs.Frames.{lines}
 use Rattle.gc_lines.specs.Lines.{with_end}
 use Rattle.gc_lines.specs.declared.ports.Sink.{Ghosts as Sink}
 use Rattle.gc_catalogue.specs.Texts.{request_line}
+use Rattle.gc_catalogue.specs.declared.call.Call.{Call}
 use Rattle.gc_client.specs.declared.window.TheConstants.{IDS}
 use Rattle.gc_client.specs.declared.pending.Pending.{Pending}
 use Rattle.gc_client.specs.Rule.{ById, Settlement, pending_of, lost, heard, fits, hears}
@@ -17,15 +18,15 @@ use Rattle.gc_texts.specs.declared.fault.RunFault.{RunFault}
 use Rattle.gc_texts.specs.declared.fault.RunFault.TheVariants.{Read, Write, TooManyReads, LinkClosed, Output}
 
 -- a command that was sent and waits; its deadline is the greatest of a u64, and the client is given no moment, so it never times out
-abbrev pub asked_for : Command → Pending
+abbrev pub asked_for : Command → Pending Call
 asked_for command = pending_of command.target command.call 18446744073709551615
 
 -- the client before request k is sent, whose id is k modulo 8
-abbrev pub idle : ℕ → ById
+abbrev pub idle : ℕ → ById Call
 idle k = record { next = k % IDS; waiting = [] }
 
 -- the client while request k waits
-abbrev pub waiting_for : ℕ → Command → ById
+abbrev pub waiting_for : ℕ → Command → ById Call
 waiting_for k command = record { next = (k + 1) % IDS; waiting = asked_for command ∷ [] }
 
 -- a line that settles a request, and the lines after it
@@ -34,23 +35,23 @@ pub record Reply : Type 0 where
   pub later : List (List ℕ)
 
 -- the first line that is a reply with the id of a request that waits
-abbrev pub first_reply : ById → List (List ℕ) → Option Reply
+abbrev pub first_reply : ById Call → List (List ℕ) → Option Reply
 first_reply client [] = None
 first_reply client (line ∷ later) = if fits client (heard line) then Some (record { line = line; later = later }) else first_reply client later
 
 -- the settlements after a search for the first reply: those of that reply by the client's rule, and then what `rest` makes of
 -- the lines after it; none where there is no reply
-abbrev pub settled_by : ById → (List (List ℕ) → List Settlement) → Option Reply → List Settlement
+abbrev pub settled_by : ById Call → (List (List ℕ) → List (Settlement Call)) → Option Reply → List (Settlement Call)
 settled_by client rest None = []
 settled_by client rest (Some reply) = (hears client reply.line (heard reply.line)).settlements ++ rest reply.later
 
 -- the settlements of these commands, the first of which is request k, by the client's rule over the lines that come
-abbrev pub asked_from : ℕ → List Command → List (List ℕ) → List Settlement
+abbrev pub asked_from : ℕ → List Command → List (List ℕ) → List (Settlement Call)
 asked_from k [] came = []
 asked_from k (command ∷ later) came = settled_by (waiting_for k command) (asked_from (k + 1) later) (first_reply (waiting_for k command) came)
 
 -- the settlements of these commands by the lines of all that a link gives, as far as the lines settle them
-abbrev pub asked : List Command → List ℕ → List Settlement
+abbrev pub asked : List Command → List ℕ → List (Settlement Call)
 asked commands stream = asked_from 0 commands (lines stream)
 
 -- request k as it is written, with its CR LF
@@ -63,7 +64,7 @@ request_texts k [] = []
 request_texts k (command ∷ later) = request_text k command ∷ request_texts (k + 1) later
 
 -- the settlement of a command that is lost
-abbrev pub lost_of : Command → Settlement
+abbrev pub lost_of : Command → Settlement Call
 lost_of command = lost (asked_for command)
 
 -- what a sink has taken, where that is known, and whether it has failed
@@ -118,7 +119,7 @@ pub record AsksPart (commands : List Command) (given : List ℕ) (w : Written) (
 
 -- `next` is the settlement of `command`, after those of `earlier`: where the link ended well, what the bytes that came settle,
 -- and else that the command is lost
-abbrev pub IsNext : List Command → Command → List ℕ → Settlement → LinkEnd → Type 0
+abbrev pub IsNext : List Command → Command → List ℕ → Settlement Call → LinkEnd → Type 0
 IsNext earlier command given next (Ok _) = asked (earlier ++ command ∷ []) given ≡ asked earlier given ++ next ∷ []
 IsNext earlier command given next (Err _) = next ≡ lost_of command
 
@@ -135,7 +136,7 @@ pub record TellsPart (commands : List Command) (given : List ℕ) (w : Written) 
   pub sent : Appends w.link_old w.link_new (all_of (request_texts 0 earlier) ++ take bytes (request_text (length earlier) command))
   pub link : LinkEnd
   pub ends : over link
-  pub next : Settlement
+  pub next : Settlement Call
   pub next_is : IsNext earlier command given next link
   pub part : ℕ
   pub not_all : part < length (settlement_line (length earlier) next)

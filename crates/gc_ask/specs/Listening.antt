@@ -9,6 +9,7 @@ use Rattle.gc_lines.specs.Answering.{Ports, all_of}
 use Rattle.gc_lines.specs.Assembler.{Kept, StandsFor}
 use Rattle.gc_lines.specs.Frames.{line_in, rest_behind}
 use Rattle.gc_lines.specs.Passing.{frames_behind}
+use Rattle.gc_catalogue.specs.declared.call.Call.{Call}
 use Rattle.gc_client.specs.declared.settlement.Settlement.{Settlement}
 use Rattle.gc_client.specs.Rule.{ById, heard, fits, hears}
 use Rattle.gc_client.specs.Settlements.{AreSettlements, settlement_seen}
@@ -28,13 +29,13 @@ abbrev pub lines_behind : List ℕ → List ℕ → List (List ℕ)
 lines_behind rest bytes = filter_map line_in (frames_behind rest bytes)
 
 -- the line of a frame, if it has one, settles nothing
-abbrev pub SettlesNothing : ById → Option (List ℕ) → Type 0
+abbrev pub SettlesNothing : ById Call → Option (List ℕ) → Type 0
 SettlesNothing client None = Unit {0}
 SettlesNothing client (Some line) = fits client (heard line) ≡ false
 
 -- how a client took the line of a frame, if it has one. With `false` the line settles nothing, and the client is as before; with
 -- `true` there is a line that settles a request, and the settlements and the client then are those of the client's rule
-abbrev pub TakesFrame : ById → ById → Option (List ℕ) → List Settlement → Bool → Type 0
+abbrev pub TakesFrame : ById Call → ById Call → Option (List ℕ) → List (Settlement Call) → Bool → Type 0
 TakesFrame from to line settled false = (to ≡ from) × SettlesNothing from line
 TakesFrame from to None settled true = ⊥
 TakesFrame from to (Some line) settled true = (fits from (heard line) ≡ true)
@@ -42,7 +43,7 @@ TakesFrame from to (Some line) settled true = (fits from (heard line) ≡ true)
 
 -- no line that the bytes complete, with the rest before them, settles a request, and the assembler stands for what follows the
 -- last line feed
-pub record IsQuiet (rest bytes : List ℕ) (kept : Kept) (from to : ById) : Type 0 where
+pub record IsQuiet (rest bytes : List ℕ) (kept : Kept) (from to : ById Call) : Type 0 where
   pub none : first_reply from (lines_behind rest bytes) ≡ None
   pub stands : StandsFor kept (rest_behind rest bytes)
   pub same : to ≡ from
@@ -54,8 +55,8 @@ pub record Heard : Type 0 where
   pub bytes : List ℕ
   pub left : List ℕ
   pub kept : Kept
-  pub client : ById
-  pub settled : List Settlement
+  pub client : ById Call
+  pub settled : List (Settlement Call)
 
 -- what this client's end has heard: these bytes after a rest, of which these are left
 abbrev pub heard_by : ClientEnd → (rest bytes left : List ℕ) → Heard
@@ -76,7 +77,7 @@ Gives old new assembler claim =
 -- of the lines that came, `line` is the first to settle a request of this client; `front` are those before it, and what is left
 -- of the bytes stands after it. The settlements and the client then are those of the client's rule, and the assembler keeps
 -- nothing
-pub record Settles (from : ById) (heard_so : Heard) : Type 0 where
+pub record Settles (from : ById Call) (heard_so : Heard) : Type 0 where
   pub front : List (List ℕ)
   pub line : List ℕ
   pub seen : lines_behind heard_so.rest heard_so.bytes ≡ front ++ line ∷ lines_behind [] heard_so.left
@@ -94,13 +95,13 @@ left_by (Some used) piece = drop used piece
 
 -- what the lines of a piece did: none of them settled a request (`None`), or one did, and this many bytes were used by then
 -- (`Some`)
-abbrev pub Listens : ById → Heard → Option ℕ → Type 0
+abbrev pub Listens : ById Call → Heard → Option ℕ → Type 0
 Listens from heard_so None = IsQuiet heard_so.rest heard_so.bytes heard_so.kept from heard_so.client
 Listens from heard_so (Some used) = Settles from heard_so
 
 -- how a client's reading for a reply ended. `Ok`: a line settles its request. `Err`: no line that was read does, and the client
 -- is as before
-abbrev pub HearsReply : ById → Heard → Result (Unit {0}) RunFault → Type 0
+abbrev pub HearsReply : ById Call → Heard → Result (Unit {0}) RunFault → Type 0
 HearsReply from heard_so (Ok _) = Settles from heard_so
 HearsReply from heard_so (Err _) = (first_reply from (lines_behind heard_so.rest heard_so.bytes) ≡ None) × (heard_so.client ≡ from)
 

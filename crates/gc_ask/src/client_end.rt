@@ -12,6 +12,7 @@ ghost use Rattle.gc_ask.specs.Links.{OnlyReads, source_of};
 use crate::link::Link;
 use crate::unheard::Unheard;
 use arrayvec::ArrayVec;
+use gc_catalogue::Call;
 use gc_client::{Client, Hearing, Settlement, Slots, WINDOW};
 use gc_lines::{Assembler, Lent, Line};
 use gc_texts::RunFault;
@@ -22,7 +23,7 @@ pub(crate) struct ClientEnd {
     pub(crate) client: Client<Slots>,
     pub(crate) assembler: Assembler,
     // What the last reply settled.
-    pub(crate) settled: ArrayVec<Settlement, WINDOW>,
+    pub(crate) settled: ArrayVec<Settlement<Call>, WINDOW>,
 }
 
 impl ClientEnd {

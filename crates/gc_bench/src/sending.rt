@@ -19,7 +19,7 @@ const REPLIES: [&[u8]; 8] = [
 
 /// Sends `count` requests, each answered before the next goes out, and returns the sum of the lengths of the request lines
 /// and of the scales of the distances. One line serves for all sends, and one list for all settlements.
-pub fn send<W: Window>(window: W, count: u32) -> u64 {
+pub fn send<W: Window<Asked = Call>>(window: W, count: u32) -> u64 {
     let mut client = Client::new(window);
     let mut line = Line::new();
     let mut settled = ArrayVec::new();
@@ -34,7 +34,7 @@ pub fn send<W: Window>(window: W, count: u32) -> u64 {
 // Sends a request, and returns the length of its line, or 0 where the window is full.
 // It stays a function of its own, so that its instructions can be told apart.
 #[inline(never)]
-fn sent<W: Window>(client: &mut Client<W>, target: u32, line: &mut Line) -> u64 {
+fn sent<W: Window<Asked = Call>>(client: &mut Client<W>, target: u32, line: &mut Line) -> u64 {
     let call = Call::SimpleMea {
         wait: 5000,
         mode: 1,
@@ -47,17 +47,17 @@ fn sent<W: Window>(client: &mut Client<W>, target: u32, line: &mut Line) -> u64 
 
 // Hears a reply, and returns the scale of its distance. It stays a function of its own, so that its instructions can be told apart.
 #[inline(never)]
-fn answered<W: Window>(
+fn answered<W: Window<Asked = Call>>(
     client: &mut Client<W>,
     reply: &[u8],
-    settled: &mut ArrayVec<Settlement, WINDOW>,
+    settled: &mut ArrayVec<Settlement<Call>, WINDOW>,
 ) -> u64 {
     let _ = client.hear(reply, settled);
     scale_of(settled.as_slice())
 }
 
 // The scale of the first settlement's distance, and 0 where there is none.
-fn scale_of(settled: &[Settlement]) -> u64 {
+fn scale_of(settled: &[Settlement<Call>]) -> u64 {
     match settled.first() {
         Some(settlement) => match &settlement.outcome {
             Outcome::Answered(Reading::Value(Answer::Measured { distance, .. }), _) => {

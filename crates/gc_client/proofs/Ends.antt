@@ -9,26 +9,27 @@ use Rattle.gc_client.specs.declared.settlement.Outcome.TheVariants.{Answered, La
 use Rattle.gc_client.specs.Rule.{ById, lost, met, settle, id_in, heard, id_settled, hears}
 use Rattle.gc_client.specs.Places.{place_heard}
 use Rattle.gc_client.specs.Rule
-use Rattle.gc_client.specs.Settlements.{IsAnsweredBy, IsSettlement}
+use Rattle.gc_client.specs.Settlements.{Says, IsAnsweredBy, IsSettledBy}
 
 -- the rule's settlement of a request by a reply line, where the request was given up (true) or wasn't
-abbrev met_when : Pending → List ℕ → Bool → Rule.Settlement
+abbrev met_when : {Q : Type 0} → Pending Q → List ℕ → Bool → Rule.Settlement Q
 met_when p line given_up = record { target = p.target; call = p.call; outcome = if given_up then Rule.Late else Rule.Answered line }
 
 -- where a request wasn't given up, and an outcome is the answer that this reply line gives it, the request with that outcome is
 -- the settlement that the rule makes of it by that line
-pub answered_is : (p : Pending) (line : List ℕ) (fields : ReplyFields) (o : Outcome) → p.given_up ≡ false → reply_at line ≡ Ok fields
-    → IsAnsweredBy p.call fields line o → IsSettlement (record { target = p.target; call = p.call; outcome = o }) (met p line)
-answered_is p line fields (Answered reading copy) given_up reads (same, says) =
+pub answered_is : {Q : Type 0} (says : Says Q) (p : Pending Q) (line : List ℕ) (fields : ReplyFields) (o : Outcome) → p.given_up ≡ false → reply_at line ≡ Ok fields
+    → IsAnsweredBy says p.call fields line o → IsSettledBy says (record { target = p.target; call = p.call; outcome = o }) (met p line)
+answered_is says p line fields (Answered reading copy) given_up reads (same, is_said) =
     record {
       seen = ap₂ (met_when p) same (sym given_up);
-      read = record { reply = fields; is_reply = reply_found copy.items fields (ap reply_at same ∙ reads); is_reading = says };
+      read = record { reply = fields; is_reply = reply_found copy.items fields (ap reply_at same ∙ reads); is_reading = is_said };
     }
-answered_is p line fields Late given_up reads is = absurd is
-answered_is p line fields Lost given_up reads is = absurd is
+answered_is says p line fields Late given_up reads is = absurd is
+answered_is says p line fields Lost given_up reads is = absurd is
 
 -- settling through place k settles the first k requests as lost, and the one at place k by the line
-pub settle_is : (k : ℕ) (line : List ℕ) (ws : List Pending) (p : Pending) (left : List Pending) → drop k ws ≡ p ∷ left → settle k line ws ≡ map lost (take k ws) ++ met p line ∷ []
+pub settle_is : {Q : Type 0} (k : ℕ) (line : List ℕ) (ws : List (Pending Q)) (p : Pending Q) (left : List (Pending Q)) → drop k ws ≡ p ∷ left
+    → settle k line ws ≡ map lost (take k ws) ++ met p line ∷ []
 settle_is zero line [] p left e = cc
 settle_is (suc k) line [] p left e = cc
 settle_is zero line (w ∷ ws) p left e = let same : w ≡ p = cc in ap (λ x. met x line ∷ []) same
@@ -43,7 +44,7 @@ chosen false q k e = absurd (none_is_not_some e) where
   none_is_not_some e = cc
 
 -- a reply with the id of the request at place k settles the requests up to that one
-hears_at : (c : ById) (line : List ℕ) (id : Option ℕ) (k : ℕ) → place_heard c.next (length c.waiting) id ≡ Some k → hears c line id ≡ id_settled c line k true
+hears_at : {Q : Type 0} (c : ById Q) (line : List ℕ) (id : Option ℕ) (k : ℕ) → place_heard c.next (length c.waiting) id ≡ Some k → hears c line id ≡ id_settled c line k true
 hears_at c line None k e = absurd (none_is_not_some e) where
   -- `None` isn't `Some k`
   none_is_not_some : None ≡ Some k → ⊥
@@ -51,7 +52,7 @@ hears_at c line None k e = absurd (none_is_not_some e) where
 hears_at c line (Some id) k e = let at = chosen _ _ k e in ap₂ (λ q b. id_settled c line q b) at.1 at.0
 
 -- a line that reads as a reply to the request at place k settles the requests up to that one
-pub settles : (c : ById) (line : List ℕ) (fields : ReplyFields) (k : ℕ) → reply_at line ≡ Ok fields → place_heard c.next (length c.waiting) fields.id ≡ Some k
+pub settles : {Q : Type 0} (c : ById Q) (line : List ℕ) (fields : ReplyFields) (k : ℕ) → reply_at line ≡ Ok fields → place_heard c.next (length c.waiting) fields.id ≡ Some k
     → hears c line (heard line) ≡ id_settled c line k true
 settles c line fields k reads fit = ap (λ r. hears c line (id_in r)) reads ∙ hears_at c line fields.id k fit
 

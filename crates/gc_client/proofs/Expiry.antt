@@ -11,17 +11,17 @@ use Rattle.gc_client.specs.Rule.{expired, is_expiring, expiring, given_up_at}
 use Rattle.gc_client.proofs.Lists.{take_turn, drop_turn}
 
 -- the requests that wait once the first k of them have got the moment
-abbrev pub partly : ℕ → ℕ → List Pending → List Pending
+abbrev pub partly : {Q : Type 0} → ℕ → ℕ → List (Pending Q) → List (Pending Q)
 partly now k ws = map (expired now) (take k ws) ++ drop k ws
 
 -- once the first k requests have got the moment, the one at place k is still the one that stood there at the start
-pub same_at : (now k : ℕ) (ws : List Pending) (p : Pending) → slice_get (partly now k ws) k ≡ Some p → slice_get ws k ≡ Some p
+pub same_at : {Q : Type 0} (now k : ℕ) (ws : List (Pending Q)) (p : Pending Q) → slice_get (partly now k ws) k ≡ Some p → slice_get ws k ≡ Some p
 same_at now zero ws p e = e
 same_at now (suc k) [] p e = e
 same_at now (suc k) (w ∷ ws) p e = same_at now k ws p e
 
 -- a request that this moment gives up is the same request, marked as given up
-expired_is : (now : ℕ) (p : Pending) → is_expiring now p ≡ true → expired now p ≡ record p { given_up = true }
+expired_is : {Q : Type 0} (now : ℕ) (p : Pending Q) → is_expiring now p ≡ true → expired now p ≡ record p { given_up = true }
 expired_is now p e = ap (λ b. record p { given_up = b }) (flag (nat_le p.deadline now) p.given_up e) where
   -- of a request that is due and isn't given up yet, the new mark is true
   flag : (due given : Bool) → (due && not given) ≡ true → (given || due) ≡ true
@@ -30,7 +30,7 @@ expired_is now p e = ap (λ b. record p { given_up = b }) (flag (nat_le p.deadli
   flag false false e = e
 
 -- a request that this moment doesn't give up stays as it is
-stays : (now : ℕ) (p : Pending) → is_expiring now p ≡ false → expired now p ≡ p
+stays : {Q : Type 0} (now : ℕ) (p : Pending Q) → is_expiring now p ≡ false → expired now p ≡ p
 stays now p e = ap (λ b. record p { given_up = b }) (flag (nat_le p.deadline now) p.given_up e) where
   -- of a request that isn't due, or is given up already, the new mark is the old one
   flag : (due given : Bool) → (due && not given) ≡ false → (given || due) ≡ given
@@ -39,27 +39,27 @@ stays now p e = ap (λ b. record p { given_up = b }) (flag (nat_le p.deadline no
   flag false false e = refl
 
 -- giving up the request at place k, once the first k have got the moment, leaves those, that one given up, and the others
-given_up_in : (now k : ℕ) (ws : List Pending) (p : Pending) → slice_get ws k ≡ Some p
+given_up_in : {Q : Type 0} (now k : ℕ) (ws : List (Pending Q)) (p : Pending Q) → slice_get ws k ≡ Some p
     → given_up_at k (partly now k ws) ≡ map (expired now) (take k ws) ++ record p { given_up = true } ∷ drop (suc k) ws
 given_up_in now k [] p e = cc
-given_up_in now zero (w ∷ ws) p e = let same : w ≡ p = cc in ap (λ (x : Pending). record x { given_up = true } ∷ ws) same
+given_up_in {Q} now zero (w ∷ ws) p e = let same : w ≡ p = cc in ap (λ (x : Pending Q). record x { given_up = true } ∷ ws) same
 given_up_in now (suc k) (w ∷ ws) p e = ap (λ qs. expired now w ∷ qs) (given_up_in now k ws p e)
 
 -- once the request at place k got the moment too, the first k + 1 have got it
-next_partly : (now k : ℕ) (ws : List Pending) (p : Pending) → slice_get ws k ≡ Some p → partly now (suc k) ws ≡ map (expired now) (take k ws) ++ expired now p ∷ drop (suc k) ws
+next_partly : {Q : Type 0} (now k : ℕ) (ws : List (Pending Q)) (p : Pending Q) → slice_get ws k ≡ Some p → partly now (suc k) ws ≡ map (expired now) (take k ws) ++ expired now p ∷ drop (suc k) ws
 next_partly now k [] p e = cc
 next_partly now zero (w ∷ ws) p e = let same : w ≡ p = cc in ap (λ x. expired now x ∷ ws) same
 next_partly now (suc k) (w ∷ ws) p e = ap (λ qs. expired now w ∷ qs) (next_partly now k ws p e)
 
 -- the targets that the moment gives up among the first k + 1 are those among the first k, and that at place k if it is given up
-next_expiring : (now k : ℕ) (ws : List Pending) (p : Pending) → slice_get ws k ≡ Some p → expiring now (take (suc k) ws) ≡ expiring now (take k ws) ++ expiring now (p ∷ [])
+next_expiring : {Q : Type 0} (now k : ℕ) (ws : List (Pending Q)) (p : Pending Q) → slice_get ws k ≡ Some p → expiring now (take (suc k) ws) ≡ expiring now (take k ws) ++ expiring now (p ∷ [])
 next_expiring now k ws p e =
     ap (expiring now) (take_turn ws k p e)
     ∙ ap (map (λ p. p.target)) (filter-append (is_expiring now) (take k ws) (p ∷ []))
     ∙ map-append (λ p. p.target) (filter (is_expiring now) (take k ws)) (filter (is_expiring now) (p ∷ []))
 
 -- One turn of the loop: the first k have got the moment, and the loop looks at the request p at place k.
-module _ (now k : ℕ) (ws qs : List Pending) (p : Pending) (done : qs ≡ partly now k ws) (here : slice_get qs k ≡ Some p) where
+module _ {Q : Type 0} (now k : ℕ) (ws qs : List (Pending Q)) (p : Pending Q) (done : qs ≡ partly now k ws) (here : slice_get qs k ≡ Some p) where
   -- the request at place k of all that wait is p
   at_k : slice_get ws k ≡ Some p
   at_k = same_at now k ws p (subst (λ l. slice_get l k ≡ Some p) done here)
@@ -70,7 +70,7 @@ module _ (now k : ℕ) (ws qs : List Pending) (p : Pending) (done : qs ≡ partl
 
   -- where the moment gives up the request at place k, and `qs'` are the requests with that one marked, they are the requests of
   -- which the first k + 1 have got the moment
-  pub due_done : (qs' : List Pending) → is_expiring now p ≡ true → qs' ≡ given_up_at k qs → qs' ≡ partly now (k + 1) ws
+  pub due_done : (qs' : List (Pending Q)) → is_expiring now p ≡ true → qs' ≡ given_up_at k qs → qs' ≡ partly now (k + 1) ws
   due_done qs' b e =
       e ∙ ap (given_up_at k) done ∙ given_up_in now k ws p at_k
       ∙ ap (λ x. map (expired now) (take k ws) ++ x ∷ drop (suc k) ws) (sym (expired_is now p b))
@@ -108,19 +108,19 @@ module _ (now k : ℕ) (ws qs : List Pending) (p : Pending) (done : qs ≡ partl
       append_none (x ∷ xs) = ap (λ ys. x ∷ ys) (append_none xs)
 
 -- a request whose deadline is reached and that wasn't given up is given up by this moment
-pub is_due : (now : ℕ) (p : Pending) → p.deadline ≤ now → not p.given_up ≡ true → is_expiring now p ≡ true
+pub is_due : {Q : Type 0} (now : ℕ) (p : Pending Q) → p.deadline ≤ now → not p.given_up ≡ true → is_expiring now p ≡ true
 is_due now p due waits =
     let b : leb p.deadline now ≡ true = le-leb _ _ due in
     rw (b, waits) refl
 
 -- a request whose deadline isn't reached isn't given up by this moment
-pub is_not_due : (now : ℕ) (p : Pending) → now < p.deadline → is_expiring now p ≡ false
+pub is_not_due : {Q : Type 0} (now : ℕ) (p : Pending Q) → now < p.deadline → is_expiring now p ≡ false
 is_not_due now p early =
     let b : leb p.deadline now ≡ false = lt-leb _ _ early in
     rw b refl
 
 -- a request that was given up before isn't given up again
-pub is_given_up : (now : ℕ) (p : Pending) → not p.given_up ≡ false → is_expiring now p ≡ false
+pub is_given_up : {Q : Type 0} (now : ℕ) (p : Pending Q) → not p.given_up ≡ false → is_expiring now p ≡ false
 is_given_up now p given_up = rw given_up (flag (leb p.deadline now)) where
   -- a test and false are false together
   flag : (b : Bool) → (b && false) ≡ false

@@ -3,64 +3,65 @@
 -- is one for one.
 use Rattle.std.proofs.Common.{◌≡◌, ℕ, zero, suc, ◌+◌, Bool, true, false, List, [], ◌∷◌, ◌++◌, length, map, drop, Option, Some, None, refl, sym, ap, ◌∙◌, arith, append_assoc, ltb, eqb}
 use Rattle.std.proofs.lemmas.List.{map-append, append-nil}
-use Rattle.gc_catalogue.specs.declared.call.Call.{Call}
 use Rattle.gc_client.specs.declared.pending.Pending.{Pending}
 use Rattle.gc_client.specs.Rule.{Settled, ById, expired, lost, settle, place, heard, id_send, id_settled, hears, restarts}
 use Rattle.gc_client.specs.OneForOne.{Step, Send, Hear, Expire, Restart, Course, of_settled, of_pending, begun, sent_on, settled_on, goes, course, IsOneForOne}
 
 -- the requests settled through place k, and behind them the requests past that place, are those that waited, in order
-settle_parts : (k : ℕ) (line : List ℕ) (ps : List Pending) → map of_settled (settle k line ps) ++ map of_pending (drop (suc k) ps) ≡ map of_pending ps
+settle_parts : {Q : Type 0} (k : ℕ) (line : List ℕ) (ps : List (Pending Q)) → map of_settled (settle k line ps) ++ map of_pending (drop (suc k) ps) ≡ map of_pending ps
 settle_parts k line [] = refl
 settle_parts zero line (p ∷ ps) = refl
 settle_parts (suc k) line (p ∷ ps) = ap (λ qs. of_pending p ∷ qs) (settle_parts k line ps)
 
 -- requests that are lost are settled with their targets and calls
-pub lost_parts : (ps : List Pending) → map of_settled (map lost ps) ≡ map of_pending ps
+pub lost_parts : {Q : Type 0} (ps : List (Pending Q)) → map of_settled (map lost ps) ≡ map of_pending ps
 lost_parts [] = refl
 lost_parts (p ∷ ps) = ap (λ qs. of_pending p ∷ qs) (lost_parts ps)
 
 -- a moment changes no target and no call
-pub expired_parts : (now : ℕ) (ps : List Pending) → map of_pending (map (expired now) ps) ≡ map of_pending ps
+pub expired_parts : {Q : Type 0} (now : ℕ) (ps : List (Pending Q)) → map of_pending (map (expired now) ps) ≡ map of_pending ps
 expired_parts now [] = refl
 expired_parts now (p ∷ ps) = ap (λ qs. of_pending p ∷ qs) (expired_parts now ps)
 
 -- the requests that a reply to place k settles, if it settles any, and behind them those that then wait, are those that waited
 -- before
-reply_parts : (c : ById) (line : List ℕ) (k : ℕ) (b : Bool) → map of_settled (id_settled c line k b).settlements ++ map of_pending (id_settled c line k b).client.waiting ≡ map of_pending c.waiting
+reply_parts : {Q : Type 0} (c : ById Q) (line : List ℕ) (k : ℕ) (b : Bool)
+    → map of_settled (id_settled c line k b).settlements ++ map of_pending (id_settled c line k b).client.waiting ≡ map of_pending c.waiting
 reply_parts c line k false = refl
 reply_parts c line k true = ap (λ n. map of_settled (settle k line c.waiting) ++ map of_pending (drop n c.waiting)) (let e : k + 1 ≡ suc k = omega arith in e) ∙ settle_parts k line c.waiting
 
 -- the requests that a line settles, and behind them those that then wait, are those that waited before
-pub heard_parts : (c : ById) (line : List ℕ) (o : Option ℕ) → map of_settled (hears c line o).settlements ++ map of_pending (hears c line o).client.waiting ≡ map of_pending c.waiting
+pub heard_parts : {Q : Type 0} (c : ById Q) (line : List ℕ) (o : Option ℕ) → map of_settled (hears c line o).settlements ++ map of_pending (hears c line o).client.waiting ≡ map of_pending c.waiting
 heard_parts c line None = refl
 heard_parts c line (Some id) = reply_parts c line (place c.next (length c.waiting) id) (ltb (place c.next (length c.waiting) id) (length c.waiting))
 
 -- a send keeps a course one for one
-sent_keeps : (x : Course) (target : ℕ) (call : Call) (deadline : ℕ) (full : Bool) → IsOneForOne x → IsOneForOne (sent_on x target call (id_send x.client target call deadline full))
+sent_keeps : {Q : Type 0} (x : Course Q) (target : ℕ) (call : Q) (deadline : ℕ) (full : Bool) → IsOneForOne x → IsOneForOne (sent_on x target call (id_send x.client target call deadline full))
 sent_keeps x target call deadline true h = h
 sent_keeps x target call deadline false h =
     simp map-append (sym (append_assoc (map of_settled x.settlements) (map of_pending x.client.waiting) _) ∙ ap (λ l. l ++ record { target = target; call = call } ∷ []) h)
 
 -- a settling keeps a course one for one, where the requests settled, and behind them those that then wait, are those that
 -- waited before
-settled_keeps : (x : Course) (s : Settled ById) → map of_settled s.settlements ++ map of_pending s.client.waiting ≡ map of_pending x.client.waiting → IsOneForOne x → IsOneForOne (settled_on x s)
+settled_keeps : {Q : Type 0} (x : Course Q) (s : Settled Q (ById Q)) → map of_settled s.settlements ++ map of_pending s.client.waiting ≡ map of_pending x.client.waiting → IsOneForOne x
+    → IsOneForOne (settled_on x s)
 settled_keeps x s parts h = pieces ∙ ap (λ l. map of_settled x.settlements ++ l) parts ∙ h where
   -- all settled requests and those that wait are those settled before, and then those settled now with those that wait
   pieces : map of_settled (x.settlements ++ s.settlements) ++ map of_pending s.client.waiting ≡ map of_settled x.settlements ++ (map of_settled s.settlements ++ map of_pending s.client.waiting)
   pieces = simp (map-append, append_assoc)
 
 -- every step keeps a course one for one
-goes_on : (width : ℕ) (x : Course) (step : Step) → IsOneForOne x → IsOneForOne (goes width x step)
+goes_on : {Q : Type 0} (width : ℕ) (x : Course Q) (step : Step Q) → IsOneForOne x → IsOneForOne (goes width x step)
 goes_on width x (Send target call deadline) h = sent_keeps x target call deadline (eqb (length x.client.waiting) width) h
 goes_on width x (Hear line) h = settled_keeps x (hears x.client line (heard line)) (heard_parts x.client line (heard line)) h
 goes_on width x (Expire now) h = ap (λ l. map of_settled x.settlements ++ l) (expired_parts now x.client.waiting) ∙ h
 goes_on width x Restart h = settled_keeps x (restarts x.client) (append-nil _ ∙ lost_parts x.client.waiting) h
 
 -- all steps, one after the other, keep a course one for one
-along : (width : ℕ) (x : Course) (steps : List Step) → IsOneForOne x → IsOneForOne (course width x steps)
+along : {Q : Type 0} (width : ℕ) (x : Course Q) (steps : List (Step Q)) → IsOneForOne x → IsOneForOne (course width x steps)
 along width x [] h = h
 along width x (step ∷ steps) h = along width (goes width x step) steps (goes_on width x step h)
 
 -- a new client's course is one for one, whatever the steps
-pub one_for_one : (width : ℕ) (steps : List Step) → IsOneForOne (course width begun steps)
+pub one_for_one : {Q : Type 0} (width : ℕ) (steps : List (Step Q)) → IsOneForOne (course width begun steps)
 one_for_one width steps = along width begun steps refl

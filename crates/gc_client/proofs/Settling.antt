@@ -7,20 +7,21 @@ use Rattle.gc_client.specs.declared.pending.Pending.{Pending}
 use Rattle.gc_client.specs.declared.settlement.Settlement.{Settlement}
 use Rattle.gc_client.specs.Rule.{lost}
 use Rattle.gc_client.specs.Rule
-use Rattle.gc_client.specs.Settlements.{settlement_seen, IsWellRead, IsSettlement, AreSettlements}
+use Rattle.gc_client.specs.Settlements.{Says, settlement_seen, IsReadBy, IsSettledBy, AreSettledBy}
 use Rattle.gc_client.proofs.Lists.{take_turn, head_of_drop}
 
 -- a list of one settlement that is well read is a list of well read settlements
-well_read_one : (s : Settlement) → IsWellRead s.call s.outcome → All (λ s. IsWellRead s.call s.outcome) (s ∷ [])
-well_read_one s read zero d lt = read
-well_read_one s read (suc k) d lt = absurd (omega arith)
+well_read_one : {Q : Type 0} (says : Says Q) (s : Settlement Q) → IsReadBy says s.call s.outcome → All (λ s. IsReadBy says s.call s.outcome) (s ∷ [])
+well_read_one says s read zero d lt = read
+well_read_one says s read (suc k) d lt = absurd (omega arith)
 
 -- where settlements are the rule's, and one more is the rule's next one, all together are the rule's
-one_more : (ss : List Settlement) (rs : List Rule.Settlement) (s : Settlement) (r : Rule.Settlement) → AreSettlements ss rs → IsSettlement s r → AreSettlements (ss ++ s ∷ []) (rs ++ r ∷ [])
-one_more ss rs s r are is =
+one_more : {Q : Type 0} (says : Says Q) (ss : List (Settlement Q)) (rs : List (Rule.Settlement Q)) (s : Settlement Q) (r : Rule.Settlement Q) → AreSettledBy says ss rs → IsSettledBy says s r
+    → AreSettledBy says (ss ++ s ∷ []) (rs ++ r ∷ [])
+one_more says ss rs s r are is =
     record {
       seen = map-append settlement_seen ss (s ∷ []) ∙ ap₂ (λ xs x. xs ++ x ∷ []) are.seen is.seen;
-      read = All-append (λ s. IsWellRead s.call s.outcome) ss (s ∷ []) are.read (well_read_one s is.read);
+      read = All-append (λ s. IsReadBy says s.call s.outcome) ss (s ∷ []) are.read (well_read_one says s is.read);
     }
 
 -- the first k + 1 elements, once place k is written, are the first k and the one written
@@ -30,14 +31,15 @@ take_set (y ∷ xs) zero x lt = refl
 take_set (y ∷ xs) (suc k) x lt = ap (λ zs. y ∷ zs) (take_set xs k x (omega arith))
 
 -- where the first k settlements are the rule's, and the one at place k is written as the rule's next, the first k + 1 are
-pub one_written : (ss : List Settlement) (k : ℕ) (rs : List Rule.Settlement) (s : Settlement) (r : Rule.Settlement) → k < length ss
-    → AreSettlements (take k ss) rs → IsSettlement s r → AreSettlements (take (k + 1) (set ss k s)) (rs ++ r ∷ [])
-one_written ss k rs s r lt are is =
+pub one_written : {Q : Type 0} (says : Says Q) (ss : List (Settlement Q)) (k : ℕ) (rs : List (Rule.Settlement Q)) (s : Settlement Q) (r : Rule.Settlement Q) → k < length ss
+    → AreSettledBy says (take k ss) rs → IsSettledBy says s r → AreSettledBy says (take (k + 1) (set ss k s)) (rs ++ r ∷ [])
+one_written says ss k rs s r lt are is =
     let n : suc k ≡ k + 1 = omega arith in
-    subst (λ xs. AreSettlements xs (rs ++ r ∷ [])) (sym (take_set ss k s lt) ∙ ap (λ m. take m (set ss k s)) n) (one_more (take k ss) rs s r are is)
+    subst (λ xs. AreSettledBy says xs (rs ++ r ∷ [])) (sym (take_set ss k s lt) ∙ ap (λ m. take m (set ss k s)) n) (one_more says (take k ss) rs s r are is)
 
 -- the first k + 1 requests, settled as lost, are the first k, settled as lost, and the request p, which is taken out next
-pub next_lost : (ws : List Pending) (k : ℕ) (p : Pending) (qs qs' : List Pending) → qs ≡ drop k ws → qs ≡ p ∷ qs' → map lost (take (k + 1) ws) ≡ map lost (take k ws) ++ lost p ∷ []
+pub next_lost : {Q : Type 0} (ws : List (Pending Q)) (k : ℕ) (p : Pending Q) (qs qs' : List (Pending Q)) → qs ≡ drop k ws → qs ≡ p ∷ qs'
+    → map lost (take (k + 1) ws) ≡ map lost (take k ws) ++ lost p ∷ []
 next_lost ws k p qs qs' rest first =
     let here : slice_get ws k ≡ Some p = head_of_drop ws k p qs' (sym rest ∙ first) in
     let n : k + 1 ≡ suc k = omega arith in

@@ -17,12 +17,12 @@ ours_by_grammar line = (λ b. there (heard line) refl b, λ is. ap is_some ((hea
 
 -- Let two lists of lines do the same to every client. Then they still do with one more line in front: before the first list
 -- always, before the second only if an id is heard in the line.
-one_more_line : (c : ById) (line : List ℕ) (lines kept : List (List ℕ)) (h : Option ℕ) → heard line ≡ h → ((d : ById) → hears_all d lines ≡ hears_all d kept)
+one_more_line : {Q : Type 0} (c : ById Q) (line : List ℕ) (lines kept : List (List ℕ)) (h : Option ℕ) → heard line ≡ h → ((d : ById Q) → hears_all d lines ≡ hears_all d kept)
     → hears_all c (line ∷ lines) ≡ hears_all c (if is_some h then line ∷ kept else kept)
 one_more_line c line lines kept None e rest = ap (λ o. first (hears c line o).settlements (hears_all (hears c line o).client lines)) e ∙ rest c
 one_more_line c line lines kept (Some id) e rest = ap (first (hears c line (heard line)).settlements) (rest (hears c line (heard line)).client)
 
 -- a list of lines does the same as that list without those that aren't the client's
-pub silent : (c : ById) (lines : List (List ℕ)) → IsSilent c lines
+pub silent : {Q : Type 0} (c : ById Q) (lines : List (List ℕ)) → IsSilent c lines
 silent c [] = refl
 silent c (line ∷ lines) = one_more_line c line lines (filter is_ours lines) (heard line) refl (λ d. silent d lines)

@@ -9,16 +9,16 @@ abbrev pub id_at : ℕ → ℕ → ℕ → ℕ
 id_at next waiting k = (next + IDS - waiting + k) % IDS
 
 -- the id of the request at place k
-abbrev pub id_of : ById → ℕ → ℕ
+abbrev pub id_of : {Q : Type 0} → ById Q → ℕ → ℕ
 id_of c k = id_at c.next (length c.waiting) k
 
 -- what every client keeps: ids are digits below 8, and at most seven requests wait
-pub record IsWindow (c : ById) : Type 0 where
+pub record IsWindow {Q : Type 0} (c : ById Q) : Type 0 where
   pub digit : c.next < IDS
   pub few : length c.waiting ≤ WINDOW
 
 -- a request with this id waits
-abbrev pub Waits : ById → ℕ → Type 0
+abbrev pub Waits : {Q : Type 0} → ById Q → ℕ → Type 0
 Waits c id = (k : ℕ) × (k < length c.waiting) × (id_of c k ≡ id)
 
 -- a request that is sent gets the next id, and each that waits already keeps its own

@@ -1,61 +1,60 @@
 -- One for one, this project's own: whoever made the lines, what a client settled and what waits are the requests that were
 -- sent, in order, each once.
 use Rattle.std.specs.Prelude.{◌≡◌, ℕ, List, [], ◌∷◌, ◌++◌, map, Option, Some, None}
-use Rattle.gc_catalogue.specs.declared.call.Call.{Call}
 use Rattle.gc_client.specs.declared.pending.Pending.{Pending}
 use Rattle.gc_client.specs.Rule.{Settlement, Settled, Sending, ById, fresh, sends, heard, hears, expires, restarts}
 
 -- what happens to a client: a send, a line of any origin, a moment, and a restart
-pub data Step : Type 0 where
-  Send : (target : ℕ) (call : Call) (deadline : ℕ) → Step
-  Hear : (line : List ℕ) → Step
-  Expire : (now : ℕ) → Step
-  Restart : Step
+pub data Step (Q : Type 0) : Type 0 where
+  Send : (target : ℕ) (call : Q) (deadline : ℕ) → Step Q
+  Hear : (line : List ℕ) → Step Q
+  Expire : (now : ℕ) → Step Q
+  Restart : Step Q
 
 -- whom a request was for, and what it asks for
-pub record Asked : Type 0 where
+pub record Wanted (Q : Type 0) : Type 0 where
   pub target : ℕ
-  pub call : Call
+  pub call : Q
 
 -- whom a settled request was for, and what it asked for
-abbrev pub of_settled : Settlement → Asked
+abbrev pub of_settled : {Q : Type 0} → Settlement Q → Wanted Q
 of_settled s = record { target = s.target; call = s.call }
 
 -- whom a request that waits is for, and what it asks for
-abbrev pub of_pending : Pending → Asked
+abbrev pub of_pending : {Q : Type 0} → Pending Q → Wanted Q
 of_pending p = record { target = p.target; call = p.call }
 
 -- what has come so far: the sends that weren't refused, the settlements, and the client
-pub record Course : Type 0 where
-  pub sent : List Asked
-  pub settlements : List Settlement
-  pub client : ById
+pub record Course (Q : Type 0) : Type 0 where
+  pub sent : List (Wanted Q)
+  pub settlements : List (Settlement Q)
+  pub client : ById Q
 
 -- the course of a new client: nothing has happened
-abbrev pub begun : Course
+abbrev pub begun : {Q : Type 0} → Course Q
 begun = record { sent = []; settlements = []; client = fresh }
 
 -- the course after a send: where it was refused nothing has changed
-abbrev pub sent_on : Course → ℕ → Call → Option (Sending ById) → Course
+abbrev pub sent_on : {Q : Type 0} → Course Q → ℕ → Q → Option (Sending (ById Q)) → Course Q
 sent_on x target call None = x
 sent_on x target call (Some s) = record { sent = x.sent ++ record { target = target; call = call } ∷ []; settlements = x.settlements; client = s.client }
 
 -- the course after these settlements
-abbrev pub settled_on : Course → Settled ById → Course
+abbrev pub settled_on : {Q : Type 0} → Course Q → Settled Q (ById Q) → Course Q
 settled_on x s = record { sent = x.sent; settlements = x.settlements ++ s.settlements; client = s.client }
 
 -- the course after one step, by the client's rule with a window of this width
-abbrev pub goes : ℕ → Course → Step → Course
+abbrev pub goes : {Q : Type 0} → ℕ → Course Q → Step Q → Course Q
 goes width x (Send target call deadline) = sent_on x target call (sends width x.client target call deadline)
 goes width x (Hear line) = settled_on x (hears x.client line (heard line))
 goes width x (Expire now) = record { sent = x.sent; settlements = x.settlements; client = expires x.client now }
 goes width x Restart = settled_on x (restarts x.client)
 
 -- the course after all steps, in order
-abbrev pub course : ℕ → Course → List Step → Course
+abbrev pub course : {Q : Type 0} → ℕ → Course Q → List (Step Q) → Course Q
 course width x [] = x
 course width x (step ∷ steps) = course width (goes width x step) steps
 
 -- the settlements so far, and behind them the requests that wait, are the sends that weren't refused
-abbrev pub IsOneForOne : Course → Type 0
+abbrev pub IsOneForOne : {Q : Type 0} → Course Q → Type 0
 IsOneForOne x = map of_settled x.settlements ++ map of_pending x.client.waiting ≡ x.sent

@@ -5,7 +5,6 @@ use Rattle.std.specs.List.{Contains}
 use Rattle.gc_lines.specs.declared.fault.LineFault.{LineFault}
 use Rattle.gc_lines.specs.Replies.{ReplyFields}
 use Rattle.gc_lines.specs.Readers.{reply_at}
-use Rattle.gc_catalogue.specs.declared.call.Call.{Call}
 use Rattle.gc_client.specs.declared.window.TheConstants.{WINDOW, IDS}
 use Rattle.gc_client.specs.declared.pending.Pending.{Pending}
 
@@ -17,20 +16,20 @@ pub data Outcome : Type 0 where
   Lost : Outcome
 
 -- the end of one request
-pub record Settlement : Type 0 where
+pub record Settlement (Q : Type 0) : Type 0 where
   pub target : ℕ
-  pub call : Call
+  pub call : Q
   pub outcome : Outcome
 
 -- a client that knows requests by ids: the next id, and the requests that wait, oldest first
-pub record ById : Type 0 where
+pub record ById (Q : Type 0) : Type 0 where
   pub next : ℕ
-  pub waiting : List Pending
+  pub waiting : List (Pending Q)
 
 -- a client as its caller sees it: how many requests it lets wait, which never changes, and what it knows by ids
-pub record Windowed : Type 0 where
+pub record Windowed (Q : Type 0) : Type 0 where
   pub width : ℕ
-  pub ids : ById
+  pub ids : ById Q
 
 -- a send that was not refused: the id that its request line was written with, and the client after it
 pub record Sending (Client : Type 0) : Type 0 where
@@ -38,12 +37,12 @@ pub record Sending (Client : Type 0) : Type 0 where
   pub client : Client
 
 -- what was settled, and the client after it
-pub record Settled (Client : Type 0) : Type 0 where
-  pub settlements : List Settlement
+pub record Settled (Q Client : Type 0) : Type 0 where
+  pub settlements : List (Settlement Q)
   pub client : Client
 
 -- a client at its start
-abbrev pub fresh : ById
+abbrev pub fresh : {Q : Type 0} → ById Q
 fresh = record { next = 0; waiting = [] }
 
 -- a window may be this wide: it lets one request wait at least, and at most one fewer than there are ids
@@ -53,23 +52,23 @@ IsWidth width = (1 ≤ width) × (width ≤ WINDOW)
 -- Pendings.
 
 -- a request that has just been sent
-abbrev pub pending_of : ℕ → Call → ℕ → Pending
+abbrev pub pending_of : {Q : Type 0} → ℕ → Q → ℕ → Pending Q
 pending_of target call deadline = record { target = target; call = call; deadline = deadline; given_up = false }
 
 -- the request, given up from now on where its deadline is at most this moment
-abbrev pub expired : ℕ → Pending → Pending
+abbrev pub expired : {Q : Type 0} → ℕ → Pending Q → Pending Q
 expired now p = record p { given_up = p.given_up || nat_le p.deadline now }
 
 -- whether a request is given up at this moment and wasn't before
-abbrev pub is_expiring : ℕ → Pending → Bool
+abbrev pub is_expiring : {Q : Type 0} → ℕ → Pending Q → Bool
 is_expiring now p = nat_le p.deadline now && not p.given_up
 
 -- the targets of the requests that are given up at this moment and weren't before, in order
-abbrev pub expiring : ℕ → List Pending → List ℕ
+abbrev pub expiring : {Q : Type 0} → ℕ → List (Pending Q) → List ℕ
 expiring now ps = map (λ p. p.target) (filter (is_expiring now) ps)
 
 -- the deadlines of the requests that are not given up, in order
-abbrev pub deadlines : List Pending → List ℕ
+abbrev pub deadlines : {Q : Type 0} → List (Pending Q) → List ℕ
 deadlines ps = map (λ p. p.deadline) (filter (λ p. not p.given_up) ps)
 
 -- the earliest of these moments: none where there are none, and else the least
@@ -78,7 +77,7 @@ IsEarliest ds None = ds ≡ []
 IsEarliest ds (Some d) = Contains ds d × All (λ e. d ≤ e) ds
 
 -- the requests, with the one at place k given up
-abbrev pub given_up_at : ℕ → List Pending → List Pending
+abbrev pub given_up_at : {Q : Type 0} → ℕ → List (Pending Q) → List (Pending Q)
 given_up_at k [] = []
 given_up_at zero (p ∷ ps) = record p { given_up = true } ∷ ps
 given_up_at (suc k) (p ∷ ps) = p ∷ given_up_at k ps
@@ -86,15 +85,15 @@ given_up_at (suc k) (p ∷ ps) = p ∷ given_up_at k ps
 -- Settlements.
 
 -- the settlement of a request as lost
-abbrev pub lost : Pending → Settlement
+abbrev pub lost : {Q : Type 0} → Pending Q → Settlement Q
 lost p = record { target = p.target; call = p.call; outcome = Lost }
 
 -- the settlement of a request by this reply line: late where the request was given up, else answered
-abbrev pub met : Pending → List ℕ → Settlement
+abbrev pub met : {Q : Type 0} → Pending Q → List ℕ → Settlement Q
 met p line = record { target = p.target; call = p.call; outcome = if p.given_up then Late else Answered line }
 
 -- the settlements of the first k requests as lost, and of the next one by this line
-abbrev pub settle : ℕ → List ℕ → List Pending → List Settlement
+abbrev pub settle : {Q : Type 0} → ℕ → List ℕ → List (Pending Q) → List (Settlement Q)
 settle k line [] = []
 settle zero line (p ∷ ps) = met p line ∷ []
 settle (suc k) line (p ∷ ps) = lost p ∷ settle k line ps
@@ -106,11 +105,11 @@ abbrev pub place : ℕ → ℕ → ℕ → ℕ
 place next waiting id = (id + IDS - (next + IDS - waiting) % IDS) % IDS
 
 -- the place of an id among the requests that wait
-abbrev pub place_in : ById → ℕ → ℕ
+abbrev pub place_in : {Q : Type 0} → ById Q → ℕ → ℕ
 place_in c id = place c.next (length c.waiting) id
 
 -- whether a reply with this id, or with none, fits a request that waits
-abbrev pub fits : ById → Option ℕ → Bool
+abbrev pub fits : {Q : Type 0} → ById Q → Option ℕ → Bool
 fits c None = false
 fits c (Some id) = nat_lt (place_in c id) (length c.waiting)
 
@@ -127,7 +126,7 @@ heard line = id_in (reply_at line)
 
 -- what a send gives: none, which is a refusal, where the window is full (true), and else the request's id and the client after
 -- the send
-abbrev pub id_send : ById → ℕ → Call → ℕ → Bool → Option (Sending ById)
+abbrev pub id_send : {Q : Type 0} → ById Q → ℕ → Q → ℕ → Bool → Option (Sending (ById Q))
 id_send c target call deadline true = None
 id_send c target call deadline false =
     Some (record {
@@ -137,24 +136,24 @@ id_send c target call deadline false =
 
 -- what a send gives: none, which is a refusal, where as many requests wait as the window is wide, and else the request's id and
 -- the client after the send
-abbrev pub sends : ℕ → ById → ℕ → Call → ℕ → Option (Sending ById)
+abbrev pub sends : {Q : Type 0} → ℕ → ById Q → ℕ → Q → ℕ → Option (Sending (ById Q))
 sends width c target call deadline = id_send c target call deadline (nat_eq (length c.waiting) width)
 
 -- what a reply line does, by the place k of its id. Where a request waits at that place (true), it and those before it are
 -- settled and wait no more. Where none does (false), nothing changes
-abbrev pub id_settled : ById → List ℕ → ℕ → Bool → Settled ById
+abbrev pub id_settled : {Q : Type 0} → ById Q → List ℕ → ℕ → Bool → Settled Q (ById Q)
 id_settled c line k false = record { settlements = []; client = c }
 id_settled c line k true = record { settlements = settle k line c.waiting; client = record { next = c.next; waiting = drop (k + 1) c.waiting } }
 
 -- what a line with this id settles, and the client after it; a line without an id settles nothing
-abbrev pub hears : ById → List ℕ → Option ℕ → Settled ById
+abbrev pub hears : {Q : Type 0} → ById Q → List ℕ → Option ℕ → Settled Q (ById Q)
 hears c line None = record { settlements = []; client = c }
 hears c line (Some id) = id_settled c line (place_in c id) (nat_lt (place_in c id) (length c.waiting))
 
 -- a moment: each request whose deadline it has reached is given up, and goes on waiting
-abbrev pub expires : ById → ℕ → ById
+abbrev pub expires : {Q : Type 0} → ById Q → ℕ → ById Q
 expires c now = record { next = c.next; waiting = map (expired now) c.waiting }
 
 -- a restart: all requests that wait are lost, and the ids begin again at 0
-abbrev pub restarts : ById → Settled ById
+abbrev pub restarts : {Q : Type 0} → ById Q → Settled Q (ById Q)
 restarts c = record { settlements = map lost c.waiting; client = fresh }

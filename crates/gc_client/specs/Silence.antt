@@ -16,14 +16,14 @@ abbrev pub is_ours : List ℕ → Bool
 is_ours line = is_some (heard line)
 
 -- `x`, with these settlements in front of its own
-abbrev pub first : List Settlement → Settled ById → Settled ById
+abbrev pub first : {Q : Type 0} → List (Settlement Q) → Settled Q (ById Q) → Settled Q (ById Q)
 first settlements x = record { settlements = settlements ++ x.settlements; client = x.client }
 
 -- the client's rule over a list of lines, in order
-abbrev pub hears_all : ById → List (List ℕ) → Settled ById
+abbrev pub hears_all : {Q : Type 0} → ById Q → List (List ℕ) → Settled Q (ById Q)
 hears_all c [] = record { settlements = []; client = c }
 hears_all c (line ∷ lines) = first (hears c line (heard line)).settlements (hears_all (hears c line (heard line)).client lines)
 
 -- a list of lines and that list without its foreign lines give the same settlements and the same client
-abbrev pub IsSilent : ById → List (List ℕ) → Type 0
+abbrev pub IsSilent : {Q : Type 0} → ById Q → List (List ℕ) → Type 0
 IsSilent c lines = hears_all c lines ≡ hears_all c (filter is_ours lines)

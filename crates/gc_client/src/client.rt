@@ -4,11 +4,9 @@ ghost use Rattle.std.specs.Prelude.{◌≡◌, ℕ, ◌+◌, ◌<◌, ◌≤◌,
 ghost use Rattle.gc_lines.specs.Lines.{IsPlain};
 ghost use Rattle.gc_lines.specs.Replies.{reply_seen};
 ghost use Rattle.gc_lines.specs.Readers.{reply_at};
-ghost use Rattle.gc_catalogue.specs.Calls.{IsFitting};
-ghost use Rattle.gc_catalogue.specs.Texts.{request_line};
 ghost use Rattle.gc_client.specs.Rule.{fresh, sends, heard, hears, id_settled, deadlines, IsEarliest, expires, expiring, restarts};
 ghost use Rattle.gc_client.specs.Places.{place_heard};
-ghost use Rattle.gc_client.specs.Settlements.{AreSettlements};
+ghost use Rattle.gc_client.specs.Settlements.{AreSettledBy};
 ghost use Rattle.gc_client.specs.Hearing.{HearsAs, HearsInto, settlements_in};
 ghost use Rattle.gc_client.specs.declared.heard.Hearing.TheVariants.{Unread};
 ghost use Rattle.gc_lines.specs.declared.fault.LineFault.TheVariants.{TooLong};
@@ -19,7 +17,7 @@ use crate::pending::Pending;
 use crate::settlement::Settlement;
 use crate::window::{IDS, WINDOW, Window};
 use arrayvec::ArrayVec;
-use gc_catalogue::{Call, encode_call_onto};
+use gc_catalogue::Asking;
 use gc_lines::{Line, LineFault, Reply, read_reply};
 use std::error::Error;
 use std::fmt;
@@ -85,7 +83,7 @@ impl<W: Window> Model for Client<W> {
     ghost use Rattle.gc_client.specs.declared.window.TheConstants.{IDS};
     ghost use Rattle.gc_client.specs.Rule.{Windowed, IsWidth};
 
-    ghost Value = { Windowed };
+    ghost Value = { Windowed W.Asked };
 
     ghost view = { λ c. record { width = c.width; ids = record { next = c.next; waiting = W.pendings c.window } } };
 
@@ -206,9 +204,9 @@ impl<W: Window> Client<W> {
     /// lost. The request itself is late where it was given up, and else answered. A reply that no request waits for is
     /// a stray, also where it has no id. A line that is no reply is unread. After a stray and an unread line the client
     /// is unchanged.
-    pub fn on_line(&mut self, line: &Line) -> Heard
+    pub fn on_line(&mut self, line: &Line) -> Heard<W::Asked>
         ensures heard { HearsAs self.old.ids line.now.items result self.new.ids }
-        ensures settled { AreSettlements (settlements_in result)
+        ensures settled { AreSettledBy W.Asked.says (settlements_in result)
             (hears self.old.ids line.now.items (heard line.now.items)).settlements }
         ensures client { self.new ≡ record self.old { ids = (hears self.old.ids line.now.items (heard line.now.items)).client } }
     {
@@ -225,10 +223,14 @@ impl<W: Window> Client<W> {
     /// Afterwards the list holds this line's settlements alone: none after a stray or an unread line. Its places are
     /// written over, so one list that is kept for all lines costs least. More than 512 bytes are no line, and unread by
     /// `LineFault::TooLong`.
-    pub fn hear(&mut self, line: &[u8], settled: &mut ArrayVec<Settlement, WINDOW>) -> Hearing
+    pub fn hear(
+        &mut self,
+        line: &[u8],
+        settled: &mut ArrayVec<Settlement<W::Asked>, WINDOW>,
+    ) -> Hearing
         ensures heard { length line.now ≤ 512 → HearsInto self.old.ids line.now result settled.new.items self.new.ids }
         ensures settled { length line.now ≤ 512
-            → AreSettlements settled.new.items (hears self.old.ids line.now (heard line.now)).settlements }
+            → AreSettledBy W.Asked.says settled.new.items (hears self.old.ids line.now (heard line.now)).settlements }
         ensures client { length line.now ≤ 512
             → self.new ≡ record self.old { ids = (hears self.old.ids line.now (heard line.now)).client } }
         ensures overlong { 512 < length line.now
@@ -274,16 +276,16 @@ impl<W: Window> Client<W> {
     ///
     /// It is refused exactly where as many requests wait as the window is wide, those that were given up included. A
     /// refusal changes nothing.
-    pub fn send(&mut self, target: u32, call: Call, deadline: u64) -> Result<Line, WindowFull>
+    pub fn send(&mut self, target: u32, call: W::Asked, deadline: u64) -> Result<Line, WindowFull>
         ensures rule { let ruled = sends self.old.width self.old.ids target call deadline in MatchResult result
             (λ line. (ruled ≡ Some (record { id = self.old.ids.next; client = self.new.ids }))
-            × (line.items ≡ request_line (Some self.old.ids.next) call))
+            × (line.items ≡ W.Asked.line (Some self.old.ids.next) call))
             (λ _. (ruled ≡ None) × (self.new ≡ self.old)) }
         ensures full { IsErr result ↔ (length self.old.ids.waiting ≡ self.old.width) }
         ensures first { self.old.ids.waiting ≡ [] → IsOk result }
         ensures width { self.new.width ≡ self.old.width }
         ensures plain { IfOk result (λ line. IsPlain line.items) }
-        ensures fitting { OnOk result (IsFitting call) }
+        ensures fitting { OnOk result (W.Asked.fits call) }
     {
         let mut line = Line::new();
         self.send_into(target, &call, deadline, &mut line)?;
@@ -296,25 +298,25 @@ impl<W: Window> Client<W> {
     pub fn send_into(
         &mut self,
         target: u32,
-        call: &Call,
+        call: &W::Asked,
         deadline: u64,
         line: &mut Line,
     ) -> Result<(), WindowFull>
         ensures rule { let ruled = sends self.old.width self.old.ids target call.now deadline in MatchResult result
             (λ _. (ruled ≡ Some (record { id = self.old.ids.next; client = self.new.ids }))
-            × (line.new.items ≡ request_line (Some self.old.ids.next) call.now))
+            × (line.new.items ≡ W.Asked.line (Some self.old.ids.next) call.now))
             (λ _. (ruled ≡ None) × (self.new ≡ self.old) × (line.new.items ≡ line.old.items)) }
         ensures full { IsErr result ↔ (length self.old.ids.waiting ≡ self.old.width) }
         ensures first { self.old.ids.waiting ≡ [] → IsOk result }
         ensures width { self.new.width ≡ self.old.width }
         ensures plain { OnOk result (IsPlain line.new.items) }
-        ensures fitting { OnOk result (IsFitting call.now) }
+        ensures fitting { OnOk result (W.Asked.fits call.now) }
     {
         if self.window.len() == usize::from(self.width) {
             return Err(WindowFull);
         }
         line.clear();
-        encode_call_onto(line, Some(self.next), call);
+        call.write_onto(line, Some(self.next));
         self.window.push(Pending {
             target,
             call: *call,
@@ -330,8 +332,8 @@ impl<W: Window> Client<W> {
     /// The caller vouches that no line is under way in either direction. An instrument that still keeps the reply to its
     /// last request would take a new request with that id for a repeat, and not act on it. So either the instrument restarts
     /// too, or the first request is a null procedure, alone until it is answered (`docs/CLIENT.md`).
-    pub fn restart(&mut self) -> ArrayVec<Settlement, WINDOW>
-        ensures settled { AreSettlements result.items (restarts self.old.ids).settlements }
+    pub fn restart(&mut self) -> ArrayVec<Settlement<W::Asked>, WINDOW>
+        ensures settled { AreSettledBy W.Asked.says result.items (restarts self.old.ids).settlements }
         ensures client { self.new ≡ record self.old { ids = (restarts self.old.ids).client } }
     {
         let mut settled = ArrayVec::new();
@@ -377,13 +379,13 @@ impl<W: Window> Client<W> {
         k: usize,
         reply: &Reply<'_>,
         line: &[u8],
-        settled: &mut ArrayVec<Settlement, WINDOW>,
+        settled: &mut ArrayVec<Settlement<W::Asked>, WINDOW>,
     )
         requires reads { reply_at line.now ≡ Ok (reply_seen reply.now) }
         requires short { length line.now ≤ 512 }
         requires waits { k < length self.old.ids.waiting }
         requires narrow { k < WINDOW }
-        ensures settled { AreSettlements settled.new.items (id_settled self.old.ids line.now k true).settlements }
+        ensures settled { AreSettledBy W.Asked.says settled.new.items (id_settled self.old.ids line.now k true).settlements }
         ensures client { self.new ≡ record self.old { ids = (id_settled self.old.ids line.now k true).client } }
     {
         make_places(settled, k + 1);

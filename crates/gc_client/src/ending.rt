@@ -7,19 +7,19 @@ ghost use Rattle.arrayvec.specs.ArrayVec.{array_vec_len};
 ghost use Rattle.gc_lines.specs.Replies.{reply_seen};
 ghost use Rattle.gc_lines.specs.Readers.{reply_at};
 ghost use Rattle.gc_client.specs.Rule.{lost, met};
-ghost use Rattle.gc_client.specs.Settlements.{IsAnsweredBy, IsSettlement, AreSettlements};
+ghost use Rattle.gc_client.specs.Settlements.{IsAnsweredBy, IsSettledBy, AreSettledBy};
 ghost use Rattle.gc_client.specs.declared.settlement.Outcome.TheVariants.{Late};
 
 use crate::pending::Pending;
 use crate::settlement::{Outcome, Settlement};
 use crate::window::{WINDOW, Window};
 use arrayvec::ArrayVec;
-use gc_catalogue::{Call, Reading, decode_answer, decode_answer_into};
+use gc_catalogue::{Asking, Reading};
 use gc_lines::{Line, Reply, append};
 
 /// Makes a list `count` settlements long. What they say doesn't matter: the caller writes over them.
-#[inline]
-pub(crate) fn make_places(settled: &mut ArrayVec<Settlement, WINDOW>, count: usize)
+#[inline(always)]
+pub(crate) fn make_places<Q: Asking>(settled: &mut ArrayVec<Settlement<Q>, WINDOW>, count: usize)
     requires { count ≤ WINDOW }
     ensures { array_vec_len settled.new ≡ count }
 {
@@ -32,13 +32,13 @@ pub(crate) fn make_places(settled: &mut ArrayVec<Settlement, WINDOW>, count: usi
 // Appends a settlement that the caller writes over. It is an answer, so that the next answer can be written over its parts.
 // The function has a frame of its own, because a settlement is large.
 #[inline(never)]
-fn push_place(settled: &mut ArrayVec<Settlement, WINDOW>)
+fn push_place<Q: Asking>(settled: &mut ArrayVec<Settlement<Q>, WINDOW>)
     requires { array_vec_len settled.old < WINDOW }
     ensures { array_vec_len settled.new ≡ array_vec_len settled.old + 1 }
 {
     settled.push(Settlement {
         target: 0,
-        call: Call::NullProc,
+        call: Q::blank(),
         outcome: Outcome::Answered(Reading::Refused(0), Line::new()),
     });
 }
@@ -49,12 +49,12 @@ fn push_place(settled: &mut ArrayVec<Settlement, WINDOW>)
 pub(crate) fn lose<W: Window>(
     window: &mut W,
     count: usize,
-    settled: &mut ArrayVec<Settlement, WINDOW>,
+    settled: &mut ArrayVec<Settlement<W::Asked>, WINDOW>,
 )
     requires count { count ≤ length (W.pendings window.old) }
     requires within { length (W.pendings window.old) ≤ WINDOW }
     requires places { count ≤ array_vec_len settled.old }
-    ensures settled { AreSettlements (take count settled.new.items) (map lost (take count (W.pendings window.old))) }
+    ensures settled { AreSettledBy W.Asked.says (take count settled.new.items) (map lost (take count (W.pendings window.old))) }
     ensures places { array_vec_len settled.new ≡ array_vec_len settled.old }
     ensures left { W.pendings window.new ≡ drop count (W.pendings window.old) }
 {
@@ -68,8 +68,8 @@ pub(crate) fn lose<W: Window>(
 
 // Writes the settlement of a request that is lost. The function has a frame of its own, because an outcome is large.
 #[inline(never)]
-fn set_lost(p: &Pending, settlement: &mut Settlement)
-    ensures { IsSettlement settlement.new (lost p.now) }
+fn set_lost<Q: Asking>(p: &Pending<Q>, settlement: &mut Settlement<Q>)
+    ensures { IsSettledBy Q.says settlement.new (lost p.now) }
 {
     settlement.target = p.target;
     settlement.call = p.call;
@@ -78,10 +78,15 @@ fn set_lost(p: &Pending, settlement: &mut Settlement)
 
 /// Writes the settlement of a request whose reply came: late where the request was given up, else answered.
 #[inline(never)]
-pub(crate) fn meet(p: &Pending, reply: &Reply<'_>, line: &[u8], settlement: &mut Settlement)
+pub(crate) fn meet<Q: Asking>(
+    p: &Pending<Q>,
+    reply: &Reply<'_>,
+    line: &[u8],
+    settlement: &mut Settlement<Q>,
+)
     requires reads { reply_at line.now ≡ Ok (reply_seen reply.now) }
     requires short { length line.now ≤ 512 }
-    ensures { IsSettlement settlement.new (met p.now line.now) }
+    ensures { IsSettledBy Q.says settlement.new (met p.now line.now) }
 {
     settlement.target = p.target;
     settlement.call = p.call;
@@ -102,13 +107,13 @@ fn set_late(outcome: &mut Outcome)
 
 // Writes the answer that a reply in time gives. Where `outcome` is an answer already, the new one is written over its parts.
 #[inline]
-fn answer(call: &Call, reply: &Reply<'_>, line: &[u8], outcome: &mut Outcome)
+fn answer<Q: Asking>(call: &Q, reply: &Reply<'_>, line: &[u8], outcome: &mut Outcome)
     requires { length line.now ≤ 512 }
-    ensures { IsAnsweredBy call.now (reply_seen reply.now) line.now outcome.new }
+    ensures { IsAnsweredBy Q.says call.now (reply_seen reply.now) line.now outcome.new }
 {
     match outcome {
         Outcome::Answered(reading, copy) => {
-            decode_answer_into(call, reply, reading);
+            call.read_into(reply, reading);
             copy.clear();
             append(copy, line);
         },
@@ -119,11 +124,13 @@ fn answer(call: &Call, reply: &Reply<'_>, line: &[u8], outcome: &mut Outcome)
 // Writes the answer that a reply in time gives, whatever `outcome` is. The function has a frame of its own, because an outcome
 // is large.
 #[inline(never)]
-fn answer_anew(call: &Call, reply: &Reply<'_>, line: &[u8], outcome: &mut Outcome)
+fn answer_anew<Q: Asking>(call: &Q, reply: &Reply<'_>, line: &[u8], outcome: &mut Outcome)
     requires { length line.now ≤ 512 }
-    ensures { IsAnsweredBy call.now (reply_seen reply.now) line.now outcome.new }
+    ensures { IsAnsweredBy Q.says call.now (reply_seen reply.now) line.now outcome.new }
 {
-    *outcome = Outcome::Answered(decode_answer(call, reply), line_of(line));
+    let mut reading = Reading::Refused(0);
+    call.read_into(reply, &mut reading);
+    *outcome = Outcome::Answered(reading, line_of(line));
 }
 
 // A line of these bytes.

@@ -7,10 +7,10 @@ use gc_lines::LineFault;
 
 /// What a client made of a line.
 #[derive(Debug, PartialEq, Eq, Drop)]
-pub enum Heard {
+pub enum Heard<Q> {
     /// The line is the reply to a request that waits. The list holds the settlement of each request that was sent before
     /// that request, and then its own, in the order of sending.
-    Settled(ArrayVec<Settlement, WINDOW>),
+    Settled(ArrayVec<Settlement<Q>, WINDOW>),
     /// The line is a reply, and no request waits for it: it has no id, or one that nothing waits with.
     Stray,
     /// The line is no reply; the fault names its first faulty field.

@@ -22,11 +22,11 @@ pub fn ids_last()
 
 /// The requests that wait have ids that differ, so an id is that of one request at most; and a reply fits exactly
 /// where a request with its id waits, at that request's place.
-pub fn ids_tell_requests_apart()
-    ensures differ { (c : ById) (j k : ℕ) → IsWindow c → j < length c.waiting → k < length c.waiting
+pub fn ids_tell_requests_apart<Q>()
+    ensures differ { (c : ById Q) (j k : ℕ) → IsWindow c → j < length c.waiting → k < length c.waiting
         → id_of c j ≡ id_of c k → j ≡ k }
-    ensures place { (c : ById) (k : ℕ) → IsWindow c → k < length c.waiting → place_in c (id_of c k) ≡ k }
-    ensures fits { (c : ById) (id : ℕ) → IsWindow c → id < IDS → (fits c (Some id) ≡ true) ↔ Waits c id }
+    ensures place { (c : ById Q) (k : ℕ) → IsWindow c → k < length c.waiting → place_in c (id_of c k) ≡ k }
+    ensures fits { (c : ById Q) (id : ℕ) → IsWindow c → id < IDS → (fits c (Some id) ≡ true) ↔ Waits c id }
 {}
 
 /// The id that is heard in a line is that of the reply that the line is by the grammar. In other lines none is heard.
@@ -36,13 +36,13 @@ pub fn ids_are_heard()
 
 /// Lines that are no replies, and replies without an id, are as if they had never come: over a list of lines the client
 /// settles the same, and is the same afterwards, as over that list without them.
-pub fn foreign_lines_are_silent()
-    ensures silent { (c : ById) (lines : List (List ℕ)) → IsSilent c lines }
+pub fn foreign_lines_are_silent<Q>()
+    ensures silent { (c : ById Q) (lines : List (List ℕ)) → IsSilent c lines }
     ensures ours { (line : List ℕ) → (is_ours line ≡ true) ↔ IsReplyWithId line }
 {}
 
 /// From a new client on, over every list of sends, lines of any origin, moments and restarts, the settlements so far and
 /// behind them the requests that wait are the sends that weren't refused: their targets and calls, in order, each once.
-pub fn settles_one_for_one()
-    ensures { (width : ℕ) (steps : List Step) → IsOneForOne (course width begun steps) }
+pub fn settles_one_for_one<Q>()
+    ensures { (width : ℕ) (steps : List (Step Q)) → IsOneForOne (course width begun steps) }
 {}

@@ -1,14 +1,12 @@
 //! Pendings: requests that were sent and wait for their reply.
 
-use gc_catalogue::Call;
-
 /// A request that was sent and is not settled.
 #[derive(Clone, Copy, Debug, PartialEq, Eq)]
-pub struct Pending {
+pub struct Pending<Q> {
     /// Whom it was for: a number of the caller's own, handed back with the settlement.
     pub target: u32,
     /// What it asks for.
-    pub call: Call,
+    pub call: Q,
     /// The moment from which on it may be given up, on the caller's own clock.
     pub deadline: u64,
     /// Whether it was given up. It goes on waiting then, and a reply settles it as late.

@@ -1,58 +1,67 @@
 //! A window in a ring on the heap.
 
-ghost use Rattle.std.specs.Prelude.{◌≡◌, [], IfOk};
+ghost use Rattle.std.specs.Prelude.{◌≡◌, ◌<◌, [], ◌∷◌, ◌++◌, length, IfOk};
 
 use crate::pending::Pending;
 use crate::window::{WINDOW, Window};
 use circular_buffer::HeapCircularBuffer;
+use gc_catalogue::{Asking, Call};
 use std::alloc::{AllocError, Global};
 use std::marker::Model;
 
 /// A window in a ring on the heap.
 /// `new` makes the room for all seven, so no other call takes memory.
 #[derive(Drop)]
-pub struct Ring {
-    buffer: HeapCircularBuffer<Pending, Global>,
+pub struct RingOf<Q: Asking> {
+    buffer: HeapCircularBuffer<Pending<Q>, Global>,
 }
 
-impl Model for Ring {
+/// A window in a ring on the heap, of requests for calls.
+pub type Ring = RingOf<Call>;
+
+impl<Q: Asking> Model for RingOf<Q> {
     ghost use Rattle.std.specs.Prelude.{◌≡◌, List};
     ghost use Rattle.gc_client.specs.declared.window.TheConstants.{WINDOW};
     ghost use Rattle.gc_client.specs.declared.pending.Pending.{Pending};
 
-    ghost Value = { List Pending };
+    ghost Value = { List (Pending Q) };
 
     ghost view = { λ r. r.buffer.items };
 
     ghost invariant = { λ r. r.buffer.capacity ≡ WINDOW };
 }
 
-impl Ring {
+impl<Q: Asking> RingOf<Q> {
     /// Makes an empty window with room for seven. It fails only where the heap has no memory for that room.
-    pub fn new(alloc: Global) -> Result<Ring, AllocError>
+    pub fn new(alloc: Global) -> Result<RingOf<Q>, AllocError>
         ensures { IfOk result (λ ring. ring ≡ []) }
     {
         let buffer = HeapCircularBuffer::with_capacity(alloc, WINDOW)?;
-        Ok(Ring { buffer })
+        Ok(RingOf { buffer })
     }
 }
 
-impl Window for Ring {
+impl<Q: Asking> Window for RingOf<Q> {
+    type Asked = Q;
+
     ghost pendings = { λ ring. ring };
 
     fn len(&self) -> usize {
         self.buffer.len()
     }
 
-    fn get(&self, k: usize) -> Pending {
+    fn get(&self, k: usize) -> Pending<Q> {
         *self.buffer.get(k).unwrap()
     }
 
-    fn push(&mut self, p: Pending) {
+    fn push(&mut self, p: Pending<Q>)
+        requires { length self.old < WINDOW }
+        ensures { self.new ≡ self.old ++ p ∷ [] }
+    {
         self.buffer.push_back(p);
     }
 
-    fn take_first(&mut self) -> Pending {
+    fn take_first(&mut self) -> Pending<Q> {
         self.buffer.pop_front().unwrap()
     }
 

@@ -1,16 +1,15 @@
 //! Settlements: how a request ended. Each request is settled once, in the order of sending.
 
 ghost use Rattle.std.specs.Prelude.{◌≡◌};
-ghost use Rattle.gc_catalogue.specs.declared.call.Call.TheVariants.{NullProc};
 ghost use Rattle.gc_client.specs.declared.settlement.Outcome.TheVariants.{Lost};
 
-use gc_catalogue::{Call, Reading};
+use gc_catalogue::{Asking, Reading};
 use gc_lines::Line;
 
 /// How a request ended.
 #[derive(Debug, PartialEq, Eq, Drop)]
 pub enum Outcome {
-    /// Its reply came in time: what the reply says for the call, and the very line.
+    /// Its reply came in time: what the reply says of what was asked, and the very line.
     /// A reply that doesn't read is an answer too, whose reading says so.
     Answered(Reading, Line),
     /// A reply to it came after it was given up. What the reply said is dropped.
@@ -31,23 +30,24 @@ impl Default for Outcome {
 
 /// The end of one request. That is what "settlement" means here, and no movement of the ground.
 #[derive(Debug, PartialEq, Eq, Drop)]
-pub struct Settlement {
+pub struct Settlement<Q> {
     /// Whom the request was for, as it was handed to `send`.
     pub target: u32,
     /// What it asked for.
-    pub call: Call,
+    pub call: Q,
     /// How it ended.
     pub outcome: Outcome,
 }
 
-impl Default for Settlement {
-    ghost is_default = { λ s. (s.target ≡ 0) × (s.call ≡ NullProc) × (s.outcome ≡ Lost) };
+impl<Q: Asking> Default for Settlement<Q> {
+    ghost is_default = { λ s. (s.target ≡ 0) × (s.call ≡ Q.blank) × (s.outcome ≡ Lost) };
 
-    /// A null procedure for target 0 that is lost: what fills the places of an `ArrayVec` that nothing uses yet.
-    fn default() -> Settlement {
+    /// Lost, for target 0: what fills the places of an `ArrayVec` that nothing uses yet.
+    #[inline(always)]
+    fn default() -> Settlement<Q> {
         Settlement {
             target: 0,
-            call: Call::NullProc,
+            call: Q::blank(),
             outcome: Outcome::default(),
         }
     }

@@ -1,10 +1,11 @@
 //! A window in eight fixed places: a request's place is its id.
 
-ghost use Rattle.std.specs.Prelude.{◌≡◌, []};
+ghost use Rattle.std.specs.Prelude.{◌≡◌, ◌<◌, [], ◌∷◌, ◌++◌, length};
+ghost use Rattle.gc_client.specs.declared.window.TheConstants.{WINDOW};
 
 use crate::pending::Pending;
 use crate::window::{IDS, Window};
-use gc_catalogue::Call;
+use gc_catalogue::{Asking, Call};
 use std::marker::Model;
 
 // A place for each id.
@@ -13,22 +14,25 @@ const PLACES: usize = IDS as usize;
 /// A window in eight fixed places, for a station that must never ask for memory. `clear` begins again at place 0, as a
 /// client's ids begin at 0, so the request with id i stands at place i.
 #[derive(Drop)]
-pub struct Slots {
-    places: [Pending; PLACES],
+pub struct SlotsOf<Q: Asking> {
+    places: [Pending<Q>; PLACES],
     // The place of the oldest request.
     oldest: usize,
     // How many requests wait: the oldest, and those at the places behind it, going round.
     len: usize,
 }
 
-impl Model for Slots {
+/// A window in eight fixed places, of requests for calls.
+pub type Slots = SlotsOf<Call>;
+
+impl<Q: Asking> Model for SlotsOf<Q> {
     ghost use Rattle.std.specs.Prelude.{◌≡◌, ◌<◌, ◌≤◌, List, length};
     ghost use Rattle.gc_client.specs.declared.window.TheConstants.{WINDOW};
     ghost use Rattle.gc_client.specs.declared.pending.Pending.{Pending};
     ghost use Rattle.gc_client.specs.declared.slots.TheConstants.{PLACES};
     ghost use Rattle.gc_client.specs.Places.{waiting_in};
 
-    ghost Value = { List Pending };
+    ghost Value = { List (Pending Q) };
 
     ghost view = { λ s. waiting_in s.oldest s.len s.places };
 
@@ -36,20 +40,23 @@ impl Model for Slots {
 }
 
 // The value of a place that nothing has used yet.
-const VACANT: Pending = Pending {
-    target: 0,
-    call: Call::NullProc,
-    deadline: 0,
-    given_up: false,
-};
+#[inline(always)]
+fn vacant<Q: Asking>() -> Pending<Q> {
+    Pending {
+        target: 0,
+        call: Q::blank(),
+        deadline: 0,
+        given_up: false,
+    }
+}
 
-impl Slots {
+impl<Q: Asking> SlotsOf<Q> {
     /// Makes an empty window. It takes no memory.
-    pub fn new() -> Slots
+    pub fn new() -> SlotsOf<Q>
         ensures { result ≡ [] }
     {
-        Slots {
-            places: [VACANT; PLACES],
+        SlotsOf {
+            places: [vacant(); PLACES],
             oldest: 0,
             len: 0,
         }
@@ -57,15 +64,17 @@ impl Slots {
 }
 
 // An empty window, as `new` makes it.
-impl Default for Slots {
+impl<Q: Asking> Default for SlotsOf<Q> {
     ghost is_default = { λ slots. slots ≡ [] };
 
-    fn default() -> Slots {
-        Slots::new()
+    fn default() -> SlotsOf<Q> {
+        SlotsOf::new()
     }
 }
 
-impl Window for Slots {
+impl<Q: Asking> Window for SlotsOf<Q> {
+    type Asked = Q;
+
     ghost pendings = { λ slots. slots };
 
     fn len(&self) -> usize {
@@ -73,17 +82,20 @@ impl Window for Slots {
     }
 
     // Request k stands k places behind the oldest, going round.
-    fn get(&self, k: usize) -> Pending {
+    fn get(&self, k: usize) -> Pending<Q> {
         self.places[(self.oldest + k) % PLACES]
     }
 
     // The request goes to the place behind the youngest, going round.
-    fn push(&mut self, p: Pending) {
+    fn push(&mut self, p: Pending<Q>)
+        requires { length self.old < WINDOW }
+        ensures { self.new ≡ self.old ++ p ∷ [] }
+    {
         self.places[(self.oldest + self.len) % PLACES] = p;
         self.len += 1;
     }
 
-    fn take_first(&mut self) -> Pending {
+    fn take_first(&mut self) -> Pending<Q> {
         let first = self.places[self.oldest];
         self.oldest = (self.oldest + 1) % PLACES;
         self.len -= 1;

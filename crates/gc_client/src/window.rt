@@ -4,6 +4,7 @@ ghost use Rattle.std.specs.Prelude.{◌≡◌, ◌<◌, ◌≤◌, [], ◌∷◌
 ghost use Rattle.gc_client.specs.Rule.{given_up_at};
 
 use crate::pending::Pending;
+use gc_catalogue::Asking;
 
 /// How many requests can wait at most: the width of the widest window.
 pub const WINDOW: usize = 7;
@@ -17,8 +18,11 @@ pub trait Window: Drop {
     ghost use Rattle.std.specs.Prelude.{List};
     ghost use Rattle.gc_client.specs.declared.pending.Pending.{Pending};
 
+    /// What the requests ask for.
+    type Asked: Asking;
+
     /// The requests that wait, oldest first.
-    ghost pendings: { Self → List Pending };
+    ghost pendings: { Self → List (Pending Self.Asked) };
 
     /// How many requests wait.
     fn len(&self) -> usize
@@ -26,17 +30,17 @@ pub trait Window: Drop {
         ensures within { result ≤ WINDOW };
 
     /// The request at place k, counted from the oldest.
-    fn get(&self, k: usize) -> Pending
+    fn get(&self, k: usize) -> Pending<Self::Asked>
         requires { k < length (pendings self.now) }
         ensures { slice_get (pendings self.now) k ≡ Some result };
 
     /// Appends a request behind the youngest.
-    fn push(&mut self, p: Pending)
+    fn push(&mut self, p: Pending<Self::Asked>)
         requires { length (pendings self.old) < WINDOW }
         ensures { pendings self.new ≡ pendings self.old ++ p ∷ [] };
 
     /// Takes the oldest request out.
-    fn take_first(&mut self) -> Pending
+    fn take_first(&mut self) -> Pending<Self::Asked>
         requires { 0 < length (pendings self.old) }
         ensures { pendings self.old ≡ result ∷ pendings self.new };
 

@@ -61,7 +61,7 @@ fn is_restarted(client: &mut Client<Slots>) -> bool {
 }
 
 // Whether these are exactly one settlement, with this target, call and outcome.
-fn ends(settled: &[Settlement], target: u32, call: Call, outcome: End) -> bool {
+fn ends(settled: &[Settlement<Call>], target: u32, call: Call, outcome: End) -> bool {
     let wanted = Settlement {
         target,
         call,

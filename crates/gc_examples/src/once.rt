@@ -6,6 +6,7 @@ use crate::example::Example;
 use crate::links::{ask, loop_commands};
 use crate::outcome::Outcome;
 use gc_cases::Told;
+use gc_catalogue::Call;
 use gc_client::{Client, Ring, Slots, Window};
 use gc_engines::{read_schedule, run_check, run_drill, run_exec};
 use gc_instrument::Instrument;
@@ -142,7 +143,7 @@ fn tell_ring(alloc: Global, events: &[Event], told: &mut Told) {
 }
 
 // Tells all that events lead to over a window.
-fn tell_over<W: Window>(alloc: Global, window: W, events: &[Event], told: &mut Told) {
+fn tell_over<W: Window<Asked = Call>>(alloc: Global, window: W, events: &[Event], told: &mut Told) {
     match play(alloc, Instrument::simulator(), window, events) {
         Ok((report, client)) => tell_all(&report, &client, told),
         Err(_) => told.lack(),
@@ -150,7 +151,7 @@ fn tell_over<W: Window>(alloc: Global, window: W, events: &[Event], told: &mut T
 }
 
 // Tells all of a report, and of the client how many requests wait, and the next id.
-fn tell_all<W: Window>(report: &Report, client: &Client<W>, told: &mut Told) {
+fn tell_all<W: Window<Asked = Call>>(report: &Report, client: &Client<W>, told: &mut Told) {
     tell_lists(report, told);
     tell_counts(report, told);
     told.counted(&client.waiting(), " ");

@@ -1,13 +1,16 @@
 -- Two requests go out at once, and the instrument keeps a reply with the second one's id: that reply is booked for the second
 -- request.
 use Rattle.std.proofs.Common.{◌≡◌, ℕ, true, false, List, [], ◌∷◌, ◌++◌, Option, Some, sym, ◌∙◌, ap, subst, lit<}
+use Rattle.gc_catalogue.specs.declared.asked.Asked.TheVariants.{Table}
 use Rattle.gc_catalogue.specs.declared.call.Call.TheVariants.{NullProc}
+use Rattle.gc_catalogue.specs.declared.asked.Asked.{Asked}
 use Rattle.gc_client.specs.declared.window.TheConstants.{WINDOW}
 use Rattle.gc_client.specs.Rule.{ById, hears}
 use Rattle.gc_instrument.specs.Replying.{Handed, kept_line}
 use Rattle.gc_instrument.specs.State.{State, IsFittingState}
-use Rattle.gc_world.specs.Clients.{ends, by_ids, ids_open}
-use Rattle.gc_world.specs.World.{Numbered, Request, World, Up_deliver, Up_lose, on_wire, replied, with_settled, down_delivered}
+use Rattle.gc_world.specs.Clients.{by_ids, ids_open}
+use Rattle.gc_field.specs.Simulator.{ends}
+use Rattle.gc_field.specs.World.{Numbered, Request, World, Up_deliver, Up_lose, on_wire, replied, with_settled, down_delivered}
 use Rattle.gc_world.proofs.Handing.{exchange, kept_of, keeper}
 use Rattle.gc_field.specs.Field.{Move, Sends, OnLine, moved}
 use Rattle.gc_field.specs.Alone.{IsBookedUnexecuted, two_at_once}
@@ -15,11 +18,11 @@ use Rattle.gc_field.specs.Made.{WasMadeOn, wire_behind}
 
 module _ (s : State) (line : List ℕ) where
   -- the world in which the second request alone is under way
-  abbrev out : World ById State
-  out = moved ends (by_ids 7 ends) (Sends 1 NullProc 9 ∷ Sends 2 NullProc 9 ∷ OnLine (Up_lose 0) ∷ []) (ids_open s)
+  abbrev out : World (ById Asked) State
+  out = moved ends (by_ids 7 ends) (Sends 1 (Table NullProc) 9 ∷ Sends 2 (Table NullProc) 9 ∷ OnLine (Up_lose 0) ∷ []) (ids_open s)
 
   -- the world once the second request reached an instrument that did this with it
-  abbrev reached : Handed State → World ById State
+  abbrev reached : Handed State → World (ById Asked) State
   reached h = on_wire out (replied out.wire 1 [] h)
 
   -- what the instrument does with a request whose reply it keeps: it sends the line again
@@ -27,15 +30,15 @@ module _ (s : State) (line : List ℕ) where
   again = record { state = s; reply = line; executed = false }
 
   -- the world once the reply of an instrument that did this came
-  abbrev came : Handed State → World ById State
+  abbrev came : Handed State → World (ById Asked) State
   came h = down_delivered (by_ids 7 ends) (reached h) (reached h).wire.down
 
   -- the world once a line came in which this id is read
-  abbrev heard_as : Option ℕ → World ById State
+  abbrev heard_as : Option ℕ → World (ById Asked) State
   heard_as o = with_settled (record (reached again).wire { down = [] }) (hears (reached again).client line o)
 
   -- where the instrument keeps a reply with id 1, it sends that reply again for a request with that id
-  handed_is : kept_line (kept_of s) (Some 1) ≡ Some line → ends.handed s 1 NullProc ≡ again
+  handed_is : kept_line (kept_of s) (Some 1) ≡ Some line → ends.handed s 1 (Table NullProc) ≡ again
   handed_is k = keeper.again s 1 NullProc line k
 
   -- the line that is kept has id 1
@@ -44,7 +47,7 @@ module _ (s : State) (line : List ℕ) where
 
   -- only one request reaches the instrument by the moves `two_at_once`: before the move at which a request does, two requests are
   -- sent and the first is lost
-  only : (front later : List (Move State)) → two_at_once line ≡ front ++ OnLine Up_deliver ∷ later → front ≡ Sends 1 NullProc 9 ∷ Sends 2 NullProc 9 ∷ OnLine (Up_lose 0) ∷ []
+  only : (front later : List (Move State)) → two_at_once line ≡ front ++ OnLine Up_deliver ∷ later → front ≡ Sends 1 (Table NullProc) 9 ∷ Sends 2 (Table NullProc) 9 ∷ OnLine (Up_lose 0) ∷ []
   only [] later e = let never : ⊥ = cc in absurd never
   only (a ∷ []) later e = let never : ⊥ = cc in absurd never
   only (a ∷ b ∷ []) later e = let never : ⊥ = cc in absurd never
@@ -59,14 +62,15 @@ module _ (s : State) (line : List ℕ) where
   first_id (x ∷ rest) = x.line.id
 
   -- the line wasn't made on executing the second request
-  unmade : kept_line (kept_of s) (Some 1) ≡ Some line → WasMadeOn WINDOW ends s (two_at_once line) 1 NullProc line → ⊥
+  unmade : kept_line (kept_of s) (Some 1) ≡ Some line → WasMadeOn WINDOW ends s (two_at_once line) 1 (Table NullProc) line → ⊥
   unmade k h =
       let here = only h.front h.later h.split in
-      let reaches = subst (λ front. (wire_behind WINDOW ends s front).up ≡ record { number = 1; line = record { id = h.id; call = NullProc } } ∷ h.rest) here h.reaches in
+      let reaches = subst (λ front. (wire_behind WINDOW ends s front).up ≡ record { number = 1; line = record { id = h.id; call = Table NullProc } } ∷ h.rest) here h.reaches in
       let id : 1 ≡ h.id = ap first_id reaches in
-      let executed : (ends.handed s h.id NullProc).executed ≡ true = subst (λ front. (ends.handed (wire_behind WINDOW ends s front).state h.id NullProc).executed ≡ true) here h.executed in
+      let executed : (ends.handed s h.id (Table NullProc)).executed ≡ true =
+      subst (λ front. (ends.handed (wire_behind WINDOW ends s front).state h.id (Table NullProc)).executed ≡ true) here h.executed in
       let never : false ≡ true =
-      sym (ap (λ (h : Handed State). h.executed) (handed_is k)) ∙ subst (λ i. (ends.handed s i NullProc).executed ≡ true) (sym id) executed in
+      sym (ap (λ (h : Handed State). h.executed) (handed_is k)) ∙ subst (λ i. (ends.handed s i (Table NullProc)).executed ≡ true) (sym id) executed in
       cc
 
   -- the reply that is kept is booked for the second request

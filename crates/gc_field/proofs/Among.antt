@@ -2,27 +2,28 @@
 use Rattle.std.proofs.Common.{◌≡◌, ℕ, zero, suc, ◌+◌, true, false, List, [], ◌∷◌, ◌++◌, map, Some, refl, ◌∙◌, ap, subst, arith, drop}
 use Rattle.std.specs.Prelude.{slice_get}
 use Rattle.std.specs.List.{AllByRecursion}
-use Rattle.gc_client.specs.OneForOne.{Asked}
+use Rattle.gc_catalogue.specs.declared.asked.Asked.{Asked}
+use Rattle.gc_client.specs.OneForOne.{Wanted}
 use Rattle.gc_client.specs.declared.pending.Pending.{Pending}
 use Rattle.gc_client.specs.Rule.{Answered, Late, Lost, Settlement, lost}
 use Rattle.gc_station.specs.Records.{Record}
-use Rattle.gc_world.specs.World.{Sent}
+use Rattle.gc_field.specs.World.{Sent}
 use Rattle.gc_world.proofs.Options.{none_is_not}
-use Rattle.gc_field.specs.Begun.{behind}
 use Rattle.gc_field.specs.Laws.{asked}
 
 -- an answer among settlements and lost requests is among the settlements
-pub among_settled : (xs : List Settlement) (ps : List Pending) (n : ℕ) (x : Settlement) (line : List ℕ) → slice_get (xs ++ map lost ps) n ≡ Some x → x.outcome ≡ Answered line → slice_get xs n ≡ Some x
+pub among_settled : (xs : List (Settlement Asked)) (ps : List (Pending Asked)) (n : ℕ) (x : Settlement Asked) (line : List ℕ) → slice_get (xs ++ map lost ps) n ≡ Some x
+    → x.outcome ≡ Answered line → slice_get xs n ≡ Some x
 among_settled (y ∷ xs) ps zero x line got answered = got
 among_settled (y ∷ xs) ps (suc n) x line got answered = among_settled xs ps n x line got answered
 among_settled [] ps n x line got answered = absurd (never ps n got) where
-  some_same : (a b : Settlement) → Some a ≡ Some b → a ≡ b
+  some_same : (a b : Settlement Asked) → Some a ≡ Some b → a ≡ b
   some_same a b e = cc
 
-  lost_not : (p : Pending) → lost p ≡ x → ⊥
-  lost_not p e = let other : Lost ≡ Answered line = ap (λ (s : Settlement). s.outcome) e ∙ answered in cc
+  lost_not : (p : Pending Asked) → lost p ≡ x → ⊥
+  lost_not p e = let other : Lost ≡ Answered line = ap (λ (s : Settlement Asked). s.outcome) e ∙ answered in cc
 
-  never : (ps : List Pending) (n : ℕ) → slice_get (map lost ps) n ≡ Some x → ⊥
+  never : (ps : List (Pending Asked)) (n : ℕ) → slice_get (map lost ps) n ≡ Some x → ⊥
   never [] n e = cc
   never (p ∷ ps) zero e = lost_not p (some_same (lost p) x e)
   never (p ∷ ps) (suc n) e = never ps n e
@@ -32,26 +33,26 @@ pub true_is_not : true ≡ false → ⊥
 true_is_not e = cc
 
 -- a late settlement among settlements and lost requests is among the settlements
-pub among_late : (xs : List Settlement) (ps : List Pending) (n : ℕ) (x : Settlement) → slice_get (xs ++ map lost ps) n ≡ Some x → x.outcome ≡ Late → slice_get xs n ≡ Some x
+pub among_late : (xs : List (Settlement Asked)) (ps : List (Pending Asked)) (n : ℕ) (x : Settlement Asked) → slice_get (xs ++ map lost ps) n ≡ Some x → x.outcome ≡ Late → slice_get xs n ≡ Some x
 among_late (y ∷ xs) ps zero x got late = got
 among_late (y ∷ xs) ps (suc n) x got late = among_late xs ps n x got late
 among_late [] ps n x got late = absurd (never ps n got) where
-  some_same : (a b : Settlement) → Some a ≡ Some b → a ≡ b
+  some_same : (a b : Settlement Asked) → Some a ≡ Some b → a ≡ b
   some_same a b e = cc
 
-  lost_not : (p : Pending) → lost p ≡ x → ⊥
-  lost_not p e = let other : Lost ≡ Late = ap (λ (s : Settlement). s.outcome) e ∙ late in cc
+  lost_not : (p : Pending Asked) → lost p ≡ x → ⊥
+  lost_not p e = let other : Lost ≡ Late = ap (λ (s : Settlement Asked). s.outcome) e ∙ late in cc
 
-  never : (ps : List Pending) (n : ℕ) → slice_get (map lost ps) n ≡ Some x → ⊥
+  never : (ps : List (Pending Asked)) (n : ℕ) → slice_get (map lost ps) n ≡ Some x → ⊥
   never [] n e = cc
   never (p ∷ ps) zero e = lost_not p (some_same (lost p) x e)
   never (p ∷ ps) (suc n) e = never ps n e
 
 -- where `a` is what request n asks for, there is a request n that asks for it
-pub asked_at : (rs : List Sent) (n : ℕ) (a : Asked) → slice_get (map asked rs) n ≡ Some a → (r : Sent) × (slice_get rs n ≡ Some r) × (asked r ≡ a)
+pub asked_at : (rs : List Sent) (n : ℕ) (a : Wanted Asked) → slice_get (map asked rs) n ≡ Some a → (r : Sent) × (slice_get rs n ≡ Some r) × (asked r ≡ a)
 asked_at [] n a e = cc
 asked_at (r ∷ rs) zero a e = (r, refl, same (asked r) a e) where
-  same : (x y : Asked) → Some x ≡ Some y → x ≡ y
+  same : (x y : Wanted Asked) → Some x ≡ Some y → x ≡ y
   same x y e = cc
 asked_at (r ∷ rs) (suc n) a e = asked_at rs n a e
 

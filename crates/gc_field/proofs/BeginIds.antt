@@ -3,7 +3,7 @@
 use Rattle.std.specs.Prelude.{◌≡◌, ℕ, zero, suc, ◌+◌, ◌%◌, nat_eq, Bool, true, false, List, [], ◌∷◌, ◌++◌, map, Option, Some, None}
 use Rattle.gc_client.specs.Beginning.{IsSubsequence, left_by_one}
 use Rattle.gc_world.specs.Order.{Each}
-use Rattle.gc_world.specs.World.{without, doubled}
+use Rattle.gc_field.specs.World.{without, doubled}
 
 -- The line.
 
@@ -29,6 +29,8 @@ pub data Move : Type 0 where
   Ask : Move
   -- the front request reaches the instrument, whose reply goes out, or is lost at once
   Reach : (replies : Bool) → Move
+  -- the front request reaches the instrument, whose reply goes out, and which still keeps what it kept, if that request is old
+  Pass : Move
   -- the front reply comes
   Come : Move
   -- the line loses an element, or repeats it directly after itself
@@ -58,6 +60,16 @@ reaches s replies [] = s
 reaches s true (x ∷ rest) = record s { up = rest; down = s.down ++ x ∷ []; kept = Some x.id }
 reaches s false (x ∷ rest) = record s { up = rest; kept = Some x.id }
 
+-- the id of what is kept once a request with this id was passed over (`k` before): an old one leaves it
+abbrev pub kept_past : Bool → ℕ → Option ℕ → Option ℕ
+kept_past true id k = k
+kept_past false id k = Some id
+
+-- the state once the front request of this queue was passed over: its reply goes out, and if it is old, what is kept stays
+abbrev pub passes : Model → List Sent → Model
+passes s [] = s
+passes s (x ∷ rest) = record s { up = rest; down = s.down ++ x ∷ []; kept = kept_past x.old x.id s.kept }
+
 -- the state once the front reply of this queue came
 abbrev pub comes : Model → List Sent → Model
 comes s [] = s
@@ -67,6 +79,7 @@ comes s (x ∷ rest) = record s { down = rest; left = heard s.left x.id }
 abbrev pub moves : Model → Move → Model
 moves s Ask = asks s s.left
 moves s (Reach replies) = reaches s replies s.up
+moves s Pass = passes s s.up
 moves s Come = comes s s.down
 moves s (Up_lose k) = record s { up = without k s.up }
 moves s (Up_repeat k) = record s { up = doubled k s.up }

@@ -5,14 +5,16 @@ use mathlib.Core.Path.{ap₂}
 use Rattle.std.specs.List.{filter_map, cons_option}
 use Rattle.std.proofs.lemmas.Bool.{ne_eqb}
 use Rattle.std.proofs.lemmas.List.{map-append}
-use Rattle.gc_catalogue.specs.declared.call.Call.{Call}
+use Rattle.gc_catalogue.specs.Asked.{is_of_table}
+use Rattle.gc_catalogue.specs.declared.asked.Asked.{Asked}
+use Rattle.gc_catalogue.specs.declared.asked.Asked.TheVariants.{Table}
 use Rattle.gc_catalogue.specs.declared.call.Call.TheVariants.{NullProc}
 use Rattle.gc_client.specs.Beginning.{IsSubsequence, the_word, is_answered, left_by, left_by_one}
 use Rattle.gc_client.specs.Rule as rule
 use Rattle.gc_instrument.specs.Replying.{Handed}
 use Rattle.gc_instrument.specs.State.{KeptReply}
 use Rattle.gc_world.specs.Order.{Each}
-use Rattle.gc_world.specs.World.{Ends, Request, without, doubled}
+use Rattle.gc_field.specs.World.{Ends, Request, without, doubled}
 use Rattle.gc_world.proofs.Options.{some_is, none_is_not}
 use Rattle.gc_field.specs.Begin.{Aged, AreLines, AreTurns, Model, Turn, Asks, Comes, Foreign, Reaches, Up_lose, Up_repeat, Down_lose, Down_repeat, Anew, Changes, UnderWay, begins, leaves, ids_under_way, asks, comes, reaches, turns, turned}
 use Rattle.gc_field.specs.Begun.{HasBegunCleanly, eighth}
@@ -86,11 +88,15 @@ none_left : (left : List ℕ) → left_by left None ≡ left
 none_left [] = refl
 none_left (asked ∷ rest) = refl
 
+-- true isn't false
+true_is_not : true ≡ false → ⊥
+true_is_not e = cc
+
 -- One state shows another.
 
 -- a request's id is below 8, and if the request is of this beginning, it is a null procedure
 abbrev IsKnown : Aged Request → Type 0
-IsKnown x = (x.line.id < 8) × (x.old ≡ false → x.line.call ≡ NullProc)
+IsKnown x = (x.line.id < 8) × (x.old ≡ false → x.line.call ≡ (Table NullProc))
 
 module _ {State : Type 0} (ends : Ends State) (Good : State → Type 0) (kept : State → Option KeptReply) (is : IsAnInstrument ends Good kept) where
   -- the state p of a beginning over ids is that of the beginning over lines, s, with the ids of its lines
@@ -107,7 +113,7 @@ module _ {State : Type 0} (ends : Ends State) (Good : State → Type 0) (kept : 
   shows_asks : (s : Model State) (p : ids.Model) (left : List ℕ) → s.left ≡ left → Shows s p → Shows (asks s left) (ids.asks p left)
   shows_asks s p [] e g = g
   shows_asks s p (asked ∷ rest) e g =
-      let new : Aged Request = record { old = false; line = record { id = asked; call = NullProc } } in
+      let new : Aged Request = record { old = false; line = record { id = asked; call = Table NullProc } } in
       record {
         up = ap (λ l. l ++ mark_up new ∷ []) g.up ∙ sym (map-append mark_up s.up (new ∷ []));
         down = g.down;
@@ -144,30 +150,51 @@ module _ {State : Type 0} (ends : Ends State) (Good : State → Type 0) (kept : 
   }
 
   -- what is kept after a request, its reply or nothing, has the request's id
-  kept_behind : (k o : Option KeptReply) (id : ℕ) (line : List ℕ) (r : KeptReply) → (k ≡ None) ⊎ (k ≡ Some (record { id = id; line = line })) → k ≡ Some r → Some id ≡ Some r.id
-  kept_behind k o id line r (inl none) e = absurd (none_is_not r (sym none ∙ e))
-  kept_behind k o id line r (inr some) e = ap (λ (x : KeptReply). Some x.id) (some_is (record { id = id; line = line }) r (sym some ∙ e))
+  kept_behind : (k : Option KeptReply) (id : ℕ) (line : List ℕ) (r : KeptReply) → (k ≡ None) ⊎ (k ≡ Some (record { id = id; line = line })) → k ≡ Some r → Some id ≡ Some r.id
+  kept_behind k id line r (inl none) e = absurd (none_is_not r (sym none ∙ e))
+  kept_behind k id line r (inr some) e = ap (λ (x : KeptReply). Some x.id) (some_is (record { id = id; line = line }) r (sym some ∙ e))
 
-  -- `Shows` lasts where a request reaches the instrument
-  shows_reaches : (s : Model State) (p : ids.Model) (q : List (Aged Request)) → s.up ≡ q → Shows s p → Shows (reaches ends s q) (ids.reaches p true (map mark_up q))
-  shows_reaches s p [] e g = g
-  shows_reaches s p (x ∷ rest) e g =
+  -- a request that is no call of the table is old
+  old_raw : (x : Aged Request) → IsKnown x → is_of_table x.line.call ≡ false → x.old ≡ true
+  old_raw x known raw = by_case x.old refl where
+    by_case : (b : Bool) → x.old ≡ b → b ≡ true
+    by_case true e = refl
+    by_case false e = absurd (true_is_not (sym (ap is_of_table (known.1 e)) ∙ raw))
+
+  -- where a request reaches the instrument, and `p` shows it, the state of the ids that goes out of it shows what the instrument makes of it
+  shows_reached : (s : Model State) (p q : ids.Model) (x : Aged Request) (rest : List (Aged Request)) → s.up ≡ x ∷ rest → Shows s p → q.up ≡ map mark_up rest
+      → q.down ≡ p.down ++ mark_up x ∷ [] → q.left ≡ p.left
+      → ((k : KeptReply) → kept (ends.handed s.state x.line.id x.line.call).state ≡ Some k → q.kept ≡ Some k.id) → Shows (reaches ends s (x ∷ rest)) q
+  shows_reached s p q x rest e g up down left keeps =
       let known = subst (Each IsKnown) e g.known in
       let small : x.line.id < 8 = known.0.0 in
       let hd : Handed State = ends.handed s.state x.line.id x.line.call in
       let reply : Aged (List ℕ) = record { old = x.old; line = hd.reply } in
       record {
-        up = refl;
+        up = up;
         down =
-            ap (λ l. l ++ mark_up x ∷ []) g.down
+            down ∙ ap (λ l. l ++ mark_up x ∷ []) g.down
             ∙ ap (λ o. map mark_down s.down ++ record { id = id_or o; old = x.old } ∷ []) (sym (is.replies s.state x.line.id x.line.call g.good small))
             ∙ sym (map-append mark_down s.down (reply ∷ []));
-        left = g.left;
-        keeps = λ k f. kept_behind (kept hd.state) (kept hd.state) x.line.id hd.reply k (is.keeps s.state x.line.id x.line.call g.good small) f;
+        left = left ∙ g.left;
+        keeps = keeps;
         good = is.stays_good s.state x.line.id x.line.call g.good small;
         known = known.1;
         small = g.small;
       }
+
+  -- where a request reaches the instrument, it reaches it over ids, too; or it is passed over there
+  shows_reaches : (s : Model State) (p : ids.Model) (q : List (Aged Request)) → s.up ≡ q → Shows s p
+      → Shows (reaches ends s q) (ids.reaches p true (map mark_up q)) ⊎ Shows (reaches ends s q) (ids.passes p (map mark_up q))
+  shows_reaches s p [] e g = inl g
+  shows_reaches s p (x ∷ rest) e g =
+      let known = subst (Each IsKnown) e g.known in
+      let hd : Handed State = ends.handed s.state x.line.id x.line.call in
+      elim (is.keeps s.state x.line.id x.line.call g.good known.0.0) [
+        | inl own ↦ inl (shows_reached s p (ids.reaches p true (map mark_up (x ∷ rest))) x rest e g refl refl refl (λ k f. kept_behind (kept hd.state) x.line.id hd.reply k own f))
+        | inr third ↦ inr (shows_reached s p (ids.passes p (map mark_up (x ∷ rest))) x rest e g refl refl refl
+            (λ k f. ap (λ b. ids.kept_past b x.line.id p.kept) (old_raw x known.0 third.0) ∙ g.keeps k (sym third.1 ∙ f)))
+      ]
 
   -- `Shows` lasts where the requests under way change alike in both
   shows_up : (s : Model State) (p : ids.Model) (up : List (Aged Request)) (ups : List Sent) → ups ≡ map mark_up up → Each IsKnown up → Shows s p → Shows (record s { up = up }) (record p { up = ups })
@@ -203,8 +230,12 @@ module _ {State : Type 0} (ends : Ends State) (Good : State → Type 0) (kept : 
       (ids.Come ∷ r.0, r.1)
   shown (Foreign line ∷ ts) s p h g = shown ts (turns ends s (Foreign line)) p h.1 (shows_foreign s p line h.0 g)
   shown (Reaches ∷ ts) s p h g =
-      let r = shown ts (turns ends s Reaches) (ids.moves p (ids.Reach true)) h.1 (subst (λ l. Shows (reaches ends s s.up) (ids.reaches p true l)) (sym g.up) (shows_reaches s p s.up refl g)) in
-      (ids.Reach true ∷ r.0, r.1)
+      elim (shows_reaches s p s.up refl g) [
+        | inl r ↦ (let x = shown ts (turns ends s Reaches) (ids.moves p (ids.Reach true)) h.1 (subst (λ l. Shows (reaches ends s s.up) (ids.reaches p true l)) (sym g.up) r) in
+            (ids.Reach true ∷ x.0, x.1))
+        | inr r ↦ (let x = shown ts (turns ends s Reaches) (ids.moves p ids.Pass) h.1 (subst (λ l. Shows (reaches ends s s.up) (ids.passes p l)) (sym g.up) r) in
+            (ids.Pass ∷ x.0, x.1))
+      ]
   shown (Up_lose k ∷ ts) s p h g =
       let r = shown ts (turns ends s (Up_lose k)) (ids.moves p (ids.Up_lose k)) h.1
       (shows_up s p (without k s.up) (without k p.up) (ap (without k) g.up ∙ map_without mark_up k s.up) (each_without IsKnown k s.up g.known) g) in
@@ -249,10 +280,6 @@ module _ {State : Type 0} (ends : Ends State) (Good : State → Type 0) (kept : 
   down_marks : (xs : List (List ℕ)) → aged (map (λ x. record { id = id_or (rule.heard x); old = true }) xs) ≡ map mark_down (map (λ x. record { old = true; line = x }) xs)
   down_marks [] = refl
   down_marks (x ∷ xs) = ap (λ l. record { id = id_or (rule.heard x); old = true } ∷ l) (down_marks xs)
-
-  -- true isn't false
-  true_is_not : true ≡ false → ⊥
-  true_is_not e = cc
 
   -- requests from before, with ids below 8, are `IsKnown`
   known_old : (xs : List Request) → Each (λ x. x.id < 8) xs → Each IsKnown (map (λ x. record { old = true; line = x }) xs)
@@ -348,8 +375,8 @@ module _ {State : Type 0} (ends : Ends State) (Good : State → Type 0) (kept : 
   heard_seven (Some id) e = ap Some e
 
   -- a null procedure with id 7 is the eighth
-  request_is : (x : Request) → x.id ≡ 7 → x.call ≡ NullProc → x ≡ eighth
-  request_is x e f = ap₂ (λ (i : ℕ) (c : Call). record { id = i; call = c }) e f
+  request_is : (x : Request) → x.id ≡ 7 → x.call ≡ (Table NullProc) → x ≡ eighth
+  request_is x e f = ap₂ (λ (i : ℕ) (c : Asked). record { id = i; call = c }) e f
 
   -- the requests under way are copies of the eighth null procedure, if their marks say so
   clean_up : (xs : List (Aged Request)) → Each IsKnown xs → Each (λ x. (x.old ≡ false) × (x.id ≡ 7)) (map mark_up xs) → Each (λ x. (x.old ≡ false) × (x.line ≡ eighth)) xs

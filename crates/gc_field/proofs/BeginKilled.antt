@@ -6,7 +6,7 @@ use Rattle.std.proofs.lemmas.Bool.{eqb-true}
 use Rattle.gc_client.specs.Beginning.{left_by_one, IsSubsequence, the_word}
 use Rattle.gc_field.proofs.BeginIds.{Sent, Model, Move, heard, moved, aged, begun_anew, Pairs, AllDiffer, Begins, ids_of}
 use Rattle.gc_world.specs.Order.{Each}
-use Rattle.gc_world.specs.World.{without, doubled}
+use Rattle.gc_field.specs.World.{without, doubled}
 use Rattle.gc_field.proofs.BeginLists.{each_more, each_both, each_append, each_back, each_without, each_doubled, pairs_front, pairs_back, goes_over}
 use Rattle.gc_field.proofs.BeginWords.{Has, stands_front, stands_each, never, word_differs}
 use Rattle.gc_field.proofs.BeginMoves.{Lasts, holds_moved}

@@ -6,7 +6,7 @@ use Rattle.std.proofs.lemmas.Bool.{eqb-true}
 use Rattle.gc_client.specs.Beginning.{left_by_one, IsSubsequence}
 use Rattle.gc_field.proofs.BeginIds.{Sent, heard, Pairs, AllDiffer, ids_of, last}
 use Rattle.gc_world.specs.Order.{Each}
-use Rattle.gc_world.specs.World.{without, doubled}
+use Rattle.gc_field.specs.World.{without, doubled}
 use Rattle.gc_field.proofs.BeginLists.{each_more, each_append, each_without, each_doubled, pairs_without, pairs_doubled, pairs_push, pairs_of_each}
 use Rattle.gc_field.proofs.BeginWords.{Has, has_behind, has_twice, stands_more, never, not_over}
 

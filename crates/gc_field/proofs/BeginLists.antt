@@ -4,7 +4,7 @@
 use Rattle.std.proofs.Common.{◌≡◌, ℕ, zero, suc, ◌⊎◌, inl, inr, List, [], ◌∷◌, ◌++◌, refl, ap}
 use Rattle.gc_field.proofs.BeginIds.{Pairs}
 use Rattle.gc_world.specs.Order.{Each}
-use Rattle.gc_world.specs.World.{without, doubled}
+use Rattle.gc_field.specs.World.{without, doubled}
 
 module _ {A : Type 0} where
   -- where P implies Q, and each element has P, each has Q

@@ -1,8 +1,8 @@
 -- A fact of the whole line, replies first, that lasts over the four things that can happen to the line lasts over each move of
 -- a beginning.
 use Rattle.std.proofs.Common.{◌≡◌, ℕ, zero, inl, inr, Bool, true, false, List, [], ◌∷◌, ◌++◌, refl, sym, subst}
-use Rattle.gc_field.proofs.BeginIds.{Sent, Model, Move, Ask, Reach, Come, Up_lose, Up_repeat, Down_lose, Down_repeat, Anew, heard, asks, reaches, comes, moves, moved}
-use Rattle.gc_world.specs.World.{without, doubled}
+use Rattle.gc_field.proofs.BeginIds.{Sent, Model, Move, Ask, Reach, Pass, Come, Up_lose, Up_repeat, Down_lose, Down_repeat, Anew, heard, asks, reaches, passes, comes, moves, moved}
+use Rattle.gc_field.specs.World.{without, doubled}
 use Rattle.gc_field.proofs.BeginLists.{lost_back, lost_front, twice_back, twice_front, goes_over, behind_both}
 
 -- a fact of the ids that are left, and of the line, lasts over a loss, a repeat, a request that goes out and a reply that comes
@@ -35,6 +35,11 @@ module _ (I : List ℕ → List Sent → Type 0) (lasts : Lasts I) where
       let lost = lost_back zero s.down (x ∷ rest) in
       subst (λ q. I s.left q) (sym lost.1) (lasts.lost s.left lost.0 (s.down ++ x ∷ rest) (subst (λ q. I s.left (s.down ++ q)) e h))
 
+  -- the fact lasts where a request is passed over
+  holds_passes : (s : Model) (up : List Sent) → s.up ≡ up → Holds s → Holds (passes s up)
+  holds_passes s [] e h = h
+  holds_passes s (x ∷ rest) e h = subst (λ q. I s.left q) (sym (goes_over s.down x rest)) (subst (λ q. I s.left (s.down ++ q)) e h)
+
   -- the fact lasts where a reply comes
   holds_comes : (s : Model) (down : List Sent) → s.down ≡ down → Holds s → Holds (comes s down)
   holds_comes s [] e h = h
@@ -44,6 +49,7 @@ module _ (I : List ℕ → List Sent → Type 0) (lasts : Lasts I) where
   pub holds_moves : (s : Model) (m : Move) → Holds s → Holds (moves s m)
   holds_moves s Ask h = holds_asks s s.left refl h
   holds_moves s (Reach replies) h = holds_reaches s replies s.up refl h
+  holds_moves s Pass h = holds_passes s s.up refl h
   holds_moves s Come h = holds_comes s s.down refl h
   holds_moves s (Up_lose k) h =
       let lost = lost_back k s.down s.up in

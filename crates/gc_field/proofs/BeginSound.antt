@@ -3,9 +3,9 @@
 use Rattle.std.proofs.Common.{◌≡◌, ℕ, Bool, true, false, List, [], ◌∷◌, ◌++◌, Option, Some, None, nat_eq, refl, sym, ◌∙◌, subst}
 use Rattle.std.proofs.lemmas.Bool.{eqb-true}
 use Rattle.gc_client.specs.Beginning.{left_by_one, IsSubsequence, the_word}
-use Rattle.gc_field.proofs.BeginIds.{Sent, Model, Move, Ask, Reach, Come, Up_lose, Up_repeat, Down_lose, Down_repeat, Anew, heard, asks, reaches, comes, moves, moved, AllDiffer, ids_of, last, Begins, IsClean}
+use Rattle.gc_field.proofs.BeginIds.{Sent, Model, Move, Ask, Reach, Pass, Come, Up_lose, Up_repeat, Down_lose, Down_repeat, Anew, heard, asks, reaches, kept_past, passes, comes, moves, moved, AllDiffer, ids_of, last, Begins, IsClean}
 use Rattle.gc_world.specs.Order.{Each}
-use Rattle.gc_world.specs.World.{without, doubled}
+use Rattle.gc_field.specs.World.{without, doubled}
 use Rattle.gc_field.proofs.BeginLists.{each_more, each_both, each_append, each_front, each_back, each_without, each_doubled, pairs_before, pairs_of_each}
 use Rattle.gc_field.proofs.BeginMoves.{Lasts, holds_moves}
 use Rattle.gc_field.proofs.BeginWords.{never, word_differs}
@@ -98,6 +98,23 @@ keeps_reaches z s replies [] e h = h.keeps
 keeps_reaches z s true (x ∷ rest) e h = keeps_replied z s.left s.down x (keeps_reached z s.left s.down x rest (subst (λ q. IsLine z s.left (s.down ++ q)) e h.line))
 keeps_reaches z s false (x ∷ rest) e h = keeps_reached z s.left s.down x rest (subst (λ q. IsLine z s.left (s.down ++ q)) e h.line)
 
+-- nothing is both old and own
+both : (x : Sent) → IsOld x → IsOwn x → ⊥
+both x old own = never (sym own ∙ old)
+
+-- `Keeps` lasts where the reply to an old request goes out, and what is kept stays
+keeps_old : (z : ℕ) (left : List ℕ) (down : List Sent) (x : Sent) (kept : Option ℕ) → IsOld x → Keeps z left down kept → Keeps z left (down ++ x ∷ []) kept
+keeps_old z [] down x kept old h = h
+keeps_old z (asked ∷ later) down x kept old h = each_append (KeepsIf asked kept) down (x ∷ []) h ((λ own e. absurd (both x old own)), tt)
+
+-- `Keeps` lasts where a request is passed over
+keeps_passes : (z : ℕ) (s : Model) (up : List Sent) → s.up ≡ up → IsSound z s → Keeps z (passes s up).left (passes s up).down (passes s up).kept
+keeps_passes z s [] e h = h.keeps
+keeps_passes z s (x ∷ rest) e h = by_case x.old refl where
+  by_case : (old : Bool) → x.old ≡ old → Keeps z s.left (s.down ++ x ∷ []) (kept_past old x.id s.kept)
+  by_case true old = keeps_old z s.left s.down x s.kept old h.keeps
+  by_case false own = keeps_replied z s.left s.down x (keeps_reached z s.left s.down x rest (subst (λ q. IsLine z s.left (s.down ++ q)) e h.line))
+
 -- `Keeps` lasts where a reply comes
 keeps_comes : (z : ℕ) (s : Model) (down : List Sent) → s.down ≡ down → IsSound z s → Keeps z (comes s down).left (comes s down).down (comes s down).kept
 keeps_comes z s [] e h = h.keeps
@@ -108,6 +125,7 @@ keeps_comes z s (x ∷ rest) e h =
 keeps_moves : (z : ℕ) (s : Model) (m : Move) → IsSound z s → Keeps z (moves s m).left (moves s m).down (moves s m).kept
 keeps_moves z s Ask h = keeps_asks z s s.left h
 keeps_moves z s (Reach replies) h = keeps_reaches z s replies s.up refl h
+keeps_moves z s Pass h = keeps_passes z s s.up refl h
 keeps_moves z s Come h = keeps_comes z s s.down refl h
 keeps_moves z s (Up_lose k) h = h.keeps
 keeps_moves z s (Up_repeat k) h = h.keeps
@@ -125,10 +143,6 @@ sound_moved z [] s h = h
 sound_moved z (m ∷ ms) s h = sound_moved z ms (moves s m) (sound_moves z s m h)
 
 -- Its start.
-
--- nothing is both old and own
-both : (x : Sent) → IsOld x → IsOwn x → ⊥
-both x old own = never (sym own ∙ old)
 
 -- the last id of a word is the last, whichever id is named for the case that the word is empty
 last_of_last : (z : ℕ) (word : List ℕ) → last (last z word) word ≡ last z word

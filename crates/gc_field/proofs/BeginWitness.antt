@@ -3,12 +3,13 @@ use Rattle.std.proofs.Common.{◌≤◌, ℕ, List, [], ◌∷◌, refl, arith, 
 use Rattle.std.specs.Prelude.{codes, take, drop}
 use Rattle.std.specs.Fmt.{digits}
 use Rattle.gc_lines.specs.Readers.{header_at, reply_at}
+use Rattle.gc_catalogue.specs.declared.asked.Asked.TheVariants.{Table}
 use Rattle.gc_catalogue.specs.declared.call.Call.TheVariants.{InstrumentNo}
 use Rattle.gc_client.specs.declared.window.TheConstants.{WINDOW}
 use Rattle.gc_instrument.specs.Execution.{exec}
 use Rattle.gc_instrument.specs.Replying.{handed}
-use Rattle.gc_world.specs.Clients.{ends}
-use Rattle.gc_world.specs.World.{Numbered}
+use Rattle.gc_field.specs.Simulator.{ends}
+use Rattle.gc_field.specs.World.{Numbered}
 use Rattle.gc_field.specs.Begun.{WasMadeOn}
 use Rattle.gc_field.specs.BeginWitness.{AreSomeRuns, IsBookedFromBefore, clean, next}
 use Rattle.gc_field.proofs.Witness.{fits, units}
@@ -22,7 +23,7 @@ abbrev other_reply : Numbered (List ℕ)
 other_reply = record { number = 9; line = codes "%R1P,0,1:0,123456" }
 
 -- the first command's answer was made on executing its request
-was_made : WasMadeOn WINDOW ends clean next.moves 8 InstrumentNo (codes "%R1P,0,0:0,123456")
+was_made : WasMadeOn WINDOW ends clean next.moves 8 (Table InstrumentNo) (codes "%R1P,0,0:0,123456")
 unfolding header_at reply_at handed exec digits
 was_made =
     record {
@@ -30,7 +31,7 @@ was_made =
       later = drop 4 next.moves;
       split = refl;
       id = 0;
-      rest = record { number = 9; line = record { id = 1; call = InstrumentNo } } ∷ [];
+      rest = record { number = 9; line = record { id = 1; call = Table InstrumentNo } } ∷ [];
       reaches = refl;
       executed = refl;
       reply = refl;

@@ -3,6 +3,7 @@ use Rattle.std.proofs.Common.{◌≡◌, List, [], ◌∷◌, refl, sym, subst}
 use Rattle.std.specs.Prelude.{codes, map, take, drop}
 use Rattle.std.specs.Fmt.{digits}
 use Rattle.gc_lines.specs.Readers.{header_at, reply_at}
+use Rattle.gc_catalogue.specs.declared.asked.Asked.TheVariants.{Table}
 use Rattle.gc_catalogue.specs.declared.call.Call.TheVariants.{InstrumentNo}
 use Rattle.gc_client.specs.declared.window.TheConstants.{WINDOW}
 use Rattle.gc_texts.specs.Nears.{is_elsewhere}
@@ -68,7 +69,7 @@ unfolding is_elsewhere header_at reply_at digits
 begins_anew = record { renews = refl; moment = at 115; told = refl; seven = refl; given_up = refl; word = refl; client = refl }
 
 -- the answer was made on executing the last command's request, the client's first one after the new beginning
-was_made : WasMadeOn WINDOW counting from moves_anew 8 InstrumentNo answer
+was_made : WasMadeOn WINDOW counting from moves_anew 8 (Table InstrumentNo) answer
 unfolding is_elsewhere header_at reply_at digits
 was_made = record { front = take 2 moves_anew; later = drop 3 moves_anew; split = refl; id = 0; rest = []; reaches = refl; executed = refl; reply = refl }
 

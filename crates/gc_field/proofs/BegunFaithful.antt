@@ -1,55 +1,60 @@
 -- After a clean beginning any possible moves are faithful. The eight null procedures count as requests 0 to 7, which are
 -- settled, and what is under way belongs to the last of them.
-use Rattle.std.proofs.Common.{◌≡◌, ℕ, ◌+◌, ◌<◌, ◌≤◌, inl, List, [], ◌∷◌, ◌++◌, map, Option, Some, None, refl, sym, ◌∙◌, ap, subst, arith, append_assoc}
+use Rattle.std.proofs.Common.{◌≡◌, ℕ, ◌+◌, ◌<◌, ◌≤◌, inl, inr, Bool, true, List, [], ◌∷◌, ◌++◌, map, length, Option, Some, None, refl, sym, ◌∙◌, ap, subst, arith, append_assoc}
 use Rattle.std.specs.Prelude.{slice_get}
-use Rattle.gc_catalogue.specs.declared.call.Call.{Call}
+use Rattle.gc_catalogue.specs.declared.asked.Asked.{Asked}
+use Rattle.gc_catalogue.specs.declared.asked.Asked.TheVariants.{Table}
 use Rattle.gc_catalogue.specs.declared.call.Call.TheVariants.{NullProc}
-use Rattle.gc_catalogue.specs.Texts.{request_line}
-use Rattle.gc_client.specs.OneForOne.{Asked, Course, Step, Send, Hear, Expire, Restart, begun, course, goes, of_settled, of_pending, sent_on, settled_on}
+use Rattle.gc_catalogue.specs.Asked.{asked_line, is_of_table}
+use Rattle.gc_client.specs.OneForOne.{Wanted, Course, Step, Send, Hear, Expire, Restart, begun, course, goes, of_settled, of_pending, sent_on, settled_on}
 use Rattle.gc_client.specs.Rule.{ById, Sending, Settled, Settlement, expires, fresh, heard, hears, restarts, sends}
 use Rattle.gc_client.proofs.OneForOne.{one_for_one}
 use Rattle.gc_instrument.specs.State.{KeptReply}
-use Rattle.gc_world.specs.Clients.{by_ids, by_numbers}
+use Rattle.gc_world.specs.Clients.{ByNumber, by_ids, by_numbers}
 use Rattle.gc_world.specs.Exchange.{IsExchange}
 use Rattle.gc_world.specs.Order.{Each, Rising, numbers}
 use Rattle.gc_world.specs.Record.{IsReplyTo}
-use Rattle.gc_world.specs.World.{Ends, Numbered, Request, Up_deliver, Wire}
+use Rattle.gc_field.specs.World.{Ends, Numbered, Request, Up_deliver, Wire, World, written}
 use Rattle.gc_world.proofs.Booked.{has_at}
 use Rattle.gc_world.proofs.Replay.{IsOf}
 use Rattle.gc_world.proofs.Settled.{of_sent}
 use Rattle.gc_world.proofs.Settled as settled
 use Rattle.gc_world.proofs.Sound.{IsGoing, IsComing, Sound}
 use Rattle.gc_field.specs.Begin.{UnderWay}
-use Rattle.gc_field.specs.Begun.{IsClean, IsFaithful, WasMadeOn, behind, eighth, ids_begun, numbers_begun, nulls, nulls_settled}
-use Rattle.gc_field.specs.Field.{Move, OnLine, ArePossible, moved, seen}
-use Rattle.gc_field.specs.Instrument.{IsAnInstrument}
-use Rattle.gc_field.proofs.Instruments.{exchange_of}
-use Rattle.gc_field.proofs.Moving.{Both, both_all, first_reply, IsVouchedFor, AreOn, late_of, vouched_of, whole_all}
-use Rattle.gc_field.proofs.Possible.{possible_front}
+use Rattle.gc_field.specs.Begun.{IsBehindTheTable, IsClean, IsFaithful, IsSafe, WasMadeOn, WentOutBehindTheTable, behind, eighth, ids_begun, numbers_begun, nulls, nulls_settled}
+use Rattle.gc_field.specs.Field.{Move, OnLine, Sends, ArePossible, AsksOnly, moved, seen}
+use Rattle.gc_field.specs.Instrument.{IsAnInstrument, IsAnInstrumentFor, all_known}
+use Rattle.gc_field.specs.Once.{ActsOnce, IsInOrder}
+use Rattle.gc_field.proofs.Fresh.{AllBut, AnyLine, EachOne, TrueOfNone, asks_all, near_the_table, numbers_append, renewed}
+use Rattle.gc_field.proofs.Instruments.{alike_is, exchange_of}
+use Rattle.gc_field.proofs.Moving.{Both, both_all, first_reply, IsOwn, IsVouchedFor, AreOn, are_on_later, vouched_for, whole_all}
+use Rattle.gc_field.proofs.Possible.{possible_behind, possible_front}
 use Rattle.gc_field.proofs.Seen.{same_all}
-use Rattle.gc_field.proofs.Vouched.{KeptIs, True, Vouched}
+use Rattle.gc_field.proofs.Vouched.{IsNear, KeptIs, True, Vouched}
 
 -- The course of a client, after what was sent and settled before.
 
 -- course x is course y, with these requests and these settlements in front
-record Behind (before : List Asked) (old : List Settlement) (x y : Course) : Type 0 where
+record Behind (before : List (Wanted Asked)) (old : List (Settlement Asked)) (x y : Course Asked) : Type 0 where
   sent : x.sent ≡ before ++ y.sent
   settled : x.settlements ≡ old ++ y.settlements
   client : x.client ≡ y.client
 
 -- `Behind` lasts over a send
-behind_send : (before : List Asked) (old : List Settlement) (x y : Course) (target : ℕ) (call : Call) (o : Option (Sending ById)) → Behind before old x y
+behind_send : (before : List (Wanted Asked)) (old : List (Settlement Asked)) (x y : Course Asked) (target : ℕ) (call : Asked) (o : Option (Sending (ById Asked))) → Behind before old x y
     → Behind before old (sent_on x target call o) (sent_on y target call o)
 behind_send before old x y target call None h = h
 behind_send before old x y target call (Some s) h =
     record { sent = ap (λ l. l ++ record { target = target; call = call } ∷ []) h.sent ∙ append_assoc before y.sent (record { target = target; call = call } ∷ []); settled = h.settled; client = refl }
 
 -- `Behind` lasts over settlements
-behind_settled : (before : List Asked) (old : List Settlement) (x y : Course) (s : Settled ById) → Behind before old x y → Behind before old (settled_on x s) (settled_on y s)
+behind_settled : (before : List (Wanted Asked)) (old : List (Settlement Asked)) (x y : Course Asked) (s : Settled Asked (ById Asked)) → Behind before old x y
+    → Behind before old (settled_on x s) (settled_on y s)
 behind_settled before old x y s h = record { sent = h.sent; settled = ap (λ l. l ++ s.settlements) h.settled ∙ append_assoc old y.settlements s.settlements; client = refl }
 
 -- `Behind` lasts over a step
-behind_step : (width : ℕ) (before : List Asked) (old : List Settlement) (x y : Course) (step : Step) → Behind before old x y → Behind before old (goes width x step) (goes width y step)
+behind_step : (width : ℕ) (before : List (Wanted Asked)) (old : List (Settlement Asked)) (x y : Course Asked) (step : Step Asked) → Behind before old x y
+    → Behind before old (goes width x step) (goes width y step)
 behind_step width before old x y (Send target call deadline) h =
     subst (λ c. Behind before old (sent_on x target call (sends width c target call deadline)) (sent_on y target call (sends width y.client target call deadline))) (sym h.client)
     (behind_send before old x y target call (sends width y.client target call deadline) h)
@@ -61,12 +66,13 @@ behind_step width before old x y Restart h =
     subst (λ c. Behind before old (settled_on x (restarts c)) (settled_on y (restarts y.client))) (sym h.client) (behind_settled before old x y (restarts y.client) h)
 
 -- `Behind` lasts over steps
-behind_all : (width : ℕ) (before : List Asked) (old : List Settlement) (steps : List Step) (x y : Course) → Behind before old x y → Behind before old (course width x steps) (course width y steps)
+behind_all : (width : ℕ) (before : List (Wanted Asked)) (old : List (Settlement Asked)) (steps : List (Step Asked)) (x y : Course Asked) → Behind before old x y
+    → Behind before old (course width x steps) (course width y steps)
 behind_all width before old [] x y h = h
 behind_all width before old (step ∷ steps) x y h = behind_all width before old steps _ _ (behind_step width before old x y step h)
 
 -- the course of a new client that has sent and settled the eight null procedures
-abbrev begun_course : Course
+abbrev begun_course : Course Asked
 begun_course = record { sent = map of_sent nulls; settlements = nulls_settled; client = fresh }
 
 -- `begun_course` is the course `begun` of a new client, with the null procedures in front
@@ -130,48 +136,64 @@ module _ {State : Type 0} (ends : Ends State) (Good : State → Type 0) (kept : 
     pub both_begun : Both width narrow ends Good ex kept (ids_begun u) (numbers_begun u)
     both_begun = record { agree = record { wire = refl; client = record { window = refl; next = refl } }; sound = sound_begun }
 
-    module _ (M : ℕ → Call → List ℕ → Type 0) where
+    -- an empty list has nothing at any place
+    never : (j n : ℕ) → slice_get [] j ≡ Some n → ⊥
+    never j n e = cc
+
+    -- the eighth null procedure is among the requests of a beginning, with the number 7
+    line_is : (x : Request) → x ≡ eighth → IsOf written nulls (record { number = 7; line = x })
+    line_is x e = record {
+      request = record { target = 0; call = Table NullProc; line = asked_line (Some 7) (Table NullProc) };
+      found = refl;
+      small = (let id : x.id ≡ 7 = ap (λ (r : Request). r.id) e in omega (arith, id));
+      call = sym (ap (λ (r : Request). r.call) e);
+      text = sym (ap (λ (r : Request). asked_line (Some r.id) r.call) e);
+    }
+
+    module _ (knows : Asked → Bool) (is : IsAnInstrumentFor ends Good kept knows) (E : ℕ → Type 0) (early : (n : ℕ) → n < 8 → E n) (Plain : Type 0) (M : ℕ → Asked → List ℕ → Type 0) where
+      -- what is vouched for right after a beginning: all of it is excepted
+      abbrev First : ℕ → List ℕ → Type 0
+      First n line = Vouched width narrow knows ends Good kept is 8 E Plain M nulls [] [] 7 n line
+
+      -- each line of the eighth null procedure is
+      first_is : (line : List ℕ) → First 7 line
+      first_is line = (inl (omega arith), inl (early 7 (omega arith)))
+
       -- after a clean beginning, what the instrument keeps, if anything, is the reply to the eighth null procedure
-      kept_begun : (k : Option KeptReply) → kept u.state ≡ k → KeptIs width narrow ends Good ex kept keeper 8 M (Vouched width narrow ends Good ex kept keeper 8 M nulls [] []) 0 8 k
+      kept_begun : (k : Option KeptReply) → kept u.state ≡ k → KeptIs First 0 8 7 k
       kept_begun None e = tt
-      kept_begun (Some k) e = (omega arith, clean.keeps k e, inl (omega arith))
-
-      -- the eighth null procedure is among the requests of a beginning, with the number 7
-      line_is : (x : Request) → x ≡ eighth → IsOf nulls (record { number = 7; line = x })
-      line_is x e = record {
-        request = record { target = 0; call = NullProc; line = request_line (Some 7) NullProc };
-        found = refl;
-        small = (let id : x.id ≡ 7 = ap (λ (r : Request). r.id) e in omega (arith, id));
-        call = sym (ap (λ (r : Request). r.call) e);
-        text = sym (ap (λ (r : Request). request_line (Some r.id) r.call) e);
-      }
-
-      -- an empty list has nothing at any place
-      never : (j n : ℕ) → slice_get [] j ≡ Some n → ⊥
-      never j n e = cc
+      kept_begun (Some k) e = record { number = 7; recent = omega arith; before = omega arith; behind = omega arith; id = clean.keeps k e; line = first_is k.line }
 
       -- after a clean beginning the invariant `True` of `Vouched` holds of the world of the client that is given numbers: each
       -- reply under way was made for its request
-      true_begun : True width narrow ends Good ex kept keeper 8 M (numbers_begun u)
-      true_begun =
+      true_begun : IsNear width narrow knows ends Good kept is 8 E Plain M nulls 8 7 → True width narrow knows ends Good kept is 8 E Plain M (numbers_begun u)
+      true_begun near =
           let within : 8 ≤ 8 = omega arith in
           record {
             top = 8;
+            table = 7;
             counted = within;
             within = within;
+            lower = omega arith;
+            least = within;
             above = each_last (λ x. 8 ≤ x.number + 1) (λ x. x ≡ eighth) (λ x e. omega arith) u.up clean.up;
             below = each_last (λ x. x.number < 8) (λ line. heard line ≡ Some 7) (λ x e. omega arith) u.down clean.down;
             holds = kept_begun (kept u.state) refl;
-            lines = each_last (IsOf nulls) (λ x. x ≡ eighth) line_is u.up clean.up;
-            coming = each_last (λ x. Vouched width narrow ends Good ex kept keeper 8 M nulls [] [] x.number x.line) (λ line. heard line ≡ Some 7) (λ x e. inl (omega arith)) u.down clean.down;
+            lines = each_last (IsOf written nulls) (λ x. x ≡ eighth) line_is u.up clean.up;
+            near = near;
+            coming = each_last (λ x. First x.number x.line) (λ line. heard line ≡ Some 7) (λ x e. first_is x) u.down clean.down;
             answers = (tt, (tt, (tt, (tt, (tt, (tt, (tt, (tt, tt))))))));
             order = record { order = λ i j m n lt a b. absurd (never j n b); below = tt };
-            once = λ keeps. record { once = λ i j m n lt run a b. absurd (never j n b); below = tt; idle = λ none. inl refl };
+            once = λ keeps k. record {
+              once = λ i j m n lt run a b. absurd (never j n b);
+              below = tt;
+              last = inr (record { idle = λ none. inl refl; same = clean.keeps });
+            };
           }
 
     -- the reply to each request that is executed at one of these moves was made on executing it, by `WasMadeOn`
     made_here : (ms : List (Move State)) → ArePossible ends Good kept (by_ids width ends) ms (ids_begun u)
-        → AreOn width narrow ends Good ex kept keeper 8 (omega arith) (λ n call line. WasMadeOn width ends u ms n call line) ms (numbers_begun u)
+        → AreOn width ends (λ n call line. WasMadeOn width ends u ms n call line) ms (numbers_begun u)
     made_here ms p front later e x rest q exe =
         let p' = possible_front width ends Good kept front (OnLine Up_deliver ∷ later) (ids_begun u) (subst (λ l. ArePossible ends Good kept (by_ids width ends) l (ids_begun u)) e p) in
         let same : (behind width ends u front).wire ≡ (moved ends (by_numbers width) front (numbers_begun u)).wire =
@@ -188,6 +210,60 @@ module _ {State : Type 0} (ends : Ends State) (Good : State → Type 0) (kept : 
           reply = ap (λ t. (ends.handed t x.line.id x.line.call).reply) (sym stands);
         }
 
+    -- nothing need be known of any request
+    any_on : (ms : List (Move State)) (b : World (ByNumber Asked) State) → AreOn width ends AnyLine ms b
+    any_on ms b front later e x rest q exe = tt
+
+    -- where all requests are known, each settlement of a client's request is its own
+    plain : (knows : Asked → Bool) → IsAnInstrumentFor ends Good kept knows → knows (Table NullProc) ≡ true → (ms : List (Move State)) → ArePossible ends Good kept (by_ids width ends) ms (ids_begun u)
+        → AsksOnly knows ms
+        → IsVouchedFor ends Good kept (λ n. n < 8) (λ n call line. WasMadeOn width ends u ms n call line) (moved ends (by_numbers width) ms (numbers_begun u)).wire
+    plain knows is null ms p asks =
+        let M : ℕ → Asked → List ℕ → Type 0 = λ n call line. WasMadeOn width ends u ms n call line in
+        let E : ℕ → Type 0 = λ n. n < 8 in
+        let start = true_begun knows is E (λ n l. l) (Unit {0}) M (inl (tt, omega arith, (null, (null, (null, (null, (null, (null, (null, (null, tt)))))))))) in
+        vouched_for width narrow knows ends Good ex kept is 8 E (Unit {0}) M (moved ends (by_numbers width) ms (numbers_begun u))
+        (whole_all width narrow knows ends Good ex kept is 8 E (Unit {0}) M ms (ids_begun u) (numbers_begun u) both_begun p (λ all. asks) (made_here ms p) start)
+
+    -- the world of numbers that moves leave is `TrueOfNone`
+    true_of_none : (ms : List (Move State)) → ArePossible ends Good kept (by_ids width ends) ms (ids_begun u)
+        → TrueOfNone width narrow ends Good kept keeper 8 (moved ends (by_numbers width) ms (numbers_begun u))
+    true_of_none ms p =
+        whole_all width narrow is_of_table ends Good ex kept keeper 8 EachOne ⊥ AnyLine ms (ids_begun u) (numbers_begun u) both_begun p (λ never. absurd never) (any_on ms (numbers_begun u))
+        (true_begun is_of_table keeper EachOne (λ n l. tt) ⊥ AnyLine (inr (λ n. inl tt)))
+
+    -- the settlement of a request that went out behind the table is its own
+    behind_own : (ms : List (Move State)) → ArePossible ends Good kept (by_ids width ends) ms (ids_begun u) → (m : ℕ) → WentOutBehindTheTable width ends u ms m
+        → IsVouchedFor ends Good kept (AllBut m) (λ n call line. WasMadeOn width ends u ms n call line) (moved ends (by_numbers width) ms (numbers_begun u)).wire
+    behind_own ms p m h =
+        let M : ℕ → Asked → List ℕ → Type 0 = λ n call line. WasMadeOn width ends u ms n call line in
+        let rest = Sends h.target h.call h.deadline ∷ h.later in
+        let whole = subst (λ l. ArePossible ends Good kept (by_ids width ends) l (ids_begun u)) h.split p in
+        let before = possible_front width ends Good kept h.front rest (ids_begun u) whole in
+        let a = moved ends (by_ids width ends) h.front (ids_begun u) in
+        let b = moved ends (by_numbers width) h.front (numbers_begun u) in
+        let both = both_all width narrow ends Good ex kept h.front (ids_begun u) (numbers_begun u) before both_begun in
+        let same : a.wire ≡ b.wire = both.agree.wire in
+        let size : length b.wire.sent ≡ m = sym (ap (λ (w : Wire State). length w.sent) same) ∙ h.number in
+        let none = true_of_none h.front before in
+        let near = near_the_table width narrow ends Good kept keeper 8 m b none (omega arith) size (subst (λ (w : Wire State). IsBehindTheTable w) same h.is) in
+        let one = renewed width narrow ends Good kept keeper 8 M m b both.sound none size near in
+        let on = are_on_later width ends M h.front rest (numbers_begun u) (subst (λ l. AreOn width ends M l (numbers_begun u)) h.split (made_here ms p)) in
+        let last = whole_all width narrow is_of_table ends Good ex kept keeper 8 (AllBut m) ⊥ M rest a b both
+        (possible_behind width ends Good kept h.front rest (ids_begun u) whole) (λ never. absurd never) on one in
+        let there : moved ends (by_numbers width) ms (numbers_begun u) ≡ moved ends (by_numbers width) rest b =
+        ap (λ l. moved ends (by_numbers width) l (numbers_begun u)) h.split ∙ numbers_append width ends h.front rest (numbers_begun u) in
+        subst (λ (w : World (ByNumber Asked) State). IsVouchedFor ends Good kept (AllBut m) M w.wire) (sym there)
+        (vouched_for width narrow is_of_table ends Good ex kept keeper 8 (AllBut m) ⊥ M (moved ends (by_numbers width) rest b) last)
+
+    -- the settlement of a request that is `IsSafe` is its own
+    safe_own : (ms : List (Move State)) → ArePossible ends Good kept (by_ids width ends) ms (ids_begun u) → (m : ℕ) (s : Settlement Asked) → 8 ≤ m → IsSafe width ends u Good kept ms m
+        → slice_get (moved ends (by_numbers width) ms (numbers_begun u)).wire.settled m ≡ Some s
+        → IsOwn ends Good (λ n call line. WasMadeOn width ends u ms n call line) (moved ends (by_numbers width) ms (numbers_begun u)).wire m s
+    safe_own ms p m s ge (inl table) e = (plain is_of_table keeper refl ms p table).own m s (λ l. omega (arith, l, ge)) e
+    safe_own ms p m s ge (inr (inl alike)) e = (plain all_known (alike_is ends Good kept keeper alike) refl ms p (asks_all ms)).own m s (λ l. omega (arith, l, ge)) e
+    safe_own ms p m s ge (inr (inr went)) e = (behind_own ms p m went).own m s (λ other. other refl) e
+
     -- moves after a clean beginning are faithful
     pub faithful : (ms : List (Move State)) → ArePossible ends Good kept (by_ids width ends) ms (ids_begun u) → IsFaithful width ends u ms Good kept
     faithful ms p =
@@ -203,32 +279,32 @@ module _ {State : Type 0} (ends : Ends State) (Good : State → Type 0) (kept : 
         let stands : y.client ≡ a.client = sym from.client ∙ one.client in
         let parts : map of_settled a.wire.settled ++ map of_pending a.client.waiting ≡ map of_sent a.wire.sent =
         ap (λ l. map of_settled l ++ map of_pending a.client.waiting) settlements
-        ∙ ap (λ (c : ById). map of_settled (nulls_settled ++ y.settlements) ++ map of_pending c.waiting) (sym stands)
+        ∙ ap (λ (c : ById Asked). map of_settled (nulls_settled ++ y.settlements) ++ map of_pending c.waiting) (sym stands)
         ∙ ap (λ l. map of_sent nulls ++ l) (one_for_one width (seen ms)) ∙ sym from.sent ∙ one.sent in
         let pairs = settled.one_for_one a.wire.settled a.client.waiting a.wire.sent parts in
-        let M : ℕ → Call → List ℕ → Type 0 = λ n call line. WasMadeOn width ends u ms n call line in
-        let all = subst (λ (w : Wire State). IsVouchedFor width narrow ends Good ex kept keeper 8 (omega arith) M w) (sym same)
-        (whole_all width narrow ends Good ex kept keeper 8 (omega arith) M ms (ids_begun u) (numbers_begun u) both_begun p (made_here ms p) (true_begun M)) in
-        let vouched = vouched_of width narrow ends Good ex kept keeper 8 (omega arith) M a.wire in
-        let vouched_late = late_of width narrow ends Good ex kept keeper 8 (omega arith) M a.wire in
+        let M : ℕ → Asked → List ℕ → Type 0 = λ n call line. WasMadeOn width ends u ms n call line in
+        let all = vouched_for width narrow is_of_table ends Good ex kept keeper 8 EachOne ⊥ AnyLine b (true_of_none ms p) in
+        let own : (m : ℕ) (s : Settlement Asked) → 8 ≤ m → IsSafe width ends u Good kept ms m → slice_get a.wire.settled m ≡ Some s → IsOwn ends Good M a.wire m s =
+        λ m s ge safe e. subst (λ (w : Wire State). IsOwn ends Good M w m s) (sym same)
+        (safe_own ms p m s ge safe (subst (λ (w : Wire State). slice_get w.settled m ≡ Some s) same e)) in
         record {
           settled = settlements;
           stands = stands;
           accounted = parts;
           one_for_one = pairs;
-          booked = λ m s ge e bytes answered.
-              let v = vouched m s bytes ge all.answers e answered in
-              let right = (pairs.same m s v.answer.request e v.answer.found).1 in
-              (has_at _ a.wire.made v.among, subst (λ call. IsReplyTo ends Good call bytes) (sym right) v.answer.reply);
-          executed = λ m s bytes ge e answered. let v = vouched m s bytes ge all.answers e answered in has_at m a.wire.executed v.acted;
-          made_on = λ m s bytes ge e answered.
-              let v = vouched m s bytes ge all.answers e answered in
-              subst (λ call. M m call bytes) (sym (pairs.same m s v.answer.request e v.answer.found).1) v.on;
-          in_order = all.order;
-          late = λ m s ge e late.
-              let v = vouched_late m s ge all.answers e late in
-              (v.0, subst (λ call. M m call v.0) (sym (pairs.same m s v.1.answer.request e v.1.answer.found).1) v.1.on);
-          once = all.once;
+          booked = λ m s ge safe e bytes answered.
+              let v = (own m s ge safe e).answered bytes answered in
+              let right = (pairs.same m s v.request e v.found).1 in
+              (has_at _ a.wire.made v.among, subst (λ call. IsReplyTo ends Good call bytes) (sym right) v.reply);
+          executed = λ m s bytes ge safe e answered. has_at m a.wire.executed ((own m s ge safe e).answered bytes answered).acted;
+          made_on = λ m s bytes ge safe e answered.
+              let v = (own m s ge safe e).answered bytes answered in
+              subst (λ call. M m call bytes) (sym (pairs.same m s v.request e v.found).1) v.on;
+          in_order = subst (λ (w : Wire State). IsInOrder w.executed) (sym same) all.order;
+          late = λ m s ge safe e late.
+              let v = (own m s ge safe e).late late in
+              (v.0, subst (λ call. M m call v.0) (sym (pairs.same m s v.1.request e v.1.found).1) v.1.on);
+          once = λ keeps k. subst (λ (w : Wire State). ActsOnce keeps w.sent w.executed w.starts) (sym same) (all.once keeps k);
           agrees = same;
           first_reply = λ n line rest e le. first_reply width narrow ends Good ex kept a b n line rest both e le;
         }

@@ -6,14 +6,14 @@ use mathlib.Core.Path.{ap₂}
 use Rattle.std.specs.List.{filter_map, cons_option}
 use Rattle.std.proofs.lemmas.Bool.{ltb-false}
 use Rattle.std.proofs.lemmas.List.{map-append}
-use Rattle.gc_catalogue.specs.declared.call.Call.{Call}
+use Rattle.gc_catalogue.specs.declared.asked.Asked.{Asked}
 use Rattle.gc_client.specs.Beginning.{IsSubsequence, the_word}
 use Rattle.gc_client.specs.Rule as rule
 use Rattle.gc_client.specs.Rule.{ById, Sending}
 use Rattle.gc_instrument.specs.State.{KeptReply}
 use Rattle.gc_world.specs.Clients.{ByNumber, by_ids, by_numbers, number_reply, number_send}
 use Rattle.gc_world.specs.Order.{Each, numbers}
-use Rattle.gc_world.specs.World.{Ends, Numbered, Request, Step, Send, Up_deliver, Up_lose, Up_repeat, Down_deliver, Down_lose, Down_repeat, Expire, Restart_client, Restart_instrument, Nothing, Wire, World, happens, down_delivered, requested}
+use Rattle.gc_field.specs.World.{Ends, Numbered, Request, Step, Send, Up_deliver, Up_lose, Up_repeat, Down_deliver, Down_lose, Down_repeat, Expire, Restart_client, Restart_instrument, Nothing, Wire, World, happens, down_delivered, requested}
 use Rattle.gc_world.proofs.Rows.{each_more}
 use Rattle.gc_world.proofs.Sound.{IsComing, IsGoing, Sound, all_sent}
 use Rattle.gc_field.specs.Begin.{UnderWay, ids_under_way}
@@ -38,32 +38,32 @@ rows_have_not_three u h s = three_within h.low h.numbers h.some h.rising h.few (
 -- The client that is told the numbers never restarts, and what it settled doesn't become less.
 
 -- a client that is given the numbers, whose eight null procedures are settled, and which never restarted
-pub record IsBased (c : ByNumber) : Type 0 where
+pub record IsBased (c : ByNumber Asked) : Type 0 where
   pub since : c.since ≡ 0
   pub count : 8 ≤ c.count
 
 module _ {State : Type 0} (width : ℕ) (ends : Ends State) where
   -- the client of a world of numbers is `IsBased`
-  abbrev Based : World ByNumber State → Type 0
+  abbrev Based : World (ByNumber Asked) State → Type 0
   Based w = IsBased w.client
 
   -- a send keeps `Based`
-  based_sent : (w : World ByNumber State) (target : ℕ) (call : Call) (deadline : ℕ) (full : Bool) → Based w → Based (requested w target call (number_send w.client target call deadline full))
+  based_sent : (w : World (ByNumber Asked) State) (target : ℕ) (call : Asked) (deadline : ℕ) (full : Bool) → Based w → Based (requested w target call (number_send w.client target call deadline full))
   based_sent w target call deadline true h = h
   based_sent w target call deadline false h = record { since = h.since; count = h.count }
 
   -- a reply keeps `IsBased`
-  based_reply : (c : ByNumber) (x : Numbered (List ℕ)) (old : Bool) → ltb x.number c.count ≡ old → IsBased c → IsBased (number_reply c x old).client
+  based_reply : (c : ByNumber Asked) (x : Numbered (List ℕ)) (old : Bool) → ltb x.number c.count ≡ old → IsBased c → IsBased (number_reply c x old).client
   based_reply c x true t h = h
   based_reply c x false t h = record { since = h.since; count = (let ge : c.count ≤ x.number = ltb-false _ _ t in let low = h.count in omega (arith, ge, low)) }
 
   -- a reply that comes keeps `Based`
-  based_down : (w : World ByNumber State) (q : List (Numbered (List ℕ))) → Based w → Based (down_delivered (by_numbers width) w q)
+  based_down : (w : World (ByNumber Asked) State) (q : List (Numbered (List ℕ))) → Based w → Based (down_delivered (by_numbers width) w q)
   based_down w [] h = h
   based_down w (x ∷ rest) h = based_reply w.client x (ltb x.number w.client.count) refl h
 
   -- a step of the line keeps `Based`
-  based_line : (w : World ByNumber State) (step : Step) → IsOfLine step → Based w → Based (happens ends (by_numbers width) w step)
+  based_line : (w : World (ByNumber Asked) State) (step : Step) → IsOfLine step → Based w → Based (happens ends (by_numbers width) w step)
   based_line w (Send target call deadline) p h = absurd p
   based_line w Up_deliver p h = h
   based_line w (Up_lose k) p h = h
@@ -78,7 +78,8 @@ module _ {State : Type 0} (width : ℕ) (ends : Ends State) where
 
   module _ (Good : State → Type 0) (kept : State → Option KeptReply) where
     -- moves that are possible for the client that knows ids keep `Based`
-    based_all : (ms : List (Move State)) (a : World ById State) (w : World ByNumber State) → ArePossible ends Good kept (by_ids width ends) ms a → Based w → Based (moved ends (by_numbers width) ms w)
+    based_all : (ms : List (Move State)) (a : World (ById Asked) State) (w : World (ByNumber Asked) State) → ArePossible ends Good kept (by_ids width ends) ms a → Based w
+        → Based (moved ends (by_numbers width) ms w)
     based_all [] a w p h = h
     based_all (Sends target call deadline ∷ ms) a w p h = based_all ms _ _ p.1 (based_sent w target call deadline (eqb (length w.client.requests - w.client.count) width) h)
     based_all (Tells now ∷ ms) a w p h = based_all ms _ _ p.1 (record { since = h.since; count = h.count })
@@ -111,7 +112,7 @@ module _ {State : Type 0} (width : ℕ) (ends : Ends State) (Good : State → Ty
       ap₂ (λ o ids. cons_option o ids) (sym (same_heard x.line) ∙ h.0.id ∙ ap (λ n. Some (n % 8)) plain) (ids_down since total xs e h.1)
 
   -- what is under way in a sound world whose client is `IsBased` is an `IsRow`
-  row : (c : ByNumber) (w : Wire State) (narrow : width ≤ 7) → IsBased c → Sound width ends Good (record { wire = w; client = c }) → IsRow (on_line w)
+  row : (c : ByNumber Asked) (w : Wire State) (narrow : width ≤ 7) → IsBased c → Sound width ends Good (record { wire = w; client = c }) → IsRow (on_line w)
   row c w narrow base s =
       let total = length c.requests in
       record {

@@ -5,7 +5,7 @@ use Rattle.gc_client.specs.Beginning.{IsSubsequence, the_word}
 use Rattle.gc_client.specs.Rule.{heard}
 use Rattle.gc_instrument.specs.State.{KeptReply}
 use Rattle.gc_world.specs.Order.{Each}
-use Rattle.gc_world.specs.World.{Ends, Request}
+use Rattle.gc_field.specs.World.{Ends, Request}
 use Rattle.gc_field.specs.Begin.{Aged, AreLines, AreTurns, Model, UnderWay, begins, ids_under_way, leaves}
 use Rattle.gc_field.specs.Beginnings.{AreFewKilled, AreOwn, AreRuns, ArePossibleIf, IsOwnIf, IsRow, Run, killed_if, left_by_run, left_if, on_line, stood}
 use Rattle.gc_field.specs.Begun.{HasBegunCleanly, IsClean, behind, eighth}

@@ -4,15 +4,16 @@
 use Rattle.std.proofs.Common.{◌≡◌, ℕ, ◌+◌, ◌≤◌, Bool, true, false, cond, List, [], ◌∷◌, ◌++◌, length, Option, Some, None, refl, sym, ◌∙◌, ap, subst, arith, append_assoc, append-nil, ltb}
 use Rattle.std.specs.Prelude.{slice_get}
 use Rattle.std.proofs.lemmas.List.{length-append}
-use Rattle.gc_catalogue.specs.declared.call.Call.{Call}
+use Rattle.gc_catalogue.specs.declared.asked.Asked.{Asked}
+use Rattle.gc_catalogue.specs.declared.asked.Asked.TheVariants.{Table}
 use Rattle.gc_catalogue.specs.declared.call.Call.TheVariants.{NullProc}
-use Rattle.gc_catalogue.specs.Texts.{request_line}
+use Rattle.gc_catalogue.specs.Asked.{asked_line}
 use Rattle.gc_client.specs.Rule.{ById, Sending, sends}
 use Rattle.gc_instrument.specs.Replying.{Handed}
 use Rattle.gc_instrument.specs.State.{KeptReply}
 use Rattle.gc_world.specs.Clients.{by_ids}
 use Rattle.gc_world.specs.Order.{Each}
-use Rattle.gc_world.specs.World.{Ends, Request, Sent, Numbered, Step, Send, Up_deliver, Up_lose, Up_repeat, Down_deliver, Down_lose, Down_repeat, Expire, Restart_client, Restart_instrument, Nothing, World, Wire, without, doubled, replied, up_delivered, with_up, with_down, started, requested, down_delivered, happens}
+use Rattle.gc_field.specs.World.{Ends, Request, Sent, Numbered, Step, Send, Up_deliver, Up_lose, Up_repeat, Down_deliver, Down_lose, Down_repeat, Expire, Restart_client, Restart_instrument, Nothing, World, Wire, without, doubled, replied, up_delivered, with_up, with_down, started, requested, down_delivered, happens}
 use Rattle.gc_world.proofs.Places.{get_more, get_push}
 use Rattle.gc_world.proofs.Rows.{each_append, each_more, each_without, each_doubled}
 use Rattle.gc_field.specs.Begin.{UnderWay}
@@ -24,23 +25,23 @@ use Rattle.gc_field.proofs.BegunFaithful.{each_last}
 -- What the instrument becomes.
 
 -- two lists of calls, one after the other, make the state that the second makes of what the first makes
-executing_append : {State : Type 0} (effect : State → Call → State) (xs ys : List Call) (s : State) → executing effect s (xs ++ ys) ≡ executing effect (executing effect s xs) ys
+executing_append : {State : Type 0} (effect : State → Asked → State) (xs ys : List Asked) (s : State) → executing effect s (xs ++ ys) ≡ executing effect (executing effect s xs) ys
 executing_append effect [] ys s = refl
 executing_append effect (call ∷ xs) ys s = executing_append effect xs ys (effect s call)
 
 module _ {State : Type 0} (ends : Ends State) where
   -- two states that are alike apart from what is kept are still so after the same calls
-  executing_alike : (apart : State → State) (effect : State → Call → State) → HasEffect ends apart effect → (calls : List Call) (s t : State)
+  executing_alike : (apart : State → State) (effect : State → Asked → State) → HasEffect ends apart effect → (calls : List Asked) (s t : State)
       → apart s ≡ apart t → apart (executing effect s calls) ≡ apart (executing effect t calls)
   executing_alike apart effect has [] s t e = e
   executing_alike apart effect has (call ∷ calls) s t e = executing_alike apart effect has calls (effect s call) (effect t call) (has.alike s t call e)
 
   -- executing these calls makes the second state of the first, apart from what is kept, for each effect that executing has
-  abbrev pub IsMadeBy : State → List Call → State → Type 0
-  IsMadeBy s calls t = (apart : State → State) (effect : State → Call → State) → HasEffect ends apart effect → apart t ≡ apart (executing effect s calls)
+  abbrev pub IsMadeBy : State → List Asked → State → Type 0
+  IsMadeBy s calls t = (apart : State → State) (effect : State → Asked → State) → HasEffect ends apart effect → apart t ≡ apart (executing effect s calls)
 
   -- if calls make the second state of the first, and others the third of the second, both together make the third of the first
-  pub made_both : (r s t : State) (xs ys : List Call) → IsMadeBy r xs s → IsMadeBy s ys t → IsMadeBy r (xs ++ ys) t
+  pub made_both : (r s t : State) (xs ys : List Asked) → IsMadeBy r xs s → IsMadeBy s ys t → IsMadeBy r (xs ++ ys) t
   made_both r s t xs ys h g apart effect has =
       g apart effect has ∙ executing_alike apart effect has ys s (executing effect r xs) (h apart effect has) ∙ ap apart (sym (executing_append effect xs ys r))
 
@@ -49,24 +50,24 @@ module _ {State : Type 0} (ends : Ends State) where
   made_none s t e apart effect has = ap apart e
 
   -- an executed call makes the state after it
-  made_one : (s : State) (id : ℕ) (call : Call) → (ends.handed s id call).executed ≡ true → IsMadeBy s (call ∷ []) (ends.handed s id call).state
+  made_one : (s : State) (id : ℕ) (call : Asked) → (ends.handed s id call).executed ≡ true → IsMadeBy s (call ∷ []) (ends.handed s id call).state
   made_one s id call e apart effect has = has.executes s id call e
 
   -- a line that is sent again changes nothing but what is kept
-  made_again : (s : State) (id : ℕ) (call : Call) → (ends.handed s id call).executed ≡ false → IsMadeBy s [] (ends.handed s id call).state
+  made_again : (s : State) (id : ℕ) (call : Asked) → (ends.handed s id call).executed ≡ false → IsMadeBy s [] (ends.handed s id call).state
   made_again s id call e apart effect has = has.repeats s id call e
 
 -- What happens from one wire to another.
 
 -- these are still the calls of the requests with these numbers when more requests are sent
-pub calls_more : (sent more : List Sent) (ns : List ℕ) (calls : List Call) → AreCalls sent ns calls → AreCalls (sent ++ more) ns calls
+pub calls_more : (sent more : List Sent) (ns : List ℕ) (calls : List Asked) → AreCalls sent ns calls → AreCalls (sent ++ more) ns calls
 calls_more sent more [] [] h = tt
 calls_more sent more [] (call ∷ calls) h = absurd h
 calls_more sent more (n ∷ ns) [] h = absurd h
 calls_more sent more (n ∷ ns) (call ∷ calls) h = ((h.0.0, get_more sent more n h.0.0 h.0.1, h.0.2), calls_more sent more ns calls h.1)
 
 -- the calls of two lists of requests are those of the first and then those of the second
-calls_append : (sent : List Sent) (ns ks : List ℕ) (xs ys : List Call) → AreCalls sent ns xs → AreCalls sent ks ys → AreCalls sent (ns ++ ks) (xs ++ ys)
+calls_append : (sent : List Sent) (ns ks : List ℕ) (xs ys : List Asked) → AreCalls sent ns xs → AreCalls sent ks ys → AreCalls sent (ns ++ ks) (xs ++ ys)
 calls_append sent [] ks [] ys h g = g
 calls_append sent [] ks (x ∷ xs) ys h g = absurd h
 calls_append sent (n ∷ ns) ks [] ys h g = absurd h
@@ -90,7 +91,7 @@ module _ {State : Type 0} (ends : Ends State) where
   -- instrument's state is what these made of it
   pub record Did (v w : Wire State) (quiet still : Type 0) : Type 0 where
     pub numbers : List ℕ
-    pub calls : List Call
+    pub calls : List Asked
     pub executed : w.executed ≡ v.executed ++ numbers
     pub more : List Sent
     pub sent : w.sent ≡ v.sent ++ more
@@ -207,16 +208,17 @@ module _ {State : Type 0} (ends : Ends State) where
   goes_with_down v quiet still down false k = goes_same v _ quiet still refl refl refl refl k.known k
 
   -- where the reply in front comes, `Goes` holds
-  goes_down : (w : World ById State) (quiet still : Type 0) (q : List (Numbered (List ℕ))) → Refines w.wire → Goes w.wire (down_delivered (by_ids 7 ends) w q).wire quiet still
+  goes_down : (w : World (ById Asked) State) (quiet still : Type 0) (q : List (Numbered (List ℕ))) → Refines w.wire → Goes w.wire (down_delivered (by_ids 7 ends) w q).wire quiet still
   goes_down w quiet still [] k = goes_same w.wire _ quiet still refl refl refl refl k.known k
   goes_down w quiet still (x ∷ rest) k = goes_same w.wire _ quiet still refl refl refl refl k.known k
 
   -- where a request is sent, or refused, `Goes` holds
-  goes_sent : (w : World ById State) (quiet still : Type 0) (target : ℕ) (call : Call) (o : Option (Sending ById)) → Refines w.wire → Goes w.wire (requested w target call o).wire quiet still
+  goes_sent : (w : World (ById Asked) State) (quiet still : Type 0) (target : ℕ) (call : Asked) (o : Option (Sending (ById Asked))) → Refines w.wire
+      → Goes w.wire (requested w target call o).wire quiet still
   goes_sent w quiet still target call None k = goes_same w.wire _ quiet still refl refl refl refl k.known k
   goes_sent w quiet still target call (Some x) k =
       let v = w.wire in
-      let r : Sent = record { target = target; call = call; line = request_line (Some x.id) call } in
+      let r : Sent = record { target = target; call = call; line = asked_line (Some x.id) call } in
       record {
         did = did_none v _ quiet still (r ∷ []) refl refl (λ q. refl) (λ s. made_none ends v.state v.state refl);
         stands = record {
@@ -226,7 +228,7 @@ module _ {State : Type 0} (ends : Ends State) where
       }
 
   -- where a step of the line happens, `Goes` holds
-  goes_line : (w : World ById State) (quiet still : Type 0) (step : Step) → IsOfLine step → Refines w.wire → Goes w.wire (happens ends (by_ids 7 ends) w step).wire quiet still
+  goes_line : (w : World (ById Asked) State) (quiet still : Type 0) (step : Step) → IsOfLine step → Refines w.wire → Goes w.wire (happens ends (by_ids 7 ends) w step).wire quiet still
   goes_line w quiet still (Send target call deadline) p k = absurd p
   goes_line w quiet still Up_deliver p k = goes_up w.wire quiet still w.wire.up refl k
   goes_line w quiet still (Up_lose i) p k = goes_with_up w.wire quiet still (without i w.wire.up) (ltb i (length w.wire.up)) (each_without _ i w.wire.up k.known) k
@@ -279,7 +281,7 @@ module _ {State : Type 0} (ends : Ends State) where
 
   module _ (Good : State → Type 0) (kept : State → Option KeptReply) where
     -- `Goes` holds over any possible moves, quiet where the instrument doesn't start, and still where it isn't disturbed
-    goes_all : (ms : List (Move State)) (w : World ById State) → ArePossible ends Good kept (by_ids 7 ends) ms w → Refines w.wire
+    goes_all : (ms : List (Move State)) (w : World (ById Asked) State) → ArePossible ends Good kept (by_ids 7 ends) ms w → Refines w.wire
         → Goes w.wire (moved ends (by_ids 7 ends) ms w).wire (HasNoStartBetween ms) (IsUndisturbed ms)
     goes_all [] w p k = goes_same w.wire w.wire (Unit {0}) (Unit {0}) refl refl refl refl k.known k
     goes_all (Sends target call deadline ∷ ms) w p k =
@@ -303,7 +305,7 @@ module _ {State : Type 0} (ends : Ends State) where
 
     -- a copy of the eighth null procedure was sent
     known_last : (x : Request) → x ≡ eighth → IsKnown nulls (record { number = 7; line = x })
-    known_last x e = (record { target = 0; call = NullProc; line = request_line (Some 7) NullProc }, refl, sym (ap (λ (r : Request). r.call) e))
+    known_last x e = (record { target = 0; call = Table NullProc; line = asked_line (Some 7) (Table NullProc) }, refl, sym (ap (λ (r : Request). r.call) e))
 
     -- after a clean beginning the wire `Refines`
     stands_begun : (u : UnderWay State) → IsClean Good kept u → Refines (ids_begun u).wire
@@ -315,13 +317,13 @@ module _ {State : Type 0} (ends : Ends State) where
     stands_all ms u clean p = (goes_all ms (ids_begun u) p (stands_begun u clean)).stands
 
     -- `Did` holds over any possible moves, quiet where the instrument doesn't start, and still where it isn't disturbed
-    pub did_all : (ms : List (Move State)) (w : World ById State) → ArePossible ends Good kept (by_ids 7 ends) ms w → Refines w.wire
+    pub did_all : (ms : List (Move State)) (w : World (ById Asked) State) → ArePossible ends Good kept (by_ids 7 ends) ms w → Refines w.wire
         → Did w.wire (moved ends (by_ids 7 ends) ms w).wire (HasNoStartBetween ms) (IsUndisturbed ms)
     did_all ms w p k = (goes_all ms w p k).did
 
   -- where the front request is executed on reaching the instrument, it is the next one executed, the state becomes what its
   -- call makes of it, and there is no start
-  pub acted : (w : World ById State) (x : Numbered Request) (rest : List (Numbered Request)) → w.wire.up ≡ x ∷ rest → (ends.handed w.wire.state x.line.id x.line.call).executed ≡ true
+  pub acted : (w : World (ById Asked) State) (x : Numbered Request) (rest : List (Numbered Request)) → w.wire.up ≡ x ∷ rest → (ends.handed w.wire.state x.line.id x.line.call).executed ≡ true
       → ((moves ends (by_ids 7 ends) w (OnLine Up_deliver)).wire.executed ≡ w.wire.executed ++ x.number ∷ [])
       × IsMadeBy ends w.wire.state (x.line.call ∷ []) (moves ends (by_ids 7 ends) w (OnLine Up_deliver)).wire.state
       × ((moves ends (by_ids 7 ends) w (OnLine Up_deliver)).wire.starts ≡ w.wire.starts)

@@ -18,7 +18,7 @@ use Rattle.gc_station.specs.Parts.{parts_of}
 use Rattle.gc_station.specs.Model.{opening}
 use Rattle.gc_field.specs.Field.{seen}
 use Rattle.gc_field.specs.Shown.{AreShownAs, shown}
-use Rattle.gc_world.specs.Clients.{ends}
+use Rattle.gc_field.specs.Simulator.{ends}
 use Rattle.gc_field.specs.Begin.{begins}
 use Rattle.gc_field.specs.Witness.{eight, plan, replies}
 
@@ -33,7 +33,8 @@ all_chained (suc (suc (suc p))) above upto = absurd (omega (arith, upto))
 none_turns : AreStill commands 0 2
 none_turns zero task above under e = absurd (omega (arith, above))
 none_turns (suc zero) task above under e =
-    let one : Task = record { command = record { target = 7; call = measures }; deadline = 100; chained = true; near = None; accepted = no_codes } in ap (λ (t : Task). turns t.command.call) (sym (some_is one task e))
+    let one : Task = record { command = record { target = 7; call = measures }; deadline = 100; chained = true; near = None; accepted = no_codes } in
+    ap (λ (t : Task). turns t.command.call) (sym (some_is one task e))
 none_turns (suc (suc p)) task above under e = absurd (omega (arith, under))
 
 -- the run's parts: one, with the requests by place and moment

@@ -7,8 +7,9 @@ use Rattle.std.specs.Prelude.{slice_get}
 use Rattle.std.specs.List.{AllByRecursion}
 use Rattle.std.proofs.lemmas.Bool.{ltb-true, ltb-false}
 use Rattle.std.proofs.lemmas.List.{length-map}
+use Rattle.gc_catalogue.specs.declared.asked.Asked.{Asked}
 use Rattle.gc_client.specs.OneForOne as step
-use Rattle.gc_client.specs.OneForOne.{Asked}
+use Rattle.gc_client.specs.OneForOne.{Wanted}
 use Rattle.gc_client.specs.Rule.{Answered, Settlement}
 use Rattle.gc_instrument.specs.State.{KeptReply}
 use Rattle.gc_texts.specs.declared.near.Expected.{Expected}
@@ -27,14 +28,14 @@ use Rattle.gc_station.specs.Model.{Model, Runs, opening, action_at, after}
 use Rattle.gc_station.proofs.Asked.{FirstHasNone, goes_begun, marks_none, nil_both, no_turns}
 use Rattle.gc_station.proofs.Booking.{of_length}
 use Rattle.gc_world.specs.Clients.{by_ids}
-use Rattle.gc_world.specs.World.{Ends, Up_deliver}
+use Rattle.gc_field.specs.World.{Ends, Up_deliver}
 use Rattle.gc_world.proofs.Options.{some_is, none_is_not}
 use Rattle.gc_world.proofs.Places.{below}
 use Rattle.gc_field.specs.Begin.{AreTurns, UnderWay, begins, leaves, turned}
 use Rattle.gc_field.specs.Begin.{Model as Begins}
 use Rattle.gc_field.specs.Beginnings.{ArePossibleIf, AreRuns, Run, left_by_run}
 use Rattle.gc_field.specs.Beginnings.{stood as stood_by}
-use Rattle.gc_field.specs.Begun.{WasMadeOn, behind, ids_begun}
+use Rattle.gc_field.specs.Begun.{IsSafe, WasMadeOn, behind, ids_begun}
 use Rattle.gc_field.specs.Chains.{AreExecutedInChain, IsChainedTo, IsExecutedInChain}
 use Rattle.gc_field.specs.Field.{Move, Sends, Tells, Comes, Foreign, OnLine, Anew, Changes, Joins, ArePossible, seen}
 use Rattle.gc_field.specs.Instrument.{IsAnInstrument}
@@ -45,7 +46,7 @@ use Rattle.gc_field.specs.Shown.{AreShownAs, Stretch, shown, stretches}
 use Rattle.gc_field.proofs.InTime.{clean_of, front_nil}
 use Rattle.gc_field.proofs.Possible.{possible_front}
 use Rattle.gc_field.proofs.Among.{get_drop}
-use Rattle.gc_field.proofs.Joining.{AllFit, Fits, all_fitting, run_faithful}
+use Rattle.gc_field.proofs.Joining.{AllFit, Fits, all_fitting, run_faithful, safe_at, safe_in}
 use Rattle.gc_field.proofs.Ordered.{executed_behind}
 
 -- The front of a run.
@@ -62,7 +63,7 @@ IsFront (p ∷ next ∷ ps) (q ∷ qs) = (q ≡ p) × IsFront (next ∷ ps) qs
 joined_assoc : (p q r : Part) → joined (joined p q) r ≡ joined p (joined q r)
 joined_assoc p q r =
     ap (λ (turns : List part.Turn). record { turns = turns; steps = (p.steps ++ q.steps) ++ r.steps; marks = (p.marks ++ q.marks) ++ r.marks }) (append_assoc p.turns q.turns r.turns)
-    ∙ ap (λ (steps : List step.Step). record { turns = p.turns ++ (q.turns ++ r.turns); steps = steps; marks = (p.marks ++ q.marks) ++ r.marks }) (append_assoc p.steps q.steps r.steps)
+    ∙ ap (λ (steps : List (step.Step Asked)). record { turns = p.turns ++ (q.turns ++ r.turns); steps = steps; marks = (p.marks ++ q.marks) ++ r.marks }) (append_assoc p.steps q.steps r.steps)
     ∙ ap (λ (marks : List _). record { turns = p.turns ++ (q.turns ++ r.turns); steps = p.steps ++ (q.steps ++ r.steps); marks = marks }) (append_assoc p.marks q.marks r.marks)
 
 -- `IsFront` lasts where the same part is put in front of both lists
@@ -184,14 +185,14 @@ cons_tail : {A : Type 0} (x y : A) (xs ys : List A) → x ∷ xs ≡ y ∷ ys �
 cons_tail x y xs ys e = cc
 
 -- these moves are cut after those whose steps a client sees as `xs`
-record SplitSeen {State : Type 0} (ms : List (Move State)) (xs : List step.Step) : Type 0 where
+record SplitSeen {State : Type 0} (ms : List (Move State)) (xs : List (step.Step Asked)) : Type 0 where
   front : List (Move State)
   later : List (Move State)
   order : ms ≡ front ++ later
   steps : seen front ≡ xs
 
 -- `SplitSeen` lasts where a move that the client sees is put in front
-split_visible : {State : Type 0} (m : Move State) (st x : step.Step) (ms : List (Move State)) (xs ys : List step.Step)
+split_visible : {State : Type 0} (m : Move State) (st x : step.Step Asked) (ms : List (Move State)) (xs ys : List (step.Step Asked))
     → ((l : List (Move State)) → seen (m ∷ l) ≡ st ∷ seen l) → (seen ms ≡ xs ++ ys → SplitSeen ms xs) → seen (m ∷ ms) ≡ x ∷ (xs ++ ys)
     → SplitSeen (m ∷ ms) (x ∷ xs)
 split_visible m st x ms xs ys shows again e =
@@ -205,7 +206,7 @@ split_visible m st x ms xs ys shows again e =
     }
 
 -- moves that show the client two lists of steps, one after the other, can be cut between the two
-split_seen : {State : Type 0} (ms : List (Move State)) (xs ys : List step.Step) → seen ms ≡ xs ++ ys → SplitSeen ms xs
+split_seen : {State : Type 0} (ms : List (Move State)) (xs ys : List (step.Step Asked)) → seen ms ≡ xs ++ ys → SplitSeen ms xs
 split_seen ms [] ys e = record { front = []; later = ms; order = refl; steps = refl }
 split_seen [] (x ∷ xs) ys e = cc
 split_seen (Sends target call deadline ∷ ms) (x ∷ xs) ys e = split_visible (Sends target call deadline) (step.Send target call deadline) x ms xs ys (λ l. refl) (λ f. split_seen ms xs ys f) e
@@ -438,10 +439,10 @@ module _ {State : Type 0} (ends : Ends State) (Good : State → Type 0) (kept : 
   made_its : (ps : List Part) (ss : List (Stretch State)) (b : Record) (line : List ℕ) (o : IsItsOwn ends Good kept commands ps ss b line) → Fits ends Good kept is o.part o.stretch
       → WasMadeOn 7 ends o.stretch.from o.stretch.moves (8 + o.m) b.command.call line
   made_its ps ss b line o fit =
-      let x : Settlement = record { target = b.command.target; call = b.command.call; outcome = Answered line } in
+      let x : Settlement Asked = record { target = b.command.target; call = b.command.call; outcome = Answered line } in
       let w = (world ends o.stretch).wire in
       let right : b.command.call ≡ o.task.command.call = (fit.faithful.one_for_one.same (8 + o.m) x o.request (get_drop 8 o.m w.settled x o.settled)
-      (get_drop 8 o.m w.sent o.request o.sent)).1 ∙ ap (λ (z : Asked). z.call) o.asks in
+      (get_drop 8 o.m w.sent o.request o.sent)).1 ∙ ap (λ (z : Wanted Asked). z.call) o.asks in
       subst (λ call. WasMadeOn 7 ends o.stretch.from o.stretch.moves (8 + o.m) call line) (sym right) o.made_on
 
   -- where the answer of record b is its own, the command at each place a, from which b is chained, was executed before that of b
@@ -458,7 +459,7 @@ module _ {State : Type 0} (ends : Ends State) (Good : State → Type 0) (kept : 
       let there = settled_there sent.before v cut.0.runs cut.1 u.k u.m b.cycle a sent.first sent.of_parts sent.count back in
       let c = cut.0.last u.k there.0 u.stretch sent.last there.1 u.of_stretches in
       let fit = fit_at ends Good kept is (parts plan commands scope acts) ss u.k u.part u.stretch (all_fitting ends Good kept is plan commands scope acts v rs h).0 u.of_parts u.of_stretches in
-      let x : Settlement = record { target = back.answer.command.target; call = back.answer.command.call; outcome = Answered back.line } in
+      let x : Settlement Asked = record { target = back.answer.command.target; call = back.answer.command.call; outcome = Answered back.line } in
       let w = (behind 7 ends u.stretch.from c.front).wire in
       let settled : slice_get (drop 8 w.settled) back.m ≡ Some x = subst (λ (t : Stretch State). slice_get (own_settled ends t) back.m ≡ Some x) c.is there.3 in
       let size : length (drop 8 w.sent) ≡ u.m = subst (λ (t : Stretch State). length (own_sent ends t) ≡ u.m) c.is there.2 in
@@ -474,6 +475,10 @@ module _ {State : Type 0} (ends : Ends State) (Good : State → Type 0) (kept : 
       let small : back.m < length sent.first.marks = below sent.first.marks back.m (Some (mark_of back.expected back.answer)) back.mark in
       let grown = records_stay plan commands scope sent.before sent.rest in
       let same_cycle : back.answer.cycle ≡ b.cycle = back.own_cycle in
+      let safe : IsSafe 7 ends u.stretch.from Good kept c.front (8 + back.m) =
+      subst (λ (t : Stretch State). IsSafe 7 ends t.from Good kept t.moves (8 + back.m)) c.is
+      (safe_at ends Good kept is (parts plan commands scope sent.before) (stretches ends v cut.0.runs) u.k sent.first there.0
+      (safe_in ends Good kept is plan commands scope sent.before v cut.0.runs cut.1) sent.of_parts there.1 back.m (mark_of back.expected back.answer) back.mark) in
       record {
         k = back.k;
         record_a = back.answer;
@@ -505,7 +510,7 @@ module _ {State : Type 0} (ends : Ends State) (Good : State → Type 0) (kept : 
             let it = within back.answer.cycle back.answer.place mark.cycle mark.place b.cycle b.place first last same_cycle in
             (it.0, subst (λ p. p < mark.place) back.own_place it.1, it.2);
         executed =
-            executed_behind ends Good kept is u.stretch clean fit.sound.possible c.front c.later c.order (8 + back.m) (8 + u.m) x back.line beyond (get_drop 8 back.m w.settled x settled) refl
+            executed_behind ends Good kept is u.stretch clean fit.sound.possible c.front c.later c.order (8 + back.m) (8 + u.m) x back.line beyond safe (get_drop 8 back.m w.settled x settled) refl
             (omega (arith, size, dropped)) b.command.call line made;
       }
 

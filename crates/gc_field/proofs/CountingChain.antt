@@ -5,7 +5,7 @@ use Rattle.std.specs.Prelude.{take, drop}
 use Rattle.std.specs.Fmt.{digits}
 use Rattle.gc_lines.specs.Readers.{header_at, reply_at}
 use Rattle.gc_catalogue.specs.declared.answer.Reading.{Reading}
-use Rattle.gc_catalogue.specs.declared.call.Call.{Call}
+use Rattle.gc_catalogue.specs.declared.asked.Asked.{Asked}
 use Rattle.gc_client.specs.declared.window.TheConstants.{WINDOW}
 use Rattle.gc_client.specs.Rule.{heard}
 use Rattle.gc_instrument.specs.State.{KeptReply}
@@ -15,7 +15,7 @@ use Rattle.gc_world.proofs.Options.{some_is}
 use Rattle.gc_field.specs.ChainWitness.{commands, points, reads_all, scope}
 use Rattle.gc_field.specs.Chains.{HasEffect}
 use Rattle.gc_field.specs.CountingChain.{Counter, IsCountedInField, acts, bare, before, begun, counted_or, counting, counts, first, kept_by, moves, runs, stretch, third}
-use Rattle.gc_field.specs.Instrument.{IsAnInstrument, KeepsItsReply, AnyState}
+use Rattle.gc_field.specs.Instrument.{IsAnInstrument, KeepsItsReply, AnyState, all_known}
 use Rattle.gc_field.specs.Begun.{WasMadeOn}
 use Rattle.gc_field.specs.Needed.{Keeper, held, kept, value}
 use Rattle.gc_field.proofs.ChainWitness.{all_chained}
@@ -58,7 +58,7 @@ held_for None id None line h e s = let never : ⊥ = cc in absurd never
 held_for (Some x) id None line h e s = absurd (none_held x id (ap (λ (r : KeptReply). r.id) (some_is (record { id = x.0; line = value x.0 x.1 }) (record { id = id; line = line }) e)) h)
 
 -- an execution makes the count one higher
-executes : (s : Counter) (id : ℕ) (call : Call) (o : Option ℕ) → (counted_or s id o).executed ≡ true → bare (counted_or s id o).state ≡ bare (counts s call)
+executes : (s : Counter) (id : ℕ) (call : Asked) (o : Option ℕ) → (counted_or s id o).executed ≡ true → bare (counted_or s id o).state ≡ bare (counts s call)
 executes s id call (Some n) e = absurd (true_is_not (sym e))
 executes s id call None e = refl
 
@@ -74,18 +74,18 @@ is =
       hears = λ line. refl;
       replies = λ s id call good small. reads s id (held s.keeps id) small;
       repeats = λ s id call good small not. repeats s id (held s.keeps id) refl not;
-      keeps = λ s id call good small. inr (reply_is_kept s id (held s.keeps id) refl);
+      keeps = λ s id call good small. inl (inr (reply_is_kept s id (held s.keeps id) refl));
       starts = λ s good. inl refl;
       stays_good = λ s id call good small. tt;
       starts_good = λ s good. tt;
     }
 
 -- `counting` keeps its reply
-keeps_its : KeepsItsReply counting AnyState kept_by
+keeps_its : KeepsItsReply counting AnyState kept_by all_known
 keeps_its =
     record {
-      again = λ s id call line good small e. held_for s.keeps id (held s.keeps id) line refl e s;
-      always = λ s id call good small. reply_is_kept s id (held s.keeps id) refl;
+      again = λ s id call line good small known e. held_for s.keeps id (held s.keeps id) line refl e s;
+      always = λ s id call good small known. reply_is_kept s id (held s.keeps id) refl;
     }
 
 -- executing a call has the effect `counts`
@@ -99,7 +99,7 @@ effect =
 
 -- a connection is made and cleared, and all eight null procedures are answered by the counting instrument, whatever is to be asked
 pub opens_counting :
-    (width : ℕ) (tasks : List Task) (reads : Call → List ℕ → Reading)
+    (width : ℕ) (tasks : List Task) (reads : Asked → List ℕ → Reading)
     → Runs (plan_of width) tasks (opening (plan_of width) (record { turns = 100; reads = reads })) (begun_with begun [])
 unfolding is_elsewhere header_at reply_at digits
 opens_counting width tasks reads =

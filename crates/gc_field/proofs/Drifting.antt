@@ -4,7 +4,8 @@ use Rattle.std.specs.Prelude.{take, drop}
 use Rattle.std.specs.Fmt.{decimal, digits}
 use Rattle.gc_lines.specs.Readers.{header_at, reply_at}
 use Rattle.gc_lines.proofs.Written.{reply_back}
-use Rattle.gc_catalogue.specs.declared.call.Call.TheVariants.{InstrumentNo}
+use Rattle.gc_catalogue.specs.declared.asked.Asked.TheVariants.{Raw}
+use Rattle.gc_catalogue.specs.declared.raw.RawCall.{RawCall}
 use Rattle.gc_client.specs.declared.window.TheConstants.{WINDOW}
 use Rattle.gc_client.specs.Rule.{id_in}
 use Rattle.gc_field.specs.Instrument.{IsAnInstrument, AnyState, nothing}
@@ -30,53 +31,54 @@ is =
       hears = λ line. refl;
       replies = λ s id call good small. ap id_in (reply_back (record { rc_com = 0; id = Some id; rc = 0; params = decimal s }) (record { rc_com = lit< tt; id = small; rc = lit< tt }));
       repeats = λ s id call good small not. absurd (true_is_not not);
-      keeps = λ s id call good small. inl refl;
+      keeps = λ s id call good small. inl (inl refl);
       starts = λ s good. inl refl;
       stays_good = λ s id call good small. tt;
       starts_good = λ s good. tt;
     }
 
--- the answer was made on executing the second command's request
-was_made : WasMadeOn WINDOW drifting (leaves (turned drifting turns (begins (none_under_way 5)))) moves 9 InstrumentNo answer
-unfolding is_elsewhere header_at reply_at digits
-was_made = record { front = take 11 moves; later = drop 12 moves; split = refl; id = 1; rest = []; reaches = refl; executed = refl; reply = refl }
+module _ (raw : RawCall) where
+  -- the answer was made on executing the second command's request
+  was_made : WasMadeOn WINDOW drifting (leaves (turned drifting turns (begins (none_under_way 5)))) (moves raw) 9 (Raw raw) answer
+  unfolding is_elsewhere header_at reply_at digits
+  was_made = record { front = take 11 (moves raw); later = drop 12 (moves raw); split = refl; id = 1; rest = []; reaches = refl; executed = refl; reply = refl }
 
--- the run has one part: its turns, steps, and the two requests by place and moment
-parts_are : parts_of plan commands (opening plan scope) acts ≡ one_part (part.Asks ∷ part.Asks ∷ asked_each begun) (seen moves) ((0, 220) ∷ (1, 320) ∷ [])
-unfolding is_elsewhere header_at reply_at digits
-parts_are = refl
+  -- the run has one part: its turns, steps, and the two requests by place and moment
+  parts_are : parts_of plan (commands raw) (opening plan scope) (acts raw) ≡ one_part (part.Asks ∷ part.Asks ∷ asked_each begun) (seen (moves raw)) ((0, 220) ∷ (1, 320) ∷ [])
+  unfolding is_elsewhere header_at reply_at digits
+  parts_are = refl
 
--- what the line does while the station begins shows these turns
-shown_are : shown drifting turns (begins (none_under_way 5)) ≡ part.Asks ∷ part.Asks ∷ asked_each begun
-unfolding is_elsewhere header_at reply_at digits
-shown_are = refl
+  -- what the line does while the station begins shows these turns
+  shown_are : shown drifting turns (begins (none_under_way 5)) ≡ part.Asks ∷ part.Asks ∷ asked_each begun
+  unfolding is_elsewhere header_at reply_at digits
+  shown_are = refl
 
--- this run is in the field, and its second command is answered
-pub answered : IsAnsweredByDrifting
-unfolding is_elsewhere header_at reply_at digits
-answered =
-    record {
-      is = is;
-      field =
-          record {
-            runs =
-                run_on plan commands (opening plan scope) (take 15 acts) (drop 15 acts)
-                (tt, (refl, (tt, (refl, (tt, (tt, (refl, (tt, (tt, (refl, (tt, (tt, (tt, (refl, (tt, tt)))))))))))))))
-                (run_on plan commands (after_all plan commands (opening plan scope) (take 15 acts)) (take 24 (drop 15 acts)) (drop 39 acts)
-                (refl, (tt, (tt, (refl, (tt, (tt, (refl, (tt, (tt, (refl, (tt, (tt, (refl, (tt, (tt, (refl, (tt, (tt, (refl, (tt, (tt, (refl, (tt, (tt, tt))))))))))))))))))))))))
-                (tt, (refl, (tt, (tt, (refl, (tt, (tt, (refl, (tt, (tt, (tt, (refl, (tt, (tt, (tt, (refl, tt)))))))))))))))));
-            lines = record { ids = tt; good = tt };
-            none = λ h. h;
-            shown = subst (AreShownAs drifting (none_under_way 5) runs) (sym parts_are) (shown_are, refl, (refl, refl, tt));
-            possible = (
-              (
-                (tt, (tt, (tt, (tt, (tt, ((tt, refl), units 24)))))),
-                (tt, (tt, (tt, (tt, (tt, (tt, ((tt, refl), (tt, (tt, (tt, ((tt, refl), (tt, (tt, (tt, (tt, (tt, (tt, ((9, [], refl), tt)))))))))))))))))),
-              ),
-              ((tt, refl), tt),
-            );
-          };
-      over = refl;
-      records = refl;
-      made_on = was_made;
-    }
+  -- this run is in the field, and its second command is answered
+  pub answered : IsAnsweredByDrifting raw
+  unfolding is_elsewhere header_at reply_at digits
+  answered =
+      record {
+        is = is;
+        field =
+            record {
+              runs =
+                  run_on plan (commands raw) (opening plan scope) (take 15 (acts raw)) (drop 15 (acts raw))
+                  (tt, (refl, (tt, (refl, (tt, (tt, (refl, (tt, (tt, (refl, (tt, (tt, (tt, (refl, (tt, tt)))))))))))))))
+                  (run_on plan (commands raw) (after_all plan (commands raw) (opening plan scope) (take 15 (acts raw))) (take 24 (drop 15 (acts raw))) (drop 39 (acts raw))
+                  (refl, (tt, (tt, (refl, (tt, (tt, (refl, (tt, (tt, (refl, (tt, (tt, (refl, (tt, (tt, (refl, (tt, (tt, (refl, (tt, (tt, (refl, (tt, (tt, tt))))))))))))))))))))))))
+                  (tt, (refl, (tt, (tt, (refl, (tt, (tt, (refl, (tt, (tt, (tt, (refl, (tt, (tt, (tt, (refl, tt)))))))))))))))));
+              lines = record { ids = tt; good = tt };
+              none = λ h. h;
+              shown = subst (AreShownAs drifting (none_under_way 5) (runs raw)) (sym parts_are) (shown_are, refl, (refl, refl, tt));
+              possible = (
+                (
+                  (tt, (tt, (tt, (tt, (tt, ((tt, refl), units 24)))))),
+                  (tt, (tt, (tt, (tt, (tt, (tt, ((tt, refl), (tt, (tt, (tt, ((tt, refl), (tt, (tt, (tt, (tt, (tt, (tt, ((9, [], refl), tt)))))))))))))))))),
+                ),
+                ((tt, refl), tt),
+              );
+            };
+        over = refl;
+        records = refl;
+        made_on = was_made;
+      }

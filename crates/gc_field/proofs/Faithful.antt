@@ -1,22 +1,24 @@
 -- The law on answers, `IsFaithful`, put together from its parts.
-use Rattle.std.proofs.Common.{◌≡◌, ℕ, ◌≤◌, false, List, ◌∷◌, Option, sym, ◌∙◌, ap, subst, arith, map, ◌++◌}
-use Rattle.gc_catalogue.specs.declared.call.Call.{Call}
+use Rattle.std.specs.Prelude.{slice_get}
+use Rattle.gc_catalogue.specs.Asked.{is_of_table}
+use Rattle.std.proofs.Common.{◌≡◌, ℕ, ◌<◌, ◌≤◌, Some, false, List, ◌∷◌, Option, sym, ◌∙◌, ap, subst, arith, map, ◌++◌}
+use Rattle.gc_catalogue.specs.declared.asked.Asked.{Asked}
 use Rattle.gc_client.specs.OneForOne.{begun, course, of_settled, of_pending}
-use Rattle.gc_client.specs.Rule.{heard}
+use Rattle.gc_client.specs.Rule.{Settlement, heard}
 use Rattle.gc_client.proofs.OneForOne.{one_for_one}
 use Rattle.gc_world.specs.Clients.{by_ids, by_numbers, ids_open, numbers_open}
 use Rattle.gc_instrument.specs.State.{KeptReply}
 use Rattle.gc_world.specs.Exchange.{IsExchange}
 use Rattle.gc_world.specs.Record.{IsReplyTo}
-use Rattle.gc_world.specs.World.{Ends, Wire, Up_deliver}
+use Rattle.gc_field.specs.World.{Ends, Wire, Up_deliver}
 use Rattle.gc_world.proofs.Booked.{has_at}
 use Rattle.gc_world.proofs.Settled.{of_sent}
 use Rattle.gc_world.proofs.Settled as settled
-use Rattle.gc_field.specs.Field.{Move, OnLine, moved, ArePossible, IsFirstAlone, seen}
+use Rattle.gc_field.specs.Field.{Move, OnLine, moved, ArePossible, AsksTheTable, IsFirstAlone, seen}
 use Rattle.gc_field.specs.Laws.{IsFaithful}
 use Rattle.gc_field.specs.Made.{WasMadeOn}
 use Rattle.gc_field.specs.Instrument.{IsAnInstrument}
-use Rattle.gc_field.proofs.Moving.{both_all, both_open, first_reply, IsVouchedFor, AreOn, vouched_at, vouched_of, late_of}
+use Rattle.gc_field.proofs.Moving.{both_all, both_open, first_reply, IsOwn, IsVouchedFor, AreOn, vouched_at}
 use Rattle.gc_field.proofs.Instruments.{exchange_of}
 use Rattle.gc_field.proofs.Possible.{possible_front}
 use Rattle.gc_field.proofs.Seen.{same_all, same_open}
@@ -29,7 +31,7 @@ module _ {State : Type 0} (ends : Ends State) (same_heard : (line : List ℕ) �
 
   -- the reply to each request that is executed at one of these moves was made on executing it, by `WasMadeOn`
   made_here : (state : State) → Good state → (ms : List (Move State)) → ArePossible ends Good kept (by_ids width ends) ms (ids_open state)
-      → AreOn width narrow ends Good ex kept keeper 1 (omega arith) (λ n call line. WasMadeOn width ends state ms n call line) ms (numbers_open state)
+      → AreOn width ends (λ n call line. WasMadeOn width ends state ms n call line) ms (numbers_open state)
   made_here state good ms p front later e x rest q exe =
       let p' = possible_front width ends Good kept front (OnLine Up_deliver ∷ later) (ids_open state) (subst (λ l. ArePossible ends Good kept (by_ids width ends) l (ids_open state)) e p) in
       let same : (moved ends (by_ids width ends) front (ids_open state)).wire ≡ (moved ends (by_numbers width) front (numbers_open state)).wire =
@@ -47,9 +49,9 @@ module _ {State : Type 0} (ends : Ends State) (same_heard : (line : List ℕ) �
       }
 
   -- possible moves whose first request goes out alone are faithful
-  pub faithful : (state : State) → Good state → (ms : List (Move State)) → ArePossible ends Good kept (by_ids width ends) ms (ids_open state) → IsFirstAlone false ms
-      → IsFaithful width ends state ms Good kept
-  faithful state good ms p l =
+  pub faithful : (state : State) → Good state → (ms : List (Move State)) → ArePossible ends Good kept (by_ids width ends) ms (ids_open state) → AsksTheTable ms
+      → IsFirstAlone false ms → IsFaithful width ends state ms Good kept
+  faithful state good ms p table l =
       let a = moved ends (by_ids width ends) ms (ids_open state) in
       let b = moved ends (by_numbers width) ms (numbers_open state) in
       let both = both_all width narrow ends Good ex kept ms (ids_open state) (numbers_open state) p (both_open width narrow ends Good ex kept state good) in
@@ -62,27 +64,26 @@ module _ {State : Type 0} (ends : Ends State) (same_heard : (line : List ℕ) �
       ∙ one_for_one width (seen ms)
       ∙ one.sent in
       let pairs = settled.one_for_one a.wire.settled a.client.waiting a.wire.sent parts in
-      let M : ℕ → Call → List ℕ → Type 0 = λ n call line. WasMadeOn width ends state ms n call line in
-      let all = subst (λ (w : Wire State). IsVouchedFor width narrow ends Good ex kept keeper 1 (omega arith) M w) (sym same)
-      (vouched_at width narrow ends Good ex kept keeper 1 (omega arith) M ms state good p l (made_here state good ms p)) in
-      let vouched = vouched_of width narrow ends Good ex kept keeper 1 (omega arith) M a.wire in
-      let vouched_late = late_of width narrow ends Good ex kept keeper 1 (omega arith) M a.wire in
+      let M : ℕ → Asked → List ℕ → Type 0 = λ n call line. WasMadeOn width ends state ms n call line in
+      let all = subst (λ (w : Wire State). IsVouchedFor ends Good kept (λ n. n < 1) M w) (sym same)
+      (vouched_at width narrow is_of_table ends Good ex kept keeper (λ n. n < 1) (omega arith) M ms state good p table l (made_here state good ms p)) in
+      let own : (m : ℕ) (s : Settlement Asked) → 0 < m → slice_get a.wire.settled m ≡ Some s → IsOwn ends Good M a.wire m s = λ m s gt e. all.own m s (λ l. omega (arith, l, gt)) e in
       record {
         settled = one.settled;
         stands = one.client;
         accounted = parts;
         one_for_one = pairs;
         booked = λ m s gt e bytes answered.
-            let v = vouched m s bytes (omega (arith, gt)) all.answers e answered in
-            let right = (pairs.same m s v.answer.request e v.answer.found).1 in
-            (has_at _ a.wire.made v.among, subst (λ call. IsReplyTo ends Good call bytes) (sym right) v.answer.reply);
-        executed = λ m s bytes gt e answered. let v = vouched m s bytes (omega (arith, gt)) all.answers e answered in has_at m a.wire.executed v.acted;
+            let v = (own m s gt e).answered bytes answered in
+            let right = (pairs.same m s v.request e v.found).1 in
+            (has_at _ a.wire.made v.among, subst (λ call. IsReplyTo ends Good call bytes) (sym right) v.reply);
+        executed = λ m s bytes gt e answered. has_at m a.wire.executed ((own m s gt e).answered bytes answered).acted;
         made_on = λ m s bytes gt e answered.
-            let v = vouched m s bytes (omega (arith, gt)) all.answers e answered in
-            subst (λ call. M m call bytes) (sym (pairs.same m s v.answer.request e v.answer.found).1) v.on;
+            let v = (own m s gt e).answered bytes answered in
+            subst (λ call. M m call bytes) (sym (pairs.same m s v.request e v.found).1) v.on;
         late = λ m s gt e late.
-            let v = vouched_late m s (omega (arith, gt)) all.answers e late in
-            (v.0, subst (λ call. M m call v.0) (sym (pairs.same m s v.1.answer.request e v.1.answer.found).1) v.1.on);
+            let v = (own m s gt e).late late in
+            (v.0, subst (λ call. M m call v.0) (sym (pairs.same m s v.1.request e v.1.found).1) v.1.on);
         in_order = all.order;
         once = all.once;
         agrees = same;

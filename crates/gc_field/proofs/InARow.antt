@@ -6,7 +6,7 @@ use Rattle.std.specs.List.{filter_map}
 use Rattle.gc_client.specs.Beginning.{IsSubsequence}
 use Rattle.gc_client.specs.Rule.{heard}
 use Rattle.gc_instrument.specs.State.{KeptReply}
-use Rattle.gc_world.specs.World.{Ends, Request}
+use Rattle.gc_field.specs.World.{Ends, Request}
 use Rattle.gc_field.specs.Begin.{Aged, AreLines, AreTurns, Turn, UnderWay, begins, ids_under_way, leaves}
 use Rattle.gc_field.specs.Beginnings.{ArePossibleIf, AreRuns, IsRow, Run, left_by_run, stood}
 use Rattle.gc_field.specs.Field.{Move}

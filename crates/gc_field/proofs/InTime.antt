@@ -4,7 +4,7 @@ use Rattle.std.proofs.Common.{◌≡◌, ◌⊎◌, inl, inr, ℕ, zero, suc, �
 use Rattle.std.specs.Prelude.{slice_get}
 use Rattle.std.proofs.lemmas.Bool.{ne_eqb}
 use Rattle.std.proofs.lemmas.List.{length-append, length-map}
-use Rattle.gc_catalogue.specs.declared.call.Call.{Call}
+use Rattle.gc_catalogue.specs.declared.asked.Asked.{Asked}
 use Rattle.gc_client.specs.OneForOne as step
 use Rattle.gc_client.specs.OneForOne.{of_pending, of_settled, begun, course}
 use Rattle.gc_client.specs.declared.pending.Pending.{Pending}
@@ -13,7 +13,7 @@ use Rattle.gc_instrument.specs.State.{KeptReply}
 use Rattle.gc_station.proofs.Booking.{settled_by, client_after, settled_append, course_settled}
 use Rattle.gc_world.specs.Clients.{by_ids, by_numbers}
 use Rattle.gc_world.specs.Order.{Each}
-use Rattle.gc_world.specs.World.{Ends, Numbered, Wire, World, requested}
+use Rattle.gc_field.specs.World.{Ends, Numbered, Wire, World, requested}
 use Rattle.gc_world.proofs.Sound.{IsComing}
 use Rattle.gc_field.specs.Begin.{UnderWay}
 use Rattle.gc_field.specs.Begun.{IsClean, IsFaithful, behind, ids_begun, nulls_settled, numbers_begun}
@@ -42,15 +42,15 @@ seen_append (Changes state ∷ front) later = seen_append front later
 seen_append (Joins line ∷ front) later = seen_append front later
 
 -- where a reply meets the request at place k of those that wait, the settlement at place k is that of this request by the reply
-met_at : (k : ℕ) (line : List ℕ) (ps : List Pending) → k < length ps → (p : Pending) × (slice_get ps k ≡ Some p) × (slice_get (settle k line ps) k ≡ Some (met p line))
+met_at : (k : ℕ) (line : List ℕ) (ps : List (Pending Asked)) → k < length ps → (p : Pending Asked) × (slice_get ps k ≡ Some p) × (slice_get (settle k line ps) k ≡ Some (met p line))
 met_at k line [] low = absurd (omega (arith, low))
 met_at zero line (p ∷ ps) low = (p, refl, refl)
 met_at (suc k) line (p ∷ ps) low = met_at k line ps (omega (arith, low))
 
 -- what is at place k of the second of three lists is at place length xs + k of the three joined
-get_between : (xs ys zs : List Settlement) (n k : ℕ) (x : Settlement) → n ≡ length xs + k → slice_get ys k ≡ Some x → slice_get ((xs ++ ys) ++ zs) n ≡ Some x
+get_between : (xs ys zs : List (Settlement Asked)) (n k : ℕ) (x : Settlement Asked) → n ≡ length xs + k → slice_get ys k ≡ Some x → slice_get ((xs ++ ys) ++ zs) n ≡ Some x
 get_between [] ys zs n k x e got = let same : k ≡ n = omega (arith, e) in subst (λ i. slice_get (ys ++ zs) i ≡ Some x) same (get_more ys k got) where
-  get_more : (ys : List Settlement) (k : ℕ) → slice_get ys k ≡ Some x → slice_get (ys ++ zs) k ≡ Some x
+  get_more : (ys : List (Settlement Asked)) (k : ℕ) → slice_get ys k ≡ Some x → slice_get (ys ++ zs) k ≡ Some x
   get_more [] k got = cc
   get_more (y ∷ ys) zero got = got
   get_more (y ∷ ys) (suc k) got = get_more ys k got
@@ -58,7 +58,7 @@ get_between (a ∷ xs) ys zs zero k x e got = absurd (omega (arith, e))
 get_between (a ∷ xs) ys zs (suc n) k x e got = get_between xs ys zs n k x (omega (arith, e)) got
 
 -- two requests are equal where `Some` of the one equals `Some` of the other
-some_pending : (p q : Pending) → Some p ≡ Some q → p ≡ q
+some_pending : (p q : Pending Asked) → Some p ≡ Some q → p ≡ q
 some_pending p q e = cc
 
 -- an empty list isn't one with an element
@@ -108,7 +108,7 @@ module _ {State : Type 0} (ends : Ends State) (Good : State → Type 0) (kept : 
 
   -- what is settled after the first moves of a stretch stays in front of what is settled after more of them
   settled_more : (u : UnderWay State) → IsClean Good kept u → (ms front later : List (Move State)) → ms ≡ front ++ later → ArePossible ends Good kept (by_ids 7 ends) ms (ids_begun u)
-      → (more : List Settlement) × ((behind 7 ends u ms).wire.settled ≡ (behind 7 ends u front).wire.settled ++ more)
+      → (more : List (Settlement Asked)) × ((behind 7 ends u ms).wire.settled ≡ (behind 7 ends u front).wire.settled ++ more)
   settled_more u clean ms front later e p =
       let whole = law u clean ms p in
       let part = law u clean front (front_of u ms front later e p) in
@@ -134,7 +134,8 @@ module _ {State : Type 0} (ends : Ends State) (Good : State → Type 0) (kept : 
       let down : b.wire.down ≡ record { number = n; line = line } ∷ rest = sym (ap (λ (w : Wire State). w.down) same) ∙ e in
       let coming = subst (λ l. Each (IsComing 7 ends Good b.client.since (length b.client.requests)) l) down both.sound.coming in
       let size : length a.wire.settled ≡ b.client.count = ap (λ (w : Wire State). length w.settled) same ∙ both.sound.booked in
-      let waits : length a.client.waiting ≡ length b.client.requests - b.client.count = ap (λ (l : List Pending). length l) both.agree.client.window ∙ length-drop b.client.count b.client.requests in
+      let waits : length a.client.waiting ≡ length b.client.requests - b.client.count =
+      ap (λ (l : List (Pending Asked)). length l) both.agree.client.window ∙ length-drop b.client.count b.client.requests in
       omega (arith, coming.0.sent, size, waits, le)
 
   -- where a reply comes to a request that isn't settled, the settlement of that request is that by this reply
@@ -142,7 +143,7 @@ module _ {State : Type 0} (ends : Ends State) (Good : State → Type 0) (kept : 
   MetAt s =
       (front later : List (Move State)) (line : List ℕ) (n : ℕ) (rest : List (Numbered (List ℕ))) → s.moves ≡ front ++ Comes line ∷ later
       → (behind 7 ends s.from front).wire.down ≡ record { number = n; line = line } ∷ rest → length (behind 7 ends s.from front).wire.settled ≤ n
-      → (p : Pending) × (slice_get (behind 7 ends s.from front).client.waiting (n - length (behind 7 ends s.from front).wire.settled) ≡ Some p)
+      → (p : Pending Asked) × (slice_get (behind 7 ends s.from front).client.waiting (n - length (behind 7 ends s.from front).wire.settled) ≡ Some p)
       × (slice_get (world ends s).wire.settled n ≡ Some (met p line))
 
   -- a clean stretch with possible moves is `MetAt`
@@ -155,14 +156,15 @@ module _ {State : Type 0} (ends : Ends State) (Good : State → Type 0) (kept : 
       let p = met_at k line w.client.waiting (below_sent s.from clean front (front_of s.from s.moves front (Comes line ∷ later) e possible) line n rest down le) in
       let more = settled_more s.from clean s.moves (front ++ Comes line ∷ []) later split possible in
       let here : (behind 7 ends s.from (front ++ Comes line ∷ [])).wire.settled ≡ w.wire.settled ++ settle k line w.client.waiting =
-      ap (λ (v : World ById State). v.wire.settled) (moved_append 7 ends front (Comes line ∷ []) (ids_begun s.from)) ∙ f.first_reply n line rest down le in (
+      ap (λ (v : World (ById Asked) State). v.wire.settled) (moved_append 7 ends front (Comes line ∷ []) (ids_begun s.from)) ∙ f.first_reply n line rest down le in (
         p.0,
         p.1,
         ap (λ l. slice_get l n) (more.1 ∙ ap (λ l. l ++ more.0) here) ∙ get_between w.wire.settled (settle k line w.client.waiting) more.0 n k (met p.0 line) (omega (arith, le)) p.2,
       )
 
   -- as many requests were sent as were settled and wait
-  sent_counts : (w : World ById State) → map of_settled w.wire.settled ++ map of_pending w.client.waiting ≡ map asked w.wire.sent → length w.wire.settled + length w.client.waiting ≡ length w.wire.sent
+  sent_counts : (w : World (ById Asked) State) → map of_settled w.wire.settled ++ map of_pending w.client.waiting ≡ map asked w.wire.sent
+      → length w.wire.settled + length w.client.waiting ≡ length w.wire.sent
   sent_counts w e =
       let xs = map of_settled w.wire.settled in
       let ys = map of_pending w.client.waiting in
@@ -172,13 +174,13 @@ module _ {State : Type 0} (ends : Ends State) (Good : State → Type 0) (kept : 
       omega (arith, a, b, c)
 
   -- a request that goes out where the client doesn't refuse it waits, after the others
-  sent_by_test : (w : World ById State) (target : ℕ) (call : Call) (deadline : ℕ) (b : Bool) → b ≡ false → length w.wire.settled + length w.client.waiting ≡ length w.wire.sent
+  sent_by_test : (w : World (ById Asked) State) (target : ℕ) (call : Asked) (deadline : ℕ) (b : Bool) → b ≡ false → length w.wire.settled + length w.client.waiting ≡ length w.wire.sent
       → Waits (requested w target call (id_send w.client target call deadline b)) (length w.wire.sent) (pending_of target call deadline)
   sent_by_test w target call deadline true e counts = cc
   sent_by_test w target call deadline false e counts = λ le. get_last w.client.waiting (length w.wire.sent - length w.wire.settled) (pending_of target call deadline) (omega (arith, counts))
 
   -- a request that goes out waits, after the others
-  sent_waits : (u : UnderWay State) (before : List (Move State)) (target : ℕ) (call : Call) (deadline : ℕ) → IsFaithful 7 ends u before Good kept → length (behind 7 ends u before).client.waiting < 7
+  sent_waits : (u : UnderWay State) (before : List (Move State)) (target : ℕ) (call : Asked) (deadline : ℕ) → IsFaithful 7 ends u before Good kept → length (behind 7 ends u before).client.waiting < 7
       → Waits (moves ends (by_ids 7 ends) (behind 7 ends u before) (Sends target call deadline)) (length (behind 7 ends u before).wire.sent) (pending_of target call deadline)
   sent_waits u before target call deadline f room =
       let w = behind 7 ends u before in
@@ -196,7 +198,7 @@ module _ {State : Type 0} (ends : Ends State) (Good : State → Type 0) (kept : 
       let possible = possible_behind 7 ends Good kept before (Sends target call deadline ∷ between) (ids_begun s.from) (front_of s.from s.moves front (Comes line ∷ later) e all_possible) in
       let p = pending_of target call deadline in
       let waits : Waits (behind 7 ends s.from front) n (after_moves p between) =
-      subst (λ (v : World ById State). Waits v n (after_moves p between)) (sym (moved_append 7 ends before (Sends target call deadline ∷ between) (ids_begun s.from)))
+      subst (λ (v : World (ById Asked) State). Waits v n (after_moves p between)) (sym (moved_append 7 ends before (Sends target call deadline ∷ between) (ids_begun s.from)))
       (waits_all ends Good kept between (moves ends (by_ids 7 ends) w (Sends target call deadline)) n p possible.1 (sent_waits s.from before target call deadline f room)) in
       let same : m.0 ≡ record p { given_up = gives_up deadline between } = some_pending m.0 (record p { given_up = gives_up deadline between }) (sym m.1 ∙ waits le ∙ ap Some (after_is p between)) in
       m.2 ∙ ap (λ q. Some (met q line)) same

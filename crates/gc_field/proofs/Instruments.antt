@@ -1,26 +1,50 @@
 -- Instruments: each meets what the proofs of the world ask of an instrument; the simulator is one; and so is any that keeps no
 -- reply.
-use Rattle.std.proofs.Common.{◌≡◌, ℕ, inl, inr, Bool, true, false, List, Option, Some, None, cond, refl, sym, ◌∙◌, ap, subst, eqb}
+use Rattle.std.proofs.Common.{◌≡◌, ◌⊎◌, ℕ, ◌<◌, inl, inr, Bool, true, false, List, [], Option, Some, None, cond, refl, sym, ◌∙◌, ap, subst, eqb, lit<}
 use Rattle.std.proofs.lemmas.Bool.{eqb-true, eq-eqb}
+use Rattle.gc_lines.proofs.Written.{reply_back}
+use Rattle.gc_lines.proofs.Requests.{request_found}
+use Rattle.gc_catalogue.proofs.AskedRules.{asked_again}
+use Rattle.gc_catalogue.specs.Asked.{asked_line, asked_request, is_of_table}
+use Rattle.gc_catalogue.specs.declared.fault.CallFault.TheVariants.{Unknown}
+use Rattle.gc_catalogue.specs.declared.raw.RawCall.{RawCall}
+use Rattle.gc_catalogue.specs.declared.asked.Asked.{Asked}
+use Rattle.gc_catalogue.specs.declared.asked.Asked.TheVariants.{Table, Raw}
 use Rattle.gc_catalogue.specs.declared.call.Call.{Call}
-use Rattle.gc_instrument.specs.Replying.{Handed, handed, kept_line}
-use Rattle.gc_instrument.specs.State.{State, KeptReply}
+use Rattle.gc_client.specs.Rule.{id_in, heard}
+use Rattle.gc_instrument.specs.Replying as calls
+use Rattle.gc_instrument.specs.Replying.{Handed, IsReplied, answers, kept_line, refusal_line, refuses}
+use Rattle.gc_instrument.specs.State.{State, KeptReply, IsFittingState}
 use Rattle.gc_instrument.proofs.Answering.{handed_again, handed_new}
-use Rattle.gc_world.specs.Clients.{ends}
+use Rattle.gc_field.specs.Simulator.{ends, handed}
 use Rattle.gc_world.specs.Exchange.{IsExchange}
-use Rattle.gc_world.specs.World.{Ends}
+use Rattle.gc_field.specs.World.{Ends}
 use Rattle.gc_world.proofs.Handing.{exchange}
 use Rattle.gc_world.proofs.Options.{some_is}
-use Rattle.gc_field.specs.Instrument.{IsAnInstrument, KeepingNothingSuffices}
-use Rattle.gc_field.specs.Laws.{SimulatorIsAnInstrument}
+use Rattle.gc_field.specs.Instrument.{IsAnInstrument, IsAnInstrumentFor, KeepingNothingSuffices, KeepsItsOwn, TreatsRawsAlike, all_known}
+use Rattle.gc_field.specs.Laws.{SimulatorIsAnInstrument, kept_of}
 
 -- an instrument meets what the proofs of the world ask of one, `IsExchange`
 pub exchange_of : {State : Type 0} (ends : Ends State) (Good : State → Type 0) (kept : State → Option KeptReply) → IsAnInstrument ends Good kept → IsExchange ends Good
-exchange_of ends Good kept is =
+exchange_of e Good kept is =
     record {
-      reads = λ state id call good small. is.hears (ends.handed state id call).reply ∙ is.replies state id call good small;
+      reads = λ state id call good small. is.hears (e.handed state id call).reply ∙ is.replies state id call good small;
       stays_good = is.stays_good;
       restart_good = is.starts_good;
+    }
+
+-- an instrument to which a request that is no call of the table is as all others is one of which all requests are known
+pub alike_is : {State : Type 0} (ends : Ends State) (Good : State → Type 0) (kept : State → Option KeptReply) → IsAnInstrument ends Good kept → TreatsRawsAlike ends Good kept
+    → IsAnInstrumentFor ends Good kept all_known
+alike_is e Good kept is alike =
+    record {
+      hears = is.hears;
+      replies = is.replies;
+      repeats = is.repeats;
+      keeps = λ state id call good small. inl (alike state id call good small);
+      starts = is.starts;
+      stays_good = is.stays_good;
+      starts_good = is.starts_good;
     }
 
 -- The simulator.
@@ -42,37 +66,77 @@ kept_for : (k : Option KeptReply) (id : ℕ) (line : List ℕ) → k ≡ Some (r
 kept_for k id line e = ap (λ k. kept_line k (Some id)) e ∙ ap (λ b. cond b (Some line) None) (eq-eqb id id refl)
 
 -- where the simulator doesn't execute a request, its reply is the line that it keeps for the request's id
-repeated : (s : State) (id : ℕ) (call : Call) (o : Option (List ℕ)) → kept_line s.kept (Some id) ≡ o → (handed s id call).executed ≡ false
-    → s.kept ≡ Some (record { id = id; line = (handed s id call).reply })
+repeated : (s : State) (id : ℕ) (call : Call) (o : Option (List ℕ)) → kept_line s.kept (Some id) ≡ o → (calls.handed s id call).executed ≡ false
+    → s.kept ≡ Some (record { id = id; line = (calls.handed s id call).reply })
 repeated s id call None e not = absurd (true_is_not (sym (ap (λ (h : Handed State). h.executed) (handed_new s id call e)) ∙ not))
 repeated s id call (Some line) e not =
     kept_own s.kept id line e ∙ sym (ap (λ (h : Handed State). Some (record { id = id; line = h.reply })) (handed_again s id call line e))
 
 -- after a request the simulator keeps its reply to that request
-behind : (s : State) (id : ℕ) (call : Call) (o : Option (List ℕ)) → kept_line s.kept (Some id) ≡ o → (handed s id call).state.kept ≡ Some (record { id = id; line = (handed s id call).reply })
+behind : (s : State) (id : ℕ) (call : Call) (o : Option (List ℕ)) → kept_line s.kept (Some id) ≡ o
+    → (calls.handed s id call).state.kept ≡ Some (record { id = id; line = (calls.handed s id call).reply })
 behind s id call None e = subst (λ (x : Handed State). x.state.kept ≡ Some (record { id = id; line = x.reply })) (sym (handed_new s id call e)) refl
 behind s id call (Some line) e =
     subst (λ (x : Handed State). x.state.kept ≡ Some (record { id = id; line = x.reply })) (sym (handed_again s id call line e)) (kept_own s.kept id line e)
 
--- the simulator is an instrument, and one that keeps its reply
+-- the simulator's reply to a request has its id
+asked_reads : (s : State) (id : ℕ) (asked : Asked) → IsFittingState s → id < 8 → heard (handed s id asked).reply ≡ Some id
+asked_reads s id (Table call) good small = exchange.reads s id call good small
+asked_reads s id (Raw raw) good small =
+    ap id_in (reply_back (record { rc_com = 3081; id = Some id; rc = 0; params = [] }) (record { rc_com = lit< tt; id = small; rc = lit< tt }))
+
+-- a line that the simulator sends again is the one that it keeps
+asked_repeats : (s : State) (id : ℕ) (asked : Asked) → (handed s id asked).executed ≡ false → s.kept ≡ Some (record { id = id; line = (handed s id asked).reply })
+asked_repeats s id (Table call) not = repeated s id call (kept_line s.kept (Some id)) refl not
+asked_repeats s id (Raw raw) not = absurd (true_is_not not)
+
+-- after a call of the table the simulator keeps its reply, and after another request what it kept
+asked_keeps : (s : State) (id : ℕ) (asked : Asked) → KeepsItsOwn ends IsFittingState kept_of s id asked ⊎ ((is_of_table asked ≡ false) × ((handed s id asked).state.kept ≡ s.kept))
+asked_keeps s id (Table call) = inl (inr (behind s id call (kept_line s.kept (Some id)) refl))
+asked_keeps s id (Raw raw) = inr (refl, refl)
+
+-- the simulator fits after each request
+asked_good : (s : State) (id : ℕ) (asked : Asked) → IsFittingState s → id < 8 → IsFittingState (handed s id asked).state
+asked_good s id (Table call) good small = exchange.stays_good s id call good small
+asked_good s id (Raw raw) good small = good
+
+-- the simulator doesn't execute a call of the table with the id of the line that it keeps
+not_again : (s : State) (id : ℕ) (asked : Asked) (line : List ℕ) → is_of_table asked ≡ true → s.kept ≡ Some (record { id = id; line = line }) → (handed s id asked).executed ≡ false
+not_again s id (Table call) line of e = ap (λ (h : Handed State). h.executed) (handed_again s id call line (kept_for s.kept id line e))
+not_again s id (Raw raw) line of e = absurd (true_is_not (sym of))
+
+-- after a call of the table the simulator keeps its reply
+asked_always : (s : State) (id : ℕ) (asked : Asked) → is_of_table asked ≡ true → (handed s id asked).state.kept ≡ Some (record { id = id; line = (handed s id asked).reply })
+asked_always s id (Table call) of = behind s id call (kept_line s.kept (Some id)) refl
+asked_always s id (Raw raw) of = absurd (true_is_not (sym of))
+
+-- the simulated instrument refuses the line of a procedure that isn't in the table, and nothing changes
+refused : (s : State) (id : ℕ) (raw : RawCall) → id < 8 → IsReplied s (asked_line (Some id) (Raw raw)) s (Some (refusal_line id Unknown))
+refused s id raw small =
+    let q = asked_request (Some id) (Raw raw) in
+    let back = asked_again (Some id) (Raw raw) small raw.is in
+    answers q (request_found (asked_line (Some id) (Raw raw)) q back.line) (refusal_line id Unknown) (refuses Unknown raw.is.no_procedure refl refl) refl
+
+-- the simulator is an instrument, and one that keeps its reply to each call of the table
 pub simulator : SimulatorIsAnInstrument
 simulator =
     record {
       is =
           record {
             hears = λ line. refl;
-            replies = λ s id call good small. exchange.reads s id call good small;
-            repeats = λ s id call good small not. repeated s id call (kept_line s.kept (Some id)) refl not;
-            keeps = λ s id call good small. inr (behind s id call (kept_line s.kept (Some id)) refl);
+            replies = λ s id asked good small. asked_reads s id asked good small;
+            repeats = λ s id asked good small not. asked_repeats s id asked not;
+            keeps = λ s id asked good small. asked_keeps s id asked;
             starts = λ s good. inl refl;
-            stays_good = λ s id call good small. exchange.stays_good s id call good small;
+            stays_good = λ s id asked good small. asked_good s id asked good small;
             starts_good = λ s good. exchange.restart_good s good;
           };
       keeps =
           record {
-            again = λ s id call line good small e. ap (λ (h : Handed State). h.executed) (handed_again s id call line (kept_for s.kept id line e));
-            always = λ s id call good small. behind s id call (kept_line s.kept (Some id)) refl;
+            again = λ s id asked line good small of e. not_again s id asked line of e;
+            always = λ s id asked good small of. asked_always s id asked of;
           };
+      refuses = refused;
     }
 
 -- An instrument that deals with each request anew and keeps no reply, whatever its replies say.
@@ -84,7 +148,7 @@ keeps_none State e hears replies anew =
       hears = hears;
       replies = λ s id call good small. replies s id call small;
       repeats = λ s id call good small not. absurd (true_is_not (sym (anew s id call) ∙ not));
-      keeps = λ s id call good small. inl refl;
+      keeps = λ s id call good small. inl (inl refl);
       starts = λ s good. inl refl;
       stays_good = λ s id call good small. tt;
       starts_good = λ s good. tt;

@@ -1,20 +1,21 @@
 -- A run of a station and what happens on its line, joined: each part of the run, from one beginning to the next, goes with a
 -- stretch of the line, and each answer that is written down was made in one of the stretches. The *marks* of a part say for which
 -- command each of its requests is, in order.
-use Rattle.std.proofs.Common.{◌≡◌, inl, inr, ℕ, suc, ◌+◌, ◌≤◌, Bool, true, false, List, [], ◌∷◌, ◌++◌, map, Option, Some, refl, sym, ◌∙◌, ap, subst, arith, append_assoc, append-nil, drop}
+use Rattle.std.proofs.Common.{◌≡◌, inl, inr, ℕ, zero, suc, ◌<◌, ◌+◌, ◌≤◌, Bool, true, false, List, [], ◌∷◌, ◌++◌, map, length, Option, Some, refl, sym, ◌∙◌, ap, subst, arith, append_assoc, append-nil, drop}
 use Rattle.std.specs.Prelude.{slice_get}
 use Rattle.std.specs.List.{AllByRecursion}
 use Rattle.gc_catalogue.specs.declared.answer.Reading.{Reading}
-use Rattle.gc_catalogue.specs.declared.call.Call.{Call}
+use Rattle.gc_catalogue.specs.declared.asked.Asked.{Asked}
 use Rattle.gc_client.specs.Beginning.{IsSubsequence, the_word}
-use Rattle.gc_client.specs.OneForOne.{Asked, Restart, begun}
+use Rattle.gc_client.specs.OneForOne.{Wanted, Restart, Send, Step, begun, course}
 use Rattle.gc_client.specs.declared.pending.Pending.{Pending}
-use Rattle.gc_client.specs.Rule.{ById, Outcome, Answered, Late, Lost, Settlement, fresh, lost}
+use Rattle.gc_client.specs.Rule.{ById, Outcome, Answered, Late, Settlement, fresh, lost}
 use Rattle.gc_instrument.specs.State.{KeptReply}
 use Rattle.gc_texts.specs.declared.tasks.Task.{Task}
 use Rattle.gc_texts.specs.Endings.{End}
 use Rattle.gc_texts.specs.Endings as end
 use Rattle.gc_station.specs.declared.plan.Plan.{Plan}
+use Rattle.gc_station.specs.Behind.{IsNearTheTable}
 use Rattle.gc_links.specs.Acts.{Act}
 use Rattle.gc_station.specs.Answers.{answer_of}
 use Rattle.gc_station.specs.Beginnings.{left_behind}
@@ -25,6 +26,7 @@ use Rattle.gc_station.specs.Records.{Record}
 use Rattle.gc_station.specs.Runs.{stood}
 use Rattle.gc_station.specs.Model.{Model, opening}
 use Rattle.gc_station.proofs.Asked.{parts_begun}
+use Rattle.gc_station.proofs.GoesBehind.{behind_the_table}
 use Rattle.gc_station.proofs.Booking.{Books, client_after, settled_by, sent_by, settled_append, sent_append, course_settled, course_sent, course_client, of_at, all_records, restarting}
 use Rattle.gc_station.proofs.EachRun.{fine_opening, each_once}
 use Rattle.gc_station.proofs.Following.{BooksInParts, follows}
@@ -32,11 +34,13 @@ use Rattle.gc_station.proofs.Meets.{was_answered, was_late}
 use Rattle.gc_station.specs.Scopes.{Scope}
 use Rattle.gc_world.specs.Clients.{by_ids}
 use Rattle.gc_world.specs.Record.{IsReplyTo}
-use Rattle.gc_world.specs.World.{Ends}
+use Rattle.gc_world.proofs.Options.{none_is_not, some_is}
+use Rattle.gc_world.proofs.Places.{below}
+use Rattle.gc_field.specs.World.{Ends}
 use Rattle.gc_field.specs.Begin.{AreLines, AreTurns, UnderWay, begins, ids_under_way, leaves, turned}
 use Rattle.gc_field.specs.Beginnings.{AreOwn, ArePossibleIf, AreRuns, IsOwnIf, Run, left_by_run, left_if, on_line}
 use Rattle.gc_field.specs.Beginnings.{stood as stood_by}
-use Rattle.gc_field.specs.Begun.{IsClean, IsFaithful, WasMadeOn, behind, ids_begun}
+use Rattle.gc_field.specs.Begun.{IsClean, IsFaithful, IsSafe, WasMadeOn, behind, ids_begun}
 use Rattle.gc_field.specs.Field.{ArePossible, seen}
 use Rattle.gc_field.specs.Instrument.{IsAnInstrument}
 use Rattle.gc_field.specs.Laws.{asked}
@@ -48,6 +52,7 @@ use Rattle.gc_field.proofs.BegunRows.{rows_have_not, runs_leave_good, runs_leave
 use Rattle.gc_field.proofs.BegunRuns.{clean_lines}
 use Rattle.gc_field.proofs.InTime.{Sound, in_time, law, throughout}
 use Rattle.gc_field.proofs.Meant.{are_meant}
+use Rattle.gc_field.proofs.Safe.{goes_out}
 use Rattle.gc_field.proofs.Shown.{left_is}
 use Rattle.gc_field.proofs.Unbegun.{faithful_none}
 use Rattle.gc_field.proofs.Among.{among_settled, true_is_not, among_late, asked_at, all_append, get_drop, map_drop}
@@ -133,6 +138,23 @@ module _ {State : Type 0} (ends : Ends State) (Good : State → Type 0) (kept : 
       let others = all_fit (y ∷ ps) rs (left_by_run 7 ends u r) next.0 next.1 s.2 p.1 b.1 in
       ((record { steps = s.1; sound = o.sound; faithful = o.faithful }, others.0), (o.own, others.1))
 
+  -- each request of a stretch that is a command, by its part's marks, is safe
+  abbrev pub IsSafePart : Part → Stretch State → Type 0
+  IsSafePart p s = (n : ℕ) (mark : _) → slice_get p.marks n ≡ Some (Some mark) → IsSafe 7 ends s.from Good kept s.moves (8 + n)
+
+  -- so it is in each part with its stretch
+  abbrev pub AllSafe : List Part → List (Stretch State) → Type 0
+  AllSafe [] [] = Unit {0}
+  AllSafe (p ∷ ps) (s ∷ ss) = IsSafePart p s × AllSafe ps ss
+  AllSafe _ _ = ⊥
+
+  -- so it is at each place
+  pub safe_at : (ps : List Part) (ss : List (Stretch State)) (i : ℕ) (p : Part) (s : Stretch State) → AllSafe ps ss → slice_get ps i ≡ Some p → slice_get ss i ≡ Some s → IsSafePart p s
+  safe_at [] ss i p s h e f = absurd (none_is_not p e)
+  safe_at (q ∷ ps) [] i p s h e f = absurd h
+  safe_at (q ∷ ps) (t ∷ ss) zero p s h e f = subst (λ x. IsSafePart x s) (some_is q p e) (subst (λ x. IsSafePart q x) (some_is t s f) h.0)
+  safe_at (q ∷ ps) (t ∷ ss) (suc i) p s h e f = safe_at ps ss i p s h.1 e f
+
   -- what holds of any stretch that fits a part holds of each of these
   pub each_fits : (P : Stretch State → Type 0) → ((p : Part) (s : Stretch State) → Fits p s → P s) → (ps : List Part) (ss : List (Stretch State)) → AllFit ps ss → AllByRecursion P ss
   each_fits P g [] [] h = tt
@@ -159,10 +181,33 @@ module _ {State : Type 0} (ends : Ends State) (Good : State → Type 0) (kept : 
   fit_ended p s f =
       let c = client_after fresh p.steps in
       settled_append fresh p.steps (Restart ∷ [])
-      ∙ ap (λ l. settled_by fresh p.steps ++ l) (append-nil (map lost c.waiting) ∙ ap (λ (d : ById). map lost d.waiting) (fit_client p s f))
+      ∙ ap (λ l. settled_by fresh p.steps ++ l) (append-nil (map lost c.waiting) ∙ ap (λ (d : ById Asked). map lost d.waiting) (fit_client p s f))
       ∙ ap (λ l. l ++ map lost (world ends s).client.waiting) (fit_settled p s f)
 
-  module _ (reads : Call → List ℕ → Reading) (commands : List Task) where
+  -- the station's rule holds of a part: wherever a command goes out, it goes out near the table
+  abbrev IsRuled : Part → Type 0
+  IsRuled p =
+      (front later : List (Step Asked)) (target : ℕ) (call : Asked) (deadline : ℕ) (mark : _) → p.steps ≡ front ++ Send target call deadline ∷ later
+      → slice_get p.marks (length (course 7 begun front).sent) ≡ Some (Some mark) → IsNearTheTable (course 7 begun front)
+
+  -- where the station's rule holds of a part, each request of its stretch that is a command is safe
+  safe_part : (commands : List Task) (p : Part) (s : Stretch State) → IsRuled p → Fits p s → AreOf commands p.marks (map asked (own_sent ends s)) → IsSafePart p s
+  safe_part commands p s rule f sent n mark at =
+      let a = of_at commands p.marks (map asked (own_sent ends s)) n (Some mark) sent at in
+      let size : length (course 7 begun p.steps).sent ≡ length (map asked (own_sent ends s)) = ap length (course_sent p.steps begun ∙ fit_sent p s f) in
+      let low : n < length (map asked (own_sent ends s)) = below (map asked (own_sent ends s)) n a.0 a.1 in
+      inr (inr (goes_out ends Good kept is s f.sound p.steps f.steps n (omega (arith, size, low))
+      (λ front later target call deadline e count. rule front later target call deadline mark e (subst (λ k. slice_get p.marks k ≡ Some (Some mark)) (sym count) at))))
+
+  -- where the station's rule holds of each part, each request of a stretch that is a command is safe
+  all_safe : (commands : List Task) (ps : List Part) (ss : List (Stretch State)) → ((i : ℕ) (p : Part) → slice_get ps i ≡ Some p → IsRuled p) → AllFit ps ss
+      → AreSentAs ends commands ps ss → AllSafe ps ss
+  all_safe commands [] [] rules fit sent = tt
+  all_safe commands [] (s ∷ ss) rules fit sent = absurd fit
+  all_safe commands (p ∷ ps) [] rules fit sent = absurd fit
+  all_safe commands (p ∷ ps) (s ∷ ss) rules fit sent = (safe_part commands p s (rules 0 p refl) fit.0 sent.0, all_safe commands ps ss (λ i q e. rules (suc i) q e) fit.1 sent.1)
+
+  module _ (reads : Asked → List ℕ → Reading) (commands : List Task) where
     -- the marks of the last part are of the stretch's requests
     of_last : (rs : List Record) (p : Part) (s : Stretch State) (end : Model) → Fits p s
         → Books reads commands fresh [] rs p end.client end.marks (sent_of end.records) → AreOf commands p.marks (map asked (own_sent ends s))
@@ -273,11 +318,11 @@ module _ {State : Type 0} (ends : Ends State) (Good : State → Type 0) (kept : 
   all_later commands p s ps ss (r ∷ rs) h = (λ line answered. own_later commands p s ps ss r line (h.0 line answered), all_later commands p s ps ss rs h.1)
 
   -- the answers among what the first stretch settled, and what was lost then, are their own
-  own_first : (reads : Call → List ℕ → Reading) (commands : List Task) (p : Part) (s : Stretch State) (ps : List Part) (ss : List (Stretch State))
-      (waiting : List Pending) (xs : List Settlement) → xs ≡ own_settled ends s ++ map lost waiting → Fits p s
+  own_first : (reads : Asked → List ℕ → Reading) (commands : List Task) (p : Part) (s : Stretch State) (ps : List Part) (ss : List (Stretch State))
+      (waiting : List (Pending Asked)) (xs : List (Settlement Asked)) → xs ≡ own_settled ends s ++ map lost waiting → Fits p s → IsSafePart p s
       → AreOf commands p.marks (map asked (own_sent ends s))
       → AllByRecursion (IsOwnAnswer ends Good kept commands (p ∷ ps) (s ∷ ss)) (records_of reads 0 p.marks xs)
-  own_first reads commands p s ps ss waiting xs e f sent =
+  own_first reads commands p s ps ss waiting xs e f safe sent =
       all_records reads (IsOwnAnswer ends Good kept commands (p ∷ ps) (s ∷ ss)) p.marks xs
       (λ n mark x at got line says.
       let answered : x.outcome ≡ Answered line = was_answered (record_of reads 0 mark x) x (record { reads = reads; expected = mark.expected; command = refl; ended = refl }) line says in
@@ -286,8 +331,8 @@ module _ {State : Type 0} (ends : Ends State) (Good : State → Type 0) (kept : 
       let there = get_drop 8 n (world ends s).wire.settled x here in
       let a = of_at commands p.marks (map asked (own_sent ends s)) n (Some mark) sent at in
       let r = asked_at (own_sent ends s) n a.0 a.1 in
-      let b = f.faithful.booked (8 + n) x beyond there line answered in
-      let right : x.call ≡ a.2.0.command.call = (f.faithful.one_for_one.same (8 + n) x r.0 there (get_drop 8 n (world ends s).wire.sent r.0 r.1)).1 ∙ ap (λ (o : Asked). o.call) (r.2 ∙ a.2.2) in
+      let b = f.faithful.booked (8 + n) x beyond (safe n mark at) there line answered in
+      let right : x.call ≡ a.2.0.command.call = (f.faithful.one_for_one.same (8 + n) x r.0 there (get_drop 8 n (world ends s).wire.sent r.0 r.1)).1 ∙ ap (λ (o : Wanted Asked). o.call) (r.2 ∙ a.2.2) in
       record {
         k = 0;
         part = p;
@@ -305,24 +350,24 @@ module _ {State : Type 0} (ends : Ends State) (Good : State → Type 0) (kept : 
         settled = here ∙ ap (λ (o : Outcome). Some (record { target = x.target; call = x.call; outcome = o })) answered;
         made = b.0;
         reply = subst (λ call. IsReplyTo ends Good call line) right b.1;
-        executed = f.faithful.executed (8 + n) x line beyond there answered;
-        made_on = subst (λ call. WasMadeOn 7 ends s.from s.moves (8 + n) call line) right (f.faithful.made_on (8 + n) x line beyond there answered);
+        executed = f.faithful.executed (8 + n) x line beyond (safe n mark at) there answered;
+        made_on = subst (λ call. WasMadeOn 7 ends s.from s.moves (8 + n) call line) right (f.faithful.made_on (8 + n) x line beyond (safe n mark at) there answered);
       })
 
   -- the answers that the stretches write down are their own
-  pub own_all : (reads : Call → List ℕ → Reading) (commands : List Task) (ps : List Part) (ss : List (Stretch State)) → AllFit ps ss
+  pub own_all : (reads : Asked → List ℕ → Reading) (commands : List Task) (ps : List Part) (ss : List (Stretch State)) → AllFit ps ss → AllSafe ps ss
       → AreSentAs ends commands ps ss → AllByRecursion (IsOwnAnswer ends Good kept commands ps ss) (written_over ends reads ps ss)
-  own_all reads commands [] [] f h = tt
-  own_all reads commands [] (s ∷ ss) f h = tt
-  own_all reads commands (p ∷ ps) [] f h = absurd f
-  own_all reads commands (p ∷ []) (s ∷ []) f h = own_first reads commands p s [] [] [] (own_settled ends s) (sym (append-nil (own_settled ends s))) f.0 h.0
-  own_all reads commands (p ∷ []) (s ∷ t ∷ ss) f h = absurd f.1
-  own_all reads commands (p ∷ q ∷ ps) (s ∷ []) f h = absurd f.1
-  own_all reads commands (p ∷ q ∷ ps) (s ∷ t ∷ ss) f h =
+  own_all reads commands [] [] f g h = tt
+  own_all reads commands [] (s ∷ ss) f g h = tt
+  own_all reads commands (p ∷ ps) [] f g h = absurd f
+  own_all reads commands (p ∷ []) (s ∷ []) f g h = own_first reads commands p s [] [] [] (own_settled ends s) (sym (append-nil (own_settled ends s))) f.0 g.0 h.0
+  own_all reads commands (p ∷ []) (s ∷ t ∷ ss) f g h = absurd f.1
+  own_all reads commands (p ∷ q ∷ ps) (s ∷ []) f g h = absurd f.1
+  own_all reads commands (p ∷ q ∷ ps) (s ∷ t ∷ ss) f g h =
       let xs = own_settled ends s ++ map lost (world ends s).client.waiting in
       all_append (IsOwnAnswer ends Good kept commands (p ∷ q ∷ ps) (s ∷ t ∷ ss)) (records_of reads 0 p.marks xs) (written_over ends reads (q ∷ ps) (t ∷ ss))
-      (own_first reads commands p s (q ∷ ps) (t ∷ ss) (world ends s).client.waiting xs refl f.0 h.0)
-      (all_later commands p s (q ∷ ps) (t ∷ ss) (written_over ends reads (q ∷ ps) (t ∷ ss)) (own_all reads commands (q ∷ ps) (t ∷ ss) f.1 h.1))
+      (own_first reads commands p s (q ∷ ps) (t ∷ ss) (world ends s).client.waiting xs refl f.0 g.0 h.0)
+      (all_later commands p s (q ∷ ps) (t ∷ ss) (written_over ends reads (q ∷ ps) (t ∷ ss)) (own_all reads commands (q ∷ ps) (t ∷ ss) f.1 g.1 h.1))
 
   -- A command that wasn't sent has no answer.
 
@@ -403,11 +448,11 @@ module _ {State : Type 0} (ends : Ends State) (Good : State → Type 0) (kept : 
   )
 
   -- the instrument dealt with the late records among those that the first stretch writes down
-  late_first : (reads : Call → List ℕ → Reading) (commands : List Task) (p : Part) (s : Stretch State) (ps : List Part) (ss : List (Stretch State))
-      (waiting : List Pending) (xs : List Settlement) → xs ≡ own_settled ends s ++ map lost waiting → Fits p s
+  late_first : (reads : Asked → List ℕ → Reading) (commands : List Task) (p : Part) (s : Stretch State) (ps : List Part) (ss : List (Stretch State))
+      (waiting : List (Pending Asked)) (xs : List (Settlement Asked)) → xs ≡ own_settled ends s ++ map lost waiting → Fits p s → IsSafePart p s
       → AreOf commands p.marks (map asked (own_sent ends s))
       → AllByRecursion (IsDealtWith ends Good kept commands (p ∷ ps) (s ∷ ss)) (records_of reads 0 p.marks xs)
-  late_first reads commands p s ps ss waiting xs e f sent =
+  late_first reads commands p s ps ss waiting xs e f safe sent =
       all_records reads (IsDealtWith ends Good kept commands (p ∷ ps) (s ∷ ss)) p.marks xs
       (λ n mark x at got says.
       let late : x.outcome ≡ Late = was_late (record_of reads 0 mark x) x (record { reads = reads; expected = mark.expected; command = refl; ended = refl }) says in
@@ -416,8 +461,8 @@ module _ {State : Type 0} (ends : Ends State) (Good : State → Type 0) (kept : 
       let there = get_drop 8 n (world ends s).wire.settled x here in
       let a = of_at commands p.marks (map asked (own_sent ends s)) n (Some mark) sent at in
       let r = asked_at (own_sent ends s) n a.0 a.1 in
-      let right : x.call ≡ a.2.0.command.call = (f.faithful.one_for_one.same (8 + n) x r.0 there (get_drop 8 n (world ends s).wire.sent r.0 r.1)).1 ∙ ap (λ (o : Asked). o.call) (r.2 ∙ a.2.2) in
-      let made = f.faithful.late (8 + n) x beyond there late in
+      let right : x.call ≡ a.2.0.command.call = (f.faithful.one_for_one.same (8 + n) x r.0 there (get_drop 8 n (world ends s).wire.sent r.0 r.1)).1 ∙ ap (λ (o : Wanted Asked). o.call) (r.2 ∙ a.2.2) in
+      let made = f.faithful.late (8 + n) x beyond (safe n mark at) there late in
       record {
         k = 0;
         part = p;
@@ -434,19 +479,19 @@ module _ {State : Type 0} (ends : Ends State) (Good : State → Type 0) (kept : 
       })
 
   -- the instrument dealt with all late records that the stretches write down
-  pub late_all : (reads : Call → List ℕ → Reading) (commands : List Task) (ps : List Part) (ss : List (Stretch State)) → AllFit ps ss
+  pub late_all : (reads : Asked → List ℕ → Reading) (commands : List Task) (ps : List Part) (ss : List (Stretch State)) → AllFit ps ss → AllSafe ps ss
       → AreSentAs ends commands ps ss → AllByRecursion (IsDealtWith ends Good kept commands ps ss) (written_over ends reads ps ss)
-  late_all reads commands [] [] f h = tt
-  late_all reads commands [] (s ∷ ss) f h = tt
-  late_all reads commands (p ∷ ps) [] f h = absurd f
-  late_all reads commands (p ∷ []) (s ∷ []) f h = late_first reads commands p s [] [] [] (own_settled ends s) (sym (append-nil (own_settled ends s))) f.0 h.0
-  late_all reads commands (p ∷ []) (s ∷ t ∷ ss) f h = absurd f.1
-  late_all reads commands (p ∷ q ∷ ps) (s ∷ []) f h = absurd f.1
-  late_all reads commands (p ∷ q ∷ ps) (s ∷ t ∷ ss) f h =
+  late_all reads commands [] [] f g h = tt
+  late_all reads commands [] (s ∷ ss) f g h = tt
+  late_all reads commands (p ∷ ps) [] f g h = absurd f
+  late_all reads commands (p ∷ []) (s ∷ []) f g h = late_first reads commands p s [] [] [] (own_settled ends s) (sym (append-nil (own_settled ends s))) f.0 g.0 h.0
+  late_all reads commands (p ∷ []) (s ∷ t ∷ ss) f g h = absurd f.1
+  late_all reads commands (p ∷ q ∷ ps) (s ∷ []) f g h = absurd f.1
+  late_all reads commands (p ∷ q ∷ ps) (s ∷ t ∷ ss) f g h =
       let xs = own_settled ends s ++ map lost (world ends s).client.waiting in
       all_append (IsDealtWith ends Good kept commands (p ∷ q ∷ ps) (s ∷ t ∷ ss)) (records_of reads 0 p.marks xs) (written_over ends reads (q ∷ ps) (t ∷ ss))
-      (late_first reads commands p s (q ∷ ps) (t ∷ ss) (world ends s).client.waiting xs refl f.0 h.0)
-      (late_all_later commands p s (q ∷ ps) (t ∷ ss) (written_over ends reads (q ∷ ps) (t ∷ ss)) (late_all reads commands (q ∷ ps) (t ∷ ss) f.1 h.1))
+      (late_first reads commands p s (q ∷ ps) (t ∷ ss) (world ends s).client.waiting xs refl f.0 g.0 h.0)
+      (late_all_later commands p s (q ∷ ps) (t ∷ ss) (written_over ends reads (q ∷ ps) (t ∷ ss)) (late_all reads commands (q ∷ ps) (t ∷ ss) f.1 g.1 h.1))
 
   -- if the instrument dealt with all late records of commands that went out, it dealt with all late records: no other command
   -- is late
@@ -467,6 +512,18 @@ module _ {State : Type 0} (ends : Ends State) (Good : State → Type 0) (kept : 
   all_fitting plan commands scope acts u rs h =
       all_fit (parts_of plan commands (opening plan scope) acts) rs u h.lines h.none h.shown h.possible (parts_begun plan commands (opening plan scope) acts h.runs)
 
+  -- each request of a run in the field that is a command is safe in its stretch
+  pub safe_in : (plan : Plan) (commands : List Task) (scope : Scope) (acts : List Act) (u : UnderWay State) (rs : List (Run State)) → IsInField ends Good kept plan commands scope acts u rs
+      → AllSafe (parts_of plan commands (opening plan scope) acts) (stretches ends u rs)
+  safe_in plan commands scope acts u rs h =
+      let start = opening plan scope in
+      let ps = parts_of plan commands start acts in
+      let ss = stretches ends u rs in
+      let fit = all_fitting plan commands scope acts u rs h in
+      let on = follows plan commands scope.reads start acts refl (fine_opening plan commands scope) h.runs in
+      all_safe commands ps ss (λ i p e front later target call deadline mark. behind_the_table plan commands scope acts h.runs i p e front later target call deadline mark) fit.0
+      (sent_all scope.reads commands ps ss [] (stood plan commands scope acts) fit.0 on)
+
   -- a run in the field is faithful
   pub run_faithful : (plan : Plan) (commands : List Task) (scope : Scope) (acts : List Act) (u : UnderWay State) (rs : List (Run State))
       → IsInField ends Good kept plan commands scope acts u rs → IsRunFaithful ends Good kept plan commands scope acts u rs
@@ -480,13 +537,14 @@ module _ {State : Type 0} (ends : Ends State) (Good : State → Type 0) (kept : 
       let on = follows plan commands scope.reads start acts refl fine h.runs in
       let sent = sent_all scope.reads commands ps ss [] end fit.0 on in
       let written = written_all scope.reads commands ps ss [] end fit.0 on in
+      let safe = safe_in plan commands scope acts u rs h in
       record {
         begun = parts_begun plan commands start acts h.runs;
         clean = fit.1;
         own = all_sent commands ps ss end.records (all_timeless commands ps ss (sent_of end.records)
-            (subst (AllByRecursion (IsOwnAnswer ends Good kept commands ps ss)) (sym written) (own_all scope.reads commands ps ss fit.0 sent)));
+            (subst (AllByRecursion (IsOwnAnswer ends Good kept commands ps ss)) (sym written) (own_all scope.reads commands ps ss fit.0 safe sent)));
         late = late_sent commands ps ss end.records (late_timeless commands ps ss (sent_of end.records)
-            (subst (AllByRecursion (IsDealtWith ends Good kept commands ps ss)) (sym written) (late_all scope.reads commands ps ss fit.0 sent)));
+            (subst (AllByRecursion (IsDealtWith ends Good kept commands ps ss)) (sym written) (late_all scope.reads commands ps ss fit.0 safe sent)));
         one_for_one = each_once plan commands scope acts;
         sent = sent;
         written = written;

@@ -3,11 +3,12 @@ use Rattle.std.proofs.Common.{◌≡◌, [], ◌∷◌, refl, sym, subst}
 use Rattle.std.specs.Prelude.{take, drop}
 use Rattle.std.specs.Fmt.{digits}
 use Rattle.gc_lines.specs.Readers.{header_at, reply_at}
+use Rattle.gc_catalogue.specs.declared.asked.Asked.TheVariants.{Table}
 use Rattle.gc_catalogue.specs.declared.call.Call.TheVariants.{InstrumentNo}
 use Rattle.gc_client.specs.declared.window.TheConstants.{WINDOW}
 use Rattle.gc_instrument.specs.Execution.{exec}
 use Rattle.gc_instrument.specs.Replying.{handed}
-use Rattle.gc_world.specs.Clients.{ends}
+use Rattle.gc_field.specs.Simulator.{ends}
 use Rattle.gc_field.specs.LateAnswer.{IsLateInField, acts, answer, before, commands, from, late, moves, runs}
 use Rattle.gc_field.specs.Begun.{WasMadeOn}
 use Rattle.gc_field.proofs.Witness.{asked_each, fits, one_part, opens, run_on, units}
@@ -20,12 +21,12 @@ use Rattle.gc_field.specs.Begin.{begins}
 use Rattle.gc_field.specs.Witness.{eight, plan, replies, scope}
 
 -- the late reply was made on executing the first command's request
-late_made : WasMadeOn WINDOW ends from moves 8 InstrumentNo late
+late_made : WasMadeOn WINDOW ends from moves 8 (Table InstrumentNo) late
 unfolding is_elsewhere header_at reply_at handed exec digits
 late_made = record { front = take 3 moves; later = drop 4 moves; split = refl; id = 0; rest = []; reaches = refl; executed = refl; reply = refl }
 
 -- the answer was made on executing the second command's request
-answer_made : WasMadeOn WINDOW ends from moves 9 InstrumentNo answer
+answer_made : WasMadeOn WINDOW ends from moves 9 (Table InstrumentNo) answer
 unfolding is_elsewhere header_at reply_at handed exec digits
 answer_made = record { front = take 9 moves; later = drop 10 moves; split = refl; id = 1; rest = []; reaches = refl; executed = refl; reply = refl }
 

@@ -19,6 +19,7 @@ pub mod BeginMoves
 pub mod BeginSound
 pub mod BeginKilled
 pub mod BeginJoin
+pub mod Fresh
 pub mod BegunFaithful
 pub mod BegunRows
 pub mod BegunRuns
@@ -27,6 +28,7 @@ pub mod Unbegun
 pub mod Shown
 pub mod Meant
 pub mod InTime
+pub mod Safe
 pub mod Among
 pub mod Joining
 pub mod InARow

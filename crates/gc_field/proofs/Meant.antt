@@ -1,5 +1,6 @@
 -- Each act of a run means what its part says: turns while the station begins, steps of the client once it has begun.
 use Rattle.std.proofs.Common.{◌≡◌, ◌⊎◌, inl, inr, ℕ, Bool, true, false, if◌then◌else◌, List, [], ◌∷◌, map, refl, sym, ◌∙◌, ap, subst}
+use Rattle.gc_catalogue.specs.declared.asked.Asked.{Asked}
 use Rattle.gc_client.specs.Rule.{ById}
 use Rattle.gc_texts.specs.declared.tasks.Task.{Task}
 use Rattle.gc_client.specs.OneForOne.{Expire}
@@ -35,7 +36,7 @@ put_means s bytes p (inr x) =
 
 -- what a piece of bytes that came means to the client: the moment, and its lines where it is heard (`h`); the moment alone
 -- where it is dropped. `rest` and `behind` are the bytes since the last line feed, before the piece and after it
-gave_means : (client : ById) (h : Bool) (rest behind piece : List ℕ) (m : Moment) → behind ≡ left_of h rest (Gave piece m)
+gave_means : (client : ById Asked) (h : Bool) (rest behind piece : List ℕ) (m : Moment) → behind ≡ left_of h rest (Gave piece m)
     → Means client rest (Gave piece m) (Expire m.elapsed ∷ hearing h rest piece) behind
 gave_means client true rest behind piece m e = inl (record { lines = refl; rest = e })
 gave_means client false rest behind piece m e = inr (record { lines = refl; rest = e })

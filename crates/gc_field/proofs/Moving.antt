@@ -5,35 +5,36 @@ use Rattle.std.proofs.Common.{◌≡◌, ℕ, ◌+◌, ◌-◌, ◌%◌, ◌<◌
 use Rattle.std.specs.Prelude.{slice_get}
 use Rattle.std.proofs.lemmas.List.{length_push}
 use Rattle.std.proofs.lemmas.Bool.{le-ltb}
-use Rattle.gc_catalogue.specs.declared.call.Call.{Call}
-use Rattle.gc_catalogue.specs.Texts.{request_line}
+use Rattle.gc_catalogue.specs.declared.asked.Asked.{Asked}
+use Rattle.gc_catalogue.specs.Asked.{asked_line}
 use Rattle.gc_client.specs.Rule.{ById, Settlement, Answered, Late, settle}
 use Rattle.gc_instrument.specs.State.{KeptReply}
 use Rattle.gc_world.specs.Clients.{ByNumber, by_ids, by_numbers, ids_open, numbers_open, number_send, number_reply}
 use Rattle.gc_world.specs.Exchange.{IsExchange}
 use Rattle.gc_world.specs.Order.{Each}
-use Rattle.gc_world.specs.World.{Request, Sent, Numbered, Ends, Step, Send, Up_deliver, Up_lose, Up_repeat, Down_deliver, Down_lose, Down_repeat, Expire, Restart_client, Restart_instrument, Nothing, World, Wire, without, doubled, replied, up_delivered, with_up, with_down, started, on_wire, requested, down_delivered, happens}
+use Rattle.gc_field.specs.World.{Request, Sent, Numbered, Ends, Step, Send, Up_deliver, Up_lose, Up_repeat, Down_deliver, Down_lose, Down_repeat, Expire, Restart_client, Restart_instrument, Nothing, World, Wire, without, doubled, replied, up_delivered, with_up, with_down, started, on_wire, requested, down_delivered, happens, written}
 use Rattle.gc_world.proofs.Agree.{Agree, agrees}
-use Rattle.gc_world.proofs.Places.{get_push}
+use Rattle.gc_world.proofs.Options.{none_is_not}
+use Rattle.gc_world.proofs.Places.{each_get, get_push}
 use Rattle.gc_world.proofs.Replay.{IsOf, of_more}
 use Rattle.gc_world.proofs.Rows.{each_append, each_more, each_without, each_doubled}
 use Rattle.gc_world.proofs.Sound.{IsGoing, Sound, sound_step, sound_open}
-use Rattle.gc_field.specs.Field.{Move, Sends, Tells, Comes, Foreign, OnLine, Anew, Changes, Joins, IsOfLine, moves, moved, IsPossible, ArePossible, IsFirstAlone}
-use Rattle.gc_field.specs.Instrument.{IsAnInstrument, KeepsItsReply}
+use Rattle.gc_field.specs.Field.{Move, Sends, Tells, Comes, Foreign, OnLine, Anew, Changes, Joins, IsOfLine, moves, moved, IsPossible, ArePossible, AsksOnly, IsFirstAlone}
+use Rattle.gc_field.specs.Instrument.{IsAnInstrumentFor, KeepsItsOwn, KeepsItsReply}
 use Rattle.gc_field.proofs.Answered.{AllSo, IsSo, all_so_get}
 use Rattle.gc_field.specs.Once.{ActsOnce, IsInOrder}
-use Rattle.gc_field.proofs.Once.{IsClimbing, once_few, climbing_first, order_few, ordered_first}
+use Rattle.gc_field.proofs.Once.{IsUnknown, acts_once, once_few, climbing_first, order_few, ordered_first, true_is_not}
 use Rattle.gc_field.proofs.Vouched.{IsVouched, Vouched, kept_one, True, IsOn, true_requested, true_down, true_line, true_started, true_changed}
 
 module _ {State : Type 0} (width : ℕ) (narrow : width ≤ 7) (ends : Ends State) (Good : State → Type 0) (ex : IsExchange ends Good) (kept : State → Option KeptReply) where
   -- the world of ids and the world of numbers agree, and the latter is sound: its line keeps order, with ids that belong to its
   -- numbers
-  pub record Both (a : World ById State) (b : World ByNumber State) : Type 0 where
+  pub record Both (a : World (ById Asked) State) (b : World (ByNumber Asked) State) : Type 0 where
     pub agree : Agree width narrow ends Good a b
     pub sound : Sound width ends Good b
 
   -- a start of the instrument keeps `Sound`
-  pub sound_anew : (b : World ByNumber State) → Sound width ends Good b → Sound width ends Good (on_wire b (started ends b.wire true))
+  pub sound_anew : (b : World (ByNumber Asked) State) → Sound width ends Good b → Sound width ends Good (on_wire b (started ends b.wire true))
   sound_anew b h =
       record {
         good = ex.restart_good b.wire.state h.good;
@@ -48,15 +49,15 @@ module _ {State : Type 0} (width : ℕ) (narrow : width ≤ 7) (ends : Ends Stat
       }
 
   -- a step keeps `Both`
-  both_step : (a : World ById State) (b : World ByNumber State) (step : Step) → Both a b → Both (happens ends (by_ids width ends) a step) (happens ends (by_numbers width) b step)
-  both_step a b step h = record { agree = agrees width narrow ends Good a b step h.sound h.agree; sound = sound_step width ends Good ex b step h.sound }
+  both_step : (a : World (ById Asked) State) (b : World (ByNumber Asked) State) (step : Step) → Both a b → Both (happens ends (by_ids width ends) a step) (happens ends (by_numbers width) b step)
+  both_step a b step h = record { agree = agrees width narrow ends Good written a b step h.sound h.agree; sound = sound_step width ends Good written ex b step h.sound }
 
   -- a change of the instrument's state to a good one keeps `Sound`
-  pub sound_changed : (b : World ByNumber State) (state : State) → Good state → Sound width ends Good b → Sound width ends Good (on_wire b (record b.wire { state = state }))
+  pub sound_changed : (b : World (ByNumber Asked) State) (state : State) → Good state → Sound width ends Good b → Sound width ends Good (on_wire b (record b.wire { state = state }))
   sound_changed b state good h = record { good = good; counted = h.counted; booked = h.booked; begun = h.begun; within = h.within; few = h.few; order = h.order; going = h.going; coming = h.coming }
 
   -- a possible move keeps `Both`
-  pub both_move : (a : World ById State) (b : World ByNumber State) (m : Move State) → IsPossible Good kept a m → Both a b
+  pub both_move : (a : World (ById Asked) State) (b : World (ByNumber Asked) State) (m : Move State) → IsPossible Good kept a m → Both a b
       → Both (moves ends (by_ids width ends) a m) (moves ends (by_numbers width) b m)
   both_move a b (Sends target call deadline) p h = both_step a b (Send target call deadline) h
   both_move a b (Tells now) p h = both_step a b (Expire now) h
@@ -70,7 +71,7 @@ module _ {State : Type 0} (width : ℕ) (narrow : width ≤ 7) (ends : Ends Stat
   both_move a b (Joins line) p h = absurd p
 
   -- possible moves keep `Both`
-  pub both_all : (ms : List (Move State)) (a : World ById State) (b : World ByNumber State) → ArePossible ends Good kept (by_ids width ends) ms a → Both a b
+  pub both_all : (ms : List (Move State)) (a : World (ById Asked) State) (b : World (ByNumber Asked) State) → ArePossible ends Good kept (by_ids width ends) ms a → Both a b
       → Both (moved ends (by_ids width ends) ms a) (moved ends (by_numbers width) ms b)
   both_all [] a b p h = h
   both_all (m ∷ ms) a b p h = both_all ms _ _ p.1 (both_move a b m p.0 h)
@@ -81,14 +82,14 @@ module _ {State : Type 0} (width : ℕ) (narrow : width ≤ 7) (ends : Ends Stat
       record { agree = record { wire = refl; client = record { window = refl; next = omega arith } }; sound = sound_open width ends Good state good }
 
   -- in the world of numbers, a reply to a request that isn't settled settles that request, and those before it as lost
-  heard_first : (b : World ByNumber State) (n : ℕ) (line : List ℕ) (rest q : List (Numbered (List ℕ))) → q ≡ record { number = n; line = line } ∷ rest → b.client.count ≤ n →
+  heard_first : (b : World (ByNumber Asked) State) (n : ℕ) (line : List ℕ) (rest q : List (Numbered (List ℕ))) → q ≡ record { number = n; line = line } ∷ rest → b.client.count ≤ n →
       (down_delivered (by_numbers width) b q).wire.settled ≡ b.wire.settled ++ settle (n - b.client.count) line (drop b.client.count b.client.requests)
   heard_first b n line rest q e le =
       ap (λ q. (down_delivered (by_numbers width) b q).wire.settled) e
       ∙ ap (λ t. b.wire.settled ++ (number_reply b.client (record { number = n; line = line }) t).settlements) (le-ltb n b.client.count le)
 
   -- in the world of ids, a reply to a request that isn't settled settles that request, and those before it as lost
-  pub first_reply : (a : World ById State) (b : World ByNumber State) (n : ℕ) (line : List ℕ) (rest : List (Numbered (List ℕ))) → Both a b
+  pub first_reply : (a : World (ById Asked) State) (b : World (ByNumber Asked) State) (n : ℕ) (line : List ℕ) (rest : List (Numbered (List ℕ))) → Both a b
       → a.wire.down ≡ record { number = n; line = line } ∷ rest → length a.wire.settled ≤ n →
       (moves ends (by_ids width ends) a (Comes line)).wire.settled ≡ a.wire.settled ++ settle (n - length a.wire.settled) line a.client.waiting
   first_reply a b n line rest h e le =
@@ -101,78 +102,113 @@ module _ {State : Type 0} (width : ℕ) (narrow : width ≤ 7) (ends : Ends Stat
       ∙ ap (λ l. a.wire.settled ++ settle (n - b.client.count) line l) (sym h.agree.client.window)
       ∙ ap (λ k. a.wire.settled ++ settle (n - k) line a.client.waiting) (sym size)
 
-module _ {State : Type 0} (width : ℕ) (narrow : width ≤ 7) (ends : Ends State) (Good : State → Type 0) (ex : IsExchange ends Good)
-    (kept : State → Option KeptReply) (keeper : IsAnInstrument ends Good kept) (low : ℕ) (beyond : 0 < low) (M : ℕ → Call → List ℕ → Type 0) where
+-- settlement m, s, was made for its own request: an answer is vouched for, and of a late one there is a line that is
+pub record IsOwn {State : Type 0} (ends : Ends State) (Good : State → Type 0) (M : ℕ → Asked → List ℕ → Type 0) (w : Wire State) (m : ℕ) (s : Settlement Asked) : Type 0 where
+  pub answered : (line : List ℕ) → s.outcome ≡ Answered line → IsVouched ends Good M w.sent w.executed w.made m line
+  pub late : s.outcome ≡ Late → (line : List ℕ) × IsVouched ends Good M w.sent w.executed w.made m line
+
+-- each settlement that isn't excepted (`E`) is its own, and between two starts each request is executed at most once to which the instrument keeps
+-- its reply
+pub record IsVouchedFor {State : Type 0} (ends : Ends State) (Good : State → Type 0) (kept : State → Option KeptReply) (E : ℕ → Type 0) (M : ℕ → Asked → List ℕ → Type 0)
+    (w : Wire State) : Type 0 where
+  pub own : (m : ℕ) (s : Settlement Asked) → (E m → ⊥) → slice_get w.settled m ≡ Some s → IsOwn ends Good M w m s
+  pub order : IsInOrder w.executed
+  pub once : (keeps : Asked → Bool) → KeepsItsReply ends Good kept keeps → ActsOnce keeps w.sent w.executed w.starts
+
+module _ {State : Type 0} (width : ℕ) (ends : Ends State) (M : ℕ → Asked → List ℕ → Type 0) where
+  -- each request that reaches the instrument at one of these moves, and is executed, has a reply with the property M
+  abbrev pub AreOn : List (Move State) → World (ByNumber Asked) State → Type 0
+  AreOn ms b =
+      (front later : List (Move State)) → ms ≡ front ++ OnLine Up_deliver ∷ later → (x : Numbered Request) (rest : List (Numbered Request)) →
+      (moved ends (by_numbers width) front b).wire.up ≡ x ∷ rest → IsOn ends M (moved ends (by_numbers width) front b) x
+
+  -- `AreOn` of moves gives `AreOn` of those after the first, in the world that the first leaves
+  are_on_behind : (m : Move State) (ms : List (Move State)) (b : World (ByNumber Asked) State) → AreOn (m ∷ ms) b → AreOn ms (moves ends (by_numbers width) b m)
+  are_on_behind m ms b on = λ front later e. on (m ∷ front) later (ap (λ l. m ∷ l) e)
+
+  -- `AreOn` of moves gives `AreOn` of the later ones, in the world that those in front leave
+  pub are_on_later : (front later : List (Move State)) (b : World (ByNumber Asked) State) → AreOn (front ++ later) b → AreOn later (moved ends (by_numbers width) front b)
+  are_on_later [] later b on = on
+  are_on_later (m ∷ front) later b on = are_on_later front later (moves ends (by_numbers width) b m) (are_on_behind m (front ++ later) b on)
+
+module _ {State : Type 0} (width : ℕ) (narrow : width ≤ 7) (knows : Asked → Bool) (ends : Ends State) (Good : State → Type 0) (ex : IsExchange ends Good)
+    (kept : State → Option KeptReply) (keeper : IsAnInstrumentFor ends Good kept knows) (low : ℕ) (E : ℕ → Type 0) (Plain : Type 0) (M : ℕ → Asked → List ℕ → Type 0) where
   -- the invariant `True` of `Vouched`, for these parameters: each reply under way and each answer was made for its own request
-  abbrev Trusted : World ByNumber State → Type 0
-  Trusted w = True width narrow ends Good ex kept keeper low M w
+  abbrev pub Trusted : World (ByNumber Asked) State → Type 0
+  Trusted w = True width narrow knows ends Good kept keeper low E Plain M w
 
   -- the line is vouched for as a reply to request n, or request n is one of those that are excepted
-  abbrev pub Vouches : Wire State → ℕ → List ℕ → Type 0
-  Vouches w n line = Vouched width narrow ends Good ex kept keeper low M w.sent w.executed w.made n line
+  abbrev Vouches : (w : World (ByNumber Asked) State) → Trusted w → ℕ → List ℕ → Type 0
+  Vouches w t n line = Vouched width narrow knows ends Good kept keeper low E Plain M w.wire.sent w.wire.executed w.wire.made t.table n line
 
-  -- each answer is vouched for, and between two starts each request is executed at most once
-  pub record IsVouchedFor (w : Wire State) : Type 0 where
-    pub answers : AllSo (Vouches w) 0 w.settled
-    pub order : IsInOrder w.executed
-    pub once : KeepsItsReply ends Good kept → ActsOnce w.executed w.starts
-
-  -- the line of an answer to a request from `low` on is vouched for
-  pub vouched_of :
-      (w : Wire State) (m : ℕ) (s : Settlement) (line : List ℕ) → low ≤ m → AllSo (Vouches w) 0 w.settled → slice_get w.settled m ≡ Some s → s.outcome ≡ Answered line
-      → IsVouched width narrow ends Good ex kept keeper low M w.sent w.executed w.made m line
-  vouched_of w m s line ge all e answered =
-      let i : 0 + m ≡ m = omega arith in
-      let so : Vouches w m line = subst (λ o. IsSo (Vouches w) m o) answered (subst (λ k. IsSo (Vouches w) k s.outcome) i (all_so_get (Vouches w) 0 w.settled m s all e)) in
-      elim so [
-        | inl l ↦ absurd (omega (arith, l, ge))
+  -- what is vouched for and isn't excepted is vouched for as its reply
+  own_line : (w : World (ByNumber Asked) State) (t : Trusted w) (m : ℕ) (line : List ℕ) → (E m → ⊥) → Vouches w t m line → IsVouched ends Good M w.wire.sent w.wire.executed w.wire.made m line
+  own_line w t m line not h =
+      elim h.1 [
+        | inl e ↦ absurd (not e)
         | inr v ↦ v
       ]
 
-  -- a late settlement of a request from `low` on has a line that is vouched for
-  pub late_of :
-      (w : Wire State) (m : ℕ) (s : Settlement) → low ≤ m → AllSo (Vouches w) 0 w.settled → slice_get w.settled m ≡ Some s → s.outcome ≡ Late
-      → (line : List ℕ) × IsVouched width narrow ends Good ex kept keeper low M w.sent w.executed w.made m line
-  late_of w m s ge all e late =
-      let i : 0 + m ≡ m = omega arith in
-      let so : (line : List ℕ) × Vouches w m line = subst (λ o. IsSo (Vouches w) m o) late (subst (λ k. IsSo (Vouches w) k s.outcome) i (all_so_get (Vouches w) 0 w.settled m s all e)) in
-      elim so.1 [
-        | inl l ↦ absurd (omega (arith, l, ge))
-        | inr v ↦ (so.0, v)
-      ]
+  -- in a `Trusted` world each settlement is vouched for
+  so_at : (w : World (ByNumber Asked) State) (t : Trusted w) (m : ℕ) (s : Settlement Asked) → slice_get w.wire.settled m ≡ Some s → IsSo (Vouches w t) m s.outcome
+  so_at w t m s e = let i : 0 + m ≡ m = omega arith in subst (λ k. IsSo (Vouches w t) k s.outcome) i (all_so_get (Vouches w t) 0 w.wire.settled m s t.answers e)
 
-  -- each request that reaches the instrument at one of these moves, and is executed, has a reply with the property M
-  abbrev pub AreOn : List (Move State) → World ByNumber State → Type 0
-  AreOn ms b =
-      (front later : List (Move State)) → ms ≡ front ++ OnLine Up_deliver ∷ later → (x : Numbered Request) (rest : List (Numbered Request)) →
-      (moved ends (by_numbers width) front b).wire.up ≡ x ∷ rest →
-      IsOn width narrow ends Good ex kept keeper low M (moved ends (by_numbers width) front b) x
+  -- in a `Trusted` world each settlement that isn't excepted is its own, and each request is executed at most once
+  pub vouched_for : (w : World (ByNumber Asked) State) → Trusted w → IsVouchedFor ends Good kept E M w.wire
+  vouched_for w t =
+      record {
+        own = λ m s not e. record {
+          answered = λ line answered. own_line w t m line not (subst (λ o. IsSo (Vouches w t) m o) answered (so_at w t m s e));
+          late = λ late. let l : (line : List ℕ) × Vouches w t m line = subst (λ o. IsSo (Vouches w t) m o) late (so_at w t m s e) in (l.0, own_line w t m l.0 not l.1);
+        };
+        order = t.order.order;
+        once = λ keeps k. acts_once keeps w.wire.sent w.wire.executed w.wire.starts (t.once keeps k).once;
+      }
 
-  -- `AreOn` of moves gives `AreOn` of those after the first, in the world that the first leaves
-  are_on_behind : (m : Move State) (ms : List (Move State)) (b : World ByNumber State) → AreOn (m ∷ ms) b → AreOn ms (moves ends (by_numbers width) b m)
-  are_on_behind m ms b on = λ front later e. on (m ∷ front) later (ap (λ l. m ∷ l) e)
+  -- the first of these moves asks what all have to be (`knows`) where `Plain` says so
+  asks_first : (target : ℕ) (call : Asked) (deadline : ℕ) (ms : List (Move State)) → (Plain → AsksOnly knows (Sends target call deadline ∷ ms)) → Plain → knows call ≡ true
+  asks_first target call deadline ms f plain = (f plain).0
+
+  -- if the moves ask only what is known, so do those after the first
+  pub asks_behind : (m : Move State) (ms : List (Move State)) → AsksOnly knows (m ∷ ms) → AsksOnly knows ms
+  asks_behind (Sends target call deadline) ms h = h.1
+  asks_behind (Tells now) ms h = h
+  asks_behind (Comes line) ms h = h
+  asks_behind (Foreign line) ms h = h
+  asks_behind (OnLine step) ms h = h
+  asks_behind Anew ms h = h
+  asks_behind (Changes state) ms h = h
+  asks_behind (Joins line) ms h = h
 
   -- `Trusted` lasts over a possible move, where its execution, if it is one, is `AreOn`
-  trusted_move : (m : Move State) (ms : List (Move State)) (a : World ById State) (b : World ByNumber State) → Both width narrow ends Good ex kept a b → IsPossible Good kept a m
-      → AreOn (m ∷ ms) b → Sound width ends Good b → Trusted b → Trusted (moves ends (by_numbers width) b m)
-  trusted_move (Sends target call deadline) ms a b both p on s t =
-      true_requested width narrow ends Good ex kept keeper low M b target call deadline ((by_numbers width).send b.client target call deadline) refl t
-  trusted_move (Tells now) ms a b both p on s t = t
-  trusted_move (Comes line) ms a b both p on s t = true_down width narrow ends Good ex kept keeper low M b b.wire.down refl s t
-  trusted_move (Foreign line) ms a b both p on s t = t
-  trusted_move (OnLine step) ms a b both p on s t =
-      true_line width narrow ends Good ex kept keeper low M b step p (λ x rest e q. on [] ms (ap (λ (y : Step). OnLine y ∷ ms) e) x rest q) s t
-  trusted_move Anew ms a b both p on s t = true_started width narrow ends Good ex kept keeper low M b true s.good t
-  trusted_move (Changes state) ms a b both p on s t =
-      true_changed width narrow ends Good ex kept keeper low M b state (p.1 ∙ ap (λ (w : Wire State). kept w.state) both.agree.wire) t
-  trusted_move (Joins line) ms a b both p on s t = absurd p
+  trusted_move : (m : Move State) (ms : List (Move State)) (a : World (ById Asked) State) (b : World (ByNumber Asked) State) → Both width narrow ends Good ex kept a b → IsPossible Good kept a m
+      → (Plain → AsksOnly knows (m ∷ ms)) → AreOn width ends M (m ∷ ms) b → Sound width ends Good b → Trusted b → Trusted (moves ends (by_numbers width) b m)
+  trusted_move (Sends target call deadline) ms a b both p asks on s t =
+      true_requested width narrow knows ends Good kept keeper low E Plain M b target call deadline ((by_numbers width).send b.client target call deadline)
+      (asks_first target call deadline ms asks) refl t
+  trusted_move (Tells now) ms a b both p asks on s t = t
+  trusted_move (Comes line) ms a b both p asks on s t = true_down width narrow knows ends Good kept keeper low E Plain M b b.wire.down refl s t
+  trusted_move (Foreign line) ms a b both p asks on s t = t
+  trusted_move (OnLine step) ms a b both p asks on s t =
+      true_line width narrow knows ends Good kept keeper low E Plain M b step p (λ x rest e q. on [] ms (ap (λ (y : Step). OnLine y ∷ ms) e) x rest q) s t
+  trusted_move Anew ms a b both p asks on s t = true_started width narrow knows ends Good kept keeper low E Plain M b true s.good t
+  trusted_move (Changes state) ms a b both p asks on s t =
+      true_changed width narrow knows ends Good kept keeper low E Plain M b state (p.1 ∙ ap (λ (w : Wire State). kept w.state) both.agree.wire) t
+  trusted_move (Joins line) ms a b both p asks on s t = absurd p
 
-  -- moves whose executions are `AreOn` leave the wire vouched for, from a `Trusted` world on
-  pub whole_all : (ms : List (Move State)) (a : World ById State) (b : World ByNumber State) → Both width narrow ends Good ex kept a b
-      → ArePossible ends Good kept (by_ids width ends) ms a → AreOn ms b → Trusted b → IsVouchedFor (moved ends (by_numbers width) ms b).wire
-  whole_all [] a b h p on t = record { answers = t.answers; order = t.order.order; once = λ keeps. (t.once keeps).once }
-  whole_all (m ∷ ms) a b h p on t =
-      whole_all ms _ _ (both_move width narrow ends Good ex kept a b m p.0 h) p.1 (are_on_behind m ms b on) (trusted_move m ms a b h p.0 on h.sound t)
+  -- moves whose executions are `AreOn` leave a `Trusted` world `Trusted`
+  pub whole_all : (ms : List (Move State)) (a : World (ById Asked) State) (b : World (ByNumber Asked) State) → Both width narrow ends Good ex kept a b
+      → ArePossible ends Good kept (by_ids width ends) ms a → (Plain → AsksOnly knows ms) → AreOn width ends M ms b → Trusted b → Trusted (moved ends (by_numbers width) ms b)
+  whole_all [] a b h p asks on t = t
+  whole_all (m ∷ ms) a b h p asks on t =
+      whole_all ms _ _ (both_move width narrow ends Good ex kept a b m p.0 h) p.1 (λ plain. asks_behind m ms (asks plain)) (are_on_behind width ends M m ms b on)
+      (trusted_move m ms a b h p.0 asks on h.sound t)
+
+module _ {State : Type 0} (width : ℕ) (narrow : width ≤ 7) (knows : Asked → Bool) (ends : Ends State) (Good : State → Type 0) (ex : IsExchange ends Good)
+    (kept : State → Option KeptReply) (keeper : IsAnInstrumentFor ends Good kept knows) (E : ℕ → Type 0) (first : E 0) (M : ℕ → Asked → List ℕ → Type 0) where
+  -- `Trusted`, where all requests are known
+  abbrev Trusts : World (ByNumber Asked) State → Type 0
+  Trusts w = Trusted width narrow knows ends Good ex kept keeper 1 E (Unit {0}) M w
 
   -- Before the first request reached the instrument, which may keep anything.
 
@@ -181,15 +217,16 @@ module _ {State : Type 0} (width : ℕ) (narrow : width ≤ 7) (ends : Ends Stat
   ones false = 0
   ones true = 1
 
-  -- nothing was executed, settled or sent back yet, and at most one request was sent; none where `out` is false
-  pub record IsFresh (b : World ByNumber State) (out : Bool) : Type 0 where
+  -- nothing was executed, settled or sent back yet, and at most one request was sent, which is known; none where `out` is false
+  pub record IsFresh (b : World (ByNumber Asked) State) (out : Bool) : Type 0 where
     pub since : b.client.since ≡ 0
     pub count : b.client.count ≡ 0
     pub down : b.wire.down ≡ []
     pub executed : b.wire.executed ≡ []
     pub settled : b.wire.settled ≡ []
     pub sent : length b.wire.sent ≤ ones out
-    pub lines : Each (IsOf b.wire.sent) b.wire.up
+    pub lines : Each (IsOf written b.wire.sent) b.wire.up
+    pub known : Each (λ (r : Sent). knows r.call ≡ true) b.wire.sent
 
   -- what holds of every value holds of each element of a list
   each_all : {A : Type 0} (P : A → Type 0) → ((x : A) → P x) → (xs : List A) → Each P xs
@@ -197,37 +234,42 @@ module _ {State : Type 0} (width : ℕ) (narrow : width ≤ 7) (ends : Ends Stat
   each_all P f (x ∷ xs) = (f x, each_all P f xs)
 
   -- the first request reaches it: from then on what is kept has the id of the last request that it was handed
-  module _ (b : World ByNumber State) (out : Bool) (s : Sound width ends Good b) (f : IsFresh b out) where
+  module _ (b : World (ByNumber Asked) State) (out : Bool) (s : Sound width ends Good b) (f : IsFresh b out) where
     -- once the first request reached the instrument, the world is `Trusted`
-    fresh_reached : (x : Numbered Request) (rest : List (Numbered Request)) → b.wire.up ≡ x ∷ rest → Trusted (on_wire b (replied b.wire x.number rest (ends.handed b.wire.state x.line.id x.line.call)))
+    fresh_reached : (x : Numbered Request) (rest : List (Numbered Request)) → b.wire.up ≡ x ∷ rest → Trusts (on_wire b (replied b.wire x.number rest (ends.handed b.wire.state x.line.id x.line.call)))
     fresh_reached x rest q =
         let v = b.wire in
         let hd = ends.handed v.state x.line.id x.line.call in
         let g = subst (λ l. Each (IsGoing b.client.since (length b.client.requests)) l) q s.going in
-        let o = subst (λ l. Each (IsOf v.sent) l) q f.lines in
+        let o = subst (λ l. Each (IsOf written v.sent) l) q f.lines in
         let few : length v.sent ≤ 1 = below_two out f.sent in
         let nought : x.number ≡ 0 = omega (arith, g.0.sent, s.counted, few) in
         let m : Numbered (List ℕ) = record { number = x.number; line = hd.reply } in
         let w = replied v x.number rest hd in
-        let P = Vouches w in
-        let id : x.line.id ≡ (1 - 1 - b.client.since) % 8 = omega (arith, g.0.id, nought, f.since) in
-        let early : x.number < low = omega (arith, nought, beyond) in
+        let P : ℕ → List ℕ → Type 0 = λ n line. Vouched width narrow knows ends Good kept keeper 1 E (Unit {0}) M w.sent w.executed w.made 0 n line in
+        let early : P x.number hd.reply = (inl (omega (arith, nought)), inl (subst E (sym nought) first)) in
+        let id : x.line.id ≡ (0 - b.client.since) % 8 = omega (arith, g.0.id, nought, f.since) in
+        let known : knows x.line.call ≡ true = sym (ap knows o.0.call) ∙ each_get (λ (r : Sent). knows r.call ≡ true) v.sent x.number o.0.request f.known o.0.found in
         record {
           top = 1;
+          table = 0;
           counted = omega (arith, f.count);
           within = omega (arith, g.0.sent, s.counted);
+          lower = omega arith;
+          least = omega arith;
           above = each_all (λ (y : Numbered Request). 1 ≤ y.number + 1) (λ y. omega arith) rest;
           below = subst (λ l. Each (λ (y : Numbered (List ℕ)). y.number < 1) (l ++ m ∷ [])) (sym f.down) (omega (arith, nought), tt);
           holds =
-              kept_one width narrow ends Good ex kept keeper low M P b.client.since 1 x.line.id hd.reply (kept hd.state) (omega (arith, f.since)) id (inl beyond)
-              (keeper.keeps v.state x.line.id x.line.call s.good o.0.small);
+              kept_one P b.client.since 1 0 0 x.line.id hd.reply (kept hd.state) (omega (arith, f.since)) (omega arith) (omega arith) id (subst (λ n. P n hd.reply) nought early)
+              (own_kept known (keeper.keeps v.state x.line.id x.line.call s.good o.0.small));
           lines = o.1;
-          coming = subst (λ l. Each (λ (y : Numbered (List ℕ)). P y.number y.line) (l ++ m ∷ [])) (sym f.down) (inl early, tt);
+          near = inl (tt, omega arith, f.known);
+          coming = subst (λ l. Each (λ (y : Numbered (List ℕ)). P y.number y.line) (l ++ m ∷ [])) (sym f.down) (early, tt);
           answers = subst (λ l. AllSo P 0 l) (sym f.settled) tt;
           order = ordered_first x.number v.executed hd.executed f.executed nought;
-          once = λ keeps.
-              subst (λ l. IsClimbing 1 w.executed v.starts l) (sym (keeps.always v.state x.line.id x.line.call s.good o.0.small))
-              (climbing_first x.number v.executed v.starts hd.executed (record { id = x.line.id; line = hd.reply }) f.executed nought);
+          once = λ keeps k.
+              climbing_first keeps ((1 - 1 - b.client.since) % 8) x.number v.sent v.executed v.starts hd.executed (kept hd.state) (record { id = x.line.id; line = hd.reply }) f.executed nought
+              (held keeps k (keeps x.line.call) refl o.0 id);
         }
       where
         -- a fresh world has sent at most one request
@@ -235,23 +277,39 @@ module _ {State : Type 0} (width : ℕ) (narrow : width ≤ 7) (ends : Ends Stat
         below_two true l = l
         below_two false l = omega (arith, l)
 
+        -- after a request that is known its reply is kept, or nothing
+        own_kept : knows x.line.call ≡ true
+            → KeepsItsOwn ends Good kept b.wire.state x.line.id x.line.call
+            ⊎ ((knows x.line.call ≡ false) × (kept (ends.handed b.wire.state x.line.id x.line.call).state ≡ kept b.wire.state))
+            → KeepsItsOwn ends Good kept b.wire.state x.line.id x.line.call
+        own_kept known (inl own) = own
+        own_kept known (inr third) = absurd (true_is_not (sym known ∙ third.0))
+
+        -- the first request is kept, where the instrument keeps its reply to it
+        held : (keeps : Asked → Bool) → KeepsItsReply ends Good kept keeps → (t : Bool) → keeps x.line.call ≡ t → IsOf written b.wire.sent x → x.line.id ≡ (0 - b.client.since) % 8
+            → IsUnknown keeps b.wire.sent x.number
+            ⊎ ((kept (ends.handed b.wire.state x.line.id x.line.call).state ≡ Some (record { id = x.line.id; line = (ends.handed b.wire.state x.line.id x.line.call).reply }))
+            × (x.line.id ≡ (1 - 1 - b.client.since) % 8))
+        held keeps k true e o id = inr (k.always b.wire.state x.line.id x.line.call s.good o.small e, id)
+        held keeps k false e o id = inl (o.request, o.found, ap keeps o.call ∙ e)
+
     -- where the front request reaches the instrument, a fresh world becomes `Trusted`; where there is no request, it stays fresh
-    fresh_up : (q : List (Numbered Request)) → b.wire.up ≡ q → (IsFresh (on_wire b (up_delivered ends b.wire q)) out) ⊎ Trusted (on_wire b (up_delivered ends b.wire q))
-    fresh_up [] q = inl (record { since = f.since; count = f.count; down = f.down; executed = f.executed; settled = f.settled; sent = f.sent; lines = f.lines })
+    fresh_up : (q : List (Numbered Request)) → b.wire.up ≡ q → (IsFresh (on_wire b (up_delivered ends b.wire q)) out) ⊎ Trusts (on_wire b (up_delivered ends b.wire q))
+    fresh_up [] q = inl (record { since = f.since; count = f.count; down = f.down; executed = f.executed; settled = f.settled; sent = f.sent; lines = f.lines; known = f.known })
     fresh_up (x ∷ rest) q = inr (fresh_reached x rest q)
 
     -- a fresh world stays fresh where a request under way is lost or repeated
-    fresh_with_up : (up : List (Numbered Request)) (t : Bool) → Each (IsOf b.wire.sent) up → IsFresh (on_wire b (with_up b.wire up t)) out
-    fresh_with_up up true l = record { since = f.since; count = f.count; down = f.down; executed = f.executed; settled = f.settled; sent = f.sent; lines = l }
-    fresh_with_up up false l = record { since = f.since; count = f.count; down = f.down; executed = f.executed; settled = f.settled; sent = f.sent; lines = f.lines }
+    fresh_with_up : (up : List (Numbered Request)) (t : Bool) → Each (IsOf written b.wire.sent) up → IsFresh (on_wire b (with_up b.wire up t)) out
+    fresh_with_up up true l = record { since = f.since; count = f.count; down = f.down; executed = f.executed; settled = f.settled; sent = f.sent; lines = l; known = f.known }
+    fresh_with_up up false l = record { since = f.since; count = f.count; down = f.down; executed = f.executed; settled = f.settled; sent = f.sent; lines = f.lines; known = f.known }
 
     -- a fresh world stays fresh over a loss or a repeat of a reply: none is under way
     fresh_with_down : (down : List (Numbered (List ℕ))) (t : Bool) → down ≡ [] → IsFresh (on_wire b (with_down b.wire down t)) out
-    fresh_with_down down true l = record { since = f.since; count = f.count; down = l; executed = f.executed; settled = f.settled; sent = f.sent; lines = f.lines }
-    fresh_with_down down false l = record { since = f.since; count = f.count; down = f.down; executed = f.executed; settled = f.settled; sent = f.sent; lines = f.lines }
+    fresh_with_down down true l = record { since = f.since; count = f.count; down = l; executed = f.executed; settled = f.settled; sent = f.sent; lines = f.lines; known = f.known }
+    fresh_with_down down false l = record { since = f.since; count = f.count; down = f.down; executed = f.executed; settled = f.settled; sent = f.sent; lines = f.lines; known = f.known }
 
     -- over a step of the line a fresh world stays fresh or becomes `Trusted`
-    fresh_line : (step : Step) → IsOfLine step → (IsFresh (happens ends (by_numbers width) b step) out) ⊎ Trusted (happens ends (by_numbers width) b step)
+    fresh_line : (step : Step) → IsOfLine step → (IsFresh (happens ends (by_numbers width) b step) out) ⊎ Trusts (happens ends (by_numbers width) b step)
     fresh_line (Send target call deadline) p = absurd p
     fresh_line Up_deliver p = fresh_up b.wire.up refl
     fresh_line (Up_lose k) p = inl (fresh_with_up (without k b.wire.up) (ltb k (length b.wire.up)) (each_without _ k b.wire.up f.lines))
@@ -262,16 +320,17 @@ module _ {State : Type 0} (width : ℕ) (narrow : width ≤ 7) (ends : Ends Stat
     fresh_line (Expire now) p = absurd p
     fresh_line Restart_client p = absurd p
     fresh_line Restart_instrument p = absurd p
-    fresh_line Nothing p = inl (record { since = f.since; count = f.count; down = f.down; executed = f.executed; settled = f.settled; sent = f.sent; lines = f.lines })
+    fresh_line Nothing p = inl (record { since = f.since; count = f.count; down = f.down; executed = f.executed; settled = f.settled; sent = f.sent; lines = f.lines; known = f.known })
 
   -- a fresh world stays fresh where the first request goes out, or is refused
-  fresh_sent : (b : World ByNumber State) (target : ℕ) (call : Call) (deadline : ℕ) (full : Bool) → IsFresh b false
+  fresh_sent : (b : World (ByNumber Asked) State) (target : ℕ) (call : Asked) (deadline : ℕ) (full : Bool) → knows call ≡ true → IsFresh b false
       → IsFresh (requested b target call (number_send b.client target call deadline full)) true
-  fresh_sent b target call deadline true f = record { since = f.since; count = f.count; down = f.down; executed = f.executed; settled = f.settled; sent = omega (arith, f.sent); lines = f.lines }
-  fresh_sent b target call deadline false f =
+  fresh_sent b target call deadline true is f =
+      record { since = f.since; count = f.count; down = f.down; executed = f.executed; settled = f.settled; sent = omega (arith, f.sent); lines = f.lines; known = f.known }
+  fresh_sent b target call deadline false is f =
       let c = b.client in
       let id = (length c.requests - c.since) % 8 in
-      let r : Sent = record { target = target; call = call; line = request_line (Some id) call } in
+      let r : Sent = record { target = target; call = call; line = asked_line (Some id) call } in
       record {
         since = f.since;
         count = f.count;
@@ -280,76 +339,81 @@ module _ {State : Type 0} (width : ℕ) (narrow : width ≤ 7) (ends : Ends Stat
         settled = f.settled;
         sent = omega (arith, f.sent, length_push b.wire.sent r);
         lines =
-            each_append _ b.wire.up _ (each_more _ _ (of_more b.wire.sent (r ∷ [])) b.wire.up f.lines)
+            each_append _ b.wire.up _ (each_more _ _ (of_more written b.wire.sent (r ∷ [])) b.wire.up f.lines)
             (record { request = r; found = get_push b.wire.sent r; small = omega arith; call = refl; text = refl }, tt);
+        known = each_append (λ (r : Sent). knows r.call ≡ true) b.wire.sent (r ∷ []) f.known (is, tt);
       }
 
   -- in a fresh world no reply is under way
-  nothing_down : (a : World ById State) (b : World ByNumber State) (out : Bool) (x : Numbered (List ℕ)) (rest : List (Numbered (List ℕ))) → Both width narrow ends Good ex kept a b
+  nothing_down : (a : World (ById Asked) State) (b : World (ByNumber Asked) State) (out : Bool) (x : Numbered (List ℕ)) (rest : List (Numbered (List ℕ))) → Both width narrow ends Good ex kept a b
       → IsFresh b out → a.wire.down ≡ x ∷ rest → ⊥
   nothing_down a b out x rest h f e =
       let none : [] ≡ x ∷ rest = sym f.down ∙ sym (ap (λ (w : Wire State). w.down) h.agree.wire) ∙ e in
       cc
 
   -- after possible moves whose first request goes out alone the answers are vouched for, whatever the instrument kept before
-  pub early_all : (ms : List (Move State)) (out : Bool) (a : World ById State) (b : World ByNumber State) → Both width narrow ends Good ex kept a b
-      → ArePossible ends Good kept (by_ids width ends) ms a → IsFirstAlone out ms → AreOn ms b → IsFresh b out → IsVouchedFor (moved ends (by_numbers width) ms b).wire
-  early_all [] out a b h p l on f =
+  pub early_all : (ms : List (Move State)) (out : Bool) (a : World (ById Asked) State) (b : World (ByNumber Asked) State) → Both width narrow ends Good ex kept a b
+      → ArePossible ends Good kept (by_ids width ends) ms a → AsksOnly knows ms → IsFirstAlone out ms → AreOn width ends M ms b → IsFresh b out
+      → IsVouchedFor ends Good kept E M (moved ends (by_numbers width) ms b).wire
+  early_all [] out a b h p k l on f =
       record {
-        answers = subst (λ s. AllSo (Vouches b.wire) 0 s) (sym f.settled) tt;
+        own = λ m s not e. absurd (none_is_not s (subst (λ (l : List (Settlement Asked)). slice_get l m ≡ Some s) f.settled e));
         order = order_few b.wire.executed (omega (arith, ap (λ (l : List ℕ). length l) f.executed));
-        once = λ keeps. once_few b.wire.executed b.wire.starts (omega (arith, ap (λ (l : List ℕ). length l) f.executed));
+        once = λ keeps is.
+            acts_once keeps b.wire.sent b.wire.executed b.wire.starts
+            (once_few keeps b.wire.sent b.wire.executed b.wire.starts (omega (arith, ap (λ (l : List ℕ). length l) f.executed)));
       }
-  early_all (Sends target call deadline ∷ ms) false a b h p l on f =
-      early_all ms true _ _ (both_move width narrow ends Good ex kept a b (Sends target call deadline) p.0 h) p.1 l (are_on_behind (Sends target call deadline) ms b on)
-      (fresh_sent b target call deadline (eqb (length b.client.requests - b.client.count) width) f)
-  early_all (Sends target call deadline ∷ ms) true a b h p l on f = absurd l
-  early_all (Tells now ∷ ms) out a b h p l on f =
-      early_all ms out _ _ (both_move width narrow ends Good ex kept a b (Tells now) p.0 h) p.1 (alone_tells out l) (are_on_behind (Tells now) ms b on)
-      (record { since = f.since; count = f.count; down = f.down; executed = f.executed; settled = f.settled; sent = f.sent; lines = f.lines })
+  early_all (Sends target call deadline ∷ ms) false a b h p k l on f =
+      early_all ms true _ _ (both_move width narrow ends Good ex kept a b (Sends target call deadline) p.0 h) p.1 k.1 l
+      (are_on_behind width ends M (Sends target call deadline) ms b on) (fresh_sent b target call deadline (eqb (length b.client.requests - b.client.count) width) k.0 f)
+  early_all (Sends target call deadline ∷ ms) true a b h p k l on f = absurd l
+  early_all (Tells now ∷ ms) out a b h p k l on f =
+      early_all ms out _ _ (both_move width narrow ends Good ex kept a b (Tells now) p.0 h) p.1 k (alone_tells out l) (are_on_behind width ends M (Tells now) ms b on)
+      (record { since = f.since; count = f.count; down = f.down; executed = f.executed; settled = f.settled; sent = f.sent; lines = f.lines; known = f.known })
     where
       -- a moment that is told changes nothing in whether the first request goes out alone
       alone_tells : (out : Bool) → IsFirstAlone out (Tells now ∷ ms) → IsFirstAlone out ms
       alone_tells true l = l
       alone_tells false l = l
-  early_all (Comes line ∷ ms) out a b h p l on f = absurd (nothing_down a b out _ p.0.1 h f p.0.2)
-  early_all (Foreign line ∷ ms) out a b h p l on f = early_all ms out a b h p.1 (alone_foreign out l) (are_on_behind (Foreign line) ms b on) f where
+  early_all (Comes line ∷ ms) out a b h p k l on f = absurd (nothing_down a b out _ p.0.1 h f p.0.2)
+  early_all (Foreign line ∷ ms) out a b h p k l on f = early_all ms out a b h p.1 k (alone_foreign out l) (are_on_behind width ends M (Foreign line) ms b on) f where
     -- a line without an id changes nothing in whether the first request goes out alone
     alone_foreign : (out : Bool) → IsFirstAlone out (Foreign line ∷ ms) → IsFirstAlone out ms
     alone_foreign true l = l
     alone_foreign false l = l
-  early_all (OnLine step ∷ ms) out a b h p l on f =
+  early_all (OnLine step ∷ ms) out a b h p k l on f =
       let both = both_move width narrow ends Good ex kept a b (OnLine step) p.0 h in
       elim (fresh_line b out h.sound f step p.0) [
-        | inl g ↦ early_all ms out _ _ both p.1 (alone_line out l) (are_on_behind (OnLine step) ms b on) g
-        | inr t ↦ whole_all ms _ _ both p.1 (are_on_behind (OnLine step) ms b on) t
+        | inl g ↦ early_all ms out _ _ both p.1 k (alone_line out l) (are_on_behind width ends M (OnLine step) ms b on) g
+        | inr t ↦ (vouched_for width narrow knows ends Good ex kept keeper 1 E (Unit {0}) M (moved ends (by_numbers width) ms (happens ends (by_numbers width) b step))
+            (whole_all width narrow knows ends Good ex kept keeper 1 E (Unit {0}) M ms _ _ both p.1 (λ plain. k) (are_on_behind width ends M (OnLine step) ms b on) t))
       ]
     where
       -- a step of the line changes nothing in whether the first request goes out alone
       alone_line : (out : Bool) → IsFirstAlone out (OnLine step ∷ ms) → IsFirstAlone out ms
       alone_line true l = l
       alone_line false l = l
-  early_all (Anew ∷ ms) out a b h p l on f =
-      early_all ms out _ _ (both_move width narrow ends Good ex kept a b Anew p.0 h) p.1 (alone_anew out l) (are_on_behind Anew ms b on)
-      (record { since = f.since; count = f.count; down = f.down; executed = f.executed; settled = f.settled; sent = f.sent; lines = f.lines })
+  early_all (Anew ∷ ms) out a b h p k l on f =
+      early_all ms out _ _ (both_move width narrow ends Good ex kept a b Anew p.0 h) p.1 k (alone_anew out l) (are_on_behind width ends M Anew ms b on)
+      (record { since = f.since; count = f.count; down = f.down; executed = f.executed; settled = f.settled; sent = f.sent; lines = f.lines; known = f.known })
     where
       -- a start of the instrument changes nothing in whether the first request goes out alone
       alone_anew : (out : Bool) → IsFirstAlone out (Anew ∷ ms) → IsFirstAlone out ms
       alone_anew true l = l
       alone_anew false l = l
-  early_all (Changes state ∷ ms) out a b h p l on f =
-      early_all ms out _ _ (both_move width narrow ends Good ex kept a b (Changes state) p.0 h) p.1 (alone_changes out l) (are_on_behind (Changes state) ms b on)
-      (record { since = f.since; count = f.count; down = f.down; executed = f.executed; settled = f.settled; sent = f.sent; lines = f.lines })
+  early_all (Changes state ∷ ms) out a b h p k l on f =
+      early_all ms out _ _ (both_move width narrow ends Good ex kept a b (Changes state) p.0 h) p.1 k (alone_changes out l) (are_on_behind width ends M (Changes state) ms b on)
+      (record { since = f.since; count = f.count; down = f.down; executed = f.executed; settled = f.settled; sent = f.sent; lines = f.lines; known = f.known })
     where
       -- a change of the instrument's state changes nothing in whether the first request goes out alone
       alone_changes : (out : Bool) → IsFirstAlone out (Changes state ∷ ms) → IsFirstAlone out ms
       alone_changes true l = l
       alone_changes false l = l
-  early_all (Joins line ∷ ms) out a b h p l on f = absurd p.0
+  early_all (Joins line ∷ ms) out a b h p k l on f = absurd p.0
 
   -- moves whose first request goes out alone leave the wire vouched for, from an open world on
-  pub vouched_at : (ms : List (Move State)) (state : State) → Good state → ArePossible ends Good kept (by_ids width ends) ms (ids_open state) → IsFirstAlone false ms
-      → AreOn ms (numbers_open state) → IsVouchedFor (moved ends (by_numbers width) ms (numbers_open state)).wire
-  vouched_at ms state good p l on =
-      early_all ms false (ids_open state) (numbers_open state) (both_open width narrow ends Good ex kept state good) p l on
-      (record { since = refl; count = refl; down = refl; executed = refl; settled = refl; sent = omega arith; lines = tt })
+  pub vouched_at : (ms : List (Move State)) (state : State) → Good state → ArePossible ends Good kept (by_ids width ends) ms (ids_open state) → AsksOnly knows ms
+      → IsFirstAlone false ms → AreOn width ends M ms (numbers_open state) → IsVouchedFor ends Good kept E M (moved ends (by_numbers width) ms (numbers_open state)).wire
+  vouched_at ms state good p k l on =
+      early_all ms false (ids_open state) (numbers_open state) (both_open width narrow ends Good ex kept state good) p k l on
+      (record { since = refl; count = refl; down = refl; executed = refl; settled = refl; sent = omega arith; lines = tt; known = tt })

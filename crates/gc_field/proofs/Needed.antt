@@ -1,22 +1,26 @@
 -- Each clause on instruments is needed: the instruments and runs of `specs/Needed.antt`, computed.
-use Rattle.std.proofs.Common.{◌≡◌, ℕ, ◌<◌, inl, inr, Bool, true, false, cond, List, [], ◌∷◌, Option, Some, None, refl, ◌∙◌, ap, arith, lit<}
+use Rattle.std.proofs.Common.{◌≡◌, ℕ, ◌<◌, ◌⊎◌, inl, inr, Bool, true, false, cond, List, [], ◌∷◌, Option, Some, None, refl, ◌∙◌, ap, arith, lit<}
 use Rattle.std.proofs.lemmas.Bool.{eqb-true}
-use Rattle.std.specs.Prelude.{nat_eq}
+use Rattle.std.specs.Prelude.{nat_eq, slice_get}
 use Rattle.std.specs.Fmt.{decimal, digits}
 use Rattle.gc_lines.specs.Readers.{header_at, reply_at}
 use Rattle.gc_lines.proofs.Written.{reply_back}
-use Rattle.gc_catalogue.specs.Calls.{call_fields}
+use Rattle.gc_catalogue.specs.Asked.{asked_line, asked_request, is_of_table}
+use Rattle.gc_catalogue.specs.declared.asked.Asked.TheVariants.{Table}
+use Rattle.gc_catalogue.specs.declared.call.Call.TheVariants.{InstrumentNo}
 use Rattle.gc_client.specs.Rule.{id_in, heard}
+use Rattle.gc_client.specs.declared.window.TheConstants.{WINDOW}
 use Rattle.gc_instrument.specs.State.{KeptReply}
 use Rattle.gc_world.specs.Order.{Each}
 use Rattle.gc_world.proofs.Options.{some_is}
 use Rattle.gc_world.proofs.Places.{each_get}
 use Rattle.gc_field.specs.Begin.{none_under_way}
-use Rattle.gc_field.specs.Begun.{IsClean}
+use Rattle.gc_field.specs.Begun.{IsClean, behind}
 use Rattle.gc_field.specs.Instrument.{IsAnInstrument, AnyState, nothing}
 use Rattle.gc_field.specs.Laws.{WasExecuted}
-use Rattle.gc_field.specs.Needed.{Keeper, IsAllNeeded, InOrder, value, refusal, kept, keeper, held, again_or, refuses_or, answers_in, deals_anew, sound, forgets}
+use Rattle.gc_field.specs.Needed.{Keeper, IsAllNeeded, InOrder, value, refusal, kept, keeper, held, again_or, refuses_or, answers_in, deals_anew, refuses_raws, sound, forgets, comes_twice}
 use Rattle.gc_field.specs.Once.{ActsOnce}
+use Rattle.gc_field.specs.World.{Sent}
 
 -- where n is held for an id, the reply with that id and n is kept
 pub kept_own : (k : Keeper) (id n : ℕ) → held k id ≡ Some n → kept k ≡ Some (record { id = id; line = value id n })
@@ -84,8 +88,12 @@ second : WasExecuted (8 ∷ 9 ∷ []) 10 → ⊥
 second h = above 10 (8 ∷ 9 ∷ []) (lit< tt, (lit< tt, tt)) h
 
 -- 8, 9 and 9, with no start between, aren't executed at most once
-not_once : ActsOnce (8 ∷ 9 ∷ 9 ∷ []) [] → ⊥
-not_once h = omega (arith, h 1 2 9 9 (lit< tt) tt refl refl)
+not_once : (sent : List Sent) (r : Sent) → slice_get sent 9 ≡ Some r → is_of_table r.call ≡ true → ActsOnce is_of_table sent (8 ∷ 9 ∷ 9 ∷ []) [] → ⊥
+not_once sent r found known h = omega (arith, h 1 2 9 9 r (lit< tt) tt refl refl found known)
+
+-- the request that comes twice
+abbrev twice_sent : Sent
+twice_sent = record { target = 7; call = Table InstrumentNo; line = asked_line (Some 1) (Table InstrumentNo) }
 
 -- `keeper` is an instrument
 keeper_is : IsAnInstrument keeper AnyState kept
@@ -94,11 +102,31 @@ keeper_is =
       hears = λ line. refl;
       replies = λ k id call good small. again_reads k id (held k id) small;
       repeats = λ k id call good small not. again_repeats k id (held k id) refl not;
-      keeps = λ k id call good small. inr (again_keeps k id (held k id) refl);
+      keeps = λ k id call good small. inl (inr (again_keeps k id (held k id) refl));
       starts = λ k good. inl refl;
       stays_good = λ k id call good small. tt;
       starts_good = λ k good. tt;
     }
+
+-- `refuses_raws` is an instrument
+raws_is : IsAnInstrument refuses_raws AnyState kept
+raws_is =
+    record {
+      hears = λ line. refl;
+      replies = λ k id call good small. refuses_reads (is_of_table call) k id small;
+      repeats = λ k id call good small not. refuses_repeats (is_of_table call) k id not;
+      keeps = λ k id call good small. after k id (is_of_table call);
+      starts = λ k good. inl refl;
+      stays_good = λ k id call good small. tt;
+      starts_good = λ k good. tt;
+    }
+  where
+    -- after a request that it knows it keeps its reply, and after another one what it kept
+    after : (k : Keeper) (id : ℕ) (b : Bool)
+        → ((kept (refuses_or b k id).state ≡ None) ⊎ (kept (refuses_or b k id).state ≡ Some (record { id = id; line = (refuses_or b k id).reply })))
+        ⊎ ((b ≡ false) × (kept (refuses_or b k id).state ≡ kept k))
+    after k id true = inl (inr (again_keeps k id (held k id) refl))
+    after k id false = inr (refl, refl)
 
 -- `deals_anew` is an instrument
 anew_is : IsAnInstrument deals_anew AnyState kept
@@ -107,7 +135,7 @@ anew_is =
       hears = λ line. refl;
       replies = λ k id call good small. reads_value id 0 small;
       repeats = λ k id call good small not. absurd (true_is_not not);
-      keeps = λ k id call good small. inr refl;
+      keeps = λ k id call good small. inl (inr refl);
       starts = λ k good. inl refl;
       stays_good = λ k id call good small. tt;
       starts_good = λ k good. tt;
@@ -120,7 +148,7 @@ forgets_is =
       hears = λ line. refl;
       replies = λ b id call good small. reads_value id 0 small;
       repeats = λ b id call good small not. absurd (true_is_not not);
-      keeps = λ b id call good small. inl refl;
+      keeps = λ b id call good small. inl (inl refl);
       starts = λ b good. inl refl;
       stays_good = λ b id call good small. tt;
       starts_good = λ b good. tt;
@@ -138,7 +166,7 @@ sound_is =
       hears = λ line. refl;
       replies = λ b id call good small. in_order b id good small;
       repeats = λ b id call good small not. absurd (true_is_not not);
-      keeps = λ b id call good small. inl refl;
+      keeps = λ b id call good small. inl (inl refl);
       starts = λ b good. inl refl;
       stays_good = λ b id call good small. good;
       starts_good = λ b good. good;
@@ -180,7 +208,7 @@ all_needed =
                   hears = inl refl;
                   replies = inr (λ b id call good small. reads_value id 0 small);
                   repeats = inr (λ b id call good small not. absurd (true_is_not not));
-                  keeps = inr (λ b id call good small. inl refl);
+                  keeps = inr (λ b id call good small. inl (inl refl));
                   starts = inr (λ b good. inl refl);
                   stays_good = inr (λ b id call good small. tt);
                   starts_good = inr (λ b good. tt);
@@ -195,7 +223,7 @@ all_needed =
                   hears = inr (λ line. refl);
                   replies = inl refl;
                   repeats = inr (λ b id call good small not. absurd (true_is_not not));
-                  keeps = inr (λ b id call good small. inl refl);
+                  keeps = inr (λ b id call good small. inl (inl refl));
                   starts = inr (λ b good. inl refl);
                   stays_good = inr (λ b id call good small. tt);
                   starts_good = inr (λ b good. tt);
@@ -210,7 +238,7 @@ all_needed =
                   hears = inr (λ line. refl);
                   replies = inr (λ b id call good small. reads_value id 0 small);
                   repeats = inl refl;
-                  keeps = inr (λ b id call good small. inl refl);
+                  keeps = inr (λ b id call good small. inl (inl refl));
                   starts = inr (λ b good. inl refl);
                   stays_good = inr (λ b id call good small. tt);
                   starts_good = inr (λ b good. tt);
@@ -223,8 +251,8 @@ all_needed =
             all_but =
                 record {
                   hears = inr (λ line. refl);
-                  replies = inr (λ k id call good small. refuses_reads (nat_eq (call_fields call).number 0) k id small);
-                  repeats = inr (λ k id call good small not. refuses_repeats (nat_eq (call_fields call).number 0) k id not);
+                  replies = inr (λ k id call good small. refuses_reads (nat_eq (asked_request None call).rpc 0) k id small);
+                  repeats = inr (λ k id call good small not. refuses_repeats (nat_eq (asked_request None call).rpc 0) k id not);
                   keeps = inl refl;
                   starts = inr (λ k good. inl refl);
                   stays_good = inr (λ k id call good small. tt);
@@ -263,19 +291,7 @@ all_needed =
                                             tt,
                                             (
                                               tt,
-                                              (
-                                                (12, [], refl),
-                                                (
-                                                  tt,
-                                                  (
-                                                    tt,
-                                                    (
-                                                      (13, [], refl),
-                                                      (tt, (tt, ((14, [], refl), (tt, (tt, ((15, [], refl), (tt, (tt, ((16, [], refl), tt))))))))),
-                                                    ),
-                                                  ),
-                                                ),
-                                              ),
+                                              ((12, [], refl), (tt, (tt, ((13, [], refl), (tt, (tt, ((14, [], refl), (tt, (tt, ((15, [], refl), (tt, (tt, ((16, [], refl), tt))))))))))))),
                                             ),
                                           ),
                                         ),
@@ -301,7 +317,7 @@ all_needed =
                   hears = inr (λ line. refl);
                   replies = inr (λ k id call good small. again_reads k id (held k id) small);
                   repeats = inr (λ k id call good small not. again_repeats k id (held k id) refl not);
-                  keeps = inr (λ k id call good small. inr (again_keeps k id (held k id) refl));
+                  keeps = inr (λ k id call good small. inl (inr (again_keeps k id (held k id) refl)));
                   starts = inl refl;
                   stays_good = inr (λ k id call good small. tt);
                   starts_good = inr (λ k good. tt);
@@ -316,7 +332,7 @@ all_needed =
                   hears = inr (λ line. refl);
                   replies = inr (λ b id call good small. in_order b id good small);
                   repeats = inr (λ b id call good small not. absurd (true_is_not not));
-                  keeps = inr (λ b id call good small. inl refl);
+                  keeps = inr (λ b id call good small. inl (inl refl));
                   starts = inr (λ b good. inl refl);
                   stays_good = inl refl;
                   starts_good = inr (λ b good. refl);
@@ -331,7 +347,7 @@ all_needed =
                   hears = inr (λ line. refl);
                   replies = inr (λ b id call good small. in_order b id good small);
                   repeats = inr (λ b id call good small not. absurd (true_is_not not));
-                  keeps = inr (λ b id call good small. inl refl);
+                  keeps = inr (λ b id call good small. inl (inl refl));
                   starts = inr (λ b good. inl refl);
                   stays_good = inr (λ b id call good small. good);
                   starts_good = inl refl;
@@ -339,12 +355,74 @@ all_needed =
             good = refl;
             booked = record { beyond = omega arith; clean = clean_order; field = (tt, (tt, ((8, [], refl), (tt, (tt, (tt, (tt, ((9, [], refl), tt)))))))); settled = refl; executed = second };
           };
+      rule_is = raws_is;
+      rule = λ raw. record {
+        beyond = omega arith;
+        clean = clean_kept;
+        field = (
+          tt,
+          (
+            tt,
+            (
+              (8, [], refl),
+              (
+                tt,
+                (
+                  tt,
+                  (
+                    (9, [], refl),
+                    (
+                      tt,
+                      (
+                        tt,
+                        (
+                          (10, [], refl),
+                          (
+                            tt,
+                            (
+                              tt,
+                              (
+                                (11, [], refl),
+                                (
+                                  tt,
+                                  (
+                                    tt,
+                                    ((12, [], refl), (tt, (tt, ((13, [], refl), (tt, (tt, ((14, [], refl), (tt, (tt, ((15, [], refl), (tt, (tt, ((16, [], refl), tt))))))))))))),
+                                  ),
+                                ),
+                              ),
+                            ),
+                          ),
+                        ),
+                      ),
+                    ),
+                  ),
+                ),
+              ),
+            ),
+          ),
+        );
+        settled = refl;
+        executed = ninth;
+      };
       shared_is = keeper_is;
       changes_kept = record { beyond = omega arith; clean = clean_key; field = (tt, (tt, ((8, [], refl), ((tt, refl), (tt, (tt, ((9, [], refl), tt))))))); settled = refl; executed = first };
       sound_is = sound_is;
       changes_good = record { beyond = omega arith; clean = clean_any; field = (tt, (tt, ((8, [], refl), ((tt, refl), (tt, (tt, (tt, ((9, [], refl), tt)))))))); settled = refl; executed = second };
-      again = record { is = anew_is; good = tt; clean = clean_kept; field = (tt, (tt, ((8, [], refl), (tt, (tt, (tt, (tt, tt))))))); twice = not_once };
+      again = record {
+        is = anew_is;
+        good = tt;
+        clean = clean_kept;
+        field = (tt, (tt, ((8, [], refl), (tt, (tt, (tt, (tt, tt)))))));
+        twice = not_once (behind WINDOW deals_anew (none_under_way None) comes_twice).wire.sent twice_sent refl refl;
+      };
       again_keeps = λ k id call. refl;
       always_again = λ b id call line e. let never : ⊥ = cc in absurd never;
-      always = record { is = forgets_is; good = tt; clean = clean_any; field = (tt, (tt, ((8, [], refl), (tt, (tt, (tt, (tt, tt))))))); twice = not_once };
+      always = record {
+        is = forgets_is;
+        good = tt;
+        clean = clean_any;
+        field = (tt, (tt, ((8, [], refl), (tt, (tt, (tt, (tt, tt)))))));
+        twice = not_once (behind WINDOW forgets (none_under_way false) comes_twice).wire.sent twice_sent refl refl;
+      };
     }

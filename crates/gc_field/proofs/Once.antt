@@ -1,12 +1,14 @@
--- The numbers of the requests that an instrument executes never fall (`IsOrdered`), and between two of its starts they rise, if
--- it keeps its reply (`IsClimbing`): it is handed the last request again, which it doesn't execute then, or a later one.
+-- The numbers of the requests that an instrument executes never fall (`IsOrdered`), and between two of its starts they rise for the requests
+-- to which it keeps its reply (`IsClimbing`): it is handed the last request again, which it doesn't execute then, or a later one.
 use Rattle.std.proofs.Common.{◌≡◌, ℕ, zero, suc, ◌+◌, ◌-◌, ◌%◌, ◌<◌, ◌≤◌, ◌⊎◌, inl, inr, Bool, true, false, List, [], ◌∷◌, ◌++◌, length, Option, Some, None, cond, refl, sym, ◌∙◌, ap, subst, arith, ltb}
 use Rattle.std.proofs.lemmas.Bool.{ltb-true, ltb-false}
 use Rattle.std.specs.Prelude.{slice_get}
+use Rattle.gc_catalogue.specs.declared.asked.Asked.{Asked}
 use Rattle.gc_instrument.specs.State.{KeptReply}
 use Rattle.gc_world.specs.Order.{Each}
 use Rattle.gc_world.proofs.Options.{some_is, none_is_not}
-use Rattle.gc_world.proofs.Places.{below, each_get}
+use Rattle.gc_field.specs.World.{Sent}
+use Rattle.gc_world.proofs.Places.{below, each_get, get_more}
 use Rattle.gc_world.proofs.Rows.{each_append, each_more}
 use Rattle.gc_field.specs.Once.{HasNoStart, ActsOnce, IsInOrder}
 
@@ -39,12 +41,35 @@ get_pushed (z ∷ xs) x (suc i) y e =
 abbrev pub IsIdle : List ℕ → List ℕ → Type 0
 IsIdle executed starts = (executed ≡ []) ⊎ ((earlier : List ℕ) × (starts ≡ earlier ++ length executed ∷ []))
 
--- what was executed acts once, and each number is below `top`; and where the instrument keeps no reply (`k` is what it keeps),
--- nothing was executed since the last start
-pub record IsClimbing (top : ℕ) (executed starts : List ℕ) (k : Option KeptReply) : Type 0 where
-  pub once : ActsOnce executed starts
-  pub below : Each (λ n. n < top) executed
+-- request n was sent, and isn't one that `knows` names
+abbrev pub IsUnknown : (Asked → Bool) → List Sent → ℕ → Type 0
+IsUnknown knows sent n = (r : Sent) × (slice_get sent n ≡ Some r) × (knows r.call ≡ false)
+
+-- a request that isn't known stays so where more are sent
+pub unknown_more : (knows : Asked → Bool) (sent more : List Sent) (n : ℕ) → IsUnknown knows sent n → IsUnknown knows (sent ++ more) n
+unknown_more knows sent more n h = (h.0, get_more sent more n h.0 h.1, h.2)
+
+-- true isn't false
+pub true_is_not : true ≡ false → ⊥
+true_is_not e = cc
+
+-- a request that is known isn't `IsUnknown`
+pub known_not : (knows : Asked → Bool) (sent : List Sent) (n : ℕ) (r : Sent) → slice_get sent n ≡ Some r → knows r.call ≡ true → IsUnknown knows sent n → ⊥
+known_not knows sent n r found known h =
+    true_is_not (sym known ∙ ap (λ (x : Sent). knows x.call) (some_is r h.0 (sym found ∙ h.1)) ∙ h.2)
+
+-- what is kept (`k`), if anything, has this id; and if nothing is kept, nothing was executed since the last start
+pub record IsHeld (id : ℕ) (executed starts : List ℕ) (k : Option KeptReply) : Type 0 where
   pub idle : k ≡ None → IsIdle executed starts
+  pub same : (r : KeptReply) → k ≡ Some r → r.id ≡ id
+
+-- what was executed acts once, for the requests that `knows` names, and each number is below `top`. The request handed last, top - 1, isn't
+-- known, or what is kept (`k`) has its id, `id`
+pub record IsClimbing (knows : Asked → Bool) (id top : ℕ) (sent : List Sent) (executed starts : List ℕ) (k : Option KeptReply) : Type 0 where
+  pub once :
+      (i j m n : ℕ) → i < j → HasNoStart starts i j → slice_get executed i ≡ Some m → slice_get executed j ≡ Some n → (m < n) ⊎ IsUnknown knows sent n
+  pub below : Each (λ n. n < top) executed
+  pub last : IsUnknown knows sent (top - 1) ⊎ IsHeld id executed starts k
 
 -- what was executed is in order, and each number is below `top`
 pub record IsOrdered (top : ℕ) (executed : List ℕ) : Type 0 where
@@ -75,6 +100,10 @@ ordered_acted top n executed le h =
       below = each_append (λ m. m < n + 1) executed (n ∷ []) (each_more (λ m. m < top) (λ m. m < n + 1) (λ m l. omega (arith, l, le)) executed h.below) (omega arith, tt);
     }
 
+-- `IsOrdered` lasts where request n is handed to the instrument and isn't executed
+pub ordered_handed : (top n : ℕ) (executed : List ℕ) → top ≤ n + 1 → IsOrdered top executed → IsOrdered (n + 1) executed
+ordered_handed top n executed le h = record { order = h.order; below = each_more (λ m. m < top) (λ m. m < n + 1) (λ m l. omega (arith, l, le)) executed h.below }
+
 -- the first execution, if there is one, is `IsOrdered`
 pub ordered_first : (n : ℕ) (executed : List ℕ) (acted : Bool) → executed ≡ [] → n ≡ 0 → IsOrdered 1 (cond acted (executed ++ n ∷ []) executed)
 ordered_first n executed acted none nought = subst (λ l. IsOrdered 1 (cond acted (l ++ n ∷ []) l)) (sym none) (chosen acted) where
@@ -82,25 +111,80 @@ ordered_first n executed acted none nought = subst (λ l. IsOrdered 1 (cond acte
   chosen true = record { order = order_few (n ∷ []) (omega arith); below = (omega (arith, nought), tt) }
   chosen false = record { order = order_few [] (omega arith); below = tt }
 
--- at most one execution acts once
-pub once_few : (executed starts : List ℕ) → length executed ≤ 1 → ActsOnce executed starts
-once_few executed starts few j k m n lt run a b =
-    let size : k < length executed = below executed k n b in
+-- of at most one execution there is no later one
+pub once_few : (knows : Asked → Bool) (sent : List Sent) (executed starts : List ℕ) → length executed ≤ 1 → (i j m n : ℕ) → i < j → HasNoStart starts i j
+    → slice_get executed i ≡ Some m → slice_get executed j ≡ Some n → (m < n) ⊎ IsUnknown knows sent n
+once_few knows sent executed starts few i j m n lt run a b =
+    let size : j < length executed = below executed j n b in
     absurd (omega (arith, size, few, lt))
 
--- `IsClimbing` lasts over a start of the instrument
-pub climbing_started : (top : ℕ) (executed starts : List ℕ) (k after : Option KeptReply) → IsClimbing top executed starts k → IsClimbing top executed (starts ++ length executed ∷ []) after
-climbing_started top executed starts k after h =
+-- `ActsOnce` is what `IsClimbing` says once
+pub acts_once : (knows : Asked → Bool) (sent : List Sent) (executed starts : List ℕ)
+    → ((i j m n : ℕ) → i < j → HasNoStart starts i j → slice_get executed i ≡ Some m → slice_get executed j ≡ Some n → (m < n) ⊎ IsUnknown knows sent n)
+    → ActsOnce knows sent executed starts
+acts_once knows sent executed starts once i j m n r lt run a b found known =
+    elim (once i j m n lt run a b) [
+      | inl l ↦ l
+      | inr u ↦ absurd (known_not knows sent n r found known u)
+    ]
+
+-- `IsClimbing` lasts where more requests are sent
+pub climbing_sent : (knows : Asked → Bool) (id top : ℕ) (sent more : List Sent) (executed starts : List ℕ) (k : Option KeptReply)
+    → IsClimbing knows id top sent executed starts k → IsClimbing knows id top (sent ++ more) executed starts k
+climbing_sent knows id top sent more executed starts k h =
+    record {
+      once = λ i j m n lt run a b. elim (h.once i j m n lt run a b) [
+        | inl l ↦ inl l
+        | inr u ↦ inr (unknown_more knows sent more n u)
+      ];
+      below = h.below;
+      last = elim h.last [
+        | inl u ↦ inl (unknown_more knows sent more (top - 1) u)
+        | inr g ↦ inr g
+      ];
+    }
+
+-- `IsClimbing` lasts over a start of the instrument, which keeps what it kept (`k`), or nothing
+pub climbing_started : (knows : Asked → Bool) (id top : ℕ) (sent : List Sent) (executed starts : List ℕ) (k after : Option KeptReply) → (after ≡ None) ⊎ (after ≡ k)
+    → IsClimbing knows id top sent executed starts k → IsClimbing knows id top sent executed (starts ++ length executed ∷ []) after
+climbing_started knows id top sent executed starts k after now h =
     record {
       once = λ i j m n lt run a b. h.once i j m n lt (each_front (λ s. (s ≤ i) ⊎ (j < s)) starts (length executed ∷ []) run) a b;
       below = h.below;
-      idle = λ e. inr (starts, refl);
+      last = elim h.last [
+        | inl u ↦ inl u
+        | inr g ↦ inr (record { idle = λ e. inr (starts, refl); same = still g now })
+      ];
     }
+  where
+    -- what is kept after the start has the id that what was kept had
+    still : IsHeld id executed starts k → (after ≡ None) ⊎ (after ≡ k) → (r : KeptReply) → after ≡ Some r → r.id ≡ id
+    still g (inl none) r e = absurd (none_is_not r (sym none ∙ e))
+    still g (inr same) r e = g.same r (sym same ∙ e)
 
--- `IsClimbing` lasts where something is kept afterwards
-pub climbing_kept : (top : ℕ) (executed starts : List ℕ) (k after : Option KeptReply) (r : KeptReply) → after ≡ Some r → IsClimbing top executed starts k → IsClimbing top executed starts after
-climbing_kept top executed starts k after r e h =
-    record { once = h.once; below = h.below; idle = λ none. let same : None ≡ Some r = sym none ∙ e in let never : ⊥ = cc in absurd never }
+-- where request n was handed last, it isn't known, or what is kept has its id
+pub last_of : (knows : Asked → Bool) (new n : ℕ) (sent : List Sent) (executed starts : List ℕ) (after : Option KeptReply) (r : KeptReply)
+    → IsUnknown knows sent n ⊎ ((after ≡ Some r) × (r.id ≡ new)) → IsUnknown knows sent (n + 1 - 1) ⊎ IsHeld new executed starts after
+last_of knows new n sent executed starts after r (inl u) =
+    let back : n ≡ n + 1 - 1 = omega arith in
+    inl (subst (λ i. IsUnknown knows sent i) back u)
+last_of knows new n sent executed starts after r (inr kept) =
+    inr (record {
+      idle = λ none. absurd (none_is_not r (sym none ∙ kept.0));
+      same = λ y e. ap (λ (x : KeptReply). x.id) (sym (some_is r y (sym kept.0 ∙ e))) ∙ kept.1;
+    })
+
+-- `IsClimbing` lasts where request n, which has the id `new`, is handed to the instrument and isn't executed: it isn't known, or the instrument
+-- keeps a reply with its id
+pub climbing_handed : (knows : Asked → Bool) (id new top n : ℕ) (sent : List Sent) (executed starts : List ℕ) (k after : Option KeptReply) (r : KeptReply) → top ≤ n + 1
+    → IsUnknown knows sent n ⊎ ((after ≡ Some r) × (r.id ≡ new))
+    → IsClimbing knows id top sent executed starts k → IsClimbing knows new (n + 1) sent executed starts after
+climbing_handed knows id new top n sent executed starts k after r le why h =
+    record {
+      once = h.once;
+      below = each_more (λ m. m < top) (λ m. m < n + 1) (λ m l. omega (arith, l, le)) executed h.below;
+      last = last_of knows new n sent executed starts after r why;
+    }
 
 -- where nothing was executed since the last start, that start is between an earlier execution, j, and the next one, k: so it
 -- can't be that no start is between them
@@ -113,11 +197,12 @@ never_idle executed starts j k m (inr h) run a e =
       | inr l ↦ omega (arith, l, e)
     ]
 
--- `IsClimbing` lasts where request n is executed, if nothing was kept, or if n is later than each request that was executed
--- before
-pub climbing_acted : (top n : ℕ) (executed starts : List ℕ) (k : Option KeptReply) (kept : KeptReply) → top ≤ n + 1 → (k ≡ None) ⊎ (top ≤ n)
-    → IsClimbing top executed starts k → IsClimbing (n + 1) (executed ++ n ∷ []) starts (Some kept)
-climbing_acted top n executed starts k kept le why h =
+-- `IsClimbing` lasts where request n is executed, if it isn't known; or if nothing was executed since the last start, or n is later than each
+-- request that was executed before, and the instrument then keeps a reply with n's id, `new`
+pub climbing_acted : (knows : Asked → Bool) (id new top n : ℕ) (sent : List Sent) (executed starts : List ℕ) (k after : Option KeptReply) (r : KeptReply) → top ≤ n + 1
+    → IsUnknown knows sent n ⊎ ((IsIdle executed starts ⊎ (top ≤ n)) × (after ≡ Some r) × (r.id ≡ new))
+    → IsClimbing knows id top sent executed starts k → IsClimbing knows new (n + 1) sent (executed ++ n ∷ []) starts after
+climbing_acted knows id new top n sent executed starts k after r le why h =
     record {
       once = λ i j x y lt run a b. elim (get_pushed executed n j y b) [
         | inl old ↦ (let size : j < length executed = below executed j y old in
@@ -126,34 +211,71 @@ climbing_acted top n executed starts k kept le why h =
               | inr last ↦ absurd (omega (arith, last.0, lt, size))
             ])
         | inr new ↦ elim (get_pushed executed n i x a) [
-          | inl first ↦ subst (λ z. x < z) new.1 (later i j x lt run first new.0 why)
+          | inl first ↦ subst (λ z. (x < z) ⊎ IsUnknown knows sent z) new.1 (later i j x lt run first new.0 why)
           | inr last ↦ absurd (omega (arith, last.0, lt, new.0))
         ]
       ];
       below = each_append (λ m. m < n + 1) executed (n ∷ []) (each_more (λ m. m < top) (λ m. m < n + 1) (λ m l. omega (arith, l, le)) executed h.below) (omega arith, tt);
-      idle = λ e. let never : ⊥ = cc in absurd never;
+      last = last_of knows new n sent (executed ++ n ∷ []) starts after r (held why);
     }
   where
-    -- an earlier execution, with no start between it and this one, is of a request before n
-    later : (i j x : ℕ) → i < j → HasNoStart starts i j → slice_get executed i ≡ Some x → j ≡ length executed → (k ≡ None) ⊎ (top ≤ n) → x < n
-    later i j x lt run first e (inl none) = absurd (never_idle executed starts i j x (h.idle none) run first e)
-    later i j x lt run first e (inr above) = let l : x < top = each_get (λ m. m < top) executed i x h.below first in omega (arith, l, above)
+    -- an earlier execution, with no start between it and this one, is of a request before n, if n is known
+    later : (i j x : ℕ) → i < j → HasNoStart starts i j → slice_get executed i ≡ Some x → j ≡ length executed
+        → IsUnknown knows sent n ⊎ ((IsIdle executed starts ⊎ (top ≤ n)) × (after ≡ Some r) × (r.id ≡ new)) → (x < n) ⊎ IsUnknown knows sent n
+    later i j x lt run first e (inl u) = inr u
+    later i j x lt run first e (inr g) =
+        elim g.0 [
+          | inl idle ↦ absurd (never_idle executed starts i j x idle run first e)
+          | inr above ↦ (let l : x < top = each_get (λ m. m < top) executed i x h.below first in inl (omega (arith, l, above)))
+        ]
 
--- `IsClimbing` holds once the first request reached the instrument, executed or not
-pub climbing_first : (n : ℕ) (executed starts : List ℕ) (acted : Bool) (kept : KeptReply) → executed ≡ [] → n ≡ 0 → IsClimbing 1 (cond acted (executed ++ n ∷ []) executed) starts (Some kept)
-climbing_first n executed starts acted kept none nought = subst (λ l. IsClimbing 1 (cond acted (l ++ n ∷ []) l) starts (Some kept)) (sym none) (chosen acted) where
-  chosen : (acted : Bool) → IsClimbing 1 (cond acted (n ∷ []) []) starts (Some kept)
-  chosen true = record { once = once_few (n ∷ []) starts (omega arith); below = (omega (arith, nought), tt); idle = λ e. let never : ⊥ = cc in absurd never }
-  chosen false = record { once = once_few [] starts (omega arith); below = tt; idle = λ e. let never : ⊥ = cc in absurd never }
+    -- it isn't known, or what is kept has its id
+    held : IsUnknown knows sent n ⊎ ((IsIdle executed starts ⊎ (top ≤ n)) × (after ≡ Some r) × (r.id ≡ new)) → IsUnknown knows sent n ⊎ ((after ≡ Some r) × (r.id ≡ new))
+    held (inl u) = inl u
+    held (inr g) = inr (g.1, g.2)
 
--- where the kept reply is to request top - 1, and request n isn't before that request and has another id than the kept reply, n
--- is later than top - 1. The id of a request is its number less `since`, modulo 8
-pub newer : (since top n id : ℕ) (k : KeptReply) → k.id ≡ (top - 1 - since) % 8 → since < top → id ≡ (n - since) % 8 → top ≤ n + 1 → (k.id ≡ id → ⊥) → top ≤ n
-newer since top n id k own recent mine le other = chosen (ltb n top) refl where
-  chosen : (b : Bool) → ltb n top ≡ b → top ≤ n
-  chosen false t = ltb-false n top t
+-- where request n is known, has the id of its number less `since`, and is executed although the instrument sends again what it keeps for n's
+-- id, nothing was executed since the last start, or n is later than all that the instrument was handed
+pub why_acted : (knows : Asked → Bool) (since top n id : ℕ) (sent : List Sent) (executed starts : List ℕ) (k : Option KeptReply)
+    → (IsUnknown knows sent n → ⊥) → id ≡ (n - since) % 8 → top ≤ n + 1 → ((line : List ℕ) → k ≡ Some (record { id = id; line = line }) → ⊥)
+    → IsClimbing knows ((top - 1 - since) % 8) top sent executed starts k → IsIdle executed starts ⊎ (top ≤ n)
+why_acted knows since top n id sent executed starts k known mine le other h = chosen (ltb n top) refl where
+  -- if n was handed last, nothing is kept
+  again : top - 1 ≡ n → (o : Option KeptReply) → k ≡ o → IsHeld ((top - 1 - since) % 8) executed starts k → IsIdle executed starts
+  again last None e g = g.idle e
+  again last (Some r) e g =
+      let same : r.id ≡ id = g.same r e ∙ ap (λ i. (i - since) % 8) last ∙ sym mine in
+      absurd (other r.line (e ∙ ap (λ i. Some (record { id = i; line = r.line })) same))
+
+  chosen : (b : Bool) → ltb n top ≡ b → IsIdle executed starts ⊎ (top ≤ n)
+  chosen false t = inr (ltb-false n top t)
   chosen true t =
       let l : n < top = ltb-true n top t in
       let last : top - 1 ≡ n = omega (arith, l, le) in
-      let same : k.id ≡ id = own ∙ ap (λ i. (i - since) % 8) last ∙ sym mine in
-      absurd (other same)
+      elim h.last [
+        | inl u ↦ absurd (known (subst (λ i. IsUnknown knows sent i) last u))
+        | inr g ↦ inl (again last k refl g)
+      ]
+
+-- `IsClimbing` holds once the first request reached the instrument, executed or not
+pub climbing_first : (knows : Asked → Bool) (new n : ℕ) (sent : List Sent) (executed starts : List ℕ) (acted : Bool) (after : Option KeptReply) (r : KeptReply) → executed ≡ [] → n ≡ 0
+    → IsUnknown knows sent n ⊎ ((after ≡ Some r) × (r.id ≡ new))
+    → IsClimbing knows new 1 sent (cond acted (executed ++ n ∷ []) executed) starts after
+climbing_first knows new n sent executed starts acted after r none nought why =
+    record {
+      once = once_few knows sent (cond acted (executed ++ n ∷ []) executed) starts (few acted);
+      below = low acted;
+      last = subst (λ i. IsUnknown knows sent i ⊎ IsHeld new (cond acted (executed ++ n ∷ []) executed) starts after)
+          back (last_of knows new n sent (cond acted (executed ++ n ∷ []) executed) starts after r why);
+    }
+  where
+    back : n + 1 - 1 ≡ 0
+    back = omega (arith, nought)
+
+    few : (acted : Bool) → length (cond acted (executed ++ n ∷ []) executed) ≤ 1
+    few true = subst (λ l. length (l ++ n ∷ []) ≤ 1) (sym none) (omega arith)
+    few false = subst (λ l. length l ≤ 1) (sym none) (omega arith)
+
+    low : (acted : Bool) → Each (λ m. m < 1) (cond acted (executed ++ n ∷ []) executed)
+    low true = subst (λ l. Each (λ m. m < 1) (l ++ n ∷ [])) (sym none) (omega (arith, nought), tt)
+    low false = subst (λ l. Each (λ m. m < 1) l) (sym none) tt

@@ -1,22 +1,24 @@
 -- What goes out after an answer is executed after the request that was answered. A *stretch* is a run once it has begun: what
 -- is under way then, and its moves.
-use Rattle.std.proofs.Common.{◌≡◌, ◌⊎◌, inl, inr, ℕ, zero, suc, ◌+◌, ◌<◌, ◌≤◌, List, [], ◌∷◌, ◌++◌, length, Option, Some, refl, sym, ◌∙◌, ap, subst, arith, append_assoc}
+use Rattle.std.proofs.Common.{◌≡◌, ◌⊎◌, inl, inr, ℕ, zero, suc, ◌+◌, ◌<◌, ◌≤◌, List, [], ◌∷◌, ◌++◌, length, Option, Some, refl, sym, ◌∙◌, ap, subst, arith, append_assoc, Bool, true, false, ltb}
+use Rattle.std.proofs.lemmas.Bool.{ltb-true, ltb-false}
 use Rattle.std.specs.Prelude.{slice_get}
 use Rattle.std.proofs.lemmas.List.{length-append}
-use Rattle.gc_catalogue.specs.declared.call.Call.{Call}
+use Rattle.gc_catalogue.specs.declared.asked.Asked.{Asked}
 use Rattle.gc_client.specs.Rule.{ById, Settlement, Answered}
 use Rattle.gc_instrument.specs.State.{KeptReply}
 use Rattle.gc_world.specs.Clients.{by_ids}
 use Rattle.gc_world.specs.Order.{Each}
-use Rattle.gc_world.specs.World.{Ends, Numbered, Request, Up_deliver, World}
+use Rattle.gc_field.specs.World.{Ends, Numbered, Request, Sent, Up_deliver, World}
 use Rattle.gc_world.proofs.Places.{below}
 use Rattle.gc_world.proofs.Rows.{each_more}
-use Rattle.gc_field.specs.Begun.{IsClean, WasMadeOn, behind, ids_begun}
+use Rattle.gc_field.specs.Begun.{IsClean, IsSafe, WasMadeOn, behind, ids_begun}
 use Rattle.gc_field.specs.Chains.{AreCalls, IsExecutedAfter}
 use Rattle.gc_field.specs.Field.{Move, OnLine, moves, moved, ArePossible}
 use Rattle.gc_field.specs.Instrument.{IsAnInstrument}
 use Rattle.gc_field.specs.Once.{ActsOnce, HasNoStart, IsInOrder}
 use Rattle.gc_field.specs.Shown.{Stretch}
+use Rattle.gc_field.proofs.BeginLists.{each_both}
 use Rattle.gc_field.proofs.Between.{Refines, acted, calls_more, did_all, made_both, stands_all}
 use Rattle.gc_field.proofs.InTime.{front_of, law}
 use Rattle.gc_field.proofs.Possible.{moved_append, possible_behind, possible_front}
@@ -53,6 +55,18 @@ get_front : (xs ys : List ℕ) (i x : ℕ) → slice_get xs i ≡ Some x → sli
 get_front [] ys i x got = cc
 get_front (y ∷ xs) ys zero x got = got
 get_front (y ∷ xs) ys (suc i) x got = get_front xs ys i x got
+
+-- a request among the first of a list is there without those behind it
+sent_less : (xs ys : List Sent) (i : ℕ) (r : Sent) → i < length xs → slice_get (xs ++ ys) i ≡ Some r → slice_get xs i ≡ Some r
+sent_less [] ys i r low got = absurd (omega (arith, low))
+sent_less (x ∷ xs) ys zero r low got = got
+sent_less (x ∷ xs) ys (suc i) r low got = sent_less xs ys i r (omega (arith, low)) got
+
+-- a request among the first of a list is there with others behind it, too
+sent_front : (xs ys : List Sent) (i : ℕ) (r : Sent) → slice_get xs i ≡ Some r → slice_get (xs ++ ys) i ≡ Some r
+sent_front [] ys i r got = cc
+sent_front (x ∷ xs) ys zero r got = got
+sent_front (x ∷ xs) ys (suc i) r got = sent_front xs ys i r got
 
 -- what holds of the element at each place holds of each element
 each_at : (P : ℕ → Type 0) (xs : List ℕ) → ((i x : ℕ) → slice_get xs i ≡ Some x → P x) → Each P xs
@@ -94,26 +108,43 @@ module _ (e : List ℕ) (m n : ℕ) (numbers : List ℕ) where
         rises (length e + (1 + i)) (length e + (1 + length numbers)) x n (omega (arith, small)) (at_x i x got) at_n,
       ))
 
-  -- where the instrument acts once, and didn't start between, the executions between are of requests sent between m and n
-  pub inside : (starts : List ℕ) → Each (λ s. s ≤ length e) starts → ActsOnce all starts → Each (λ x. (m < x) × (x < n)) numbers
-  inside starts early once =
-      each_at (λ x. (m < x) × (x < n)) numbers
-      (λ i x got.
+  -- where the instrument acts once for the requests that `knows` names, and didn't start between, the executions between of such requests are of
+  -- requests sent between m and n
+  pub inside : (knows : Asked → Bool) (sent : List Sent) (starts : List ℕ) → Each (λ s. s ≤ length e) starts → IsInOrder all → ActsOnce knows sent all starts
+      → Each (λ x. (r : Sent) → slice_get sent x ≡ Some r → knows r.call ≡ true → (m < x) × (x < n)) numbers
+  inside knows sent starts early rises once =
+      each_at (λ x. (r : Sent) → slice_get sent x ≡ Some r → knows r.call ≡ true → (m < x) × (x < n)) numbers
+      (λ i x got r found known.
       let small : i < length numbers = below numbers i x got in (
-        once (length e) (length e + (1 + i)) m x (omega arith) (none (length e) (length e + (1 + i)) (omega arith)) at_m (at_x i x got),
-        once (length e + (1 + i)) (length e + (1 + length numbers)) x n (omega (arith, small)) (none (length e + (1 + i)) (length e + (1 + length numbers)) (omega arith)) (at_x i x got) at_n,
+        once (length e) (length e + (1 + i)) m x r (omega arith) (none (length e) (length e + (1 + i)) (omega arith)) at_m (at_x i x got) found known,
+        before x r
+            (rises (length e + (1 + i)) (length e + (1 + length numbers)) x n (omega (arith, small)) (at_x i x got) at_n)
+            (λ found known.
+            once (length e + (1 + i)) (length e + (1 + length numbers)) x n r (omega (arith, small)) (none (length e + (1 + i)) (length e + (1 + length numbers)) (omega arith)) (at_x i x got)
+            at_n found known)
+            found known,
       ))
     where
       -- no start is between two executions from that of request m on
       none : (j k : ℕ) → length e ≤ j → HasNoStart starts j k
       none j k le = each_more (λ s. s ≤ length e) (λ s. (s ≤ j) ⊎ (k < s)) (λ s l. inl (omega (arith, l, le))) starts early
 
+      -- an execution between isn't of request n
+      before : (x : ℕ) (r : Sent) → x ≤ n → (slice_get sent n ≡ Some r → knows r.call ≡ true → x < n) → slice_get sent x ≡ Some r → knows r.call ≡ true → x < n
+      before x r le last found known = by_case (ltb x n) refl where
+        by_case : (b : Bool) → ltb x n ≡ b → x < n
+        by_case true t = ltb-true x n t
+        by_case false t =
+            let ge : n ≤ x = ltb-false x n t in
+            let same : x ≡ n = omega (arith, le, ge) in
+            last (subst (λ y. slice_get sent y ≡ Some r) same found) known
+
 -- The law.
 
 module _ {State : Type 0} (ends : Ends State) (Good : State → Type 0) (kept : State → Option KeptReply) (is : IsAnInstrument ends Good kept)
     (s : Stretch State) (clean : IsClean Good kept s.from) (field : ArePossible ends Good kept (by_ids 7 ends) s.moves (ids_begun s.from)) where
   -- the world after these moves of the stretch
-  abbrev at : List (Move State) → World ById State
+  abbrev at : List (Move State) → World (ById Asked) State
   at ms = behind 7 ends s.from ms
 
   -- the front of the stretch's moves is possible
@@ -125,7 +156,7 @@ module _ {State : Type 0} (ends : Ends State) (Good : State → Type 0) (kept : 
   possible_from front later e = possible_behind 7 ends Good kept front later (ids_begun s.from) (subst (λ xs. ArePossible ends Good kept (by_ids 7 ends) xs (ids_begun s.from)) e field)
 
   -- a request that reaches the instrument was sent by then
-  was_sent : (n : ℕ) (call : Call) (line : List ℕ) (h : WasMadeOn 7 ends s.from s.moves n call line) → n < length (at h.front).wire.sent
+  was_sent : (n : ℕ) (call : Asked) (line : List ℕ) (h : WasMadeOn 7 ends s.from s.moves n call line) → n < length (at h.front).wire.sent
   was_sent n call line h =
       let stands = stands_all ends Good kept h.front s.from clean (possible_to h.front (OnLine Up_deliver ∷ h.later) h.split) in
       let known = (subst (λ l. Each (λ (x : Numbered Request). (r : _) × (slice_get (at h.front).wire.sent x.number ≡ Some r) × (r.call ≡ x.line.call)) l) h.reaches stands.known).0 in
@@ -137,11 +168,11 @@ module _ {State : Type 0} (ends : Ends State) (Good : State → Type 0) (kept : 
       let split : s.moves ≡ front ++ (more ++ later) = e ∙ append_assoc front more later in
       let possible = possible_front 7 ends Good kept more later (at front) (possible_from front (more ++ later) split) in
       let did = did_all ends Good kept more (at front) possible (stands_all ends Good kept front s.from clean (possible_to front (more ++ later) split)) in
-      (did.more, ap (λ (w : World ById State). w.wire.sent) (moved_append 7 ends front more (ids_begun s.from)) ∙ did.sent)
+      (did.more, ap (λ (w : World (ById Asked) State). w.wire.sent) (moved_append 7 ends front more (ids_begun s.from)) ∙ did.sent)
 
   -- a request that wasn't sent by the moves before, and was executed, was executed after them
   behind_front : (before later : List (Move State)) → s.moves ≡ before ++ later → (n : ℕ) → length (at before).wire.sent ≤ n
-      → (call : Call) (line : List ℕ) (h : WasMadeOn 7 ends s.from s.moves n call line)
+      → (call : Asked) (line : List ℕ) (h : WasMadeOn 7 ends s.from s.moves n call line)
       → (more : List (Move State)) × (h.front ≡ before ++ more)
   behind_front before later e n unsent call line h =
       elim (fronts before later h.front (OnLine Up_deliver ∷ h.later) (sym e ∙ h.split)) [
@@ -153,7 +184,7 @@ module _ {State : Type 0} (ends : Ends State) (Good : State → Type 0) (kept : 
       ]
 
   -- where request n was executed after request m, `IsExecutedAfter` holds of them: it says what was executed between the two
-  both_made : (m n : ℕ) (call_m call_n : Call) (line_m line_n : List ℕ) (f : WasMadeOn 7 ends s.from s.moves m call_m line_m)
+  both_made : (m n : ℕ) (call_m call_n : Asked) (line_m line_n : List ℕ) (f : WasMadeOn 7 ends s.from s.moves m call_m line_m)
       (h : WasMadeOn 7 ends s.from s.moves n call_n line_n) (between : List (Move State)) → h.front ≡ f.front ++ OnLine Up_deliver ∷ between
       → IsExecutedAfter ends Good kept s m n call_m call_n line_m line_n
   both_made m n call_m call_n line_m line_n f h between order =
@@ -170,7 +201,7 @@ module _ {State : Type 0} (ends : Ends State) (Good : State → Type 0) (kept : 
       (possible_from f.front (OnLine Up_deliver ∷ (between ++ OnLine Up_deliver ∷ h.later)) split_f).1 in
       let split_w : s.moves ≡ (f.front ++ OnLine Up_deliver ∷ []) ++ (between ++ OnLine Up_deliver ∷ h.later) =
       split_f ∙ sym (append_assoc f.front (OnLine Up_deliver ∷ []) (between ++ OnLine Up_deliver ∷ h.later)) in
-      let stands_w : Refines ends w.wire = subst (λ (x : World ById State). Refines ends x.wire)
+      let stands_w : Refines ends w.wire = subst (λ (x : World (ById Asked) State). Refines ends x.wire)
       (moved_append 7 ends f.front (OnLine Up_deliver ∷ []) (ids_begun s.from))
       (stands_all ends Good kept (f.front ++ OnLine Up_deliver ∷ []) s.from clean
       (possible_to (f.front ++ OnLine Up_deliver ∷ []) (between ++ OnLine Up_deliver ∷ h.later) split_w)) in
@@ -178,15 +209,15 @@ module _ {State : Type 0} (ends : Ends State) (Good : State → Type 0) (kept : 
       let there : at h.front ≡ moved ends (by_ids 7 ends) between w = ap (λ l. at l) order ∙ moved_append 7 ends f.front (OnLine Up_deliver ∷ between) (ids_begun s.from) in
       let e = v.wire.executed in
       let ran : (at h.front).wire.executed ≡ e ++ m ∷ did.numbers =
-      ap (λ (x : World ById State). x.wire.executed) there ∙ did.executed ∙ ap (λ l. l ++ did.numbers) one.0 ∙ append_assoc e (m ∷ []) did.numbers in
+      ap (λ (x : World (ById Asked) State). x.wire.executed) there ∙ did.executed ∙ ap (λ l. l ++ did.numbers) one.0 ∙ append_assoc e (m ∷ []) did.numbers in
       let behind_last : at (h.front ++ OnLine Up_deliver ∷ []) ≡ moves ends (by_ids 7 ends) (at h.front) (OnLine Up_deliver) =
       moved_append 7 ends h.front (OnLine Up_deliver ∷ []) (ids_begun s.from) in
       let whole : (at (h.front ++ OnLine Up_deliver ∷ [])).wire.executed ≡ (e ++ m ∷ did.numbers) ++ n ∷ [] =
-      ap (λ (x : World ById State). x.wire.executed) behind_last ∙ last.0 ∙ ap (λ l. l ++ n ∷ []) ran in
+      ap (λ (x : World (ById Asked) State). x.wire.executed) behind_last ∙ last.0 ∙ ap (λ l. l ++ n ∷ []) ran in
       let true_there = law ends Good kept is s.from clean (h.front ++ OnLine Up_deliver ∷ []) (front_of ends Good kept is s.from s.moves (h.front ++ OnLine Up_deliver ∷ []) h.later split_h field) in
       let grown = sent_more h.front (OnLine Up_deliver ∷ h.later) [] (h.split ∙ sym (nil (h.front ++ OnLine Up_deliver ∷ h.later))) in
       let grown_all : (at s.moves).wire.sent ≡ (at h.front).wire.sent ++ grown.0 = ap (λ l. (at l).wire.sent) h.split ∙ grown.1 in
-      let asked_there : AreCalls (at h.front).wire.sent did.numbers did.calls = subst (λ (x : World ById State). AreCalls x.wire.sent did.numbers did.calls) (sym there) did.asked in
+      let asked_there : AreCalls (at h.front).wire.sent did.numbers did.calls = subst (λ (x : World (ById Asked) State). AreCalls x.wire.sent did.numbers did.calls) (sym there) did.asked in
       record {
         first = f;
         second = h;
@@ -196,15 +227,29 @@ module _ {State : Type 0} (ends : Ends State) (Good : State → Type 0) (kept : 
         executed = ran;
         in_order = in_turn e m n did.numbers (subst IsInOrder whole true_there.in_order);
         within = upto e m n did.numbers (subst IsInOrder whole true_there.in_order);
-        strictly = λ keeps quiet.
+        strictly = λ knows keeps quiet.
             let starts : (at (h.front ++ OnLine Up_deliver ∷ [])).wire.starts ≡ v.wire.starts =
-            ap (λ (x : World ById State). x.wire.starts) behind_last ∙ last.2 ∙ ap (λ (x : World ById State). x.wire.starts) there ∙ did.starts quiet ∙ one.2 in
-            inside e m n did.numbers v.wire.starts stands.begun
-            (subst (λ l. ActsOnce l v.wire.starts) whole (subst (λ l. ActsOnce (at (h.front ++ OnLine Up_deliver ∷ [])).wire.executed l) starts (true_there.once keeps)));
+            ap (λ (x : World (ById Asked) State). x.wire.starts) behind_last ∙ last.2 ∙ ap (λ (x : World (ById Asked) State). x.wire.starts) there ∙ did.starts quiet ∙ one.2 in
+            let near = sent_more h.front (OnLine Up_deliver ∷ []) h.later split_h in
+            let there : List Sent = (at (h.front ++ OnLine Up_deliver ∷ [])).wire.sent in
+            let size : n < length (at h.front).wire.sent = was_sent n call_n line_n h in
+            let in_order = subst IsInOrder whole true_there.in_order in
+            let once : ActsOnce knows there ((e ++ m ∷ did.numbers) ++ n ∷ []) v.wire.starts =
+            subst (λ l. ActsOnce knows there l v.wire.starts) whole
+            (subst (λ l. ActsOnce knows there (at (h.front ++ OnLine Up_deliver ∷ [])).wire.executed l) starts (true_there.once knows keeps)) in
+            each_both (λ x. (m ≤ x) × (x ≤ n)) (λ x. (r : Sent) → slice_get there x ≡ Some r → knows r.call ≡ true → (m < x) × (x < n))
+            (λ x. (r : Sent) → slice_get (at s.moves).wire.sent x ≡ Some r → knows r.call ≡ true → (m < x) × (x < n))
+            (λ x in_it strict r found known.
+            strict r
+            (subst (λ l. slice_get l x ≡ Some r) (sym near.1)
+            (sent_front (at h.front).wire.sent near.0 x r
+            (sent_less (at h.front).wire.sent grown.0 x r (omega (arith, size, in_it.1)) (subst (λ l. slice_get l x ≡ Some r) grown_all found))))
+            known)
+            did.numbers (upto e m n did.numbers in_order) (inside e m n did.numbers knows there v.wire.starts stands.begun in_order once);
         calls = did.calls;
         asked = subst (λ l. AreCalls l did.numbers did.calls) (sym grown_all) (calls_more (at h.front).wire.sent grown.0 did.numbers did.calls asked_there);
         state = λ apart effect has still.
-            ap (λ (x : World ById State). apart x.wire.state) there ∙ made_both ends v.wire.state w.wire.state
+            ap (λ (x : World (ById Asked) State). apart x.wire.state) there ∙ made_both ends v.wire.state w.wire.state
             (moved ends (by_ids 7 ends) between w).wire.state (call_m ∷ []) did.calls one.1 (did.state still) apart effect has;
       }
     where
@@ -214,11 +259,11 @@ module _ {State : Type 0} (ends : Ends State) (Good : State → Type 0) (kept : 
       nil (x ∷ ms) = ap (λ l. x ∷ l) (nil ms)
 
   -- a request that goes out after the answer to another one, and is executed, is executed after the other one
-  pub executed_behind : (before later : List (Move State)) → s.moves ≡ before ++ later → (m n : ℕ) (x : Settlement) (line_m : List ℕ) → 8 ≤ m
-      → slice_get (at before).wire.settled m ≡ Some x → x.outcome ≡ Answered line_m
-      → length (at before).wire.sent ≤ n → (call : Call) (line_n : List ℕ) → WasMadeOn 7 ends s.from s.moves n call line_n → IsExecutedAfter ends Good kept s m n x.call call line_m line_n
-  executed_behind before later e m n x line_m beyond settled answered unsent call line_n h =
-      let f = (law ends Good kept is s.from clean before (front_of ends Good kept is s.from s.moves before later e field)).made_on m x line_m beyond settled answered in
+  pub executed_behind : (before later : List (Move State)) → s.moves ≡ before ++ later → (m n : ℕ) (x : Settlement Asked) (line_m : List ℕ) → 8 ≤ m
+      → IsSafe 7 ends s.from Good kept before m → slice_get (at before).wire.settled m ≡ Some x → x.outcome ≡ Answered line_m
+      → length (at before).wire.sent ≤ n → (call : Asked) (line_n : List ℕ) → WasMadeOn 7 ends s.from s.moves n call line_n → IsExecutedAfter ends Good kept s m n x.call call line_m line_n
+  executed_behind before later e m n x line_m beyond safe settled answered unsent call line_n h =
+      let f = (law ends Good kept is s.from clean before (front_of ends Good kept is s.from s.moves before later e field)).made_on m x line_m beyond safe settled answered in
       let more = behind_front before later e n unsent call line_n h in
       let first : WasMadeOn 7 ends s.from s.moves m x.call line_m = record {
         front = f.front;

@@ -6,11 +6,15 @@ use Rattle.std.specs.Ordering.{int_eq}
 use Rattle.gc_values.specs.declared.decimal.Decimal.{Decimal}
 use Rattle.gc_catalogue.specs.declared.answer.Answer.{Answer}
 use Rattle.gc_catalogue.specs.declared.answer.Answer.TheVariants.{Nothing}
+use Rattle.gc_catalogue.specs.Asked.{is_of_table}
+use Rattle.gc_catalogue.specs.declared.asked.Asked.{Asked}
+use Rattle.gc_catalogue.specs.declared.asked.Asked.TheVariants.{Table, Raw}
 use Rattle.gc_catalogue.specs.declared.call.Call.{Call}
 use Rattle.gc_catalogue.specs.declared.call.Call.TheVariants as call
-use Rattle.gc_client.specs.OneForOne.{Asked}
+use Rattle.gc_client.specs.OneForOne.{Wanted}
 use Rattle.gc_instrument.specs.Execution.{Executed, exec, done, refused, set_if, told, commanded, measured, unmeasured}
-use Rattle.gc_instrument.specs.Replying.{Handed, handed, kept_line}
+use Rattle.gc_instrument.specs.Replying as calls
+use Rattle.gc_instrument.specs.Replying.{Handed, kept_line}
 use Rattle.gc_instrument.specs.State.{State, IsFittingState}
 use Rattle.gc_instrument.proofs.Answering.{handed_again, handed_new}
 use Rattle.gc_instrument.proofs.Keeping.{executes_apart}
@@ -23,9 +27,9 @@ use Rattle.gc_station.specs.Runs.{stood}
 use Rattle.gc_station.specs.Scopes.{Scope}
 use Rattle.gc_station.specs.declared.plan.Plan.{Plan}
 use Rattle.gc_station.proofs.Booking.{of_at}
-use Rattle.gc_world.specs.Clients.{ends}
+use Rattle.gc_field.specs.Simulator.{ends, handed}
 use Rattle.gc_world.specs.Order.{Each}
-use Rattle.gc_world.specs.World.{Sent}
+use Rattle.gc_field.specs.World.{Sent}
 use Rattle.gc_world.proofs.Handing.{bare_after}
 use Rattle.gc_world.proofs.Options.{none_is_not, some_is}
 use Rattle.gc_world.proofs.Places.{below, get_map, in_range}
@@ -43,25 +47,36 @@ use Rattle.gc_field.proofs.Joining.{run_faithful}
 
 -- What executing a call makes of the simulator.
 
--- what a call makes of the simulator doesn't depend on the reply that is kept
-exec_bare : (s : State) (asked : Call) → behind_call (bare s) asked ≡ bare (behind_call s asked)
-exec_bare s asked = ap (λ (x : Executed). x.state) (executes_apart s None asked)
+-- what a request makes of the simulator doesn't depend on the reply that is kept
+exec_bare : (s : State) (asked : Asked) → behind_call (bare s) asked ≡ bare (behind_call s asked)
+exec_bare s (Table c) = ap (λ (x : Executed). x.state) (executes_apart s None c)
+exec_bare s (Raw raw) = refl
 
 -- true isn't false
 true_is_not : true ≡ false → ⊥
 true_is_not e = cc
 
 -- where the simulator sends a line again, its state stays as it was
-handed_same : (s : State) (id : ℕ) (asked : Call) (o : Option (List ℕ)) → kept_line s.kept (Some id) ≡ o → (handed s id asked).executed ≡ false → (handed s id asked).state ≡ s
-handed_same s id asked (Some line) e not = ap (λ (x : Handed State). x.state) (handed_again s id asked line e)
-handed_same s id asked None e not = absurd (true_is_not (sym (ap (λ (x : Handed State). x.executed) (handed_new s id asked e)) ∙ not))
+handed_same : (s : State) (id : ℕ) (c : Call) (o : Option (List ℕ)) → kept_line s.kept (Some id) ≡ o → (calls.handed s id c).executed ≡ false → (calls.handed s id c).state ≡ s
+handed_same s id c (Some line) e not = ap (λ (x : Handed State). x.state) (handed_again s id c line e)
+handed_same s id c None e not = absurd (true_is_not (sym (ap (λ (x : Handed State). x.executed) (handed_new s id c e)) ∙ not))
 
--- executing a call has the effect `behind_call` on the simulator
+-- where the simulator executes a request, that has the effect `behind_call`
+executes : (s : State) (id : ℕ) (asked : Asked) → (handed s id asked).executed ≡ true → bare (handed s id asked).state ≡ bare (behind_call s asked)
+executes s id (Table c) e = bare_after s id c e ∙ exec_bare s (Table c)
+executes s id (Raw raw) e = refl
+
+-- where it doesn't, nothing changes
+repeats : (s : State) (id : ℕ) (asked : Asked) → (handed s id asked).executed ≡ false → bare (handed s id asked).state ≡ bare s
+repeats s id (Table c) not = ap bare (handed_same s id c (kept_line s.kept (Some id)) refl not)
+repeats s id (Raw raw) not = refl
+
+-- executing a request has the effect `behind_call` on the simulator
 pub has_effect : SimulatorHasItsEffect
 has_effect =
     record {
-      executes = λ s id asked e. bare_after s id asked e ∙ exec_bare s asked;
-      repeats = λ s id asked not. ap bare (handed_same s id asked (kept_line s.kept (Some id)) refl not);
+      executes = executes;
+      repeats = repeats;
       alike = λ s t asked e. sym (exec_bare s asked) ∙ ap (λ x. behind_call x asked) e ∙ exec_bare t asked;
     }
 
@@ -107,7 +122,7 @@ commanded_same s command = by_tests (int_eq command (pos 0)) (int_eq command (po
   by_tests false false false = (refl, refl)
 
 -- a call that turns no telescope leaves its direction and its face as they were
-call_same : (s : State) (asked : Call) → turns asked ≡ false → IsSame s (exec s asked).state
+call_same : (s : State) (c : Call) → turns (Table c) ≡ false → IsSame s (exec s c).state
 unfolding exec
 call_same s (call.SetPrecision n) e = set_same _ s _ (refl, refl)
 call_same s (call.SetDate d) e = set_same _ s _ (refl, refl)
@@ -119,7 +134,17 @@ call_same s (call.MeasDistance mode) e = told_same (measured s) _ (measured s).d
 call_same s (call.Position hz v pos_mode atr_mode dummy) e = cc
 call_same s (call.ChangeFace pos_mode atr_mode dummy) e = cc
 call_same s (call.FineAdjust area_hz area_v dummy) e = cc
-call_same s asked e = (refl, refl)
+call_same s c e = (refl, refl)
+
+-- a request that turns no telescope leaves its direction and its face as they were
+asked_same : (s : State) (asked : Asked) → turns asked ≡ false → IsSame s (behind_call s asked)
+asked_same s (Table c) e = call_same s c e
+asked_same s (Raw raw) e = (refl, refl)
+
+-- a request turns no telescope if it turns none where it is a call of the table
+still_table : (asked : Asked) → (is_of_table asked ≡ true → turns asked ≡ false) → turns asked ≡ false
+still_table (Table c) f = f refl
+still_table (Raw raw) f = refl
 
 -- a positioning leaves the telescope in the direction that it commands, in the same face as before
 position_points : (s : State) (hz v : Decimal) (pos_mode atr_mode dummy : _) → let t = (exec s (call.Position hz v pos_mode atr_mode dummy)).state in
@@ -128,24 +153,26 @@ unfolding exec
 position_points s hz v pos_mode atr_mode dummy = (refl, refl)
 
 -- calls that turn no telescope leave its direction and its face as they were
-executing_same : (calls : List Call) (s : State) → Each (λ x. turns x ≡ false) calls → IsSame s (executing behind_call s calls)
+executing_same : (calls : List Asked) (s : State) → Each (λ x. turns x ≡ false) calls → IsSame s (executing behind_call s calls)
 executing_same [] s h = (refl, refl)
 executing_same (x ∷ calls) s h =
-    let one = call_same s x h.0 in
-    let others = executing_same calls (exec s x).state h.1 in
+    let one = asked_same s x h.0 in
+    let others = executing_same calls (behind_call s x) h.1 in
     (others.0 ∙ one.0, others.1 ∙ one.1)
 
 -- What was executed between.
 
 -- if the requests between m and n turn no telescope, the calls that are executed between don't
-all_still : (sent : List Sent) (m n : ℕ) (ns : List ℕ) (calls : List Call) → AreCalls sent ns calls
-    → Each (λ x. (m < x) × (x < n)) ns → ((x : ℕ) (r : Sent) → m < x → x < n → slice_get sent x ≡ Some r → turns r.call ≡ false)
+all_still : (sent : List Sent) (m n : ℕ) (ns : List ℕ) (calls : List Asked) → AreCalls sent ns calls
+    → Each (λ x. (r : Sent) → slice_get sent x ≡ Some r → is_of_table r.call ≡ true → (m < x) × (x < n)) ns → ((x : ℕ) (r : Sent) → m < x → x < n → slice_get sent x ≡ Some r → turns r.call ≡ false)
     → Each (λ x. turns x ≡ false) calls
 all_still sent m n [] [] h g f = tt
 all_still sent m n [] (x ∷ calls) h g f = absurd h
 all_still sent m n (k ∷ ns) [] h g f = absurd h
 all_still sent m n (k ∷ ns) (x ∷ calls) h g f =
-    (ap turns (sym h.0.2) ∙ f k h.0.0 g.0.0 g.0.1 h.0.1, all_still sent m n ns calls h.1 g.1 f)
+    let still : turns h.0.0.call ≡ false =
+    still_table h.0.0.call (λ of. let inside : (m < k) × (k < n) = g.0 h.0.0 h.0.1 of in f k h.0.0 inside.0 inside.1 h.0.1) in
+    (ap turns (sym h.0.2) ∙ still, all_still sent m n ns calls h.1 g.1 f)
 
 -- an element at place k + n of a list is after its first k at place n
 get_own : (k n j : ℕ) (xs : List Sent) (x : Sent) → j ≡ k + n → slice_get xs j ≡ Some x → slice_get (drop k xs) n ≡ Some x
@@ -155,8 +182,8 @@ get_own (suc k) n zero (y ∷ xs) x e got = absurd (omega (arith, e))
 get_own (suc k) n (suc j) (y ∷ xs) x e got = get_own k n j xs x (omega (arith, e)) got
 
 -- a null procedure turns no telescope
-null_still : (a : Asked) (r : Sent) → asked r ≡ a → a ≡ record { target = 0; call = call.NullProc } → turns r.call ≡ false
-null_still a r e f = ap (λ (o : Asked). turns o.call) (e ∙ f)
+null_still : (a : Wanted Asked) (r : Sent) → asked r ≡ a → a ≡ record { target = 0; call = Table call.NullProc } → turns r.call ≡ false
+null_still a r e f = ap (λ (o : Wanted Asked). turns o.call) (e ∙ f)
 
 module _ (plan : Plan) (commands : List Task) (scope : Scope) (acts : List Act) (u : UnderWay State) (rs : List (Run State))
     (field : IsInField ends IsFittingState kept_of plan commands scope acts u rs) where
@@ -168,12 +195,12 @@ module _ (plan : Plan) (commands : List Task) (scope : Scope) (acts : List Act) 
       (stood plan commands scope acts).records a b line) (still : AreStill commands a b.place) where
     -- a request between those of the chain's two commands turns no telescope, by its mark: it is a null procedure, or for a
     -- command between them
-    still_by : (x : ℕ) (r : Sent) (o : Option _) (above : h.m < x) (under : x < h.n) → slice_get h.part.marks x ≡ Some o → (y : Asked) → asked r ≡ y → IsOf commands o y → turns r.call ≡ false
+    still_by : (x : ℕ) (r : Sent) (o : Option _) (above : h.m < x) (under : x < h.n) → slice_get h.part.marks x ≡ Some o → (y : Wanted Asked) → asked r ≡ y → IsOf commands o y → turns r.call ≡ false
     still_by x r None above under at y e is = null_still y r e is
     still_by x r (Some mark) above under at y e is =
         let there = h.between x mark above under at in
         let quiet = still mark.place is.0 there.1 there.2 is.1 in
-        ap (λ (o : Asked). turns o.call) (e ∙ is.2) ∙ quiet
+        ap (λ (o : Wanted Asked). turns o.call) (e ∙ is.2) ∙ quiet
 
     -- a request of the client between those of the chain's two commands turns no telescope
     still_at : (x : ℕ) (r : Sent) → h.m < x → x < h.n → slice_get (own_sent ends h.stretch) x ≡ Some r → turns r.call ≡ false
@@ -197,7 +224,7 @@ module _ (plan : Plan) (commands : List Task) (scope : Scope) (acts : List Act) 
         let x = h.executed in
         let s = (behind ends h.stretch x.first.front).state in
         let calls = all_still (world ends h.stretch).wire.sent (8 + h.m) (8 + h.n) x.numbers x.calls x.asked
-        (x.strictly simulator.keeps (no_start x.between quiet)) (λ k r above under got. still_number k r above under got) in
+        (x.strictly is_of_table simulator.keeps (no_start x.between quiet)) (λ k r above under got. still_number k r above under got) in
         let there = x.state bare behind_call has_effect quiet in
         let t = behind_call s h.record_a.command.call in
         let same = executing_same x.calls t calls in

@@ -2,40 +2,41 @@
 -- settlements and the client of the world (`SameAs`).
 use Rattle.std.proofs.Common.{◌≡◌, ℕ, Bool, true, false, List, [], ◌∷◌, ◌++◌, length, map, Option, Some, None, refl, sym, ◌∙◌, ap, subst, ltb}
 use Rattle.std.proofs.lemmas.List.{map-append, append-nil}
-use Rattle.gc_catalogue.specs.declared.call.Call.{Call}
-use Rattle.gc_catalogue.specs.Texts.{request_line}
+use Rattle.gc_catalogue.specs.declared.asked.Asked.{Asked}
+use Rattle.gc_catalogue.specs.Asked.{asked_line}
 use Rattle.gc_client.specs.OneForOne.{Course, course, sent_on, settled_on, begun}
 use Rattle.gc_client.specs.Rule.{ById, Sending, sends, hears, heard}
 use Rattle.gc_instrument.specs.State.{KeptReply}
 use Rattle.gc_world.specs.Clients.{by_ids, ids_open}
-use Rattle.gc_world.specs.World.{Request, Numbered, Ends, Step, Send, Up_deliver, Up_lose, Up_repeat, Down_deliver, Down_lose, Down_repeat, Expire, Restart_client, Restart_instrument, Nothing, World, without, doubled, up_delivered, with_up, with_down, on_wire, requested, with_settled, down_delivered, happens}
+use Rattle.gc_field.specs.World.{Request, Numbered, Ends, Step, Send, Up_deliver, Up_lose, Up_repeat, Down_deliver, Down_lose, Down_repeat, Expire, Restart_client, Restart_instrument, Nothing, World, without, doubled, up_delivered, with_up, with_down, on_wire, requested, with_settled, down_delivered, happens}
 use Rattle.gc_world.proofs.Settled.{of_sent}
 use Rattle.gc_field.specs.Field.{Move, Sends, Tells, Comes, Foreign, OnLine, Anew, Changes, Joins, IsOfLine, moved, ArePossible, seen}
 
 module _ {State : Type 0} (width : ℕ) (ends : Ends State) (same_heard : (line : List ℕ) → ends.heard line ≡ heard line) (Good : State → Type 0) (kept : State → Option KeptReply) where
   -- the course of a client and the world have the same requests, settlements and client
-  pub record SameAs (x : Course) (w : World ById State) : Type 0 where
+  pub record SameAs (x : Course Asked) (w : World (ById Asked) State) : Type 0 where
     pub sent : x.sent ≡ map of_sent w.wire.sent
     pub settled : x.settlements ≡ w.wire.settled
     pub client : x.client ≡ w.client
 
   -- `SameAs` lasts where a request is sent, or refused
-  same_option : (x : Course) (w : World ById State) (target : ℕ) (call : Call) (o : Option (Sending ById)) → SameAs x w → SameAs (sent_on x target call o) (requested w target call o)
+  same_option : (x : Course Asked) (w : World (ById Asked) State) (target : ℕ) (call : Asked) (o : Option (Sending (ById Asked))) → SameAs x w
+      → SameAs (sent_on x target call o) (requested w target call o)
   same_option x w target call None h = record { sent = h.sent; settled = h.settled; client = h.client }
   same_option x w target call (Some s) h =
-      let last : map of_sent (w.wire.sent ++ record { target = target; call = call; line = request_line (Some s.id) call } ∷ []) ≡ map of_sent w.wire.sent
+      let last : map of_sent (w.wire.sent ++ record { target = target; call = call; line = asked_line (Some s.id) call } ∷ []) ≡ map of_sent w.wire.sent
       ++ record { target = target; call = call } ∷ [] = map-append of_sent w.wire.sent _ in
       record { sent = ap (λ l. l ++ record { target = target; call = call } ∷ []) h.sent ∙ sym last; settled = h.settled; client = refl }
 
   -- `SameAs` lasts where the rule of the client decides on a send
-  same_send : (x : Course) (w : World ById State) (target : ℕ) (call : Call) (deadline : ℕ) → SameAs x w
+  same_send : (x : Course Asked) (w : World (ById Asked) State) (target : ℕ) (call : Asked) (deadline : ℕ) → SameAs x w
       → SameAs (sent_on x target call (sends width x.client target call deadline)) (requested w target call (sends width w.client target call deadline))
   same_send x w target call deadline h =
       subst (λ c. SameAs (sent_on x target call (sends width c target call deadline)) (requested w target call (sends width w.client target call deadline))) (sym h.client)
       (same_option x w target call (sends width w.client target call deadline) h)
 
   -- `SameAs` lasts over a reply that is heard
-  same_reply : (x : Course) (w : World ById State) (line : List ℕ) (n : ℕ) (rest : List (Numbered (List ℕ))) → SameAs x w
+  same_reply : (x : Course Asked) (w : World (ById Asked) State) (line : List ℕ) (n : ℕ) (rest : List (Numbered (List ℕ))) → SameAs x w
       → SameAs (settled_on x (hears x.client line (heard line))) (with_settled (record w.wire { down = rest }) (hears w.client line (ends.heard line)))
   same_reply x w line n rest h =
       subst (λ o. SameAs (settled_on x (hears x.client line (heard line))) (with_settled (record w.wire { down = rest }) (hears w.client line o))) (sym (same_heard line))
@@ -43,34 +44,34 @@ module _ {State : Type 0} (width : ℕ) (ends : Ends State) (same_heard : (line 
       (record { sent = h.sent; settled = ap (λ l. l ++ (hears w.client line (heard line)).settlements) h.settled; client = refl }))
 
   -- `SameAs` lasts over the reply in front
-  same_comes : (x : Course) (w : World ById State) (line : List ℕ) (n : ℕ) (rest : List (Numbered (List ℕ)))
+  same_comes : (x : Course Asked) (w : World (ById Asked) State) (line : List ℕ) (n : ℕ) (rest : List (Numbered (List ℕ)))
       → w.wire.down ≡ record { number = n; line = line } ∷ rest → SameAs x w
       → SameAs (settled_on x (hears x.client line (heard line))) (down_delivered (by_ids width ends) w w.wire.down)
   same_comes x w line n rest e h =
       subst (λ q. SameAs (settled_on x (hears x.client line (heard line))) (down_delivered (by_ids width ends) w q)) (sym e) (same_reply x w line n rest h)
 
   -- `SameAs` lasts over a line without an id
-  same_foreign : (x : Course) (w : World ById State) (line : List ℕ) → heard line ≡ None → SameAs x w → SameAs (settled_on x (hears x.client line (heard line))) w
+  same_foreign : (x : Course Asked) (w : World (ById Asked) State) (line : List ℕ) → heard line ≡ None → SameAs x w → SameAs (settled_on x (hears x.client line (heard line))) w
   same_foreign x w line e h =
       subst (λ o. SameAs (settled_on x (hears x.client line o)) w) (sym e) (record { sent = h.sent; settled = append-nil x.settlements ∙ h.settled; client = h.client })
 
   -- `SameAs` lasts where the request in front reaches the instrument
-  same_up : (x : Course) (w : World ById State) (q : List (Numbered Request)) → SameAs x w → SameAs x (on_wire w (up_delivered ends w.wire q))
+  same_up : (x : Course Asked) (w : World (ById Asked) State) (q : List (Numbered Request)) → SameAs x w → SameAs x (on_wire w (up_delivered ends w.wire q))
   same_up x w [] h = record { sent = h.sent; settled = h.settled; client = h.client }
   same_up x w (y ∷ rest) h = record { sent = h.sent; settled = h.settled; client = h.client }
 
   -- `SameAs` lasts where the requests under way change
-  same_with_up : (x : Course) (w : World ById State) (q : List (Numbered Request)) (b : Bool) → SameAs x w → SameAs x (on_wire w (with_up w.wire q b))
+  same_with_up : (x : Course Asked) (w : World (ById Asked) State) (q : List (Numbered Request)) (b : Bool) → SameAs x w → SameAs x (on_wire w (with_up w.wire q b))
   same_with_up x w q true h = record { sent = h.sent; settled = h.settled; client = h.client }
   same_with_up x w q false h = record { sent = h.sent; settled = h.settled; client = h.client }
 
   -- `SameAs` lasts where the replies under way change
-  same_with_down : (x : Course) (w : World ById State) (q : List (Numbered (List ℕ))) (b : Bool) → SameAs x w → SameAs x (on_wire w (with_down w.wire q b))
+  same_with_down : (x : Course Asked) (w : World (ById Asked) State) (q : List (Numbered (List ℕ))) (b : Bool) → SameAs x w → SameAs x (on_wire w (with_down w.wire q b))
   same_with_down x w q true h = record { sent = h.sent; settled = h.settled; client = h.client }
   same_with_down x w q false h = record { sent = h.sent; settled = h.settled; client = h.client }
 
   -- `SameAs` lasts over a step of the line
-  same_line : (x : Course) (w : World ById State) (step : Step) → IsOfLine step → SameAs x w → SameAs x (happens ends (by_ids width ends) w step)
+  same_line : (x : Course Asked) (w : World (ById Asked) State) (step : Step) → IsOfLine step → SameAs x w → SameAs x (happens ends (by_ids width ends) w step)
   same_line x w (Send target call deadline) p h = absurd p
   same_line x w Up_deliver p h = same_up x w w.wire.up h
   same_line x w (Up_lose k) p h = same_with_up x w (without k w.wire.up) (ltb k (length w.wire.up)) h
@@ -84,7 +85,7 @@ module _ {State : Type 0} (width : ℕ) (ends : Ends State) (same_heard : (line 
   same_line x w Nothing p h = record { sent = h.sent; settled = h.settled; client = h.client }
 
   -- `SameAs` lasts over moves: the course takes the steps that the client sees of them
-  pub same_all : (ms : List (Move State)) (x : Course) (w : World ById State) → ArePossible ends Good kept (by_ids width ends) ms w → SameAs x w
+  pub same_all : (ms : List (Move State)) (x : Course Asked) (w : World (ById Asked) State) → ArePossible ends Good kept (by_ids width ends) ms w → SameAs x w
       → SameAs (course width x (seen ms)) (moved ends (by_ids width ends) ms w)
   same_all [] x w p h = h
   same_all (Sends target call deadline ∷ ms) x w p h = same_all ms _ _ p.1 (same_send x w target call deadline h)

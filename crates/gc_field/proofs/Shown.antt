@@ -4,7 +4,7 @@ use Rattle.std.proofs.Common.{◌≡◌, ℕ, List, [], ◌∷◌, refl, sym, �
 use Rattle.gc_station.specs.Beginnings.{left_behind}
 use Rattle.gc_station.specs.Begun.{heard_in}
 use Rattle.gc_station.proofs.Asked.{heard_append, left_append}
-use Rattle.gc_world.specs.World.{Ends}
+use Rattle.gc_field.specs.World.{Ends}
 use Rattle.gc_field.specs.Begin.{Aged, Model, Turn, Asks, Comes, Foreign, Reaches, Up_lose, Up_repeat, Down_lose, Down_repeat, Anew, Changes, comes, reaches, asks, turned, turns}
 use Rattle.gc_field.specs.Shown.{first_heard, shown, shows}
 

@@ -1,9 +1,10 @@
 -- Right after a beginning, before any move, `IsFaithful` holds, whatever is under way.
 use Rattle.std.proofs.Common.{◌≡◌, ℕ, ◌<◌, ◌≤◌, List, [], ◌∷◌, Option, Some, refl, ap, arith}
 use Rattle.std.specs.Prelude.{slice_get}
+use Rattle.gc_catalogue.specs.declared.asked.Asked.{Asked}
 use Rattle.gc_client.specs.Rule.{Settlement}
 use Rattle.gc_instrument.specs.State.{KeptReply}
-use Rattle.gc_world.specs.World.{Ends, Numbered}
+use Rattle.gc_field.specs.World.{Ends, Numbered}
 use Rattle.gc_world.proofs.Places.{below}
 use Rattle.gc_world.proofs.Settled as settled
 use Rattle.gc_field.specs.Begin.{UnderWay}
@@ -11,7 +12,7 @@ use Rattle.gc_field.specs.Begun.{IsFaithful, nulls, nulls_settled}
 use Rattle.gc_field.proofs.BegunFaithful.{of_last}
 
 -- right after a beginning no settlement has a number from 8 on
-none_own : (m : ℕ) (s : Settlement) → 8 ≤ m → slice_get nulls_settled m ≡ Some s → ⊥
+none_own : (m : ℕ) (s : Settlement Asked) → 8 ≤ m → slice_get nulls_settled m ≡ Some s → ⊥
 none_own m s ge e = let low : m < 8 = below nulls_settled m s e in omega (arith, low, ge)
 
 -- an empty list has nothing at any place
@@ -36,12 +37,12 @@ faithful_none ends Good kept u =
       stands = refl;
       accounted = refl;
       one_for_one = settled.one_for_one nulls_settled [] nulls refl;
-      booked = λ m s ge e bytes answered. absurd (none_own m s ge e);
-      executed = λ m s line ge e answered. absurd (none_own m s ge e);
-      made_on = λ m s line ge e answered. absurd (none_own m s ge e);
+      booked = λ m s ge safe e bytes answered. absurd (none_own m s ge e);
+      executed = λ m s line ge safe e answered. absurd (none_own m s ge e);
+      made_on = λ m s line ge safe e answered. absurd (none_own m s ge e);
       in_order = λ j k m n lt a b. absurd (none_at j m a);
-      late = λ m s ge e late. absurd (none_own m s ge e);
-      once = λ keeps j k m n lt none a b. absurd (none_at j m a);
+      late = λ m s ge safe e late. absurd (none_own m s ge e);
+      once = λ knows keeps j k m n r lt none a b found known. absurd (none_at j m a);
       agrees = refl;
       first_reply = λ n line rest e le. absurd (of_seven u.down n line rest e le);
     }

@@ -1,31 +1,32 @@
 -- Each line that comes was made for its request as its call was executed, whatever is repeated or lost, and however often the
--- instrument starts anew. Replies to requests below the number `low` are excepted. M n call line stands for any property that
--- the reply to each request has that is executed. The client is the one that is given the number of each reply's request:
--- `count` of its requests are settled, and the id of request n is n - `since`, modulo 8. `True` is the invariant of a world: each
--- reply under way, the kept reply and each answer was made so.
+-- instrument starts anew. Requests that `E` names are excepted. M n call line stands for any property that the reply to each request has that
+-- is executed. The client is the one that is given the number of each reply's request: `count` of its requests are settled, and the id of
+-- request n is n - `since`, modulo 8. After a request that `knows` names the instrument keeps its own reply to that, or nothing; after another
+-- one it may keep what it kept: so what it keeps is a reply to `table`, the last such request that it was handed, or to a later request.
+-- `True` is the invariant of a world: each reply under way, the kept reply and each answer was made so.
 use Rattle.std.proofs.Common.{◌≡◌, ℕ, ◌+◌, ◌-◌, ◌%◌, ◌<◌, ◌≤◌, ◌⊎◌, inl, inr, Bool, true, false, List, [], ◌∷◌, ◌++◌, length, drop, Option, Some, None, refl, sym, ◌∙◌, ap, subst, arith, ltb, eqb}
+use Rattle.std.specs.Prelude.{slice_get}
 use Rattle.std.proofs.lemmas.List.{length_push}
 use Rattle.std.proofs.lemmas.Bool.{ltb-false}
-use Rattle.gc_catalogue.specs.declared.call.Call.{Call}
-use Rattle.gc_catalogue.specs.Texts.{request_line}
+use Rattle.gc_catalogue.specs.declared.asked.Asked.{Asked}
+use Rattle.gc_catalogue.specs.Asked.{asked_line}
 use Rattle.gc_client.specs.Rule.{Settlement, Sending, pending_of}
 use Rattle.gc_instrument.specs.Replying.{Handed}
 use Rattle.gc_instrument.specs.State.{KeptReply}
 use Rattle.gc_world.specs.Clients.{ByNumber, number_send, number_reply, by_numbers}
-use Rattle.gc_world.specs.Exchange.{IsExchange}
 use Rattle.gc_world.specs.Order.{Each, Rising, numbers}
-use Rattle.gc_world.specs.World.{Request, Sent, Numbered, Ends, Step, Send, Up_deliver, Up_lose, Up_repeat, Down_deliver, Down_lose, Down_repeat, Expire, Restart_client, Restart_instrument, Nothing, World, without, doubled, idle, replied, up_delivered, with_up, with_down, started, on_wire, requested, with_settled, down_delivered, happens}
+use Rattle.gc_world.specs.Record.{IsReplyTo}
+use Rattle.gc_field.specs.World.{Request, Sent, Numbered, Ends, Step, Send, Up_deliver, Up_lose, Up_repeat, Down_deliver, Down_lose, Down_repeat, Expire, Restart_client, Restart_instrument, Nothing, World, without, doubled, idle, replied, up_delivered, with_up, with_down, started, on_wire, requested, with_settled, down_delivered, happens, written}
 use Rattle.gc_world.proofs.Booked.{Has, has_more, has_push}
-use Rattle.gc_world.proofs.Execution.{IsAnswerAt}
-use Rattle.gc_world.proofs.Options.{some_is}
-use Rattle.gc_world.proofs.Places.{get_more, get_push}
+use Rattle.gc_world.proofs.Options.{some_is, none_is_not}
+use Rattle.gc_world.proofs.Places.{get_more, get_push, each_get}
 use Rattle.gc_world.proofs.Replay.{IsOf, of_more}
 use Rattle.gc_world.proofs.Rows.{each_append, each_more, each_without, each_doubled}
 use Rattle.gc_world.proofs.Sound.{IsGoing, Sound}
 use Rattle.gc_field.specs.Field.{IsOfLine}
-use Rattle.gc_field.specs.Instrument.{IsAnInstrument, KeepsItsReply}
+use Rattle.gc_field.specs.Instrument.{IsAnInstrumentFor, KeepsItsReply}
 use Rattle.gc_field.proofs.Answered.{AllSo, all_so_more, all_so_append, all_so_settle}
-use Rattle.gc_field.proofs.Once.{IsClimbing, IsOrdered, climbing_started, climbing_acted, climbing_kept, ordered_acted, newer}
+use Rattle.gc_field.proofs.Once.{IsClimbing, IsIdle, IsOrdered, IsUnknown, climbing_started, climbing_acted, climbing_handed, climbing_sent, known_not, ordered_acted, ordered_handed, unknown_more, why_acted}
 
 -- no request under way has a number below the one in front
 pub rising_each : (low : ℕ) (xs : List (Numbered Request)) → Rising low (numbers xs) → Each (λ x. low ≤ x.number + 1) xs
@@ -41,279 +42,449 @@ rising_tail low n (x ∷ xs) ys h = let r = rising_tail (x + 1) n xs ys h.1 in (
 true_is_not : true ≡ false → ⊥
 true_is_not e = cc
 
-module _ {State : Type 0} (width : ℕ) (narrow : width ≤ 7) (ends : Ends State) (Good : State → Type 0) (ex : IsExchange ends Good)
-    (kept : State → Option KeptReply) (keeper : IsAnInstrument ends Good kept) (low : ℕ) (M : ℕ → Call → List ℕ → Type 0) where
-  -- the line was made for request n, as its call was executed, and has the property M
-  pub record IsVouched (sent : List Sent) (executed : List ℕ) (made : List (Numbered (List ℕ))) (n : ℕ) (line : List ℕ) : Type 0 where
-    pub among : Has (record { number = n; line = line }) made
-    pub acted : Has n executed
-    pub answer : IsAnswerAt ends Good ex sent (record { number = n; line = line })
-    pub on : M n answer.request.call line
+-- What is kept.
 
-  -- request n is one of those that are excepted, or the line is vouched for as its reply
-  abbrev pub Vouched : List Sent → List ℕ → List (Numbered (List ℕ)) → ℕ → List ℕ → Type 0
-  Vouched sent executed made n line = (n < low) ⊎ IsVouched sent executed made n line
+-- the kept reply `k` is to request `number`, which is `table` or a later one, but before `top`: it has that request's id, and the property P
+pub record IsKept (P : ℕ → List ℕ → Type 0) (since top table : ℕ) (k : KeptReply) : Type 0 where
+  pub number : ℕ
+  pub recent : since ≤ number
+  pub before : number < top
+  pub behind : table ≤ number
+  pub id : k.id ≡ (number - since) % 8
+  pub line : P number k.line
 
-  -- what answers one of the requests that were sent still does so when more are sent
-  abbrev answer_more : (sent more : List Sent) (m : Numbered (List ℕ)) → IsAnswerAt ends Good ex sent m → IsAnswerAt ends Good ex (sent ++ more) m
-  answer_more sent more m h = record { request = h.request; found = get_more sent more m.number h.request h.found; reply = h.reply }
+-- if anything is kept, `IsKept` holds of it
+abbrev pub KeptIs : (ℕ → List ℕ → Type 0) → ℕ → ℕ → ℕ → Option KeptReply → Type 0
+KeptIs P since top table None = Unit {0}
+KeptIs P since top table (Some k) = IsKept P since top table k
 
-  -- `Vouched` lasts where further requests are sent
-  vouched_sent : (sent more : List Sent) (executed : List ℕ) (made : List (Numbered (List ℕ))) (n : ℕ) (line : List ℕ) → Vouched sent executed made n line → Vouched (sent ++ more) executed made n line
-  vouched_sent sent more executed made n line (inl l) = inl l
-  vouched_sent sent more executed made n line (inr h) = inr (record { among = h.among; acted = h.acted; answer = answer_more sent more (record { number = n; line = line }) h.answer; on = h.on })
+-- where P implies Q, `KeptIs` of P gives `KeptIs` of Q
+kept_more : (P Q : ℕ → List ℕ → Type 0) → ((n : ℕ) (line : List ℕ) → P n line → Q n line) → (since top table : ℕ) (k : Option KeptReply)
+    → KeptIs P since top table k → KeptIs Q since top table k
+kept_more P Q f since top table None h = tt
+kept_more P Q f since top table (Some k) h = record { number = h.number; recent = h.recent; before = h.before; behind = h.behind; id = h.id; line = f h.number k.line h.line }
 
-  -- `Vouched` lasts where further lines are made
-  vouched_made : (sent : List Sent) (executed : List ℕ) (made more : List (Numbered (List ℕ))) (n : ℕ) (line : List ℕ) → Vouched sent executed made n line → Vouched sent executed (made ++ more) n line
-  vouched_made sent executed made more n line (inl l) = inl l
-  vouched_made sent executed made more n line (inr h) = inr (record { among = has_more _ made more h.among; acted = h.acted; answer = h.answer; on = h.on })
+-- where nothing is kept, `KeptIs` holds
+pub kept_none : (P : ℕ → List ℕ → Type 0) (since top table : ℕ) (k : Option KeptReply) → k ≡ None → KeptIs P since top table k
+kept_none P since top table k e = subst (λ k. KeptIs P since top table k) (sym e) tt
 
-  -- `Vouched` lasts where further requests are executed
-  vouched_acted : (sent : List Sent) (executed others : List ℕ) (made : List (Numbered (List ℕ))) (n : ℕ) (line : List ℕ) → Vouched sent executed made n line
-      → Vouched sent (executed ++ others) made n line
-  vouched_acted sent executed others made n line (inl l) = inl l
-  vouched_acted sent executed others made n line (inr h) = inr (record { among = h.among; acted = has_more n executed others h.acted; answer = h.answer; on = h.on })
+-- where nothing is kept, or this line with the id of request n, `KeptIs` holds
+pub kept_one : (P : ℕ → List ℕ → Type 0) (since top table n id : ℕ) (line : List ℕ) (k : Option KeptReply) → since ≤ n → n < top → table ≤ n → id ≡ (n - since) % 8
+    → P n line → (k ≡ None) ⊎ (k ≡ Some (record { id = id; line = line })) → KeptIs P since top table k
+kept_one P since top table n id line k recent before behind own p (inl none) = kept_none P since top table k none
+kept_one P since top table n id line k recent before behind own p (inr e) =
+    subst (λ k. KeptIs P since top table k) (sym e) (record { number = n; recent = recent; before = before; behind = behind; id = own; line = p })
 
-  -- what the instrument keeps, if anything, is a line for request top - 1, with that request's id, and the line has the
-  -- property P
-  abbrev pub KeptIs : (ℕ → List ℕ → Type 0) → ℕ → ℕ → Option KeptReply → Type 0
-  KeptIs P since top None = Unit {0}
-  KeptIs P since top (Some k) = (since < top) × (k.id ≡ (top - 1 - since) % 8) × P (top - 1) k.line
+-- where what was kept stays, or nothing is kept any more, `KeptIs` lasts
+kept_still : (P : ℕ → List ℕ → Type 0) (since top table : ℕ) (k after : Option KeptReply) → (after ≡ None) ⊎ (after ≡ k) → KeptIs P since top table k → KeptIs P since top table after
+kept_still P since top table k after (inl none) h = kept_none P since top table after none
+kept_still P since top table k after (inr same) h = subst (λ k. KeptIs P since top table k) (sym same) h
 
-  -- where P implies Q, `KeptIs` of P gives `KeptIs` of Q
-  kept_more : (P Q : ℕ → List ℕ → Type 0) → ((n : ℕ) (line : List ℕ) → P n line → Q n line) → (since top : ℕ) (k : Option KeptReply) → KeptIs P since top k → KeptIs Q since top k
-  kept_more P Q f since top None h = tt
-  kept_more P Q f since top (Some k) h = (h.0, h.1, f (top - 1) k.line h.2)
+-- where more requests were handed, and none of them is known, `KeptIs` lasts
+kept_longer : (P : ℕ → List ℕ → Type 0) (since top next table : ℕ) (k : Option KeptReply) → top ≤ next → KeptIs P since top table k → KeptIs P since next table k
+kept_longer P since top next table None le h = tt
+kept_longer P since top next table (Some k) le h = record { number = h.number; recent = h.recent; before = omega (arith, h.before, le); behind = h.behind; id = h.id; line = h.line }
 
-  -- where nothing is kept, `KeptIs` holds
-  kept_none : (P : ℕ → List ℕ → Type 0) (since top : ℕ) (k : Option KeptReply) → k ≡ None → KeptIs P since top k
-  kept_none P since top k e = subst (λ k. KeptIs P since top k) (sym e) tt
+-- The newest known request.
 
-  -- where nothing is kept, or this line with the id of the last request, `KeptIs` holds
-  pub kept_one : (P : ℕ → List ℕ → Type 0) (since top id : ℕ) (line : List ℕ) (k : Option KeptReply) → since < top → id ≡ (top - 1 - since) % 8
-      → P (top - 1) line → (k ≡ None) ⊎ (k ≡ Some (record { id = id; line = line })) → KeptIs P since top k
-  kept_one P since top id line k low own p (inl none) = kept_none P since top k none
-  kept_one P since top id line k low own p (inr e) = subst (λ k. KeptIs P since top k) (sym e) (low, own, p)
+-- the number of the newest known request, once request n was handed; `known` says whether that is known
+abbrev pub newest : Bool → ℕ → ℕ → ℕ
+newest true n table = n
+newest false n table = table
 
-  -- where what was kept stays, or nothing is kept any more, `KeptIs` lasts
-  kept_still : (P : ℕ → List ℕ → Type 0) (since top : ℕ) (k after : Option KeptReply) → (after ≡ None) ⊎ (after ≡ k) → KeptIs P since top k → KeptIs P since top after
-  kept_still P since top k after (inl none) h = kept_none P since top after none
-  kept_still P since top k after (inr same) h = subst (λ k. KeptIs P since top k) (sym same) h
+-- the newest known request is none before
+newest_up : (known : Bool) (n table : ℕ) → table ≤ n → table ≤ newest known n table
+newest_up true n table le = le
+newest_up false n table le = omega arith
 
-  -- where no reply with the id of request n is kept, nothing is kept, or request n is later than all that the instrument was
-  -- handed
-  later_or_none : (P : ℕ → List ℕ → Type 0) (since top n id : ℕ) (k : Option KeptReply) → KeptIs P since top k → id ≡ (n - since) % 8 → top ≤ n + 1
-      → ((line : List ℕ) → k ≡ Some (record { id = id; line = line }) → ⊥) → (k ≡ None) ⊎ (top ≤ n)
-  later_or_none P since top n id None h mine le other = inl refl
-  later_or_none P since top n id (Some k) h mine le other =
-      inr (newer since top n id k h.1 h.0 mine le (λ same. other k.line (ap (λ i. Some (record { id = i; line = k.line })) same)))
+-- the newest known request isn't later than the last one
+newest_low : (known : Bool) (n table : ℕ) → table ≤ n → newest known n table ≤ n
+newest_low true n table le = omega arith
+newest_low false n table le = le
+
+-- request n isn't later than the newest known one (`table`), or it isn't known
+abbrev pub IsDealt : (Asked → Bool) → List Sent → ℕ → ℕ → Type 0
+IsDealt knows sent table n = (n ≤ table) ⊎ IsUnknown knows sent n
+
+-- the request handed last is `IsDealt`
+newest_dealt : (knows : Asked → Bool) (sent : List Sent) (known : Bool) (n table : ℕ) → ((known ≡ false) → IsUnknown knows sent n) → IsDealt knows sent (newest known n table) n
+newest_dealt knows sent true n table f = inl (omega arith)
+newest_dealt knows sent false n table f = inr (f refl)
+
+-- what is kept after request n was handed is its own line, or nothing; or, where it isn't known, what was kept: so `KeptIs` holds then
+kept_handed : (P Q : ℕ → List ℕ → Type 0) → ((n : ℕ) (line : List ℕ) → P n line → Q n line) → (since top table n id : ℕ) (known : Bool) (line : List ℕ) (k after : Option KeptReply)
+    → since ≤ n → top ≤ n + 1 → table ≤ n → id ≡ (n - since) % 8 → Q n line
+    → ((after ≡ None) ⊎ (after ≡ Some (record { id = id; line = line }))) ⊎ ((known ≡ false) × (after ≡ k)) → KeptIs P since top table k
+    → KeptIs Q since (n + 1) (newest known n table) after
+kept_handed P Q f since top table n id known line k after recent le low own p (inl now) h =
+    kept_one Q since (n + 1) (newest known n table) n id line after recent (omega arith) (newest_low known n table low) own p now
+kept_handed P Q f since top table n id known line k after recent le low own p (inr same) h =
+    subst (λ t. KeptIs Q since (n + 1) t after) (sym (ap (λ b. newest b n table) same.0))
+    (kept_longer Q since top (n + 1) table after le (kept_more P Q f since top table after (kept_still P since top table k after (inr same.1) h)))
+
+-- the line was made for request n, as its call was executed, and has the property M
+pub record IsVouched {State : Type 0} (ends : Ends State) (Good : State → Type 0) (M : ℕ → Asked → List ℕ → Type 0) (sent : List Sent) (executed : List ℕ)
+    (made : List (Numbered (List ℕ))) (n : ℕ) (line : List ℕ) : Type 0 where
+  pub among : Has (record { number = n; line = line }) made
+  pub acted : Has n executed
+  pub request : Sent
+  pub found : slice_get sent n ≡ Some request
+  pub reply : IsReplyTo ends Good request.call line
+  pub on : M n request.call line
+
+-- where the instrument executes the front request, x, when that is handed to it, its reply has the property M
+abbrev pub IsOn : {State : Type 0} → Ends State → (ℕ → Asked → List ℕ → Type 0) → World (ByNumber Asked) State → Numbered Request → Type 0
+IsOn ends M w x = (ends.handed w.wire.state x.line.id x.line.call).executed ≡ true → M x.number x.line.call (ends.handed w.wire.state x.line.id x.line.call).reply
+
+module _ {State : Type 0} (width : ℕ) (narrow : width ≤ 7) (knows : Asked → Bool) (ends : Ends State) (Good : State → Type 0)
+    (kept : State → Option KeptReply) (keeper : IsAnInstrumentFor ends Good kept knows) (low : ℕ) (E : ℕ → Type 0) (Plain : Type 0) (M : ℕ → Asked → List ℕ → Type 0) where
+  -- request n is `IsDealt`; and it is one of those that are excepted, or the line is vouched for as its reply
+  abbrev pub Vouched : List Sent → List ℕ → List (Numbered (List ℕ)) → ℕ → ℕ → List ℕ → Type 0
+  Vouched sent executed made table n line = IsDealt knows sent table n × (E n ⊎ IsVouched ends Good M sent executed made n line)
+
+  -- a line stays vouched for where further requests are sent
+  vouched_sent : (sent more : List Sent) (executed : List ℕ) (made : List (Numbered (List ℕ))) (table n : ℕ) (line : List ℕ)
+      → Vouched sent executed made table n line → Vouched (sent ++ more) executed made table n line
+  vouched_sent sent more executed made table n line h = (dealt h.0, own h.1) where
+    dealt : IsDealt knows sent table n → IsDealt knows (sent ++ more) table n
+    dealt (inl l) = inl l
+    dealt (inr u) = inr (unknown_more knows sent more n u)
+
+    own : E n ⊎ IsVouched ends Good M sent executed made n line → E n ⊎ IsVouched ends Good M (sent ++ more) executed made n line
+    own (inl e) = inl e
+    own (inr v) = inr (record { among = v.among; acted = v.acted; request = v.request; found = get_more sent more n v.request v.found; reply = v.reply; on = v.on })
+
+  -- a line stays vouched for where further requests are handed to the instrument
+  vouched_on : (sent : List Sent) (executed after : List ℕ) (made more : List (Numbered (List ℕ))) (table next n : ℕ) (line : List ℕ) → ((i : ℕ) → Has i executed → Has i after)
+      → table ≤ next → Vouched sent executed made table n line → Vouched sent after (made ++ more) next n line
+  vouched_on sent executed after made more table next n line lasts le h = (dealt h.0, own h.1) where
+    dealt : IsDealt knows sent table n → IsDealt knows sent next n
+    dealt (inl l) = inl (omega (arith, l, le))
+    dealt (inr u) = inr u
+
+    own : E n ⊎ IsVouched ends Good M sent executed made n line → E n ⊎ IsVouched ends Good M sent after (made ++ more) n line
+    own (inl e) = inl e
+    own (inr v) = inr (record { among = has_more _ made more v.among; acted = lasts n v.acted; request = v.request; found = v.found; reply = v.reply; on = v.on })
+
+  -- all requests are known (`Plain`), and the one handed last is the newest known one; or each request that isn't excepted is at most seven behind
+  -- the newest known one
+  abbrev pub IsNear : List Sent → ℕ → ℕ → Type 0
+  IsNear sent top table = (Plain × (top ≤ table + 1) × Each (λ (r : Sent). knows r.call ≡ true) sent) ⊎ ((n : ℕ) → E n ⊎ (n ≤ table + 7))
 
   -- the invariant, over the fields of a world: each reply under way, the kept reply `k`, and each answer is vouched for;
-  -- executions are in order, and each request acts once where the instrument keeps its reply
-  pub record IsTrue (since count : ℕ) (sent : List Sent) (executed starts : List ℕ) (made : List (Numbered (List ℕ))) (settled : List Settlement)
+  -- executions are in order, and each request acts once to which the instrument keeps its reply
+  pub record IsTrue (since count : ℕ) (sent : List Sent) (executed starts : List ℕ) (made : List (Numbered (List ℕ))) (settled : List (Settlement Asked))
       (up : List (Numbered Request)) (down : List (Numbered (List ℕ))) (k : Option KeptReply) : Type 0 where
     -- the number of the last request that the instrument was handed is one less than this
     pub top : ℕ
+    -- that of the newest known one
+    pub table : ℕ
     pub counted : count ≤ top
     pub within : top ≤ length sent
+    pub lower : table < top
+    pub least : low ≤ table + 1
     pub above : Each (λ x. top ≤ x.number + 1) up
     pub below : Each (λ x. x.number < top) down
-    pub holds : KeptIs (Vouched sent executed made) since top k
-    pub lines : Each (IsOf sent) up
-    pub coming : Each (λ x. Vouched sent executed made x.number x.line) down
-    pub answers : AllSo (Vouched sent executed made) 0 settled
+    pub holds : KeptIs (Vouched sent executed made table) since top table k
+    pub lines : Each (IsOf written sent) up
+    pub near : IsNear sent top table
+    pub coming : Each (λ x. Vouched sent executed made table x.number x.line) down
+    pub answers : AllSo (Vouched sent executed made table) 0 settled
     pub order : IsOrdered top executed
-    pub once : KeepsItsReply ends Good kept → IsClimbing top executed starts k
+    pub once : (keeps : Asked → Bool) → KeepsItsReply ends Good kept keeps → IsClimbing keeps ((top - 1 - since) % 8) top sent executed starts k
 
   -- the invariant of a world
-  abbrev pub True : World ByNumber State → Type 0
+  abbrev pub True : World (ByNumber Asked) State → Type 0
   True w = IsTrue w.client.since w.client.count w.wire.sent w.wire.executed w.wire.starts w.wire.made w.wire.settled w.wire.up w.wire.down (kept w.wire.state)
 
-  -- `IsTrue` lasts where a request goes out
-  true_sent : (since count : ℕ) (sent : List Sent) (executed starts : List ℕ) (made : List (Numbered (List ℕ))) (settled : List Settlement)
-      (up : List (Numbered Request)) (down : List (Numbered (List ℕ))) (k : Option KeptReply) (target id : ℕ) (call : Call) → id < 8
+  -- `IsTrue` lasts where a request goes out, which is known where all have to be
+  true_sent : (since count : ℕ) (sent : List Sent) (executed starts : List ℕ) (made : List (Numbered (List ℕ))) (settled : List (Settlement Asked))
+      (up : List (Numbered Request)) (down : List (Numbered (List ℕ))) (k : Option KeptReply) (target id : ℕ) (call : Asked) → id < 8 → (Plain → knows call ≡ true)
       → IsTrue since count sent executed starts made settled up down k
-      → IsTrue since count (sent ++ record { target = target; call = call; line = request_line (Some id) call } ∷ []) executed starts made settled
+      → IsTrue since count (sent ++ record { target = target; call = call; line = asked_line (Some id) call } ∷ []) executed starts made settled
       (up ++ record { number = length sent; line = record { id = id; call = call } } ∷ []) down k
-  true_sent since count sent executed starts made settled up down k target id call digit h =
-      let r : Sent = record { target = target; call = call; line = request_line (Some id) call } in
-      let P = Vouched sent executed made in
-      let Q = Vouched (sent ++ r ∷ []) executed made in
-      let f = vouched_sent sent (r ∷ []) executed made in
+  true_sent since count sent executed starts made settled up down k target id call digit plain h =
+      let r : Sent = record { target = target; call = call; line = asked_line (Some id) call } in
+      let P = Vouched sent executed made h.table in
+      let Q = Vouched (sent ++ r ∷ []) executed made h.table in
+      let f = vouched_sent sent (r ∷ []) executed made h.table in
       record {
         top = h.top;
+        table = h.table;
         counted = h.counted;
         within = omega (arith, h.within, length_push sent r);
+        lower = h.lower;
+        least = h.least;
         above = each_append _ up _ h.above (omega (arith, h.within), tt);
         below = h.below;
-        holds = kept_more P Q f since h.top k h.holds;
-        lines = each_append _ up _ (each_more _ _ (of_more sent (r ∷ [])) up h.lines) (record { request = r; found = get_push sent r; small = digit; call = refl; text = refl }, tt);
+        holds = kept_more P Q f since h.top h.table k h.holds;
+        lines = each_append _ up _ (each_more _ _ (of_more written sent (r ∷ [])) up h.lines) (record { request = r; found = get_push sent r; small = digit; call = refl; text = refl }, tt);
+        near = near_sent r plain h.near;
         coming = each_more (λ (x : Numbered (List ℕ)). P x.number x.line) (λ x. Q x.number x.line) (λ x. f x.number x.line) down h.coming;
         answers = all_so_more P Q f 0 settled h.answers;
         order = h.order;
-        once = h.once;
+        once = λ keeps is. climbing_sent keeps ((h.top - 1 - since) % 8) h.top sent (r ∷ []) executed starts k (h.once keeps is);
       }
+    where
+      near_sent : (r : Sent) → (Plain → knows r.call ≡ true) → IsNear sent h.top h.table → IsNear (sent ++ r ∷ []) h.top h.table
+      near_sent r plain (inl n) = inl (n.0, n.1, each_append (λ (r : Sent). knows r.call ≡ true) sent (r ∷ []) n.2 (plain n.0, tt))
+      near_sent r plain (inr n) = inr n
 
   -- `True` lasts where the client sends a request
-  true_send : (w : World ByNumber State) (target : ℕ) (call : Call) (deadline : ℕ) (full : Bool) (x : Sending ByNumber)
+  true_send : (w : World (ByNumber Asked) State) (target : ℕ) (call : Asked) (deadline : ℕ) (full : Bool) (x : Sending (ByNumber Asked)) → (Plain → knows call ≡ true)
       → number_send w.client target call deadline full ≡ Some x → True w → True (requested w target call (Some x))
-  true_send w target call deadline true x e h = cc
-  true_send w target call deadline false x e h =
+  true_send w target call deadline true x plain e h = cc
+  true_send w target call deadline false x plain e h =
       let c = w.client in
       let id = (length c.requests - c.since) % 8 in
-      let y : Sending ByNumber = record { id = id; client = record { count = c.count; requests = c.requests ++ pending_of target call deadline ∷ []; since = c.since } } in
+      let y : Sending (ByNumber Asked) = record { id = id; client = record { count = c.count; requests = c.requests ++ pending_of target call deadline ∷ []; since = c.since } } in
       subst (λ z. True (requested w target call (Some z))) (some_is y x e)
-      (true_sent c.since c.count w.wire.sent w.wire.executed w.wire.starts w.wire.made w.wire.settled w.wire.up w.wire.down (kept w.wire.state) target id call (omega arith) h)
+      (true_sent c.since c.count w.wire.sent w.wire.executed w.wire.starts w.wire.made w.wire.settled w.wire.up w.wire.down (kept w.wire.state) target id call (omega arith) plain h)
 
-  -- `IsTrue` lasts where a further line is made
-  true_made : (since count : ℕ) (sent : List Sent) (executed starts : List ℕ) (made : List (Numbered (List ℕ))) (settled : List Settlement)
-      (up : List (Numbered Request)) (down : List (Numbered (List ℕ))) (k : Option KeptReply) (m : Numbered (List ℕ))
-      → IsTrue since count sent executed starts made settled up down k → IsTrue since count sent executed starts (made ++ m ∷ []) settled up down k
-  true_made since count sent executed starts made settled up down k m h =
-      let P = Vouched sent executed made in
-      let Q = Vouched sent executed (made ++ m ∷ []) in
-      let f = vouched_made sent executed made (m ∷ []) in
-      record {
-        top = h.top;
-        counted = h.counted;
-        within = h.within;
-        above = h.above;
-        below = h.below;
-        holds = kept_more P Q f since h.top k h.holds;
-        lines = h.lines;
-        coming = each_more (λ (x : Numbered (List ℕ)). P x.number x.line) (λ x. Q x.number x.line) (λ x. f x.number x.line) down h.coming;
-        answers = all_so_more P Q f 0 settled h.answers;
-        order = h.order;
-        once = h.once;
-      }
+  -- A request that reaches the instrument.
 
-  -- `True` lasts where the request in front isn't executed, and the kept line is sent again for it
-  true_again : (w : World ByNumber State) (x : Numbered Request) (rest : List (Numbered Request)) (hd : Handed State) (k : Option KeptReply)
-      → kept w.wire.state ≡ k → w.wire.up ≡ x ∷ rest → k ≡ Some (record { id = x.line.id; line = hd.reply })
-      → (kept hd.state ≡ None) ⊎ (kept hd.state ≡ Some (record { id = x.line.id; line = hd.reply }))
-      → (KeepsItsReply ends Good kept → kept hd.state ≡ Some (record { id = x.line.id; line = hd.reply })) → Sound width ends Good w → True w
-      → True (on_wire w (replied w.wire x.number rest (record hd { executed = false })))
-  unfolding true_made
-  true_again w x rest hd None ke q e now always s h = let never : ⊥ = cc in absurd never
-  true_again w x rest hd (Some k) ke q e now always s h =
+  -- where request n is excepted, or at most seven behind the newest known one, and has the id of the request whose reply is kept, it is excepted or
+  -- it is that request
+  near_same : (since top table n : ℕ) (k : KeptReply) (P : ℕ → List ℕ → Type 0) → IsKept P since top table k → since ≤ n → top ≤ n + 1 → k.id ≡ (n - since) % 8
+      → E n ⊎ (n ≤ table + 7) → E n ⊎ P n k.line
+  near_same since top table n k P held recent le same (inl e) = inl e
+  near_same since top table n k P held recent le same (inr near) =
+      let one : held.number ≡ n = omega (arith, held.recent, held.before, held.behind, held.id, recent, le, same, near) in
+      inr (subst (λ i. P i k.line) one held.line)
+
+  -- what is near stays near where request n was handed, which is known where all are
+  near_on : (sent : List Sent) (top table n : ℕ) (known : Bool) → table ≤ n → (Each (λ (r : Sent). knows r.call ≡ true) sent → known ≡ true) → IsNear sent top table
+      → IsNear sent (n + 1) (newest known n table)
+  near_on sent top table n known low all (inl h) =
+      let is : n ≡ newest known n table = sym (ap (λ b. newest b n table) (all h.2)) in
+      inl (h.0, omega (arith, is), h.2)
+  near_on sent top table n known low all (inr f) = inr (λ i. elim (f i) [
+    | inl e ↦ inl e
+    | inr le ↦ inr (let up = newest_up known n table low in omega (arith, le, up))
+  ])
+
+  -- request n is excepted, or at most seven behind the newest known one: at most seven wait
+  near_of : (sent : List Sent) (top table n : ℕ) → n < top + 7 → IsNear sent top table → E n ⊎ (n ≤ table + 7)
+  near_of sent top table n few (inl h) = inr (omega (arith, few, h.1))
+  near_of sent top table n few (inr f) = f n
+
+  -- what `True` says of the front request, x
+  record IsFront (w : World (ByNumber Asked) State) (h : True w) (x : Numbered Request) (known : Bool) : Type 0 where
+    recent : w.client.since ≤ x.number
+    sent : x.number < length w.wire.sent
+    id : x.line.id ≡ (x.number - w.client.since) % 8
+    small : x.line.id < 8
+    top : h.top ≤ x.number + 1
+    least : h.table ≤ x.number
+    near : E x.number ⊎ (x.number ≤ h.table + 7)
+    of : IsOf written w.wire.sent x
+    unknown : (known ≡ false) → IsUnknown knows w.wire.sent x.number
+    all : Each (λ (r : Sent). knows r.call ≡ true) w.wire.sent → known ≡ true
+
+  -- each front request is so
+  front_is : (w : World (ByNumber Asked) State) (x : Numbered Request) (rest : List (Numbered Request)) (known : Bool) → w.wire.up ≡ x ∷ rest → knows x.line.call ≡ known → Sound width ends Good w
+      → (h : True w) → IsFront w h x known
+  front_is w x rest known q is s h =
       let c = w.client in
-      let v = w.wire in
-      let line = hd.reply in
-      let g = subst (λ l. Each (IsGoing c.since (length c.requests)) l) q s.going in
-      let a = subst (λ l. Each (λ y. h.top ≤ y.number + 1) l) q h.above in
-      let o = subst (λ l. Each (IsOf v.sent) l) q h.lines in
-      let held = subst (λ k. KeptIs (Vouched v.sent v.executed v.made) c.since h.top k) (ke ∙ e) h.holds in
-      let last : h.top - 1 ≡ x.number = omega (arith, held.0, held.1, g.0.id, g.0.recent, g.0.sent, s.few, h.counted, a.0, narrow) in
-      let m : Numbered (List ℕ) = record { number = x.number; line = line } in
-      let vouched : Vouched v.sent v.executed v.made x.number line = subst (λ n. Vouched v.sent v.executed v.made n line) last held.2 in
-      let t = true_made c.since c.count v.sent v.executed v.starts v.made v.settled v.up v.down (kept v.state) m h in
-      let more = vouched_made v.sent v.executed v.made (m ∷ []) x.number line vouched in
+      let g = (subst (λ l. Each (IsGoing c.since (length c.requests)) l) q s.going).0 in
+      let a = (subst (λ l. Each (λ y. h.top ≤ y.number + 1) l) q h.above).0 in
+      let o = (subst (λ l. Each (IsOf written w.wire.sent) l) q h.lines).0 in
       record {
-        top = h.top;
-        counted = h.counted;
-        within = h.within;
-        above = a.1;
-        below = each_append _ v.down _ h.below (omega (arith, last, held.0), tt);
-        holds = kept_one (Vouched v.sent v.executed (v.made ++ m ∷ [])) c.since h.top x.line.id line (kept hd.state) held.0 held.1
-            (subst (λ n. Vouched v.sent v.executed (v.made ++ m ∷ []) n line) (sym last) more) now;
-        lines = o.1;
-        coming = each_append _ v.down _ t.coming (more, tt);
-        answers = t.answers;
-        order = h.order;
-        once = λ keeps. climbing_kept h.top v.executed v.starts (kept v.state) (kept hd.state) (record { id = x.line.id; line = line }) (always keeps) (h.once keeps);
+        recent = g.recent;
+        sent = omega (arith, g.sent, s.counted);
+        id = g.id;
+        small = o.small;
+        top = a;
+        least = omega (arith, a, h.lower);
+        near = near_of w.wire.sent h.top h.table x.number (omega (arith, g.sent, s.few, h.counted, narrow)) h.near;
+        of = o;
+        unknown = λ not. (o.request, o.found, ap knows o.call ∙ is ∙ not);
+        all = λ every. sym is ∙ sym (ap knows o.call) ∙ each_get (λ (r : Sent). knows r.call ≡ true) w.wire.sent x.number o.request every o.found;
       }
 
-  -- `True` lasts where the request in front is executed
-  true_new : (w : World ByNumber State) (x : Numbered Request) (rest : List (Numbered Request)) (hd : Handed State) → w.wire.up ≡ x ∷ rest
-      → ends.handed w.wire.state x.line.id x.line.call ≡ hd → hd.executed ≡ true → M x.number x.line.call hd.reply → Sound width ends Good w → True w
-      → True (on_wire w (replied w.wire x.number rest (record hd { executed = true })))
-  true_new w x rest hd q is exe on s h =
+  -- `IsTrue` lasts where the front request, x, is handed to the instrument, if what it sends is vouched for, and the executions are in order and
+  -- act once
+  true_on : (w : World (ByNumber Asked) State) (x : Numbered Request) (rest : List (Numbered Request)) (known : Bool) (line executed : List ℕ) (after : Option KeptReply) → w.wire.up ≡ x ∷ rest
+      → (h : True w) → IsFront w h x known → Sound width ends Good w → ((i : ℕ) → Has i w.wire.executed → Has i executed)
+      → ((after ≡ None) ⊎ (after ≡ Some (record { id = x.line.id; line = line }))) ⊎ ((known ≡ false) × (after ≡ kept w.wire.state))
+      → E x.number ⊎ IsVouched ends Good M w.wire.sent executed (w.wire.made ++ record { number = x.number; line = line } ∷ []) x.number line
+      → IsOrdered (x.number + 1) executed
+      → ((keeps : Asked → Bool) → KeepsItsReply ends Good kept keeps → IsClimbing keeps ((x.number + 1 - 1 - w.client.since) % 8) (x.number + 1) w.wire.sent executed w.wire.starts after)
+      → IsTrue w.client.since w.client.count w.wire.sent executed w.wire.starts (w.wire.made ++ record { number = x.number; line = line } ∷ []) w.wire.settled rest
+      (w.wire.down ++ record { number = x.number; line = line } ∷ []) after
+  true_on w x rest known line executed after q h front s lasts now new order once =
       let c = w.client in
       let v = w.wire in
       let n = x.number in
-      let g = subst (λ l. Each (IsGoing c.since (length c.requests)) l) q s.going in
-      let a = subst (λ l. Each (λ y. h.top ≤ y.number + 1) l) q h.above in
-      let o = subst (λ l. Each (IsOf v.sent) l) q h.lines in
-      let order = rising_tail c.count n (numbers v.down) (numbers rest) (subst (λ l. Rising c.count (numbers v.down ++ numbers l)) q s.order) in
-      let now : (kept hd.state ≡ None) ⊎ (kept hd.state ≡ Some (record { id = x.line.id; line = hd.reply })) =
-      subst (λ (k : Handed State). (kept k.state ≡ None) ⊎ (kept k.state ≡ Some (record { id = x.line.id; line = k.reply }))) is (keeper.keeps v.state x.line.id x.line.call s.good o.0.small) in
-      let always : KeepsItsReply ends Good kept → kept hd.state ≡ Some (record { id = x.line.id; line = hd.reply }) =
-      λ keeps. subst (λ (k : Handed State). kept k.state ≡ Some (record { id = x.line.id; line = k.reply })) is (keeps.always v.state x.line.id x.line.call s.good o.0.small) in
-      let other : KeepsItsReply ends Good kept → (line : List ℕ) → kept v.state ≡ Some (record { id = x.line.id; line = line }) → ⊥ =
-      λ keeps line same. true_is_not (sym exe ∙ sym (ap (λ (k : Handed State). k.executed) is) ∙ keeps.again v.state x.line.id x.line.call line s.good o.0.small same) in
-      let m : Numbered (List ℕ) = record { number = n; line = hd.reply } in
-      let P = Vouched v.sent v.executed v.made in
-      let Q = Vouched v.sent (v.executed ++ n ∷ []) (v.made ++ m ∷ []) in
-      let f : (i : ℕ) (line : List ℕ) → P i line → Q i line = λ i line p. vouched_acted v.sent v.executed (n ∷ []) (v.made ++ m ∷ []) i line
-      (vouched_made v.sent v.executed v.made (m ∷ []) i line p) in
-      let new : Q n hd.reply = inr (record {
-        among = has_push m v.made;
-        acted = has_push n v.executed;
-        answer = record {
-          request = o.0.request;
-          found = o.0.found;
-          reply = record {
-            state = v.state;
-            good = s.good;
-            id = x.line.id;
-            small = o.0.small;
-            executed = ap (λ call. (ends.handed v.state x.line.id call).executed) o.0.call ∙ ap (λ (k : Handed State). k.executed) is ∙ exe;
-            reply = sym (ap (λ (k : Handed State). k.reply) is) ∙ ap (λ call. (ends.handed v.state x.line.id call).reply) (sym o.0.call);
-          };
-        };
-        on = subst (λ call. M n call hd.reply) (sym o.0.call) on;
-      }) in
-      let back : n ≡ n + 1 - 1 = omega arith in
+      let m : Numbered (List ℕ) = record { number = n; line = line } in
+      let next = newest known n h.table in
+      let up : h.table ≤ next = newest_up known n h.table front.least in
+      let P = Vouched v.sent v.executed v.made h.table in
+      let Q = Vouched v.sent executed (v.made ++ m ∷ []) next in
+      let f : (i : ℕ) (line : List ℕ) → P i line → Q i line = λ i line p. vouched_on v.sent v.executed executed v.made (m ∷ []) h.table next i line lasts up p in
+      let own : Q n line = (newest_dealt knows v.sent known n h.table front.unknown, new) in
+      let rising = rising_tail c.count n (numbers v.down) (numbers rest) (subst (λ l. Rising c.count (numbers v.down ++ numbers l)) q s.order) in
+      let o = subst (λ l. Each (IsOf written v.sent) l) q h.lines in
+      let low : next ≤ n = newest_low known n h.table front.least in
       record {
         top = n + 1;
-        counted = omega (arith, h.counted, a.0);
-        within = omega (arith, g.0.sent, s.counted);
-        above = rising_each (n + 1) rest order.1;
-        below = each_append _ v.down _ (each_more (λ (y : Numbered (List ℕ)). y.number < h.top) (λ y. y.number < n + 1) (λ y l. omega (arith, l, a.0)) v.down h.below) (omega arith, tt);
-        holds = kept_one Q c.since (n + 1) x.line.id hd.reply (kept hd.state) (omega (arith, g.0.recent)) (g.0.id ∙ ap (λ i. (i - c.since) % 8) back) (subst (λ i. Q i hd.reply) back new) now;
+        table = next;
+        counted = omega (arith, h.counted, front.top);
+        within = omega (arith, front.sent);
+        lower = omega (arith, low);
+        least = omega (arith, h.least, up);
+        above = rising_each (n + 1) rest rising.1;
+        below =
+            each_append _ v.down _ (each_more (λ (y : Numbered (List ℕ)). y.number < h.top) (λ y. y.number < n + 1) (λ y l. omega (arith, l, front.top)) v.down h.below)
+            (omega arith, tt);
+        holds = kept_handed P Q f c.since h.top h.table n x.line.id known line (kept v.state) after front.recent front.top front.least front.id own now h.holds;
         lines = o.1;
-        coming = each_append _ v.down _ (each_more (λ (y : Numbered (List ℕ)). P y.number y.line) (λ y. Q y.number y.line) (λ y. f y.number y.line) v.down h.coming) (new, tt);
+        near = near_on v.sent h.top h.table n known front.least front.all h.near;
+        coming = each_append _ v.down _ (each_more (λ (y : Numbered (List ℕ)). P y.number y.line) (λ y. Q y.number y.line) (λ y. f y.number y.line) v.down h.coming) (own, tt);
         answers = all_so_more P Q f 0 v.settled h.answers;
-        order = ordered_acted h.top n v.executed a.0 h.order;
-        once = λ keeps.
-            subst (λ k. IsClimbing (n + 1) (v.executed ++ n ∷ []) v.starts k) (sym (always keeps))
-            (climbing_acted h.top n v.executed v.starts (kept v.state) (record { id = x.line.id; line = hd.reply }) a.0
-            (later_or_none P c.since h.top n x.line.id (kept v.state) h.holds g.0.id a.0 (other keeps)) (h.once keeps));
+        order = order;
+        once = once;
       }
 
+  -- where the front request isn't executed, the line that is sent again is vouched for as its reply, or the request is excepted
+  again_own : (w : World (ByNumber Asked) State) (x : Numbered Request) (known : Bool) (line : List ℕ) (k : Option KeptReply) → (h : True w) → IsFront w h x known → kept w.wire.state ≡ k
+      → k ≡ Some (record { id = x.line.id; line = line })
+      → E x.number ⊎ IsVouched ends Good M w.wire.sent w.wire.executed (w.wire.made ++ record { number = x.number; line = line } ∷ []) x.number line
+  again_own w x known line None h front ke e = absurd (none_is_not (record { id = x.line.id; line = line }) e)
+  again_own w x known line (Some k) h front ke e =
+      let v = w.wire in
+      let m : Numbered (List ℕ) = record { number = x.number; line = line } in
+      let held = subst (λ k. KeptIs (Vouched v.sent v.executed v.made h.table) w.client.since h.top h.table k) (ke ∙ e) h.holds in
+      elim (near_same w.client.since h.top h.table x.number (record { id = x.line.id; line = line }) (Vouched v.sent v.executed v.made h.table) held front.recent front.top front.id front.near) [
+        | inl e ↦ inl e
+        | inr p ↦ (vouched_on v.sent v.executed v.executed v.made (m ∷ []) h.table h.table x.number line (λ i has. has) (omega arith) p).1
+      ]
+
+  -- what the instrument keeps after the front request
+  abbrev AfterIs : World (ByNumber Asked) State → Numbered Request → Handed State → Bool → Type 0
+  AfterIs w x hd known =
+      ((kept hd.state ≡ None) ⊎ (kept hd.state ≡ Some (record { id = x.line.id; line = hd.reply }))) ⊎ ((known ≡ false) × (kept hd.state ≡ kept w.wire.state))
+
+  -- where the instrument keeps its reply to a request that it knows, it keeps that to the front request, or doesn't know that
+  held_by : (w : World (ByNumber Asked) State) (x : Numbered Request) (hd : Handed State) (keeps : Asked → Bool) (b : Bool) → keeps x.line.call ≡ b → KeepsItsReply ends Good kept keeps
+      → ends.handed w.wire.state x.line.id x.line.call ≡ hd → Good w.wire.state → (since : ℕ) → x.line.id ≡ (x.number - since) % 8 → IsOf written w.wire.sent x
+      → IsUnknown keeps w.wire.sent x.number ⊎ ((kept hd.state ≡ Some (record { id = x.line.id; line = hd.reply })) × (x.line.id ≡ (x.number + 1 - 1 - since) % 8))
+  held_by w x hd keeps true e is handed good since own o =
+      let back : x.number ≡ x.number + 1 - 1 = omega arith in
+      inr (
+        subst (λ (k : Handed State). kept k.state ≡ Some (record { id = x.line.id; line = k.reply })) handed (is.always w.wire.state x.line.id x.line.call good o.small e),
+        own ∙ ap (λ i. (i - since) % 8) back,
+      )
+  held_by w x hd keeps false e is handed good since own o = inl (o.request, o.found, ap keeps o.call ∙ e)
+
+  -- `True` lasts where the request in front isn't executed, and the kept line is sent again for it
+  true_again : (w : World (ByNumber Asked) State) (x : Numbered Request) (rest : List (Numbered Request)) (hd : Handed State) (known : Bool) → w.wire.up ≡ x ∷ rest
+      → ends.handed w.wire.state x.line.id x.line.call ≡ hd → knows x.line.call ≡ known → kept w.wire.state ≡ Some (record { id = x.line.id; line = hd.reply }) → AfterIs w x hd known
+      → Sound width ends Good w → True w → True (on_wire w (replied w.wire x.number rest (record hd { executed = false })))
+  true_again w x rest hd known q is what same now s h =
+      let c = w.client in
+      let v = w.wire in
+      let front = front_is w x rest known q what s h in
+      true_on w x rest known hd.reply v.executed (kept hd.state) q h front s (λ i has. has) now (again_own w x known hd.reply (kept v.state) h front refl same)
+      (ordered_handed h.top x.number v.executed front.top h.order)
+      (λ keeps k. climbing_handed keeps ((h.top - 1 - c.since) % 8) ((x.number + 1 - 1 - c.since) % 8) h.top x.number v.sent v.executed v.starts (kept v.state) (kept hd.state)
+      (record { id = x.line.id; line = hd.reply }) front.top
+      (held_by w x hd keeps (keeps x.line.call) refl k is s.good c.since front.id front.of) (h.once keeps k))
+
+  -- where the front request is executed, it isn't one to which the instrument keeps its reply; or nothing was executed since the last start, or it is
+  -- later than all that were handed before, and its reply is kept
+  acted_by : (w : World (ByNumber Asked) State) (x : Numbered Request) (hd : Handed State) (known : Bool) (keeps : Asked → Bool) (b : Bool) → keeps x.line.call ≡ b
+      → KeepsItsReply ends Good kept keeps → ends.handed w.wire.state x.line.id x.line.call ≡ hd → hd.executed ≡ true → Good w.wire.state → (h : True w) → IsFront w h x known
+      → IsUnknown keeps w.wire.sent x.number
+      ⊎ ((IsIdle w.wire.executed w.wire.starts ⊎ (h.top ≤ x.number)) × (kept hd.state ≡ Some (record { id = x.line.id; line = hd.reply }))
+      × (x.line.id ≡ (x.number + 1 - 1 - w.client.since) % 8))
+  acted_by w x hd known keeps true e k is exe good h front =
+      let v = w.wire in
+      let o = front.of in
+      let back : x.number ≡ x.number + 1 - 1 = omega arith in
+      inr (
+        why_acted keeps w.client.since h.top x.number x.line.id v.sent v.executed v.starts (kept v.state) (known_not keeps v.sent x.number o.request o.found (ap keeps o.call ∙ e)) front.id front.top
+            (λ line same. true_is_not (sym exe ∙ sym (ap (λ (k : Handed State). k.executed) is) ∙ k.again v.state x.line.id x.line.call line good o.small e same)) (h.once keeps k),
+        subst (λ (k : Handed State). kept k.state ≡ Some (record { id = x.line.id; line = k.reply })) is (k.always v.state x.line.id x.line.call good o.small e),
+        front.id ∙ ap (λ i. (i - w.client.since) % 8) back,
+      )
+  acted_by w x hd known keeps false e k is exe good h front = inl (front.of.request, front.of.found, ap keeps front.of.call ∙ e)
+
+  -- `True` lasts where the request in front is executed
+  true_new : (w : World (ByNumber Asked) State) (x : Numbered Request) (rest : List (Numbered Request)) (hd : Handed State) (known : Bool) → w.wire.up ≡ x ∷ rest
+      → ends.handed w.wire.state x.line.id x.line.call ≡ hd → knows x.line.call ≡ known → hd.executed ≡ true → M x.number x.line.call hd.reply → AfterIs w x hd known
+      → Sound width ends Good w → True w → True (on_wire w (replied w.wire x.number rest (record hd { executed = true })))
+  true_new w x rest hd known q is what exe on now s h =
+      let c = w.client in
+      let v = w.wire in
+      let n = x.number in
+      let front = front_is w x rest known q what s h in
+      let o = front.of in
+      let m : Numbered (List ℕ) = record { number = n; line = hd.reply } in
+      true_on w x rest known hd.reply (v.executed ++ n ∷ []) (kept hd.state) q h front s (λ i has. has_more i v.executed (n ∷ []) has) now
+      (inr (record {
+        among = has_push m v.made;
+        acted = has_push n v.executed;
+        request = o.request;
+        found = o.found;
+        reply = record {
+          state = v.state;
+          good = s.good;
+          id = x.line.id;
+          small = o.small;
+          executed = ap (λ call. (ends.handed v.state x.line.id call).executed) o.call ∙ ap (λ (k : Handed State). k.executed) is ∙ exe;
+          reply = sym (ap (λ (k : Handed State). k.reply) is) ∙ ap (λ call. (ends.handed v.state x.line.id call).reply) (sym o.call);
+        };
+        on = subst (λ call. M n call hd.reply) (sym o.call) on;
+      }))
+      (ordered_acted h.top n v.executed front.top h.order)
+      (λ keeps k. climbing_acted keeps ((h.top - 1 - c.since) % 8) ((n + 1 - 1 - c.since) % 8) h.top n v.sent v.executed v.starts (kept v.state) (kept hd.state)
+      (record { id = x.line.id; line = hd.reply }) front.top (acted_by w x hd known keeps (keeps x.line.call) refl k is exe s.good h front) (h.once keeps k))
+
   -- `True` lasts where the request in front is handed to the instrument, whether that executes the request (`b`) or not
-  true_handed : (w : World ByNumber State) (x : Numbered Request) (rest : List (Numbered Request)) (hd : Handed State) (b : Bool) → w.wire.up ≡ x ∷ rest
+  true_handed : (w : World (ByNumber Asked) State) (x : Numbered Request) (rest : List (Numbered Request)) (hd : Handed State) (b : Bool) → w.wire.up ≡ x ∷ rest
       → ends.handed w.wire.state x.line.id x.line.call ≡ hd → hd.executed ≡ b → (hd.executed ≡ true → M x.number x.line.call hd.reply)
       → Sound width ends Good w → True w → True (on_wire w (replied w.wire x.number rest (record hd { executed = b })))
-  true_handed w x rest hd false q is not on s h =
-      let v = w.wire in
-      let o = subst (λ l. Each (IsOf v.sent) l) q h.lines in
-      let same : kept v.state ≡ Some (record { id = x.line.id; line = hd.reply }) =
-      subst (λ (k : Handed State). k.executed ≡ false → kept v.state ≡ Some (record { id = x.line.id; line = k.reply })) is (keeper.repeats v.state x.line.id x.line.call s.good o.0.small) not in
-      let now : (kept hd.state ≡ None) ⊎ (kept hd.state ≡ Some (record { id = x.line.id; line = hd.reply })) =
-      subst (λ (k : Handed State). (kept k.state ≡ None) ⊎ (kept k.state ≡ Some (record { id = x.line.id; line = k.reply }))) is (keeper.keeps v.state x.line.id x.line.call s.good o.0.small) in
-      let always : KeepsItsReply ends Good kept → kept hd.state ≡ Some (record { id = x.line.id; line = hd.reply }) =
-      λ keeps. subst (λ (k : Handed State). kept k.state ≡ Some (record { id = x.line.id; line = k.reply })) is (keeps.always v.state x.line.id x.line.call s.good o.0.small) in
-      true_again w x rest hd (kept v.state) refl q same now always s h
-  true_handed w x rest hd true q is exe on s h = true_new w x rest hd q is exe (on exe) s h
+  true_handed w x rest hd b q is exe on s h = chosen b exe where
+    small : x.line.id < 8
+    small = (subst (λ l. Each (IsOf written w.wire.sent) l) q h.lines).0.small
+
+    now : AfterIs w x hd (knows x.line.call)
+    now =
+        subst (λ (k : Handed State).
+        ((kept k.state ≡ None) ⊎ (kept k.state ≡ Some (record { id = x.line.id; line = k.reply }))) ⊎ ((knows x.line.call ≡ false) × (kept k.state ≡ kept w.wire.state)))
+        is (keeper.keeps w.wire.state x.line.id x.line.call s.good small)
+
+    same : hd.executed ≡ false → kept w.wire.state ≡ Some (record { id = x.line.id; line = hd.reply })
+    same not =
+        subst (λ (k : Handed State). k.executed ≡ false → kept w.wire.state ≡ Some (record { id = x.line.id; line = k.reply })) is
+        (keeper.repeats w.wire.state x.line.id x.line.call s.good small) not
+
+    chosen : (b : Bool) → hd.executed ≡ b → True (on_wire w (replied w.wire x.number rest (record hd { executed = b })))
+    chosen false not = true_again w x rest hd (knows x.line.call) q is refl (same not) now s h
+    chosen true exe = true_new w x rest hd (knows x.line.call) q is refl exe (on exe) now s h
 
   -- `True` lasts where the reply in front comes, be its request settled already (`old`) or not
-  true_reply : (w : World ByNumber State) (x : Numbered (List ℕ)) (rest : List (Numbered (List ℕ))) (old : Bool) → ltb x.number w.client.count ≡ old
+  true_reply : (w : World (ByNumber Asked) State) (x : Numbered (List ℕ)) (rest : List (Numbered (List ℕ))) (old : Bool) → ltb x.number w.client.count ≡ old
       → w.wire.down ≡ x ∷ rest → length w.wire.settled ≡ w.client.count → True w
       → True (with_settled (record w.wire { down = rest }) (number_reply w.client x old))
   true_reply w x rest true t e s h =
       let v = w.wire in
-      let P = Vouched v.sent v.executed v.made in
+      let P = Vouched v.sent v.executed v.made h.table in
       let b = subst (λ q. Each (λ y. y.number < h.top) q) e h.below in
       let m = subst (λ q. Each (λ y. P y.number y.line) q) e h.coming in
       record {
         top = h.top;
+        table = h.table;
         counted = h.counted;
         within = h.within;
+        lower = h.lower;
+        least = h.least;
         above = h.above;
         below = b.1;
         holds = h.holds;
         lines = h.lines;
+        near = h.near;
         coming = m.1;
         answers = all_so_append P 0 w.client.count v.settled [] (omega (arith, s)) h.answers tt;
         order = h.order;
@@ -321,18 +492,22 @@ module _ {State : Type 0} (width : ℕ) (narrow : width ≤ 7) (ends : Ends Stat
       }
   true_reply w x rest false t e s h =
       let v = w.wire in
-      let P = Vouched v.sent v.executed v.made in
+      let P = Vouched v.sent v.executed v.made h.table in
       let b = subst (λ q. Each (λ y. y.number < h.top) q) e h.below in
       let m = subst (λ q. Each (λ y. P y.number y.line) q) e h.coming in
       let ge : w.client.count ≤ x.number = ltb-false _ _ t in
       record {
         top = h.top;
+        table = h.table;
         counted = omega (arith, b.0);
         within = h.within;
+        lower = h.lower;
+        least = h.least;
         above = h.above;
         below = b.1;
         holds = h.holds;
         lines = h.lines;
+        near = h.near;
         coming = m.1;
         answers =
             all_so_append P 0 w.client.count v.settled _ (omega (arith, s)) h.answers
@@ -342,108 +517,116 @@ module _ {State : Type 0} (width : ℕ) (narrow : width ≤ 7) (ends : Ends Stat
       }
 
   -- `True` lasts where the instrument starts anew, whatever is under way
-  pub true_started : (w : World ByNumber State) (b : Bool) → Good w.wire.state → True w → True (on_wire w (started ends w.wire b))
+  pub true_started : (w : World (ByNumber Asked) State) (b : Bool) → Good w.wire.state → True w → True (on_wire w (started ends w.wire b))
   true_started w false good h = h
   true_started w true good h =
       let v = w.wire in
       record {
         top = h.top;
+        table = h.table;
         counted = h.counted;
         within = h.within;
+        lower = h.lower;
+        least = h.least;
         above = h.above;
         below = h.below;
-        holds = kept_still (Vouched v.sent v.executed v.made) w.client.since h.top (kept v.state) (kept (ends.restarted v.state)) (keeper.starts v.state good) h.holds;
+        holds =
+            kept_still (Vouched v.sent v.executed v.made h.table) w.client.since h.top h.table (kept v.state) (kept (ends.restarted v.state)) (keeper.starts v.state good) h.holds;
         lines = h.lines;
+        near = h.near;
         coming = h.coming;
         answers = h.answers;
         order = h.order;
-        once = λ keeps. climbing_started h.top v.executed v.starts (kept v.state) (kept (ends.restarted v.state)) (h.once keeps);
+        once = λ keeps k.
+            climbing_started keeps ((h.top - 1 - w.client.since) % 8) h.top v.sent v.executed v.starts (kept v.state) (kept (ends.restarted v.state)) (keeper.starts v.state good) (h.once keeps k);
       }
 
   -- `True` lasts where the instrument's state changes by itself
-  pub true_changed : (w : World ByNumber State) (state : State) → kept state ≡ kept w.wire.state → True w → True (on_wire w (record w.wire { state = state }))
+  pub true_changed : (w : World (ByNumber Asked) State) (state : State) → kept state ≡ kept w.wire.state → True w → True (on_wire w (record w.wire { state = state }))
   true_changed w state same h =
       let v = w.wire in
       record {
         top = h.top;
+        table = h.table;
         counted = h.counted;
         within = h.within;
+        lower = h.lower;
+        least = h.least;
         above = h.above;
         below = h.below;
-        holds = kept_still (Vouched v.sent v.executed v.made) w.client.since h.top (kept v.state) (kept state) (inr same) h.holds;
+        holds = kept_still (Vouched v.sent v.executed v.made h.table) w.client.since h.top h.table (kept v.state) (kept state) (inr same) h.holds;
         lines = h.lines;
+        near = h.near;
         coming = h.coming;
         answers = h.answers;
         order = h.order;
-        once = λ keeps. subst (λ k. IsClimbing h.top v.executed v.starts k) (sym same) (h.once keeps);
+        once = λ keeps k. subst (λ o. IsClimbing keeps ((h.top - 1 - w.client.since) % 8) h.top v.sent v.executed v.starts o) (sym same) (h.once keeps k);
       }
 
   -- `True` lasts where the lines under way change, if those that are under way now still have what the invariant says of each
-  true_queues : (w : World ByNumber State) (up : List (Numbered Request)) (down : List (Numbered (List ℕ))) (h : True w)
-      → Each (λ x. h.top ≤ x.number + 1) up → Each (IsOf w.wire.sent) up → Each (λ x. x.number < h.top) down
-      → Each (λ x. Vouched w.wire.sent w.wire.executed w.wire.made x.number x.line) down → True (on_wire w (record w.wire { up = up; down = down }))
+  true_queues : (w : World (ByNumber Asked) State) (up : List (Numbered Request)) (down : List (Numbered (List ℕ))) (h : True w)
+      → Each (λ x. h.top ≤ x.number + 1) up → Each (IsOf written w.wire.sent) up → Each (λ x. x.number < h.top) down
+      → Each (λ x. Vouched w.wire.sent w.wire.executed w.wire.made h.table x.number x.line) down → True (on_wire w (record w.wire { up = up; down = down }))
   true_queues w up down h a l b c = record {
     top = h.top;
+    table = h.table;
     counted = h.counted;
     within = h.within;
+    lower = h.lower;
+    least = h.least;
     above = a;
     below = b;
     holds = h.holds;
     lines = l;
-    coming =
-        c;
+    near = h.near;
+    coming = c;
     answers = h.answers;
     order = h.order;
     once = h.once;
   }
 
   -- `True` lasts over a step that does nothing but count itself
-  true_idle : (w : World ByNumber State) → True w → True (on_wire w (idle w.wire))
+  true_idle : (w : World (ByNumber Asked) State) → True w → True (on_wire w (idle w.wire))
   true_idle w h = h
 
   -- A move of the line, and a reply that comes.
 
-  -- where the instrument executes the front request, when that is handed to it, its reply has the property M
-  abbrev pub IsOn : World ByNumber State → Numbered Request → Type 0
-  IsOn w x =
-      (ends.handed w.wire.state x.line.id x.line.call).executed ≡ true → M x.number x.line.call (ends.handed w.wire.state x.line.id x.line.call).reply
-
   -- `True` lasts where the request in front reaches the instrument, if `IsOn` holds of it
-  pub true_up : (w : World ByNumber State) (q : List (Numbered Request)) → w.wire.up ≡ q
-      → ((x : Numbered Request) (rest : List (Numbered Request)) → q ≡ x ∷ rest → IsOn w x) → Sound width ends Good w → True w
+  pub true_up : (w : World (ByNumber Asked) State) (q : List (Numbered Request)) → w.wire.up ≡ q
+      → ((x : Numbered Request) (rest : List (Numbered Request)) → q ≡ x ∷ rest → IsOn ends M w x) → Sound width ends Good w → True w
       → True (on_wire w (up_delivered ends w.wire q))
   true_up w [] e on s h = true_idle w h
   true_up w (x ∷ rest) e on s h =
       true_handed w x rest (ends.handed w.wire.state x.line.id x.line.call) (ends.handed w.wire.state x.line.id x.line.call).executed e refl refl (on x rest refl) s h
 
   -- `True` lasts where the reply in front comes
-  pub true_down : (w : World ByNumber State) (q : List (Numbered (List ℕ))) → w.wire.down ≡ q → Sound width ends Good w → True w → True (down_delivered (by_numbers width) w q)
+  pub true_down : (w : World (ByNumber Asked) State) (q : List (Numbered (List ℕ))) → w.wire.down ≡ q → Sound width ends Good w → True w → True (down_delivered (by_numbers width) w q)
   true_down w [] e s h = true_idle w h
   true_down w (x ∷ rest) e s h = true_reply w x rest (ltb x.number w.client.count) refl e s.booked h
 
   -- `True` lasts over a loss or a repeat of a request under way; where there is none at that place (`b` is false), nothing
   -- happens
-  true_with_up : (w : World ByNumber State) (up : List (Numbered Request)) (b : Bool) (h : True w)
-      → Each (λ x. h.top ≤ x.number + 1) up → Each (IsOf w.wire.sent) up → True (on_wire w (with_up w.wire up b))
+  true_with_up : (w : World (ByNumber Asked) State) (up : List (Numbered Request)) (b : Bool) (h : True w)
+      → Each (λ x. h.top ≤ x.number + 1) up → Each (IsOf written w.wire.sent) up → True (on_wire w (with_up w.wire up b))
   true_with_up w up false h a l = true_idle w h
   true_with_up w up true h a l = true_queues w up w.wire.down h a l h.below h.coming
 
   -- `True` lasts over a loss or a repeat of a reply under way; where there is none at that place (`b` is false), nothing happens
-  true_with_down : (w : World ByNumber State) (down : List (Numbered (List ℕ))) (b : Bool) (h : True w)
-      → Each (λ x. x.number < h.top) down → Each (λ x. Vouched w.wire.sent w.wire.executed w.wire.made x.number x.line) down
+  true_with_down : (w : World (ByNumber Asked) State) (down : List (Numbered (List ℕ))) (b : Bool) (h : True w)
+      → Each (λ x. x.number < h.top) down → Each (λ x. Vouched w.wire.sent w.wire.executed w.wire.made h.table x.number x.line) down
       → True (on_wire w (with_down w.wire down b))
   true_with_down w down false h l c = true_idle w h
   true_with_down w down true h l c = true_queues w w.wire.up down h h.above h.lines l c
 
   -- `True` lasts over a send, refused or not
-  pub true_requested : (w : World ByNumber State) (target : ℕ) (call : Call) (deadline : ℕ) (o : Option (Sending ByNumber))
+  pub true_requested : (w : World (ByNumber Asked) State) (target : ℕ) (call : Asked) (deadline : ℕ) (o : Option (Sending (ByNumber Asked))) → (Plain → knows call ≡ true)
       → (by_numbers width).send w.client target call deadline ≡ o → True w → True (requested w target call o)
-  true_requested w target call deadline None e h = h
-  true_requested w target call deadline (Some x) e h = true_send w target call deadline (eqb (length w.client.requests - w.client.count) width) x e h
+  true_requested w target call deadline None plain e h = h
+  true_requested w target call deadline (Some x) plain e h = true_send w target call deadline (eqb (length w.client.requests - w.client.count) width) x plain e h
 
   -- `True` lasts over a step of the line
-  pub true_line : (w : World ByNumber State) (step : Step) → IsOfLine step
-      → ((x : Numbered Request) (rest : List (Numbered Request)) → step ≡ Up_deliver → w.wire.up ≡ x ∷ rest → IsOn w x) → Sound width ends Good w → True w
+  pub true_line : (w : World (ByNumber Asked) State) (step : Step) → IsOfLine step
+      → ((x : Numbered Request) (rest : List (Numbered Request)) → step ≡ Up_deliver → w.wire.up ≡ x ∷ rest → IsOn ends M w x) → Sound width ends Good w → True w
       → True (happens ends (by_numbers width) w step)
   true_line w (Send target call deadline) p on s h = absurd p
   true_line w Up_deliver p on s h = true_up w w.wire.up refl (λ x rest e. on x rest refl e) s h

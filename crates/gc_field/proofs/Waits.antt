@@ -2,18 +2,18 @@
 use Rattle.std.proofs.Common.{◌≡◌, ℕ, zero, suc, ◌+◌, ◌-◌, ◌≤◌, Bool, true, false, ◌||◌, List, [], ◌∷◌, ◌++◌, length, map, drop, Option, Some, None, nat_le, nat_lt, nat_eq, refl, ◌∙◌, ap, subst, arith, length-append, append-nil}
 use Rattle.std.specs.Prelude.{slice_get}
 use Rattle.std.proofs.lemmas.Bool.{ltb-true}
-use Rattle.gc_catalogue.specs.declared.call.Call.{Call}
+use Rattle.gc_catalogue.specs.declared.asked.Asked.{Asked}
 use Rattle.gc_client.specs.declared.pending.Pending.{Pending}
 use Rattle.gc_client.specs.Rule.{ById, Settlement, expired, hears, id_send, id_settled, pending_of, place_in, settle}
 use Rattle.gc_instrument.specs.State.{KeptReply}
 use Rattle.gc_world.specs.Clients.{by_ids}
-use Rattle.gc_world.specs.World.{Ends, Numbered, Request, Step, Send, Up_deliver, Up_lose, Up_repeat, Down_deliver, Down_lose, Down_repeat, Expire, Restart_client, Restart_instrument, Nothing, World, without, doubled, up_delivered, with_up, with_down, on_wire, requested, down_delivered}
+use Rattle.gc_field.specs.World.{Ends, Numbered, Request, Step, Send, Up_deliver, Up_lose, Up_repeat, Down_deliver, Down_lose, Down_repeat, Expire, Restart_client, Restart_instrument, Nothing, World, without, doubled, up_delivered, with_up, with_down, on_wire, requested, down_delivered}
 use Rattle.gc_world.proofs.Rows.{length-settle}
 use Rattle.gc_field.specs.Field.{Move, Sends, Tells, Comes, Foreign, OnLine, Anew, Changes, Joins, IsOfLine, moves, moved, ArePossible}
 use Rattle.gc_field.specs.Runs.{gives_up}
 
 -- what these moves make of a request that waits: a moment at or past its deadline gives it up, and nothing else changes it
-abbrev pub after_moves : {State : Type 0} → Pending → List (Move State) → Pending
+abbrev pub after_moves : {State : Type 0} → Pending Asked → List (Move State) → Pending Asked
 after_moves p [] = p
 after_moves p (Tells now ∷ ms) = after_moves (expired now p) ms
 after_moves p (Sends target call deadline ∷ ms) = after_moves p ms
@@ -35,7 +35,7 @@ or_none true = refl
 or_none false = refl
 
 -- a request is given up after moves if it was before, or if a moment at or past its deadline is told
-pub after_is : {State : Type 0} (p : Pending) (ms : List (Move State)) → after_moves p ms ≡ record p { given_up = p.given_up || gives_up p.deadline ms }
+pub after_is : {State : Type 0} (p : Pending Asked) (ms : List (Move State)) → after_moves p ms ≡ record p { given_up = p.given_up || gives_up p.deadline ms }
 after_is p [] = ap (λ b. record p { given_up = b }) (or_none p.given_up)
 after_is p (Tells now ∷ ms) = after_is (expired now p) ms ∙ ap (λ b. record p { given_up = b }) (or_assoc p.given_up (nat_le p.deadline now) (gives_up p.deadline ms))
 after_is p (Sends target call deadline ∷ ms) = after_is p ms
@@ -48,43 +48,44 @@ after_is p (Joins line ∷ ms) = after_is p ms
 
 -- where request n isn't settled yet (the first `size` requests are), it waits as `p`, at its place in the list of those that
 -- wait
-abbrev pub WaitsAt : ℕ → List Pending → ℕ → Pending → Type 0
+abbrev pub WaitsAt : ℕ → List (Pending Asked) → ℕ → Pending Asked → Type 0
 WaitsAt size waiting n p = size ≤ n → slice_get waiting (n - size) ≡ Some p
 
 -- in this world request n, if it isn't settled yet, waits as `p`, at its place
-abbrev pub Waits : {State : Type 0} → World ById State → ℕ → Pending → Type 0
+abbrev pub Waits : {State : Type 0} → World (ById Asked) State → ℕ → Pending Asked → Type 0
 Waits w n p = WaitsAt (length w.wire.settled) w.client.waiting n p
 
 -- what is at a place of a list is there when another list follows
-get_front : (xs ys : List Pending) (k : ℕ) (p : Pending) → slice_get xs k ≡ Some p → slice_get (xs ++ ys) k ≡ Some p
+get_front : (xs ys : List (Pending Asked)) (k : ℕ) (p : Pending Asked) → slice_get xs k ≡ Some p → slice_get (xs ++ ys) k ≡ Some p
 get_front [] ys k p e = cc
 get_front (x ∷ xs) ys zero p e = e
 get_front (x ∷ xs) ys (suc k) p e = get_front xs ys k p e
 
 -- what is at place j + i of a list is at place i after its first j elements
-get_behind : (j i n : ℕ) (xs : List Pending) (p : Pending) → n ≡ j + i → slice_get xs n ≡ Some p → slice_get (drop j xs) i ≡ Some p
+get_behind : (j i n : ℕ) (xs : List (Pending Asked)) (p : Pending Asked) → n ≡ j + i → slice_get xs n ≡ Some p → slice_get (drop j xs) i ≡ Some p
 get_behind zero i n xs p e got = let same : n ≡ i = omega (arith, e) in subst (λ k. slice_get xs k ≡ Some p) same got
 get_behind (suc j) i zero xs p e got = absurd (omega (arith, e))
 get_behind (suc j) i (suc n) [] p e got = cc
 get_behind (suc j) i (suc n) (x ∷ xs) p e got = get_behind j i n xs p (omega (arith, e)) got
 
 -- where a moment is told to each request of a list, the one at a place is what the moment makes of the request that was there
-get_map : (now : ℕ) (xs : List Pending) (k : ℕ) (p : Pending) → slice_get xs k ≡ Some p → slice_get (map (expired now) xs) k ≡ Some (expired now p)
+get_map : (now : ℕ) (xs : List (Pending Asked)) (k : ℕ) (p : Pending Asked) → slice_get xs k ≡ Some p → slice_get (map (expired now) xs) k ≡ Some (expired now p)
 get_map now [] k p e = cc
 get_map now (x ∷ xs) zero p e = same x p e where
-  same : (x p : Pending) → Some x ≡ Some p → Some (expired now x) ≡ Some (expired now p)
+  same : (x p : Pending Asked) → Some x ≡ Some p → Some (expired now x) ≡ Some (expired now p)
   same x p e = cc
 get_map now (x ∷ xs) (suc k) p e = get_map now xs k p e
 
 -- the last element of a list is at the place that its length says
-pub get_last : (xs : List Pending) (n : ℕ) (p : Pending) → n ≡ length xs → slice_get (xs ++ p ∷ []) n ≡ Some p
+pub get_last : (xs : List (Pending Asked)) (n : ℕ) (p : Pending Asked) → n ≡ length xs → slice_get (xs ++ p ∷ []) n ≡ Some p
 get_last [] zero p e = refl
 get_last [] (suc n) p e = absurd (omega (arith, e))
 get_last (x ∷ xs) zero p e = absurd (omega (arith, e))
 get_last (x ∷ xs) (suc n) p e = get_last xs n p (omega (arith, e))
 
 -- a request that a reply with an id leaves unsettled waits on
-waits_settled : (c : ById) (line : List ℕ) (k : ℕ) (b : Bool) (before : List Settlement) (n : ℕ) (p : Pending) → nat_lt k (length c.waiting) ≡ b → WaitsAt (length before) c.waiting n p
+waits_settled : (c : ById Asked) (line : List ℕ) (k : ℕ) (b : Bool) (before : List (Settlement Asked)) (n : ℕ) (p : Pending Asked) → nat_lt k (length c.waiting) ≡ b
+    → WaitsAt (length before) c.waiting n p
     → WaitsAt (length (before ++ (id_settled c line k b).settlements)) (id_settled c line k b).client.waiting n p
 waits_settled c line k true before n p fits h = λ le.
     let low = ltb-true k (length c.waiting) fits in
@@ -97,7 +98,7 @@ waits_settled c line k false before n p fits h = λ le.
     subst (λ i. slice_get c.waiting i ≡ Some p) same (h (omega (arith, size, le)))
 
 -- a request that a line leaves unsettled, with an id or without, waits on
-waits_heard : (c : ById) (line : List ℕ) (o : Option ℕ) (before : List Settlement) (n : ℕ) (p : Pending) → WaitsAt (length before) c.waiting n p
+waits_heard : (c : ById Asked) (line : List ℕ) (o : Option ℕ) (before : List (Settlement Asked)) (n : ℕ) (p : Pending Asked) → WaitsAt (length before) c.waiting n p
     → WaitsAt (length (before ++ (hears c line o).settlements)) (hears c line o).client.waiting n p
 waits_heard c line None before n p h = λ le.
     let size : length (before ++ []) ≡ length before = ap length (append-nil before) in
@@ -107,33 +108,33 @@ waits_heard c line (Some id) before n p h = waits_settled c line (place_in c id)
 
 module _ {State : Type 0} (ends : Ends State) (Good : State → Type 0) (kept : State → Option KeptReply) where
   -- a request waits on where a reply comes
-  waits_came : (w : World ById State) (q : List (Numbered (List ℕ))) (n : ℕ) (p : Pending) → Waits w n p → Waits (down_delivered (by_ids 7 ends) w q) n p
+  waits_came : (w : World (ById Asked) State) (q : List (Numbered (List ℕ))) (n : ℕ) (p : Pending Asked) → Waits w n p → Waits (down_delivered (by_ids 7 ends) w q) n p
   waits_came w [] n p h = h
   waits_came w (x ∷ rest) n p h = waits_heard w.client x.line (ends.heard x.line) w.wire.settled n p h
 
   -- a request waits on where another is sent
-  waits_sent : (w : World ById State) (target : ℕ) (call : Call) (deadline : ℕ) (b : Bool) (n : ℕ) (p : Pending) → Waits w n p
+  waits_sent : (w : World (ById Asked) State) (target : ℕ) (call : Asked) (deadline : ℕ) (b : Bool) (n : ℕ) (p : Pending Asked) → Waits w n p
       → Waits (requested w target call (id_send w.client target call deadline b)) n p
   waits_sent w target call deadline true n p h = h
   waits_sent w target call deadline false n p h = λ le. get_front w.client.waiting (pending_of target call deadline ∷ []) (n - length w.wire.settled) p (h le)
 
   -- a request waits on where another one reaches the instrument
-  waits_up : (w : World ById State) (q : List (Numbered Request)) (n : ℕ) (p : Pending) → Waits w n p → Waits (on_wire w (up_delivered ends w.wire q)) n p
+  waits_up : (w : World (ById Asked) State) (q : List (Numbered Request)) (n : ℕ) (p : Pending Asked) → Waits w n p → Waits (on_wire w (up_delivered ends w.wire q)) n p
   waits_up w [] n p h = h
   waits_up w (x ∷ rest) n p h = h
 
   -- a request waits on where the requests under way change
-  waits_with_up : (w : World ById State) (q : List (Numbered Request)) (b : Bool) (n : ℕ) (p : Pending) → Waits w n p → Waits (on_wire w (with_up w.wire q b)) n p
+  waits_with_up : (w : World (ById Asked) State) (q : List (Numbered Request)) (b : Bool) (n : ℕ) (p : Pending Asked) → Waits w n p → Waits (on_wire w (with_up w.wire q b)) n p
   waits_with_up w q true n p h = h
   waits_with_up w q false n p h = h
 
   -- a request waits on where the replies under way change
-  waits_with_down : (w : World ById State) (q : List (Numbered (List ℕ))) (b : Bool) (n : ℕ) (p : Pending) → Waits w n p → Waits (on_wire w (with_down w.wire q b)) n p
+  waits_with_down : (w : World (ById Asked) State) (q : List (Numbered (List ℕ))) (b : Bool) (n : ℕ) (p : Pending Asked) → Waits w n p → Waits (on_wire w (with_down w.wire q b)) n p
   waits_with_down w q true n p h = h
   waits_with_down w q false n p h = h
 
   -- a request waits on where a step of the line happens
-  waits_line : (w : World ById State) (step : Step) (n : ℕ) (p : Pending) → IsOfLine step → Waits w n p → Waits (moves ends (by_ids 7 ends) w (OnLine step)) n p
+  waits_line : (w : World (ById Asked) State) (step : Step) (n : ℕ) (p : Pending Asked) → IsOfLine step → Waits w n p → Waits (moves ends (by_ids 7 ends) w (OnLine step)) n p
   waits_line w (Send target call deadline) n p o h = absurd o
   waits_line w Up_deliver n p o h = waits_up w w.wire.up n p h
   waits_line w (Up_lose k) n p o h = waits_with_up w (without k w.wire.up) (nat_lt k (length w.wire.up)) n p h
@@ -147,7 +148,7 @@ module _ {State : Type 0} (ends : Ends State) (Good : State → Type 0) (kept : 
   waits_line w Nothing n p o h = h
 
   -- a request that isn't settled by these moves waits on after them, as `after_moves` has it
-  pub waits_all : (ms : List (Move State)) (w : World ById State) (n : ℕ) (p : Pending) → ArePossible ends Good kept (by_ids 7 ends) ms w → Waits w n p
+  pub waits_all : (ms : List (Move State)) (w : World (ById Asked) State) (n : ℕ) (p : Pending Asked) → ArePossible ends Good kept (by_ids 7 ends) ms w → Waits w n p
       → Waits (moved ends (by_ids 7 ends) ms w) n (after_moves p ms)
   waits_all [] w n p o h = h
   waits_all (Sends target call deadline ∷ ms) w n p o h = waits_all ms _ n p o.1 (waits_sent w target call deadline (nat_eq (length w.client.waiting) 7) n p h)

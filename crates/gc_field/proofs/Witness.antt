@@ -6,7 +6,8 @@ use Rattle.std.specs.Fmt.{digits}
 use Rattle.gc_lines.specs.Readers.{header_at, reply_at}
 use Rattle.gc_values.specs.Text.{IsStringByte, IsText}
 use Rattle.gc_catalogue.specs.declared.answer.Reading.{Reading}
-use Rattle.gc_catalogue.specs.declared.call.Call.{Call}
+use Rattle.gc_catalogue.specs.declared.asked.Asked.{Asked}
+use Rattle.gc_catalogue.specs.declared.asked.Asked.TheVariants.{Table}
 use Rattle.gc_catalogue.specs.declared.call.Call.TheVariants.{InstrumentNo}
 use Rattle.gc_client.specs.Beginning.{IsSubsequence, the_word}
 use Rattle.gc_client.specs.declared.window.TheConstants.{WINDOW}
@@ -22,7 +23,7 @@ use Rattle.gc_station.specs.declared.plan.Plan.{Plan}
 use Rattle.gc_station.specs.Parts as part
 use Rattle.gc_station.specs.Parts.{Part, nothing, parts_of}
 use Rattle.gc_station.specs.Model.{Runs, Model, after, after_all, opening}
-use Rattle.gc_world.specs.Clients.{ends}
+use Rattle.gc_field.specs.Simulator.{ends}
 use Rattle.gc_field.specs.Begin.{begins, leaves, turned}
 use Rattle.gc_field.specs.Begun.{WasMadeOn}
 use Rattle.gc_field.specs.Field.{seen}
@@ -50,7 +51,7 @@ run_on p tasks s (act ∷ front) later h g = (h.0, run_on p tasks (after p tasks
 
 -- a connection is made and cleared, and all eight null procedures are answered by the simulator, whatever is to be asked
 pub opens :
-    (width : ℕ) (tasks : List Task) (reads : Call → List ℕ → Reading)
+    (width : ℕ) (tasks : List Task) (reads : Asked → List ℕ → Reading)
     → Runs (plan_of width) tasks (opening (plan_of width) (record { turns = 100; reads = reads })) (begun_with replies [])
 unfolding is_elsewhere header_at reply_at digits
 opens width tasks reads =
@@ -58,11 +59,11 @@ opens width tasks reads =
 
 -- the part with these turns and steps, whose requests are of the first cycle: each by its place, and the moment before it went
 -- out
-abbrev pub part_of : List part.Turn → List Step → List (ℕ × ℕ) → Part
+abbrev pub part_of : List part.Turn → List (Step Asked) → List (ℕ × ℕ) → Part
 part_of turns steps sent = record { turns = turns; steps = steps; marks = map (λ x. Some (record { cycle = 1; place = x.0; sent = x.1; expected = record { near = None; accepted = no_codes } })) sent }
 
 -- a run in one part, after which nothing happens
-abbrev pub one_part : List part.Turn → List Step → List (ℕ × ℕ) → List Part
+abbrev pub one_part : List part.Turn → List (Step Asked) → List (ℕ × ℕ) → List Part
 one_part turns steps sent = part_of turns steps sent ∷ nothing ∷ []
 
 -- The run of one command.
@@ -115,7 +116,7 @@ none_here (inr (inl h)) = six 6 0 h.0 refl refl
 none_here (inr (inr h)) = h
 
 -- the answer was made on executing the command's request, the client's first one
-was_made : WasMadeOn WINDOW ends (leaves (turned ends turns (begins before))) moves 8 InstrumentNo answer
+was_made : WasMadeOn WINDOW ends (leaves (turned ends turns (begins before))) moves 8 (Table InstrumentNo) answer
 unfolding is_elsewhere header_at reply_at handed exec digits
 was_made = record { front = take 3 moves; later = drop 4 moves; split = refl; id = 0; rest = []; reaches = refl; executed = refl; reply = refl }
 

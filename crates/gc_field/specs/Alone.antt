@@ -1,13 +1,15 @@
 -- Why the first request goes out alone, this project's own: an instrument that keeps an older reply takes a second request with
 -- that reply's id for a repeat of the older request.
 use Rattle.std.specs.Prelude.{◌≡◌, ℕ, List, [], ◌∷◌, Some}
+use Rattle.gc_catalogue.specs.declared.asked.Asked.TheVariants.{Table}
 use Rattle.gc_catalogue.specs.declared.call.Call.TheVariants.{NullProc}
 use Rattle.gc_client.specs.declared.window.TheConstants.{WINDOW}
 use Rattle.gc_client.specs.Rule.{Lost, Answered}
 use Rattle.gc_instrument.specs.Replying.{kept_line}
 use Rattle.gc_instrument.specs.State.{State, IsFittingState}
-use Rattle.gc_world.specs.Clients.{ends, by_ids, ids_open}
-use Rattle.gc_world.specs.World.{Up_lose, Up_deliver}
+use Rattle.gc_world.specs.Clients.{by_ids, ids_open}
+use Rattle.gc_field.specs.Simulator.{ends}
+use Rattle.gc_field.specs.World.{Up_lose, Up_deliver}
 use Rattle.gc_field.specs.Field.{Move, Sends, OnLine, Comes, ArePossible}
 use Rattle.gc_field.specs.Laws.{left, kept_of}
 use Rattle.gc_field.specs.Made.{WasMadeOn}
@@ -15,15 +17,16 @@ use Rattle.gc_field.specs.Made.{WasMadeOn}
 -- the moves of a client that sends two requests at once: the first is lost, and the second has the reply that the instrument
 -- keeps
 abbrev pub two_at_once : List ℕ → List (Move State)
-two_at_once line = Sends 1 NullProc 9 ∷ Sends 2 NullProc 9 ∷ OnLine (Up_lose 0) ∷ OnLine Up_deliver ∷ Comes line ∷ []
+two_at_once line = Sends 1 (Table NullProc) 9 ∷ Sends 2 (Table NullProc) 9 ∷ OnLine (Up_lose 0) ∷ OnLine Up_deliver ∷ Comes line ∷ []
 
 -- the reply that is kept is booked as the second request's answer, though no request was executed: so it wasn't made on executing
 -- that request
 pub record IsBookedUnexecuted (state : State) (line : List ℕ) : Type 0 where
   pub possible : ArePossible ends IsFittingState kept_of (by_ids WINDOW ends) (two_at_once line) (ids_open state)
-  pub settled : (left WINDOW ends state (two_at_once line)).wire.settled ≡ record { target = 1; call = NullProc; outcome = Lost } ∷ record { target = 2; call = NullProc; outcome = Answered line } ∷ []
+  pub settled : (left WINDOW ends state (two_at_once line)).wire.settled
+      ≡ record { target = 1; call = Table NullProc; outcome = Lost } ∷ record { target = 2; call = Table NullProc; outcome = Answered line } ∷ []
   pub executed : (left WINDOW ends state (two_at_once line)).wire.executed ≡ []
-  pub unmade : WasMadeOn WINDOW ends state (two_at_once line) 1 NullProc line → ⊥
+  pub unmade : WasMadeOn WINDOW ends state (two_at_once line) 1 (Table NullProc) line → ⊥
 
 -- where the simulator keeps a reply with id 1, that reply is booked for the second of two requests that go out at once, which
 -- isn't executed

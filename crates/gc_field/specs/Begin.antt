@@ -5,13 +5,14 @@
 -- any moment.
 use Rattle.std.specs.Prelude.{◌≡◌, ℕ, ◌<◌, Bool, true, false, List, [], ◌∷◌, ◌++◌, map, Option, None}
 use Rattle.std.specs.List.{filter_map}
+use Rattle.gc_catalogue.specs.declared.asked.Asked.TheVariants.{Table}
 use Rattle.gc_catalogue.specs.declared.call.Call.TheVariants.{NullProc}
 use Rattle.gc_client.specs.Beginning.{the_word, left_by}
 use Rattle.gc_client.specs.Rule.{heard}
 use Rattle.gc_client.specs.declared.window.TheConstants.{IDS}
 use Rattle.gc_instrument.specs.State.{KeptReply}
 use Rattle.gc_world.specs.Order.{Each}
-use Rattle.gc_world.specs.World.{Ends, Request, without, doubled}
+use Rattle.gc_field.specs.World.{Ends, Request, without, doubled}
 use Rattle.gc_field.specs.Instrument.{MayBecome}
 
 -- What is under way.
@@ -82,7 +83,7 @@ module _ {State : Type 0} where
   -- the state once the null procedure of the first id that isn't answered went out; where all are answered, none goes out
   abbrev pub asks : Model State → List ℕ → Model State
   asks s [] = s
-  asks s (asked ∷ rest) = record s { up = s.up ++ record { old = false; line = record { id = asked; call = NullProc } } ∷ [] }
+  asks s (asked ∷ rest) = record s { up = s.up ++ record { old = false; line = record { id = asked; call = Table NullProc } } ∷ [] }
 
   -- the state once the reply in front came: where it has the first id of the word that isn't answered, it answers that id; else
   -- it is dropped

@@ -1,11 +1,13 @@
 -- Some runs meet the premises of the law on runs one after the other, and the premise on the word is needed: this project's own.
 use Rattle.std.specs.Prelude.{◌≡◌, List, [], ◌∷◌, ◌++◌, codes}
+use Rattle.gc_catalogue.specs.declared.asked.Asked.TheVariants.{Table}
 use Rattle.gc_catalogue.specs.declared.call.Call.TheVariants.{InstrumentNo}
 use Rattle.gc_client.specs.declared.window.TheConstants.{WINDOW}
 use Rattle.gc_client.specs.Rule.{Answered}
 use Rattle.gc_instrument.specs.State.{State, IsFittingState, simulator_opening}
-use Rattle.gc_world.specs.Clients.{ends, by_ids}
-use Rattle.gc_world.specs.World.{Up_deliver}
+use Rattle.gc_world.specs.Clients.{by_ids}
+use Rattle.gc_field.specs.Simulator.{ends}
+use Rattle.gc_field.specs.World.{Up_deliver}
 use Rattle.gc_field.specs.Begin.{AreLines, Turn, Asks, Comes, Reaches, Up_lose, Up_repeat, Anew, UnderWay, begins, leaves, turned}
 use Rattle.gc_field.specs.Beginnings.{AreFewKilled, AreRuns, IsRow, Run, left_by_run}
 use Rattle.gc_field.specs.Begun.{WasMadeOn, behind, ids_begun, nulls_settled}
@@ -20,7 +22,7 @@ use Rattle.gc_field.specs.Witness.{replies}
 abbrev pub before : UnderWay State
 before =
     record {
-      up = record { id = 7; call = InstrumentNo } ∷ record { id = 0; call = InstrumentNo } ∷ [];
+      up = record { id = 7; call = Table InstrumentNo } ∷ record { id = 0; call = Table InstrumentNo } ∷ [];
       down = codes "%R1P,0,6:0,654321" ∷ [];
       state = simulator_opening;
     }
@@ -42,8 +44,8 @@ next =
           ∷ Asks ∷ Reaches ∷ Comes ∷ Asks ∷ Anew ∷ Reaches ∷ Comes ∷ Asks ∷ Reaches ∷ Comes
           ∷ Asks ∷ Up_lose 0 ∷ Asks ∷ Reaches ∷ Comes ∷ Asks ∷ Up_repeat 0 ∷ Reaches ∷ Comes ∷ [];
       moves =
-          Sends 7 InstrumentNo 100
-          ∷ Sends 8 InstrumentNo 100
+          Sends 7 (Table InstrumentNo) 100
+          ∷ Sends 8 (Table InstrumentNo) 100
           ∷ OnLine Up_deliver
           ∷ OnLine Up_deliver
           ∷ OnLine Up_deliver
@@ -66,9 +68,9 @@ pub record AreSomeRuns : Type 0 where
   pub few : AreFewKilled WINDOW ends 0 before (killed ∷ next ∷ [])
   pub settled :
       (behind WINDOW ends clean next.moves).wire.settled
-      ≡ nulls_settled ++ record { target = 7; call = InstrumentNo; outcome = Answered (codes "%R1P,0,0:0,123456") }
-      ∷ record { target = 8; call = InstrumentNo; outcome = Answered (codes "%R1P,0,1:0,123456") } ∷ []
-  pub made_on : WasMadeOn WINDOW ends clean next.moves 8 InstrumentNo (codes "%R1P,0,0:0,123456")
+      ≡ nulls_settled ++ record { target = 7; call = Table InstrumentNo; outcome = Answered (codes "%R1P,0,0:0,123456") }
+      ∷ record { target = 8; call = Table InstrumentNo; outcome = Answered (codes "%R1P,0,1:0,123456") } ∷ []
+  pub made_on : WasMadeOn WINDOW ends clean next.moves 8 (Table InstrumentNo) (codes "%R1P,0,0:0,123456")
 
 -- The word: the ids of the eight null procedures of a beginning, in order: 6 down to 0, and then 7.
 
@@ -87,7 +89,7 @@ eight_come = Comes ∷ Comes ∷ Comes ∷ Comes ∷ Comes ∷ Comes ∷ Comes �
 
 -- the moves after that beginning: the first command goes out, and the reply after the eight comes
 abbrev pub one_more : List (Move State)
-one_more = Sends 7 InstrumentNo 100 ∷ field.Comes (codes "%R1P,0,0:0,654321") ∷ []
+one_more = Sends 7 (Table InstrumentNo) 100 ∷ field.Comes (codes "%R1P,0,0:0,654321") ∷ []
 
 -- those replies answer the whole word, and the one after them is booked for the first command, though nothing was executed
 pub record IsBookedFromBefore : Type 0 where
@@ -95,5 +97,5 @@ pub record IsBookedFromBefore : Type 0 where
   pub possible : ArePossible ends IsFittingState kept_of (by_ids WINDOW ends) one_more (ids_begun (leaves (turned ends eight_come (begins with_the_word))))
   pub settled :
       (behind WINDOW ends (leaves (turned ends eight_come (begins with_the_word))) one_more).wire.settled
-      ≡ nulls_settled ++ record { target = 7; call = InstrumentNo; outcome = Answered (codes "%R1P,0,0:0,654321") } ∷ []
+      ≡ nulls_settled ++ record { target = 7; call = Table InstrumentNo; outcome = Answered (codes "%R1P,0,0:0,654321") } ∷ []
   pub executed : (behind WINDOW ends (leaves (turned ends eight_come (begins with_the_word))) one_more).wire.executed ≡ []

@@ -6,9 +6,10 @@ use Rattle.std.specs.Prelude.{◌≡◌, ℕ, ◌+◌, ◌%◌, ◌<◌, ◌≤�
 use Rattle.gc_client.specs.Beginning.{IsSubsequence, the_word}
 use Rattle.gc_client.specs.declared.window.TheConstants.{WINDOW}
 use Rattle.gc_instrument.specs.State.{KeptReply, State, IsFittingState}
-use Rattle.gc_world.specs.Clients.{ends, by_ids}
+use Rattle.gc_world.specs.Clients.{by_ids}
+use Rattle.gc_field.specs.Simulator.{ends}
 use Rattle.gc_world.specs.Order.{Each, Rising}
-use Rattle.gc_world.specs.World.{Ends, Wire}
+use Rattle.gc_field.specs.World.{Ends, Wire}
 use Rattle.gc_field.specs.Begin.{AreLines, AreTurns, Model, Turn, UnderWay, begins, ids_under_way, leaves, turned}
 use Rattle.gc_field.specs.Begun.{HasBegunCleanly, IsClean, IsFaithful, behind, ids_begun}
 use Rattle.gc_field.specs.Field.{Move, ArePossible}

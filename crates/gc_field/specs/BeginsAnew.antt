@@ -5,9 +5,10 @@ use Rattle.std.specs.Prelude.{◌≡◌, ℕ, true, false, List, [], ◌∷◌, 
 use Rattle.gc_lines.specs.Lines.{with_end}
 use Rattle.gc_catalogue.specs.declared.answer.Answer.TheVariants.{Long}
 use Rattle.gc_catalogue.specs.declared.answer.Reading.TheVariants.{Value}
+use Rattle.gc_catalogue.specs.declared.asked.Asked.TheVariants.{Table}
 use Rattle.gc_catalogue.specs.declared.call.Call.TheVariants.{InstrumentNo}
 use Rattle.gc_client.specs.declared.window.TheConstants.{WINDOW}
-use Rattle.gc_texts.specs.declared.commands.Command.{Command}
+use Rattle.gc_texts.specs.declared.wish.Wish.{Wish}
 use Rattle.gc_texts.specs.declared.tasks.Task.{Task}
 use Rattle.gc_texts.specs.Endings as end
 use Rattle.gc_texts.specs.Codes.{no_codes}
@@ -19,7 +20,7 @@ use Rattle.gc_station.specs.Progressing.{is_over}
 use Rattle.gc_station.specs.Records.{Record}
 use Rattle.gc_station.specs.Runs.{stood}
 use Rattle.gc_station.specs.Scopes.{Scope}
-use Rattle.gc_world.specs.World.{Up_deliver, Up_lose}
+use Rattle.gc_field.specs.World.{Up_deliver, Up_lose}
 use Rattle.gc_field.specs.Begin as turn
 use Rattle.gc_field.specs.Begin.{Turn, Asks, Reaches, UnderWay, begins, leaves, turned}
 use Rattle.gc_field.specs.Beginnings.{Run, left_by_run}
@@ -35,8 +36,8 @@ abbrev pub plan : Plan
 plan = plan_of 7
 
 -- a command for each of eight targets: a request for the instrument's number
-abbrev pub command : ℕ → Command
-command target = record { target = target; call = InstrumentNo }
+abbrev pub command : ℕ → Wish
+command target = record { target = target; call = Table InstrumentNo }
 
 -- the eight commands of this run, with a deadline of 100 ms each
 abbrev pub commands : List Task
@@ -109,7 +110,7 @@ acts = given_up ++ anew
 -- the moves by which a request goes out for each of these targets, at the moment `now`; and then the moves `ms`
 abbrev pub send_all : ℕ → List ℕ → List (Move Counter) → List (Move Counter)
 send_all now [] ms = ms
-send_all now (target ∷ others) ms = Sends target InstrumentNo 115 ∷ Tells now ∷ send_all now others ms
+send_all now (target ∷ others) ms = Sends target (Table InstrumentNo) 115 ∷ Tells now ∷ send_all now others ms
 
 -- what the line does meanwhile: the first of the seven reaches the instrument, the five after it are lost, and the last
 -- stays in flight
@@ -135,7 +136,7 @@ turns = Asks ∷ turn.Comes ∷ Reaches ∷ turn.Comes ∷ Asks ∷ Reaches ∷ 
 
 -- what the line does once the station has begun anew: the eighth command is answered
 abbrev pub moves_anew : List (Move Counter)
-moves_anew = Sends 8 InstrumentNo 220 ∷ Tells 120 ∷ OnLine Up_deliver ∷ Tells 125 ∷ Comes answer ∷ []
+moves_anew = Sends 8 (Table InstrumentNo) 220 ∷ Tells 120 ∷ OnLine Up_deliver ∷ Tells 125 ∷ Comes answer ∷ []
 
 -- what happens until the run begins anew
 abbrev pub run : Run Counter
@@ -178,7 +179,7 @@ pub record IsAnsweredAnew : Type 0 where
   pub field : IsInField counting AnyState kept_by plan commands scope acts before runs
   pub over : is_over (stood plan commands scope acts).progress ≡ true
   pub begins_anew : IsAnew plan commands scope given_up (Told (at 115))
-  pub up : left.up ≡ record { id = 6; call = InstrumentNo } ∷ []
+  pub up : left.up ≡ record { id = 6; call = Table InstrumentNo } ∷ []
   pub down : left.down ≡ first ∷ []
   pub written : (stood plan commands scope acts).records ≡ records
-  pub made_on : WasMadeOn WINDOW counting from moves_anew 8 InstrumentNo answer
+  pub made_on : WasMadeOn WINDOW counting from moves_anew 8 (Table InstrumentNo) answer

@@ -1,30 +1,33 @@
 -- What holds once a station has begun, this project's own: nothing from before is under way; and each answer of the client that sends then is
 -- its own, from its first request on. The word of a beginning has the ids of its null procedures: 6 5 4 3 2 1 0 7.
-use Rattle.std.specs.Prelude.{◌≡◌, ℕ, ◌-◌, ◌≤◌, true, false, List, [], ◌∷◌, ◌++◌, length, map, Option, Some, slice_get}
-use Rattle.gc_catalogue.specs.declared.call.Call.{Call}
+use Rattle.std.specs.Prelude.{◌≡◌, ℕ, ◌+◌, ◌-◌, ◌<◌, ◌≤◌, ◌⊎◌, Bool, true, false, List, [], ◌∷◌, ◌++◌, length, map, Option, Some, slice_get}
+use Rattle.gc_catalogue.specs.declared.asked.Asked.{Asked}
+use Rattle.gc_catalogue.specs.declared.asked.Asked.TheVariants.{Table}
 use Rattle.gc_catalogue.specs.declared.call.Call.TheVariants.{NullProc}
-use Rattle.gc_catalogue.specs.Texts.{request_line}
+use Rattle.gc_catalogue.specs.Asked.{asked_line}
 use Rattle.gc_client.specs.Beginning.{IsSubsequence, the_word}
 use Rattle.gc_client.specs.declared.pending.Pending.{Pending}
 use Rattle.gc_client.specs.declared.window.TheConstants.{WINDOW}
 use Rattle.gc_client.specs.OneForOne.{begun, course, of_settled, of_pending}
-use Rattle.gc_client.specs.Rule.{ById, Settlement, Answered, Late, Lost, fresh, heard, settle}
+use Rattle.gc_client.specs.Rule.{ById, Outcome, Settlement, Answered, Late, Lost, fresh, heard, settle}
 use Rattle.gc_instrument.specs.State.{KeptReply, State, IsFittingState}
-use Rattle.gc_world.specs.Clients.{ByNumber, ends, by_ids, by_numbers}
+use Rattle.gc_world.specs.Clients.{ByNumber, by_ids, by_numbers}
+use Rattle.gc_field.specs.Simulator.{ends}
 use Rattle.gc_world.specs.Order.{Each}
 use Rattle.gc_world.specs.Record.{IsBooked, IsOneForOne}
-use Rattle.gc_world.specs.World.{Ends, Numbered, Request, Sent, Up_deliver, Wire, World}
+use Rattle.gc_field.specs.World.{Ends, Numbered, Request, Sent, Up_deliver, Wire, World}
 use Rattle.gc_field.specs.Begin.{AreLines, AreTurns, Model, Turn, UnderWay, begins, ids_under_way, turned}
-use Rattle.gc_field.specs.Field.{Move, Comes, OnLine, ArePossible, moved, moves, seen}
-use Rattle.gc_field.specs.Instrument.{AnyState, IsAnInstrument, KeepsItsReply}
+use Rattle.gc_field.specs.Field.{Move, Comes, OnLine, Sends, ArePossible, AsksTheTable, moved, moves, seen}
+use Rattle.gc_field.specs.Instrument.{AnyState, IsAnInstrument, KeepsItsReply, TreatsRawsAlike}
 use Rattle.gc_field.specs.Laws.{WasExecuted, asked, kept_of}
 use Rattle.gc_field.specs.Once.{ActsOnce, IsInOrder}
+use Rattle.gc_catalogue.specs.Asked.{is_of_table}
 
 -- Clean.
 
 -- the eighth null procedure of a beginning, as a request
 abbrev pub eighth : Request
-eighth = record { id = 7; call = NullProc }
+eighth = record { id = 7; call = Table NullProc }
 
 -- what the instrument keeps in this state, if it keeps anything, has the id of the eighth null procedure
 abbrev pub IsOfEighth : {State : Type 0} → (State → Option KeptReply) → State → Type 0
@@ -57,11 +60,11 @@ pub record IsClean {State : Type 0} (Good : State → Type 0) (kept : State → 
 
 -- the null procedures of a beginning, as requests: none of them is the client's
 abbrev pub nulls : List Sent
-nulls = map (λ id. record { target = 0; call = NullProc; line = request_line (Some id) NullProc }) the_word
+nulls = map (λ id. record { target = 0; call = Table NullProc; line = asked_line (Some id) (Table NullProc) }) the_word
 
 -- the null procedures of a beginning, as settlements
-abbrev pub nulls_settled : List Settlement
-nulls_settled = map (λ id. record { target = 0; call = NullProc; outcome = Lost }) the_word
+abbrev pub nulls_settled : List (Settlement Asked)
+nulls_settled = map (λ id. record { target = 0; call = Table NullProc; outcome = Lost }) the_word
 
 -- the wire at the end of a beginning: requests 0 to 7 are the null procedures, which are settled, and a new client sends from
 -- request 8 on; what is under way belongs to request 7
@@ -81,20 +84,39 @@ begun_wire u =
     }
 
 -- the world at the end of a beginning, with a new client that knows ids
-abbrev pub ids_begun : {State : Type 0} → UnderWay State → World ById State
+abbrev pub ids_begun : {State : Type 0} → UnderWay State → World (ById Asked) State
 ids_begun u = record { wire = begun_wire u; client = fresh }
 
 -- the null procedures of a beginning, as requests of the client that is given the number of each reply's request
-abbrev pub nulls_pending : List Pending
-nulls_pending = map (λ id. record { target = 0; call = NullProc; deadline = 0; given_up = false }) the_word
+abbrev pub nulls_pending : List (Pending Asked)
+nulls_pending = map (λ id. record { target = 0; call = Table NullProc; deadline = 0; given_up = false }) the_word
 
 -- the world at the end of a beginning, with the client that is given the number of each reply's request
-abbrev pub numbers_begun : {State : Type 0} → UnderWay State → World ByNumber State
+abbrev pub numbers_begun : {State : Type 0} → UnderWay State → World (ByNumber Asked) State
 numbers_begun u = record { wire = begun_wire u; client = record { count = 8; requests = nulls_pending; since = 0 } }
+
+-- Behind the table.
+
+-- a reply ended the request, in time or late
+abbrev pub IsByReply : Outcome → Type 0
+IsByReply (Answered line) = Unit {0}
+IsByReply Late = Unit {0}
+IsByReply Lost = ⊥
+
+-- request j is a call of the table that a reply ended, or it is the eighth null procedure of the beginning
+abbrev pub IsEnded : {State : Type 0} → Wire State → ℕ → Type 0
+IsEnded w j =
+    (j ≡ 7)
+    ⊎ ((r : Sent) × (s : Settlement Asked) × (slice_get w.sent j ≡ Some r) × (is_of_table r.call ≡ true) × (slice_get w.settled j ≡ Some s) × IsByReply s.outcome)
+
+-- the request that goes out next goes out behind the table: one of the seven requests before it is a call of the table that a reply ended, or
+-- the eighth null procedure
+abbrev pub IsBehindTheTable : {State : Type 0} → Wire State → Type 0
+IsBehindTheTable w = (j : ℕ) × (j < length w.sent) × (length w.sent ≤ j + 7) × IsEnded w j
 
 module _ {State : Type 0} (width : ℕ) (ends : Ends State) (u : UnderWay State) where
   -- the world after the moves, with the client that knows ids
-  abbrev pub behind : List (Move State) → World ById State
+  abbrev pub behind : List (Move State) → World (ById Asked) State
   behind ms = moved ends (by_ids width ends) ms (ids_begun u)
 
   -- the wire after the moves, with the client that is given the numbers
@@ -103,7 +125,7 @@ module _ {State : Type 0} (width : ℕ) (ends : Ends State) (u : UnderWay State)
 
   -- at one of these moves request m, with this call, reaches the instrument; it executes the call, in the state in which it is by then;
   -- and this line is its reply
-  pub record WasMadeOn (ms : List (Move State)) (m : ℕ) (call : Call) (line : List ℕ) : Type 0 where
+  pub record WasMadeOn (ms : List (Move State)) (m : ℕ) (call : Asked) (line : List ℕ) : Type 0 where
     pub front : List (Move State)
     pub later : List (Move State)
     pub split : ms ≡ front ++ OnLine Up_deliver ∷ later
@@ -112,6 +134,22 @@ module _ {State : Type 0} (width : ℕ) (ends : Ends State) (u : UnderWay State)
     pub reaches : (behind front).wire.up ≡ record { number = m; line = record { id = id; call = call } } ∷ rest
     pub executed : (ends.handed (behind front).wire.state id call).executed ≡ true
     pub reply : line ≡ (ends.handed (behind front).wire.state id call).reply
+
+  -- at one of these moves request m went out behind the table
+  pub record WentOutBehindTheTable (ms : List (Move State)) (m : ℕ) : Type 0 where
+    pub front : List (Move State)
+    pub later : List (Move State)
+    pub target : ℕ
+    pub call : Asked
+    pub deadline : ℕ
+    pub split : ms ≡ front ++ Sends target call deadline ∷ later
+    pub number : length (behind front).wire.sent ≡ m
+    pub is : IsBehindTheTable (behind front).wire
+
+  -- the answer to request m is its own: each request of these moves is a call of the table; or a request that is none is to the instrument as all
+  -- others; or request m went out behind the table
+  abbrev pub IsSafe : (State → Type 0) → (State → Option KeptReply) → List (Move State) → ℕ → Type 0
+  IsSafe Good kept ms m = AsksTheTable ms ⊎ (TreatsRawsAlike ends Good kept ⊎ WentOutBehindTheTable ms m)
 
   -- what holds after these moves, for an instrument whose states are good ones. Settlement 8 + n is the client's settlement n
   pub record IsFaithful (ms : List (Move State)) (Good : State → Type 0) (kept : State → Option KeptReply) : Type 0 where
@@ -122,23 +160,27 @@ module _ {State : Type 0} (width : ℕ) (ends : Ends State) (u : UnderWay State)
     -- the call of request m
     pub accounted : map of_settled (behind ms).wire.settled ++ map of_pending (behind ms).client.waiting ≡ map asked (behind ms).wire.sent
     pub one_for_one : IsOneForOne (behind ms).wire.sent (behind ms).wire.settled
-    -- its own, from the first request on: an answer is among the lines that the instrument made for that request, and is its reply to that
-    -- very call
-    pub booked : (m : ℕ) (s : Settlement) → 8 ≤ m → slice_get (behind ms).wire.settled m ≡ Some s → IsBooked ends Good (behind ms).wire.made m s
+    -- its own, from the first request on, if it is `IsSafe`: an answer is among the lines that the instrument made for that request, and is its
+    -- reply to that very call
+    pub booked : (m : ℕ) (s : Settlement Asked) → 8 ≤ m → IsSafe Good kept ms m → slice_get (behind ms).wire.settled m ≡ Some s → IsBooked ends Good (behind ms).wire.made m s
     -- and the instrument executed request m at one of these moves, not before the client began
     pub executed :
-        (m : ℕ) (s : Settlement) (line : List ℕ) → 8 ≤ m → slice_get (behind ms).wire.settled m ≡ Some s → s.outcome ≡ Answered line → WasExecuted (behind ms).wire.executed m
+        (m : ℕ) (s : Settlement Asked) (line : List ℕ) → 8 ≤ m → IsSafe Good kept ms m → slice_get (behind ms).wire.settled m ≡ Some s → s.outcome ≡ Answered line
+        → WasExecuted (behind ms).wire.executed m
     -- made on it: its line was made on executing request m. At one of these moves that request, with this call, reached the instrument,
     -- which executed it, and this line was its reply
     pub made_on :
-        (m : ℕ) (s : Settlement) (line : List ℕ) → 8 ≤ m → slice_get (behind ms).wire.settled m ≡ Some s → s.outcome ≡ Answered line → WasMadeOn ms m s.call line
+        (m : ℕ) (s : Settlement Asked) (line : List ℕ) → 8 ≤ m → IsSafe Good kept ms m → slice_get (behind ms).wire.settled m ≡ Some s → s.outcome ≡ Answered line
+        → WasMadeOn ms m s.call line
     -- in order: requests are executed in the order of sending, over starts too
     pub in_order : IsInOrder (behind ms).wire.executed
     -- late: the instrument dealt with the request, though its reply came too late
     pub late :
-        (m : ℕ) (s : Settlement) → 8 ≤ m → slice_get (behind ms).wire.settled m ≡ Some s → s.outcome ≡ Late → (line : List ℕ) × WasMadeOn ms m s.call line
-    -- acts once: where the instrument keeps its reply, between two of its starts each request is executed at most once
-    pub once : KeepsItsReply ends Good kept → ActsOnce (behind ms).wire.executed (behind ms).wire.starts
+        (m : ℕ) (s : Settlement Asked) → 8 ≤ m → IsSafe Good kept ms m → slice_get (behind ms).wire.settled m ≡ Some s → s.outcome ≡ Late
+        → (line : List ℕ) × WasMadeOn ms m s.call line
+    -- acts once: where the instrument keeps its reply to each request that it knows, between two of its starts each of these is executed at
+    -- most once
+    pub once : (knows : Asked → Bool) → KeepsItsReply ends Good kept knows → ActsOnce knows (behind ms).wire.sent (behind ms).wire.executed (behind ms).wire.starts
     -- agreement: all is as with a client that is told the number of each reply's request
     pub agrees : (behind ms).wire ≡ behind_by_numbers ms
     -- in time: a reply whose request isn't settled settles that request, and those before it as lost. The request is answered

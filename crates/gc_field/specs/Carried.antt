@@ -4,8 +4,9 @@ use Rattle.gc_client.specs.declared.window.TheConstants.{WINDOW}
 use Rattle.gc_client.specs.Rule.{fresh}
 use Rattle.gc_instrument.specs.State.{KeptReply, State, IsFittingState}
 use Rattle.gc_links.specs.Acts.{Act}
-use Rattle.gc_world.specs.Clients.{ends, by_ids}
-use Rattle.gc_world.specs.World.{Ends}
+use Rattle.gc_world.specs.Clients.{by_ids}
+use Rattle.gc_field.specs.Simulator.{ends}
+use Rattle.gc_field.specs.World.{Ends}
 use Rattle.gc_field.specs.Begin.{UnderWay}
 use Rattle.gc_field.specs.Begun.{IsClean, IsFaithful, behind, ids_begun}
 use Rattle.gc_field.specs.Field.{Move, ArePossible, seen}

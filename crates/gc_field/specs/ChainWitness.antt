@@ -6,7 +6,8 @@ use Rattle.gc_values.specs.Decimals.{decimal}
 use Rattle.gc_values.specs.declared.decimal.Decimal.{Decimal}
 use Rattle.gc_catalogue.specs.declared.answer.Answer.TheVariants.{Long}
 use Rattle.gc_catalogue.specs.declared.answer.Reading.TheVariants.{Value}
-use Rattle.gc_catalogue.specs.declared.call.Call.{Call}
+use Rattle.gc_catalogue.specs.declared.asked.Asked.{Asked}
+use Rattle.gc_catalogue.specs.declared.asked.Asked.TheVariants.{Table}
 use Rattle.gc_catalogue.specs.declared.call.Call.TheVariants.{Position, DoMeasure, SimpleMea}
 use Rattle.gc_instrument.specs.State.{State, IsFittingState, simulator_opening}
 use Rattle.gc_texts.specs.declared.tasks.Task.{Task}
@@ -18,8 +19,8 @@ use Rattle.gc_station.specs.Links.{AreChained}
 use Rattle.gc_station.specs.Records.{Record}
 use Rattle.gc_station.specs.Runs.{stood}
 use Rattle.gc_station.specs.Scopes.{Scope}
-use Rattle.gc_world.specs.Clients.{ends}
-use Rattle.gc_world.specs.World.{Up_deliver}
+use Rattle.gc_field.specs.Simulator.{ends}
+use Rattle.gc_field.specs.World.{Up_deliver}
 use Rattle.gc_field.specs.Begin.{UnderWay, begins, leaves, none_under_way, turned}
 use Rattle.gc_field.specs.Beginnings.{Run}
 use Rattle.gc_field.specs.Chains.{IsUndisturbed, behind}
@@ -39,16 +40,16 @@ abbrev pub v : Decimal
 v = decimal (pos 1625) 3 refl
 
 -- the call of the first command: to point the telescope at the target
-abbrev pub points : Call
-points = Position hz v (pos 0) (pos 0) false
+abbrev pub points : Asked
+points = Table (Position hz v (pos 0) (pos 0) false)
 
 -- the call of the second command, which starts a measurement of the distance; the simulator takes any mode
-abbrev pub measures : Call
-measures = DoMeasure (pos 1) (pos 1)
+abbrev pub measures : Asked
+measures = Table (DoMeasure (pos 1) (pos 1))
 
 -- the call of the third command: to read angles and distance
-abbrev pub reads_all : Call
-reads_all = SimpleMea (pos 3000) (pos 1)
+abbrev pub reads_all : Asked
+reads_all = Table (SimpleMea (pos 3000) (pos 1))
 
 -- the three commands, as one chain
 abbrev pub commands : List Task

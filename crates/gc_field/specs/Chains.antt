@@ -2,11 +2,11 @@
 -- command of the chain had been executed before, with the reply that was booked for it; between the two only what was sent
 -- between them was executed; and the instrument's state was what these executions had made of it. A part is what a station sees
 -- of its run from one beginning to the next, and a stretch what happens on the line meanwhile, once it has begun.
-use Rattle.std.specs.Prelude.{◌≡◌, ℕ, ◌+◌, ◌<◌, ◌≤◌, true, false, List, [], ◌∷◌, ◌++◌, Option, Some, slice_get}
+use Rattle.std.specs.Prelude.{◌≡◌, ℕ, Bool, ◌+◌, ◌<◌, ◌≤◌, true, false, List, [], ◌∷◌, ◌++◌, Option, Some, slice_get}
 use Rattle.std.specs.List.{AllByRecursion}
 use Rattle.gc_catalogue.specs.declared.answer.Answer.{Answer}
 use Rattle.gc_catalogue.specs.declared.answer.Reading.{Reading}
-use Rattle.gc_catalogue.specs.declared.call.Call.{Call}
+use Rattle.gc_catalogue.specs.declared.asked.Asked.{Asked}
 use Rattle.gc_client.specs.declared.window.TheConstants.{WINDOW}
 use Rattle.gc_instrument.specs.State.{KeptReply}
 use Rattle.gc_links.specs.Acts.{Act}
@@ -25,7 +25,7 @@ use Rattle.gc_station.specs.Scopes.{Scope}
 use Rattle.gc_station.specs.Model.{opening}
 use Rattle.gc_station.specs.declared.plan.Plan.{Plan}
 use Rattle.gc_world.specs.Order.{Each}
-use Rattle.gc_world.specs.World.{Ends, Sent, Up_deliver, Wire}
+use Rattle.gc_field.specs.World.{Ends, Sent, Up_deliver, Wire}
 use Rattle.gc_field.specs.Begin.{UnderWay}
 use Rattle.gc_field.specs.Beginnings.{Run}
 use Rattle.gc_field.specs.Begun as begun
@@ -63,23 +63,23 @@ IsUndisturbed (Changes state ∷ ms) = ⊥
 IsUndisturbed (Joins line ∷ ms) = ⊥
 
 -- these are the calls of the requests with these numbers
-abbrev pub AreCalls : List Sent → List ℕ → List Call → Type 0
+abbrev pub AreCalls : List Sent → List ℕ → List Asked → Type 0
 AreCalls sent [] [] = Unit {0}
 AreCalls sent (n ∷ ns) (call ∷ calls) = ((r : Sent) × (slice_get sent n ≡ Some r) × (r.call ≡ call)) × AreCalls sent ns calls
 AreCalls sent _ _ = ⊥
 
 -- the instrument's state after these calls, one after the other, where one call changes it by this function
-abbrev pub executing : {State : Type 0} → (State → Call → State) → State → List Call → State
+abbrev pub executing : {State : Type 0} → (State → Asked → State) → State → List Asked → State
 executing effect s [] = s
 executing effect s (call ∷ calls) = executing effect (effect s call) calls
 
 -- executing a call changes an instrument's state by `effect`, whatever id the request has, and a reply that is sent again
 -- changes nothing. Both are said of the state without what the instrument keeps, which `apart` gives; and by `alike` the effect
 -- doesn't depend on what is kept
-pub record HasEffect {State : Type 0} (ends : Ends State) (apart : State → State) (effect : State → Call → State) : Type 0 where
-  pub executes : (state : State) (id : ℕ) (call : Call) → (ends.handed state id call).executed ≡ true → apart (ends.handed state id call).state ≡ apart (effect state call)
-  pub repeats : (state : State) (id : ℕ) (call : Call) → (ends.handed state id call).executed ≡ false → apart (ends.handed state id call).state ≡ apart state
-  pub alike : (s t : State) (call : Call) → apart s ≡ apart t → apart (effect s call) ≡ apart (effect t call)
+pub record HasEffect {State : Type 0} (ends : Ends State) (apart : State → State) (effect : State → Asked → State) : Type 0 where
+  pub executes : (state : State) (id : ℕ) (call : Asked) → (ends.handed state id call).executed ≡ true → apart (ends.handed state id call).state ≡ apart (effect state call)
+  pub repeats : (state : State) (id : ℕ) (call : Asked) → (ends.handed state id call).executed ≡ false → apart (ends.handed state id call).state ≡ apart state
+  pub alike : (s t : State) (call : Asked) → apart s ≡ apart t → apart (effect s call) ≡ apart (effect t call)
 
 -- the wire after these moves of a stretch
 abbrev pub behind : {State : Type 0} → Ends State → Stretch State → List (Move State) → Wire State
@@ -89,7 +89,7 @@ module _ {State : Type 0} (ends : Ends State) (Good : State → Type 0) (kept : 
   -- Two executions of a stretch.
 
   -- in a stretch request m was executed, with `line_m` as its reply, and later request n, with `line_n`
-  pub record IsExecutedAfter (s : Stretch State) (m n : ℕ) (call_m call_n : Call) (line_m line_n : List ℕ) : Type 0 where
+  pub record IsExecutedAfter (s : Stretch State) (m n : ℕ) (call_m call_n : Asked) (line_m line_n : List ℕ) : Type 0 where
     pub first : WasMadeOn WINDOW ends s.from s.moves m call_m line_m
     pub second : WasMadeOn WINDOW ends s.from s.moves n call_n line_n
     pub between : List (Move State)
@@ -100,21 +100,24 @@ module _ {State : Type 0} (ends : Ends State) (Good : State → Type 0) (kept : 
     pub executed : (behind ends s second.front).executed ≡ (behind ends s first.front).executed ++ m ∷ numbers
     pub in_order : IsInOrder numbers
     pub within : Each (λ x. (m ≤ x) × (x ≤ n)) numbers
-    -- where the instrument keeps its reply and didn't start between, each was sent after m and before n
-    pub strictly : KeepsItsReply ends Good kept → HasNoStartBetween between → Each (λ x. (m < x) × (x < n)) numbers
+    -- where the instrument keeps its reply to each request that it knows, and didn't start between, each of these was sent after m and before n
+    pub strictly :
+        (knows : Asked → Bool) → KeepsItsReply ends Good kept knows → HasNoStartBetween between →
+        Each (λ x. (r : Sent) → slice_get (behind ends s s.moves).sent x ≡ Some r → knows r.call ≡ true → (m < x) × (x < n)) numbers
     -- where the instrument neither started nor changed by itself between, its state when n reached it is the state in which m
     -- reached it, changed by executing m and then the requests between
-    pub calls : List Call
+    pub calls : List Asked
     pub asked : AreCalls (behind ends s s.moves).sent numbers calls
     pub state :
-        (apart : State → State) (effect : State → Call → State) → HasEffect ends apart effect → IsUndisturbed between →
+        (apart : State → State) (effect : State → Asked → State) → HasEffect ends apart effect → IsUndisturbed between →
         apart (behind ends s second.front).state ≡ apart (executing effect (behind ends s first.front).state (call_m ∷ calls))
 
   -- A chain of a run.
 
   -- in a run with the parts `ps` and the stretches `ss`, the command of record b was executed after the command at place a of
   -- the same cycle
-  pub record IsChainedTo (reads : Call → List ℕ → Reading) (commands : List Task) (ps : List Part) (ss : List (Stretch State)) (records : List Record) (a : ℕ) (b : Record) (line_b : List ℕ) : Type 0 where
+  pub record IsChainedTo (reads : Asked → List ℕ → Reading) (commands : List Task) (ps : List Part) (ss : List (Stretch State))
+      (records : List Record) (a : ℕ) (b : Record) (line_b : List ℕ) : Type 0 where
     -- the command at place a has a record, too, which is an answer of a good quality: with both codes 0 and values that read, or with a return code that is
     -- accepted of that command
     pub k : ℕ

@@ -1,7 +1,7 @@
 -- A run of a chain over an instrument that isn't the simulator, this project's own: it counts what it executes, answers to each request with
 -- the count, and keeps its reply. Each of its states is a good one, as the law of chains asks.
 use Rattle.std.specs.Prelude.{◌≡◌, ℕ, suc, true, false, List, [], ◌∷◌, take, codes, Option, Some, None}
-use Rattle.gc_catalogue.specs.declared.call.Call.{Call}
+use Rattle.gc_catalogue.specs.declared.asked.Asked.{Asked}
 use Rattle.gc_client.specs.declared.window.TheConstants.{WINDOW}
 use Rattle.gc_client.specs.Rule.{heard}
 use Rattle.gc_instrument.specs.Replying.{Handed}
@@ -9,14 +9,14 @@ use Rattle.gc_instrument.specs.State.{KeptReply}
 use Rattle.gc_links.specs.Acts.{Act}
 use Rattle.gc_station.specs.Links.{AreChained}
 use Rattle.gc_station.specs.Runs.{stood}
-use Rattle.gc_world.specs.World.{Ends}
+use Rattle.gc_field.specs.World.{Ends}
 use Rattle.gc_field.specs.ChainWitness.{points, reads_all, commands, scope, acts_with, moves_with, records_with}
 use Rattle.gc_field.specs.Begin.{UnderWay, begins, leaves, none_under_way, turned}
 use Rattle.gc_field.specs.Beginnings.{Run}
 use Rattle.gc_field.specs.Begun.{WasMadeOn}
 use Rattle.gc_field.specs.Chains.{HasEffect, IsUndisturbed, behind}
 use Rattle.gc_field.specs.Field.{Move}
-use Rattle.gc_field.specs.Instrument.{IsAnInstrument, KeepsItsReply, AnyState}
+use Rattle.gc_field.specs.Instrument.{IsAnInstrument, KeepsItsReply, AnyState, all_known}
 use Rattle.gc_field.specs.Needed.{Keeper, held, kept, value}
 use Rattle.gc_field.specs.Runs.{IsInField}
 use Rattle.gc_field.specs.Shown.{Stretch}
@@ -47,7 +47,7 @@ abbrev pub bare : Counter → Counter
 bare s = record { count = s.count; keeps = None }
 
 -- the effect of executing a call on the state: the count grows by one
-abbrev pub counts : Counter → Call → Counter
+abbrev pub counts : Counter → Asked → Counter
 counts s call = record { count = suc s.count; keeps = s.keeps }
 
 -- the replies to the eight null procedures: the instrument had executed 27 requests before
@@ -94,7 +94,7 @@ runs = record { turns = eight; moves = moves } ∷ record { turns = []; moves = 
 -- second made of it
 pub record IsCountedInField : Type 0 where
   pub is : IsAnInstrument counting AnyState kept_by
-  pub keeps : KeepsItsReply counting AnyState kept_by
+  pub keeps : KeepsItsReply counting AnyState kept_by all_known
   pub effect : HasEffect counting bare counts
   pub field : IsInField counting AnyState kept_by plan commands scope acts before runs
   pub records : (stood plan commands scope acts).records ≡ records_with first second third

@@ -1,13 +1,16 @@
--- A run over an instrument that isn't the simulator, this project's own: it keeps no reply, and what it measures changes by itself. The
--- first null procedure goes out again, and the beginning goes on over another connection; a reply is lost, and its request given up; the
+-- A run over an instrument that isn't the simulator, this project's own: it keeps no reply, and what it measures changes by itself. Its second
+-- command asks for a procedure that isn't in the table. The first null procedure goes out again, and the beginning goes on over another connection; a reply is lost, and its request given up; the
 -- instrument starts anew, and its connection is made again.
-use Rattle.std.specs.Prelude.{◌≡◌, ℕ, true, false, List, [], ◌∷◌, codes, pos, Some, None}
+use Rattle.std.specs.Prelude.{◌≡◌, ℕ, true, false, List, [], ◌∷◌, codes, Some, None}
 use Rattle.std.specs.Fmt.{decimal}
 use Rattle.gc_lines.specs.Lines.{with_end}
 use Rattle.gc_lines.specs.Replies.{reply_text}
-use Rattle.gc_catalogue.specs.declared.answer.Answer.TheVariants.{Long}
+use Rattle.gc_catalogue.specs.Asked.{asked_line}
+use Rattle.gc_catalogue.specs.declared.answer.Answer.TheVariants.{Nothing}
 use Rattle.gc_catalogue.specs.declared.answer.Reading.TheVariants.{Value}
+use Rattle.gc_catalogue.specs.declared.asked.Asked.TheVariants.{Table, Raw}
 use Rattle.gc_catalogue.specs.declared.call.Call.TheVariants.{InstrumentNo}
+use Rattle.gc_catalogue.specs.declared.raw.RawCall.{RawCall}
 use Rattle.gc_client.specs.declared.window.TheConstants.{WINDOW}
 use Rattle.gc_client.specs.Rule.{heard}
 use Rattle.gc_texts.specs.declared.tasks.Task.{Task}
@@ -19,7 +22,7 @@ use Rattle.gc_links.specs.Acts.{Act, Told, Put, Gave, Silent, Broke, Closed, Ope
 use Rattle.gc_station.specs.Progressing.{is_over}
 use Rattle.gc_station.specs.Runs.{stood}
 use Rattle.gc_station.specs.Scopes.{Scope}
-use Rattle.gc_world.specs.World.{Ends, Up_deliver, Down_lose}
+use Rattle.gc_field.specs.World.{Ends, Up_deliver, Down_lose}
 use Rattle.gc_field.specs.Begin.{Turn, Asks, Reaches, UnderWay, begins, leaves, none_under_way, turned}
 use Rattle.gc_field.specs.Begin as turn
 use Rattle.gc_field.specs.Beginnings.{Run}
@@ -43,16 +46,16 @@ drifting =
 abbrev pub plan : Plan
 plan = record { width = 1; deadline = 100; every = 0; cycles = 1; quiet = 10; retries = 3 }
 
--- the two commands of this run, which ask for the instrument's number
-abbrev pub commands : List Task
-commands =
-    record { command = record { target = 7; call = InstrumentNo }; deadline = 100; chained = false; near = None; accepted = no_codes }
-    ∷ record { command = record { target = 8; call = InstrumentNo }; deadline = 100; chained = false; near = None; accepted = no_codes }
+-- the two commands of this run: one asks for the instrument's number, the other for a procedure that isn't in the table
+abbrev pub commands : RawCall → List Task
+commands raw =
+    record { command = record { target = 7; call = Table InstrumentNo }; deadline = 100; chained = false; near = None; accepted = no_codes }
+    ∷ record { command = record { target = 8; call = Raw raw }; deadline = 100; chained = false; near = None; accepted = no_codes }
     ∷ []
 
--- the scope of this run: at most a hundred acts; every reply is taken to say what the reply to the second command says
+-- the scope of this run: at most a hundred acts; every reply is taken to say what the reply to the second command says, whose parameters nobody reads
 abbrev pub scope : Scope
-scope = record { turns = 100; reads = λ call line. Value (Long (pos 31)) }
+scope = record { turns = 100; reads = λ call line. Value Nothing }
 
 -- the replies to the null procedures
 abbrev pub begun : List (List ℕ)
@@ -67,8 +70,8 @@ answer = codes "%R1P,0,1:0,31"
 -- the acts of the run: the first null procedure goes out again at its deadline, and the dead line is closed and connected
 -- again; the beginning goes on there. The first command is given up; the connection breaks, and the second command's reply
 -- comes over the next one
-abbrev pub acts : List Act
-acts =
+abbrev pub acts : RawCall → List Act
+acts raw =
     Opened
     ∷ Put (10 ∷ [])
     ∷ Told (at 0)
@@ -89,7 +92,7 @@ acts =
     ∷ Put (with_end (codes "%R1Q,5003,0:"))
     ∷ Told (at 220)
     ∷ Silent (at 320)
-    ∷ Put (with_end (codes "%R1Q,5003,1:"))
+    ∷ Put (with_end (asked_line (Some 1) (Raw raw)))
     ∷ Told (at 320)
     ∷ Broke
     ∷ Closed
@@ -111,16 +114,16 @@ turns = Asks ∷ Reaches ∷ turn.Down_lose 0 ∷ Asks ∷ turn.Up_lose 0 ∷ tu
 
 -- what the line does once the station has begun: the first command is answered, and that reply is lost; the second command
 -- reaches the instrument after a start, and is answered with what it measures by then, over another connection
-abbrev pub moves : List (Move ℕ)
-moves =
+abbrev pub moves : RawCall → List (Move ℕ)
+moves raw =
     Tells 220
-    ∷ Sends 7 InstrumentNo 320
+    ∷ Sends 7 (Table InstrumentNo) 320
     ∷ Tells 220
     ∷ OnLine Up_deliver
     ∷ OnLine (Down_lose 0)
     ∷ Tells 320
     ∷ Changes 27
-    ∷ Sends 8 InstrumentNo 420
+    ∷ Sends 8 (Raw raw) 420
     ∷ Tells 320
     ∷ Anew
     ∷ Changes 31
@@ -134,18 +137,22 @@ moves =
     ∷ []
 
 -- what happens on the line: in this run, and after its end in one more, in which nothing happens
-abbrev pub runs : List (Run ℕ)
-runs = record { turns = turns; moves = moves } ∷ record { turns = []; moves = [] } ∷ []
+abbrev pub runs : RawCall → List (Run ℕ)
+runs raw = record { turns = turns; moves = moves raw } ∷ record { turns = []; moves = [] } ∷ []
 
 -- `drifting` is an instrument, and this is a run in the field, after which no act follows. The run wrote the first command down
 -- as lost, and the second one's answer, which was made on executing the second command's request
-pub record IsAnsweredByDrifting : Type 0 where
+pub record IsAnsweredByDrifting (raw : RawCall) : Type 0 where
   pub is : IsAnInstrument drifting AnyState nothing
-  pub field : IsInField drifting AnyState nothing plan commands scope acts (none_under_way 5) runs
-  pub over : is_over (stood plan commands scope acts).progress ≡ true
+  pub field : IsInField drifting AnyState nothing plan (commands raw) scope (acts raw) (none_under_way 5) (runs raw)
+  pub over : is_over (stood plan (commands raw) scope (acts raw)).progress ≡ true
   pub records :
-      (stood plan commands scope acts).records
-      ≡ record { sent = Some 220; utc = 360; cycle = 1; place = 0; command = record { target = 7; call = InstrumentNo }; end = end.Lost }
-      ∷ record { sent = Some 320; utc = 360; cycle = 1; place = 1; command = record { target = 8; call = InstrumentNo }; end = end.Answered Fine (Some (Long (pos 31))) answer }
+      (stood plan (commands raw) scope (acts raw)).records
+      ≡ record { sent = Some 220; utc = 360; cycle = 1; place = 0; command = record { target = 7; call = Table InstrumentNo }; end = end.Lost }
+      ∷ record { sent = Some 320; utc = 360; cycle = 1; place = 1; command = record { target = 8; call = Raw raw }; end = end.Answered Fine (Some Nothing) answer }
       ∷ []
-  pub made_on : WasMadeOn WINDOW drifting (leaves (turned drifting turns (begins (none_under_way 5)))) moves 9 InstrumentNo answer
+  pub made_on : WasMadeOn WINDOW drifting (leaves (turned drifting turns (begins (none_under_way 5)))) (moves raw) 9 (Raw raw) answer
+
+-- so it is whichever procedure the second command asks for
+abbrev pub SomeRunIsOverADriftingInstrument : Type 0
+SomeRunIsOverADriftingInstrument = (raw : RawCall) → IsAnsweredByDrifting raw

@@ -3,18 +3,19 @@
 -- directly after it. Connections aren't spoken of, because a close is a loss of lines. The instrument may start anew at any
 -- moment.
 use Rattle.std.specs.Prelude.{◌≡◌, ℕ, Bool, true, false, List, [], ◌∷◌, ◌++◌, Option, None}
-use Rattle.gc_catalogue.specs.declared.call.Call.{Call}
+use Rattle.gc_catalogue.specs.declared.asked.Asked.{Asked}
 use Rattle.gc_client.specs.OneForOne as client
 use Rattle.gc_client.specs.Rule.{heard}
 use Rattle.gc_instrument.specs.State.{KeptReply}
 use Rattle.gc_world.specs.Clients.{by_ids, ids_open}
-use Rattle.gc_world.specs.World.{Numbered, Request, Wire, Ends, Rule, World, Step, Send, Up_deliver, Up_lose, Up_repeat, Down_deliver, Down_lose, Down_repeat, Expire, Restart_client, Restart_instrument, Nothing, started, on_wire, happens}
+use Rattle.gc_field.specs.World.{Numbered, Request, Wire, Ends, Rule, World, Step, Send, Up_deliver, Up_lose, Up_repeat, Down_deliver, Down_lose, Down_repeat, Expire, Restart_client, Restart_instrument, Nothing, started, on_wire, happens}
 use Rattle.gc_field.specs.Instrument.{MayBecome}
+use Rattle.gc_catalogue.specs.Asked.{is_of_table}
 
 -- one step in the field
 pub data Move (State : Type 0) : Type 0 where
   -- the client's part: a request goes out, whole or in part; a moment is told; a reply comes; a line comes that is no reply with an id
-  Sends : (target : ℕ) (call : Call) (deadline : ℕ) → Move State
+  Sends : (target : ℕ) (call : Asked) (deadline : ℕ) → Move State
   Tells : (now : ℕ) → Move State
   Comes : (line : List ℕ) → Move State
   Foreign : (line : List ℕ) → Move State
@@ -86,7 +87,7 @@ module _ {Client State : Type 0} where
   ArePossible ends Good kept rule (m ∷ ms) w = IsPossible Good kept w m × ArePossible ends Good kept rule ms (moves ends rule w m)
 
 -- the client's steps among these moves; it doesn't see those of the line
-abbrev pub seen : {State : Type 0} → List (Move State) → List client.Step
+abbrev pub seen : {State : Type 0} → List (Move State) → List (client.Step Asked)
 seen [] = []
 seen (Sends target call deadline ∷ ms) = client.Send target call deadline ∷ seen ms
 seen (Tells now ∷ ms) = client.Expire now ∷ seen ms
@@ -111,8 +112,25 @@ IsFirstAlone out (Anew ∷ ms) = IsFirstAlone out ms
 IsFirstAlone out (Changes state ∷ ms) = IsFirstAlone out ms
 IsFirstAlone out (Joins line ∷ ms) = IsFirstAlone out ms
 
--- from a new client on, and with nothing under way, these moves are possible, whatever the instrument keeps; and the first request goes
--- out alone
+-- each request that goes out is one that `knows` names
+abbrev pub AsksOnly : {State : Type 0} → (Asked → Bool) → List (Move State) → Type 0
+AsksOnly knows [] = Unit {0}
+AsksOnly knows (Sends target call deadline ∷ ms) = (knows call ≡ true) × AsksOnly knows ms
+AsksOnly knows (Tells now ∷ ms) = AsksOnly knows ms
+AsksOnly knows (Comes line ∷ ms) = AsksOnly knows ms
+AsksOnly knows (Foreign line ∷ ms) = AsksOnly knows ms
+AsksOnly knows (OnLine step ∷ ms) = AsksOnly knows ms
+AsksOnly knows (Anew ∷ ms) = AsksOnly knows ms
+AsksOnly knows (Changes state ∷ ms) = AsksOnly knows ms
+AsksOnly knows (Joins line ∷ ms) = AsksOnly knows ms
+
+-- each request that goes out is a call of the table
+abbrev pub AsksTheTable : {State : Type 0} → List (Move State) → Type 0
+AsksTheTable ms = AsksOnly is_of_table ms
+
+-- from a new client on, and with nothing under way, these moves are possible, whatever the instrument keeps; the requests are calls of the
+-- table; and the first one goes out alone
 pub record IsField {State : Type 0} (width : ℕ) (ends : Ends State) (Good : State → Type 0) (kept : State → Option KeptReply) (state : State) (ms : List (Move State)) : Type 0 where
   pub possible : ArePossible ends Good kept (by_ids width ends) ms (ids_open state)
+  pub table : AsksTheTable ms
   pub alone : IsFirstAlone false ms

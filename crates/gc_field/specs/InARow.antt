@@ -9,8 +9,8 @@ use Rattle.gc_station.specs.declared.plan.Plan.{Plan}
 use Rattle.gc_station.specs.Parts.{parts_of}
 use Rattle.gc_station.specs.Scopes.{Scope}
 use Rattle.gc_station.specs.Model.{Runs, opening}
-use Rattle.gc_world.specs.Clients.{ends}
-use Rattle.gc_world.specs.World.{Ends}
+use Rattle.gc_field.specs.Simulator.{ends}
+use Rattle.gc_field.specs.World.{Ends}
 use Rattle.gc_field.specs.Begin.{AreLines, Turn, UnderWay}
 use Rattle.gc_field.specs.Beginnings.{AreRuns, IsRow, Run, killed_if, left_by_run, stood}
 use Rattle.gc_field.specs.Instrument.{AnyState, IsAnInstrument}

@@ -1,48 +1,63 @@
 -- What is asked of an instrument, this project's own: it answers in turn, one request at a time, each with its request's id, and what it
--- sends again is its reply to the request directly before. By this alone each answer is its own request's. Its states are of any kind. It
--- may do with a request whatever it likes, and carry it out or refuse it, with any codes and any parameters, also such as don't read.
+-- sends again is its reply to the request directly before, or to the last call of the table before that. By this and by when a client sends
+-- (`IsBehindTheTable`) each answer is its own request's. Its states are of any kind. It may do with a request whatever it likes, and carry
+-- it out or refuse it, with any codes and any parameters, also such as don't read.
 -- `executed` means that the line was made now, for this request, be it an answer or a refusal; where it isn't so, the line is an older one
 -- that is sent again.
-use Rattle.std.specs.Prelude.{◌≡◌, ℕ, ◌<◌, ◌⊎◌, true, false, List, Option, Some, None}
-use Rattle.gc_catalogue.specs.declared.call.Call.{Call}
+use Rattle.std.specs.Prelude.{◌≡◌, ℕ, ◌<◌, ◌⊎◌, Bool, true, false, List, Option, Some, None}
+use Rattle.gc_catalogue.specs.declared.asked.Asked.{Asked}
 use Rattle.gc_client.specs.declared.window.TheConstants.{IDS}
 use Rattle.gc_client.specs.Rule.{heard}
 use Rattle.gc_instrument.specs.State.{KeptReply}
-use Rattle.gc_world.specs.World.{Ends}
+use Rattle.gc_field.specs.World.{Ends}
+use Rattle.gc_catalogue.specs.Asked.{is_of_table}
 
 module _ {State : Type 0} (ends : Ends State) (Good : State → Type 0) (kept : State → Option KeptReply) where
+  -- after this request it keeps its reply to that request, or nothing
+  abbrev pub KeepsItsOwn : State → ℕ → Asked → Type 0
+  KeepsItsOwn state id call = (kept (ends.handed state id call).state ≡ None) ⊎ (kept (ends.handed state id call).state ≡ Some (record { id = id; line = (ends.handed state id call).reply }))
+
   -- `ends` is an instrument: what it does with a request (`handed`) and at a start (`restarted`), and how its lines are read
   -- (`heard`). `Good` says which of its states are good, and `kept` what it keeps in each: the line that it sent for a request,
-  -- with that request's id, or nothing
-  pub record IsAnInstrument : Type 0 where
+  -- with that request's id, or nothing. After each request that `knows` names it keeps its own reply to that, or nothing
+  pub record IsAnInstrumentFor (knows : Asked → Bool) : Type 0 where
     -- a client reads its lines by the grammar of replies
     pub hears : (line : List ℕ) → ends.heard line ≡ heard line
     -- its line for a request is a reply with the request's id
-    pub replies : (state : State) (id : ℕ) (call : Call) → Good state → id < IDS → heard (ends.handed state id call).reply ≡ Some id
+    pub replies : (state : State) (id : ℕ) (call : Asked) → Good state → id < IDS → heard (ends.handed state id call).reply ≡ Some id
     -- where it sends an older line again (`executed` is false), that line is the one that it keeps, and it keeps it for this
     -- very id
     pub repeats :
-        (state : State) (id : ℕ) (call : Call) → Good state → id < IDS → (ends.handed state id call).executed ≡ false →
+        (state : State) (id : ℕ) (call : Asked) → Good state → id < IDS → (ends.handed state id call).executed ≡ false →
         kept state ≡ Some (record { id = id; line = (ends.handed state id call).reply })
-    -- after a request it keeps its reply to that request, or nothing
+    -- after a request it keeps its reply to that request, or nothing; or, if it doesn't know the request, what it kept before
     pub keeps :
-        (state : State) (id : ℕ) (call : Call) → Good state → id < IDS →
-        (kept (ends.handed state id call).state ≡ None) ⊎ (kept (ends.handed state id call).state ≡ Some (record { id = id; line = (ends.handed state id call).reply }))
+        (state : State) (id : ℕ) (call : Asked) → Good state → id < IDS →
+        KeepsItsOwn state id call ⊎ ((knows call ≡ false) × (kept (ends.handed state id call).state ≡ kept state))
     -- after a start it keeps what it kept before, or nothing
     pub starts : (state : State) → Good state → (kept (ends.restarted state) ≡ None) ⊎ (kept (ends.restarted state) ≡ kept state)
     -- a good state stays one
-    pub stays_good : (state : State) (id : ℕ) (call : Call) → Good state → id < IDS → Good (ends.handed state id call).state
+    pub stays_good : (state : State) (id : ℕ) (call : Asked) → Good state → id < IDS → Good (ends.handed state id call).state
     pub starts_good : (state : State) → Good state → Good (ends.restarted state)
 
-  -- an instrument that keeps its reply to each request, and sends that reply again where the next request has the same id
-  pub record KeepsItsReply : Type 0 where
-    -- it doesn't execute a request that has the id of the line that it keeps
+  -- an instrument, of which it is known of calls of the table that after each of them it keeps its own reply, or nothing
+  abbrev pub IsAnInstrument : Type 0
+  IsAnInstrument = IsAnInstrumentFor is_of_table
+
+  -- a request that is no call of the table is to it as all others: after it, too, it keeps its own reply, or nothing
+  abbrev pub TreatsRawsAlike : Type 0
+  TreatsRawsAlike = (state : State) (id : ℕ) (call : Asked) → Good state → id < IDS → KeepsItsOwn state id call
+
+  -- an instrument that keeps its reply to each request that it knows (`knows`), and sends that reply again where the next request has the same
+  -- id
+  pub record KeepsItsReply (knows : Asked → Bool) : Type 0 where
+    -- it doesn't execute a request that it knows and that has the id of the line that it keeps
     pub again :
-        (state : State) (id : ℕ) (call : Call) (line : List ℕ) → Good state → id < IDS → kept state ≡ Some (record { id = id; line = line }) →
+        (state : State) (id : ℕ) (call : Asked) (line : List ℕ) → Good state → id < IDS → knows call ≡ true → kept state ≡ Some (record { id = id; line = line }) →
         (ends.handed state id call).executed ≡ false
-    -- after each request it keeps its reply to that request
+    -- after each request that it knows it keeps its reply to that request
     pub always :
-        (state : State) (id : ℕ) (call : Call) → Good state → id < IDS →
+        (state : State) (id : ℕ) (call : Asked) → Good state → id < IDS → knows call ≡ true →
         kept (ends.handed state id call).state ≡ Some (record { id = id; line = (ends.handed state id call).reply })
 
 -- an instrument's state may change by itself between two requests, as by a hand at its keys, a clock, or the noise of a measurement: into any
@@ -54,6 +69,10 @@ MayBecome Good kept before after = Good after × (kept after ≡ kept before)
 abbrev pub AnyState : {State : Type 0} → State → Type 0
 AnyState state = Unit {0}
 
+-- all requests are known
+abbrev pub all_known : Asked → Bool
+all_known call = true
+
 -- no state keeps a reply
 abbrev pub nothing : {State : Type 0} → State → Option KeptReply
 nothing state = None
@@ -62,6 +81,6 @@ nothing state = None
 abbrev pub KeepingNothingSuffices : Type 0 → Type 0
 KeepingNothingSuffices State =
     (ends : Ends State) → ((line : List ℕ) → ends.heard line ≡ heard line) →
-    ((state : State) (id : ℕ) (call : Call) → id < IDS → heard (ends.handed state id call).reply ≡ Some id) →
-    ((state : State) (id : ℕ) (call : Call) → (ends.handed state id call).executed ≡ true) →
+    ((state : State) (id : ℕ) (call : Asked) → id < IDS → heard (ends.handed state id call).reply ≡ Some id) →
+    ((state : State) (id : ℕ) (call : Asked) → (ends.handed state id call).executed ≡ true) →
     IsAnInstrument ends AnyState nothing

@@ -2,6 +2,7 @@
 use Rattle.std.specs.Prelude.{◌≡◌, ℕ, true, false, List, [], ◌∷◌, codes, pos, Some, None}
 use Rattle.gc_lines.specs.Lines.{with_end}
 use Rattle.gc_catalogue.specs.declared.answer.Answer.TheVariants.{Long}
+use Rattle.gc_catalogue.specs.declared.asked.Asked.TheVariants.{Table}
 use Rattle.gc_catalogue.specs.declared.call.Call.TheVariants.{InstrumentNo}
 use Rattle.gc_client.specs.declared.window.TheConstants.{WINDOW}
 use Rattle.gc_instrument.specs.State.{State, IsFittingState, simulator_opening}
@@ -12,8 +13,8 @@ use Rattle.gc_texts.specs.declared.quality.Quality.TheVariants.{Fine}
 use Rattle.gc_links.specs.Acts.{Act, Told, Put, Gave, Silent, Closed}
 use Rattle.gc_station.specs.Progressing.{is_over}
 use Rattle.gc_station.specs.Runs.{stood}
-use Rattle.gc_world.specs.Clients.{ends}
-use Rattle.gc_world.specs.World.{Up_deliver}
+use Rattle.gc_field.specs.Simulator.{ends}
+use Rattle.gc_field.specs.World.{Up_deliver}
 use Rattle.gc_field.specs.Begin.{UnderWay, begins, leaves, none_under_way, turned}
 use Rattle.gc_field.specs.Beginnings.{Run}
 use Rattle.gc_field.specs.Begun.{WasMadeOn}
@@ -25,8 +26,8 @@ use Rattle.gc_field.specs.Witness.{plan, scope, at, begun_with, eight, replies}
 -- two requests for the instrument's number
 abbrev pub commands : List Task
 commands =
-    record { command = record { target = 7; call = InstrumentNo }; deadline = 100; chained = false; near = None; accepted = no_codes }
-    ∷ record { command = record { target = 8; call = InstrumentNo }; deadline = 100; chained = false; near = None; accepted = no_codes }
+    record { command = record { target = 7; call = Table InstrumentNo }; deadline = 100; chained = false; near = None; accepted = no_codes }
+    ∷ record { command = record { target = 8; call = Table InstrumentNo }; deadline = 100; chained = false; near = None; accepted = no_codes }
     ∷ []
 
 -- the reply to the first request, which comes too late
@@ -59,11 +60,11 @@ acts =
 abbrev pub moves : List (Move State)
 moves =
     Tells 15
-    ∷ Sends 7 InstrumentNo 115
+    ∷ Sends 7 (Table InstrumentNo) 115
     ∷ Tells 15
     ∷ OnLine Up_deliver
     ∷ Tells 115
-    ∷ Sends 8 InstrumentNo 215
+    ∷ Sends 8 (Table InstrumentNo) 215
     ∷ Tells 115
     ∷ Tells 120
     ∷ Comes late
@@ -91,8 +92,8 @@ pub record IsLateInField : Type 0 where
   pub over : is_over (stood plan commands scope acts).progress ≡ true
   pub records :
       (stood plan commands scope acts).records
-      ≡ record { sent = Some 15; utc = 120; cycle = 1; place = 0; command = record { target = 7; call = InstrumentNo }; end = end.Late }
-      ∷ record { sent = Some 115; utc = 125; cycle = 1; place = 1; command = record { target = 8; call = InstrumentNo }; end = end.Answered Fine (Some (Long (pos 123456))) answer }
+      ≡ record { sent = Some 15; utc = 120; cycle = 1; place = 0; command = record { target = 7; call = Table InstrumentNo }; end = end.Late }
+      ∷ record { sent = Some 115; utc = 125; cycle = 1; place = 1; command = record { target = 8; call = Table InstrumentNo }; end = end.Answered Fine (Some (Long (pos 123456))) answer }
       ∷ []
-  pub late_made_on : WasMadeOn WINDOW ends from moves 8 InstrumentNo late
-  pub answer_made_on : WasMadeOn WINDOW ends from moves 9 InstrumentNo answer
+  pub late_made_on : WasMadeOn WINDOW ends from moves 8 (Table InstrumentNo) late
+  pub answer_made_on : WasMadeOn WINDOW ends from moves 9 (Table InstrumentNo) answer

@@ -1,21 +1,27 @@
 -- What holds in the field, whenever a client sends: this project's own. Requests are numbered from 0 on, in the order of
 -- sending. The client that knows ids finds a reply's request by the reply's id; the one that is given numbers is told the
 -- request's number, and serves for comparison alone.
-use Rattle.std.specs.Prelude.{◌≡◌, ℕ, ◌-◌, ◌<◌, ◌≤◌, List, ◌∷◌, ◌++◌, length, map, Option, Some, slice_get}
-use Rattle.gc_client.specs.declared.window.TheConstants.{WINDOW}
-use Rattle.gc_client.specs.OneForOne.{Asked, begun, course, of_settled, of_pending}
+use Rattle.std.specs.Prelude.{◌≡◌, ℕ, Bool, ◌-◌, ◌<◌, ◌≤◌, List, ◌∷◌, ◌++◌, length, map, Option, Some, slice_get}
+use Rattle.gc_catalogue.specs.declared.asked.Asked.{Asked}
+use Rattle.gc_catalogue.specs.declared.asked.Asked.TheVariants.{Raw}
+use Rattle.gc_catalogue.specs.declared.raw.RawCall.{RawCall}
+use Rattle.gc_client.specs.declared.window.TheConstants.{WINDOW, IDS}
+use Rattle.gc_client.specs.OneForOne.{Wanted, begun, course, of_settled, of_pending}
 use Rattle.gc_client.specs.Rule.{ById, Settlement, Answered, Late, settle}
+use Rattle.gc_instrument.specs.Replying.{IsReplied}
 use Rattle.gc_instrument.specs.State.{KeptReply, State, IsFittingState}
-use Rattle.gc_world.specs.Clients.{ends, by_ids, by_numbers, ids_open, numbers_open}
+use Rattle.gc_world.specs.Clients.{by_ids, by_numbers, ids_open, numbers_open}
+use Rattle.gc_field.specs.Simulator.{ends, handed}
 use Rattle.gc_world.specs.Record.{IsBooked, IsOneForOne}
-use Rattle.gc_world.specs.World.{Ends, Numbered, Sent, Wire, World}
+use Rattle.gc_field.specs.World.{Ends, Numbered, Sent, Wire, World}
 use Rattle.gc_field.specs.Field.{Move, Comes, IsField, moved, moves, seen}
 use Rattle.gc_field.specs.Made.{WasMadeOn}
 use Rattle.gc_field.specs.Instrument.{IsAnInstrument, KeepsItsReply, AnyState}
 use Rattle.gc_field.specs.Once.{ActsOnce, IsInOrder}
+use Rattle.gc_catalogue.specs.Asked.{asked_line, is_of_table}
 
 -- whom a request was for, and what it asks for
-abbrev pub asked : Sent → Asked
+abbrev pub asked : Sent → Wanted Asked
 asked r = record { target = r.target; call = r.call }
 
 -- the request with this number is among those that were executed
@@ -24,7 +30,7 @@ WasExecuted executed m = (j : ℕ) × (slice_get executed j ≡ Some m)
 
 module _ {State : Type 0} (width : ℕ) (ends : Ends State) (state : State) (ms : List (Move State)) where
   -- the world after the moves, with the client that knows ids
-  abbrev pub left : World ById State
+  abbrev pub left : World (ById Asked) State
   left = moved ends (by_ids width ends) ms (ids_open state)
 
   -- the wire after the moves, with the client that is given the number of each reply's request
@@ -43,21 +49,22 @@ module _ {State : Type 0} (width : ℕ) (ends : Ends State) (state : State) (ms 
     -- its own: an answer at place m is among the lines that the instrument made for request m, and is its reply to that very call; but for
     -- the first request, which an instrument that kept an older reply with its id may have answered with that
     pub booked :
-        (m : ℕ) (s : Settlement) → 0 < m → slice_get left.wire.settled m ≡ Some s → IsBooked ends Good left.wire.made m s
+        (m : ℕ) (s : Settlement Asked) → 0 < m → slice_get left.wire.settled m ≡ Some s → IsBooked ends Good left.wire.made m s
     -- and the instrument executed request m at one of these moves, not before the client began
     pub executed :
-        (m : ℕ) (s : Settlement) (line : List ℕ) → 0 < m → slice_get left.wire.settled m ≡ Some s → s.outcome ≡ Answered line → WasExecuted left.wire.executed m
+        (m : ℕ) (s : Settlement Asked) (line : List ℕ) → 0 < m → slice_get left.wire.settled m ≡ Some s → s.outcome ≡ Answered line → WasExecuted left.wire.executed m
     -- made on it: its line was made on executing request m. At one of these moves that request, with this call, reached the instrument,
     -- which executed it, and this line was its reply
     pub made_on :
-        (m : ℕ) (s : Settlement) (line : List ℕ) → 0 < m → slice_get left.wire.settled m ≡ Some s → s.outcome ≡ Answered line → WasMadeOn width ends state ms m s.call line
+        (m : ℕ) (s : Settlement Asked) (line : List ℕ) → 0 < m → slice_get left.wire.settled m ≡ Some s → s.outcome ≡ Answered line → WasMadeOn width ends state ms m s.call line
     -- in order: requests are executed in the order of sending, over starts too
     pub in_order : IsInOrder left.wire.executed
     -- late: the instrument dealt with the request, though its reply came too late
     pub late :
-        (m : ℕ) (s : Settlement) → 0 < m → slice_get left.wire.settled m ≡ Some s → s.outcome ≡ Late → (line : List ℕ) × WasMadeOn width ends state ms m s.call line
-    -- acts once: where the instrument keeps its reply, between two of its starts each request is executed at most once
-    pub once : KeepsItsReply ends Good kept → ActsOnce left.wire.executed left.wire.starts
+        (m : ℕ) (s : Settlement Asked) → 0 < m → slice_get left.wire.settled m ≡ Some s → s.outcome ≡ Late → (line : List ℕ) × WasMadeOn width ends state ms m s.call line
+    -- acts once: where the instrument keeps its reply to each request that it knows, between two of its starts each of these is executed at
+    -- most once
+    pub once : (knows : Asked → Bool) → KeepsItsReply ends Good kept knows → ActsOnce knows left.wire.sent left.wire.executed left.wire.starts
     -- agreement: all is as with a client that is told the number of each reply's request
     pub agrees : left.wire ≡ left_by_numbers
     -- in time: a reply whose request isn't settled settles that request, and those before it as lost. The request is answered
@@ -76,11 +83,13 @@ AnswersAreTheirOwn State =
 abbrev pub kept_of : State → Option KeptReply
 kept_of s = s.kept
 
--- the simulator is an instrument, in any state that fits, and one that keeps its reply. What it is handed are calls of its
--- table: its refusals of other requests leave what it keeps, so with them it would be no instrument
+-- the simulator is an instrument, in any state that fits, and one that keeps its reply to each call of its table. It refuses other requests,
+-- and its refusals leave what it keeps
 pub record SimulatorIsAnInstrument : Type 0 where
   pub is : IsAnInstrument ends IsFittingState kept_of
-  pub keeps : KeepsItsReply ends IsFittingState kept_of
+  pub keeps : KeepsItsReply ends IsFittingState kept_of is_of_table
+  -- that is what the simulated instrument does with the line of such a request
+  pub refuses : (state : State) (id : ℕ) (raw : RawCall) → id < IDS → IsReplied state (asked_line (Some id) (Raw raw)) (handed state id (Raw raw)).state (Some (handed state id (Raw raw)).reply)
 
 -- `AnswersAreTheirOwn` for the simulator, in any state that fits
 abbrev pub SimulatorsAnswersAreTheirOwn : Type 0

@@ -1,6 +1,8 @@
+pub mod World
 pub mod Instrument
 pub mod Field
 pub mod Once
+pub mod Simulator
 pub mod Meaning
 pub mod Fronts
 pub mod Made

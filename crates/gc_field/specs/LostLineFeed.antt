@@ -4,13 +4,15 @@ use Rattle.std.specs.Prelude.{◌≡◌, ℕ, List, [], ◌∷◌, ◌++◌, tak
 use Rattle.gc_lines.specs.Frames.{lines}
 use Rattle.gc_lines.specs.Lines.{with_end}
 use Rattle.gc_lines.specs.Readers.{request_at}
+use Rattle.gc_catalogue.specs.declared.asked.Asked.TheVariants.{Table}
 use Rattle.gc_catalogue.specs.declared.call.Call.TheVariants.{NullProc, InstrumentNo}
 use Rattle.gc_client.specs.declared.window.TheConstants.{WINDOW}
 use Rattle.gc_client.specs.Rule.{Answered}
 use Rattle.gc_instrument.specs.Replying.{IsReplied}
 use Rattle.gc_instrument.specs.State.{State, IsFittingState, simulator_opening}
-use Rattle.gc_world.specs.Clients.{ends, by_ids}
-use Rattle.gc_world.specs.World.{Up_deliver}
+use Rattle.gc_world.specs.Clients.{by_ids}
+use Rattle.gc_field.specs.Simulator.{ends}
+use Rattle.gc_field.specs.World.{Up_deliver}
 use Rattle.gc_field.specs.Begin.{none_under_way}
 use Rattle.gc_field.specs.Begun as begun
 use Rattle.gc_field.specs.Begun.{ids_begun}
@@ -27,7 +29,7 @@ joint = codes "%R1Q,5003,1:%R1Q,0,2:"
 
 -- the moves before: a client that has begun sends a null procedure, which is answered; and then two requests, of which the first is cut
 abbrev pub before : List (Move State)
-before = Sends 0 NullProc 9 ∷ OnLine Up_deliver ∷ Comes (codes "%R1P,0,0:0") ∷ Sends 7 InstrumentNo 9 ∷ Sends 8 NullProc 9 ∷ []
+before = Sends 0 (Table NullProc) 9 ∷ OnLine Up_deliver ∷ Comes (codes "%R1P,0,0:0") ∷ Sends 7 (Table InstrumentNo) 9 ∷ Sends 8 (Table NullProc) 9 ∷ []
 
 -- the moves after that: the front of the first request and the second request reach the simulator as one line, whose reply comes
 abbrev pub behind : List (Move State)
@@ -44,5 +46,5 @@ pub record IsBookedJoined : Type 0 where
       (begun.behind WINDOW ends (none_under_way simulator_opening) before).wire.state (Some refusal)
   -- the reply is booked for the request that was cut, which wasn't executed
   pub settled : slice_get (begun.behind WINDOW ends (none_under_way simulator_opening) (before ++ behind)).wire.settled 9 ≡ Some
-      (record { target = 7; call = InstrumentNo; outcome = Answered refusal })
+      (record { target = 7; call = Table InstrumentNo; outcome = Answered refusal })
   pub executed : (begun.behind WINDOW ends (none_under_way simulator_opening) (before ++ behind)).wire.executed ≡ 8 ∷ []

@@ -1,8 +1,8 @@
 -- A line that was made on executing a request, this project's own.
 use Rattle.std.specs.Prelude.{◌≡◌, ℕ, true, List, ◌∷◌, ◌++◌}
-use Rattle.gc_catalogue.specs.declared.call.Call.{Call}
+use Rattle.gc_catalogue.specs.declared.asked.Asked.{Asked}
 use Rattle.gc_world.specs.Clients.{by_ids, ids_open}
-use Rattle.gc_world.specs.World.{Ends, Numbered, Request, Up_deliver, Wire}
+use Rattle.gc_field.specs.World.{Ends, Numbered, Request, Up_deliver, Wire}
 use Rattle.gc_field.specs.Field.{Move, OnLine, moved}
 
 module _ {State : Type 0} (width : ℕ) (ends : Ends State) (state : State) where
@@ -12,7 +12,7 @@ module _ {State : Type 0} (width : ℕ) (ends : Ends State) (state : State) wher
 
   -- at one of these moves request m, with this call, reaches the instrument; it executes the call, in the state in which it is by then;
   -- and this line is its reply
-  pub record WasMadeOn (ms : List (Move State)) (m : ℕ) (call : Call) (line : List ℕ) : Type 0 where
+  pub record WasMadeOn (ms : List (Move State)) (m : ℕ) (call : Asked) (line : List ℕ) : Type 0 where
     -- the moves before that one, and those after it
     pub front : List (Move State)
     pub later : List (Move State)

@@ -4,8 +4,8 @@
 use Rattle.std.specs.Prelude.{◌≡◌, ◌⊎◌, ℕ, List, [], ◌∷◌, ◌++◌, map, Some}
 use Rattle.gc_lines.specs.Frames.{rest_behind}
 use Rattle.gc_lines.specs.Lines.{with_end}
-use Rattle.gc_catalogue.specs.declared.call.Call.{Call}
-use Rattle.gc_catalogue.specs.Texts.{request_line}
+use Rattle.gc_catalogue.specs.declared.asked.Asked.{Asked}
+use Rattle.gc_catalogue.specs.Asked.{asked_line}
 use Rattle.gc_client.specs.declared.window.TheConstants.{WINDOW}
 use Rattle.gc_client.specs.OneForOne.{Step, Send, Hear, Expire, goes}
 use Rattle.gc_client.specs.Rule.{ById, Sending, sends}
@@ -14,37 +14,37 @@ use Rattle.gc_links.specs.Acts.{Act, Told, Untold, Put, Cut, Gave, Silent, Ended
 use Rattle.gc_station.specs.Model.{lines_behind}
 
 -- these bytes are the line of a request that the client sends by this step
-pub record IsRequest (client : ById) (bytes : List ℕ) (steps : List Step) : Type 0 where
+pub record IsRequest (client : ById Asked) (bytes : List ℕ) (steps : List (Step Asked)) : Type 0 where
   pub target : ℕ
-  pub call : Call
+  pub call : Asked
   pub deadline : ℕ
-  pub sending : Sending ById
+  pub sending : Sending (ById Asked)
   pub taken : sends WINDOW client target call deadline ≡ Some sending
-  pub text : bytes ≡ with_end (request_line (Some sending.id) call)
+  pub text : bytes ≡ with_end (asked_line (Some sending.id) call)
   pub step : steps ≡ Send target call deadline ∷ []
 
 -- what bytes that are put mean to the client: a request that it sends; or a line feed, which clears the receiver and is no
 -- request
-abbrev pub IsPut : ById → List ℕ → List Step → Type 0
+abbrev pub IsPut : ById Asked → List ℕ → List (Step Asked) → Type 0
 IsPut client bytes steps = ((bytes ≡ 10 ∷ []) × (steps ≡ [])) ⊎ IsRequest client bytes steps
 
 -- what a piece that is heard means to a client: first the moment `m` is told, at which requests past their deadline are given
 -- up; then each line that the piece completes is heard. `before` and `behind` are the bytes since the last line feed, before
 -- the piece and after it
-pub record IsHeard (before piece : List ℕ) (m : Moment) (steps : List Step) (behind : List ℕ) : Type 0 where
+pub record IsHeard (before piece : List ℕ) (m : Moment) (steps : List (Step Asked)) (behind : List ℕ) : Type 0 where
   pub lines : steps ≡ Expire m.elapsed ∷ map Hear (lines_behind before piece)
   pub rest : behind ≡ rest_behind before piece
 
 -- what a piece that is dropped means, as while a connection is drained: the moment is told, and it is as if the piece had been
 -- lost
-pub record IsDropped (before : List ℕ) (m : Moment) (steps : List Step) (behind : List ℕ) : Type 0 where
+pub record IsDropped (before : List ℕ) (m : Moment) (steps : List (Step Asked)) (behind : List ℕ) : Type 0 where
   pub lines : steps ≡ Expire m.elapsed ∷ []
   pub rest : behind ≡ before
 
 -- what an act of the link means to a client: its steps. `before` and `behind` are the bytes since the last line feed, before
 -- and after the act; a close forgets them. A request of which only a part went out (`Cut`) is sent, too: it may be lost whole
 -- on the way to the instrument
-abbrev pub Means : ById → List ℕ → Act → List Step → List ℕ → Type 0
+abbrev pub Means : ById Asked → List ℕ → Act → List (Step Asked) → List ℕ → Type 0
 Means client before (Told m) steps behind = (steps ≡ Expire m.elapsed ∷ []) × (behind ≡ before)
 Means client before Untold steps behind = (steps ≡ []) × (behind ≡ before)
 Means client before (Put bytes) steps behind = IsPut client bytes steps × (behind ≡ before)
@@ -58,17 +58,18 @@ Means client before Opened steps behind = (steps ≡ []) × (behind ≡ before)
 Means client before Unopened steps behind = (steps ≡ []) × (behind ≡ before)
 
 -- a client after a step, by its rule with the window of seven
-abbrev pub stepped : ById → Step → ById
+abbrev pub stepped : ById Asked → Step Asked → ById Asked
 stepped client step = (goes WINDOW (record { sent = []; settlements = []; client = client }) step).client
 
 -- a client after several steps, in order
-abbrev pub client_after : ById → List Step → ById
+abbrev pub client_after : ById Asked → List (Step Asked) → ById Asked
 client_after client [] = client
 client_after client (step ∷ steps) = client_after (stepped client step) steps
 
 -- these acts, in order, mean these steps, in order: for a client that begins in this state, with these bytes since the last
 -- line feed
-abbrev pub Amount : ById → List ℕ → List Act → List Step → Type 0
+abbrev pub Amount : ById Asked → List ℕ → List Act → List (Step Asked) → Type 0
 Amount client before [] steps = steps ≡ []
 Amount client before (act ∷ acts) steps =
-    (first : List Step) × (later : List Step) × (behind : List ℕ) × (steps ≡ first ++ later) × Means client before act first behind × Amount (client_after client first) behind acts later
+    (first : List (Step Asked)) × (later : List (Step Asked)) × (behind : List ℕ) × (steps ≡ first ++ later) × Means client before act first behind
+    × Amount (client_after client first) behind acts later

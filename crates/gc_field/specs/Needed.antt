@@ -4,21 +4,23 @@ use Rattle.std.specs.Prelude.{◌≡◌, ℕ, zero, suc, ◌+◌, ◌<◌, ◌�
 use Rattle.std.specs.Fmt.{decimal}
 use Rattle.std.specs.Option.{option_map}
 use Rattle.gc_lines.specs.Replies.{reply_text}
-use Rattle.gc_catalogue.specs.Calls.{call_fields}
-use Rattle.gc_catalogue.specs.declared.call.Call.{Call}
+use Rattle.gc_catalogue.specs.declared.asked.Asked.{Asked}
+use Rattle.gc_catalogue.specs.declared.asked.Asked.TheVariants.{Table, Raw}
 use Rattle.gc_catalogue.specs.declared.call.Call.TheVariants.{NullProc, InstrumentNo}
+use Rattle.gc_catalogue.specs.declared.raw.RawCall.{RawCall}
 use Rattle.gc_client.specs.declared.window.TheConstants.{WINDOW, IDS}
 use Rattle.gc_client.specs.Rule.{Answered, heard}
 use Rattle.gc_instrument.specs.Replying.{Handed}
 use Rattle.gc_instrument.specs.State.{KeptReply}
 use Rattle.gc_world.specs.Clients.{by_ids}
-use Rattle.gc_world.specs.World.{Ends, Up_deliver, Up_repeat}
+use Rattle.gc_field.specs.World.{Ends, Up_deliver, Up_repeat}
 use Rattle.gc_field.specs.Begin.{none_under_way}
 use Rattle.gc_field.specs.Begun.{IsClean, behind, ids_begun}
 use Rattle.gc_field.specs.Field.{Move, Sends, Comes, OnLine, Anew, Changes, ArePossible}
-use Rattle.gc_field.specs.Instrument.{IsAnInstrument, AnyState, nothing}
+use Rattle.gc_field.specs.Instrument.{IsAnInstrument, AnyState, KeepsItsOwn, nothing}
 use Rattle.gc_field.specs.Laws.{WasExecuted}
 use Rattle.gc_field.specs.Once.{ActsOnce}
+use Rattle.gc_catalogue.specs.Asked.{asked_request, is_of_table}
 
 -- the clauses of what is asked of an instrument
 pub data Clause : Type 0 where
@@ -33,23 +35,23 @@ pub data Clause : Type 0 where
 -- this instrument meets every clause, but perhaps this one
 pub record IsAllBut {State : Type 0} (x : Clause) (ends : Ends State) (Good : State → Type 0) (kept : State → Option KeptReply) : Type 0 where
   pub hears : (x ≡ Hears) ⊎ ((line : List ℕ) → ends.heard line ≡ heard line)
-  pub replies : (x ≡ Replies) ⊎ ((state : State) (id : ℕ) (call : Call) → Good state → id < IDS → heard (ends.handed state id call).reply ≡ Some id)
+  pub replies : (x ≡ Replies) ⊎ ((state : State) (id : ℕ) (call : Asked) → Good state → id < IDS → heard (ends.handed state id call).reply ≡ Some id)
   pub repeats :
       (x ≡ Repeats)
-      ⊎ ((state : State) (id : ℕ) (call : Call) → Good state → id < IDS → (ends.handed state id call).executed ≡ false
+      ⊎ ((state : State) (id : ℕ) (call : Asked) → Good state → id < IDS → (ends.handed state id call).executed ≡ false
       → kept state ≡ Some (record { id = id; line = (ends.handed state id call).reply }))
   pub keeps :
       (x ≡ Keeps)
-      ⊎ ((state : State) (id : ℕ) (call : Call) → Good state → id < IDS →
-      (kept (ends.handed state id call).state ≡ None) ⊎ (kept (ends.handed state id call).state ≡ Some (record { id = id; line = (ends.handed state id call).reply })))
+      ⊎ ((state : State) (id : ℕ) (call : Asked) → Good state → id < IDS →
+      KeepsItsOwn ends Good kept state id call ⊎ ((is_of_table call ≡ false) × (kept (ends.handed state id call).state ≡ kept state)))
   pub starts : (x ≡ Starts) ⊎ ((state : State) → Good state → (kept (ends.restarted state) ≡ None) ⊎ (kept (ends.restarted state) ≡ kept state))
-  pub stays_good : (x ≡ StaysGood) ⊎ ((state : State) (id : ℕ) (call : Call) → Good state → id < IDS → Good (ends.handed state id call).state)
+  pub stays_good : (x ≡ StaysGood) ⊎ ((state : State) (id : ℕ) (call : Asked) → Good state → id < IDS → Good (ends.handed state id call).state)
   pub starts_good : (x ≡ StartsGood) ⊎ ((state : State) → Good state → Good (ends.restarted state))
 
 -- after a clean beginning, with nothing under way, these moves are possible, and the client's request m, with this call, is
 -- answered with this line though it wasn't executed
 pub record IsBookedUnexecuted {State : Type 0} (ends : Ends State) (Good : State → Type 0) (kept : State → Option KeptReply) (state : State)
-    (ms : List (Move State)) (m : ℕ) (call : Call) (line : List ℕ) : Type 0 where
+    (ms : List (Move State)) (m : ℕ) (call : Asked) (line : List ℕ) : Type 0 where
   pub beyond : 8 ≤ m
   pub clean : IsClean Good kept (none_under_way state)
   pub field : ArePossible ends Good kept (by_ids WINDOW ends) ms (ids_begun (none_under_way state))
@@ -58,7 +60,7 @@ pub record IsBookedUnexecuted {State : Type 0} (ends : Ends State) (Good : State
 
 -- this clause is needed: the instrument meets every other one, and has an answer booked for a request that it never executed
 pub record IsNeeded {State : Type 0} (x : Clause) (ends : Ends State) (Good : State → Type 0) (kept : State → Option KeptReply) (state : State)
-    (ms : List (Move State)) (m : ℕ) (call : Call) (line : List ℕ) : Type 0 where
+    (ms : List (Move State)) (m : ℕ) (call : Asked) (line : List ℕ) : Type 0 where
   pub all_but : IsAllBut x ends Good kept
   pub good : Good state
   pub booked : IsBookedUnexecuted ends Good kept state ms m call line
@@ -72,12 +74,12 @@ abbrev pub refusal : ℕ → List ℕ
 refusal id = reply_text (record { rc_com = 3081; id = Some id; rc = 0; params = [] })
 
 -- the moves by which a request goes out, reaches the instrument, and is answered with this line; then these moves
-abbrev pub asks : {State : Type 0} → Call → List ℕ → List (Move State) → List (Move State)
+abbrev pub asks : {State : Type 0} → Asked → List ℕ → List (Move State) → List (Move State)
 asks call line ms = Sends 7 call 9 ∷ OnLine Up_deliver ∷ Comes line ∷ ms
 
 -- the moves by which two requests go out, and the first of them reaches the instrument and is answered with this line
 abbrev pub asks_two : {State : Type 0} → List ℕ → List (Move State)
-asks_two line = Sends 7 NullProc 9 ∷ Sends 7 InstrumentNo 9 ∷ OnLine Up_deliver ∷ Comes line ∷ []
+asks_two line = Sends 7 (Table NullProc) 9 ∷ Sends 7 (Table InstrumentNo) 9 ∷ OnLine Up_deliver ∷ Comes line ∷ []
 
 -- Instruments that keep a reply.
 
@@ -113,13 +115,24 @@ refuses_or false k id = record { state = k; reply = refusal id; executed = true 
 
 -- an instrument that knows the null procedure alone: its older reply comes again at the ninth request
 abbrev pub keeps_older : Ends Keeper
-keeps_older = record keeper { handed = λ k id call. refuses_or (nat_eq (call_fields call).number 0) k id }
+keeps_older = record keeper { handed = λ k id call. refuses_or (nat_eq (asked_request None call).rpc 0) k id }
 
 -- nine requests, each answered before the next one; the first one's id comes again
 abbrev pub nine : List (Move Keeper)
 nine =
-    asks NullProc (value 0 0) (asks InstrumentNo (refusal 1) (asks InstrumentNo (refusal 2) (asks InstrumentNo (refusal 3) (asks InstrumentNo (refusal 4)
-    (asks InstrumentNo (refusal 5) (asks InstrumentNo (refusal 6) (asks InstrumentNo (refusal 7) (asks NullProc (value 0 0) []))))))))
+    asks (Table NullProc) (value 0 0) (asks (Table InstrumentNo) (refusal 1) (asks (Table InstrumentNo) (refusal 2) (asks (Table InstrumentNo) (refusal 3) (asks (Table InstrumentNo) (refusal 4)
+    (asks (Table InstrumentNo) (refusal 5) (asks (Table InstrumentNo) (refusal 6) (asks (Table InstrumentNo) (refusal 7) (asks (Table NullProc) (value 0 0) []))))))))
+
+-- an instrument that knows the calls of the table alone: it refuses others, and still keeps its reply to the last call of the table
+abbrev pub refuses_raws : Ends Keeper
+refuses_raws = record keeper { handed = λ k id call. refuses_or (is_of_table call) k id }
+
+-- nine requests, each answered before the next one: the first and the last, whose id is the same, are calls of the table, and the seven between
+-- are none
+abbrev pub nine_raw : RawCall → List (Move Keeper)
+nine_raw raw =
+    asks (Table NullProc) (value 0 0) (asks (Raw raw) (refusal 1) (asks (Raw raw) (refusal 2) (asks (Raw raw) (refusal 3) (asks (Raw raw) (refusal 4)
+    (asks (Raw raw) (refusal 5) (asks (Raw raw) (refusal 6) (asks (Raw raw) (refusal 7) (asks (Table NullProc) (value 0 0) []))))))))
 
 -- an instrument that keeps an old reply, with id 1, after each start
 abbrev pub remembers : Ends Keeper
@@ -127,11 +140,11 @@ remembers = record keeper { restarted = λ k. Some (1, 27) }
 
 -- the moves of two requests, between which `remembers` starts
 abbrev pub started : List (Move Keeper)
-started = asks NullProc (value 0 0) (Anew ∷ asks InstrumentNo (value 1 27) [])
+started = asks (Table NullProc) (value 0 0) (Anew ∷ asks (Table InstrumentNo) (value 1 27) [])
 
 -- the moves of an instrument to which another client sends, too, so that what it keeps changes by itself
 abbrev pub shared : List (Move Keeper)
-shared = asks NullProc (value 0 0) (Changes (Some (1, 27)) ∷ asks InstrumentNo (value 1 27) [])
+shared = asks (Table NullProc) (value 0 0) (Changes (Some (1, 27)) ∷ asks (Table InstrumentNo) (value 1 27) [])
 
 -- Instruments that keep no reply: their state says whether they are out of order.
 
@@ -182,7 +195,7 @@ sound = record mistaken { handed = λ b id call. answers_in b id b }
 
 -- the moves of a request that comes twice
 abbrev pub comes_twice : {State : Type 0} → List (Move State)
-comes_twice = asks NullProc (value 0 0) (Sends 7 InstrumentNo 9 ∷ OnLine (Up_repeat 0) ∷ OnLine Up_deliver ∷ OnLine Up_deliver ∷ [])
+comes_twice = asks (Table NullProc) (value 0 0) (Sends 7 (Table InstrumentNo) 9 ∷ OnLine (Up_repeat 0) ∷ OnLine Up_deliver ∷ OnLine Up_deliver ∷ [])
 
 -- an instrument that keeps its reply, and deals with each request anew
 abbrev pub deals_anew : Ends Keeper
@@ -199,27 +212,33 @@ pub record IsExecutedTwice {State : Type 0} (ends : Ends State) (Good : State �
   pub good : Good state
   pub clean : IsClean Good kept (none_under_way state)
   pub field : ArePossible ends Good kept (by_ids WINDOW ends) comes_twice (ids_begun (none_under_way state))
-  pub twice : ActsOnce (behind WINDOW ends (none_under_way state) comes_twice).wire.executed (behind WINDOW ends (none_under_way state) comes_twice).wire.starts → ⊥
+  pub twice :
+      ActsOnce is_of_table (behind WINDOW ends (none_under_way state) comes_twice).wire.sent (behind WINDOW ends (none_under_way state) comes_twice).wire.executed
+      (behind WINDOW ends (none_under_way state) comes_twice).wire.starts → ⊥
 
 -- each clause on instruments is needed
 pub record IsAllNeeded : Type 0 where
-  pub hears : IsNeeded Hears misheard AnyState nothing false (asks NullProc (value 0 0) (asks_two (value 1 0))) 10 InstrumentNo (value 1 0)
-  pub replies : IsNeeded Replies mistaken AnyState nothing false (asks NullProc (value 0 0) (asks_two (value 2 0))) 10 InstrumentNo (value 2 0)
-  pub repeats : IsNeeded Repeats idle AnyState nothing false (asks NullProc (value 0 0) (asks InstrumentNo (value 1 0) [])) 9 InstrumentNo (value 1 0)
-  pub keeps : IsNeeded Keeps keeps_older AnyState kept None nine 16 NullProc (value 0 0)
-  pub starts : IsNeeded Starts remembers AnyState kept None started 9 InstrumentNo (value 1 27)
-  pub stays_good : IsNeeded StaysGood wears_out InOrder nothing false (asks NullProc (value 0 0) (asks_two (value 2 0))) 10 InstrumentNo (value 2 0)
-  pub starts_good : IsNeeded StartsGood starts_broken InOrder nothing false (asks NullProc (value 0 0) (Anew ∷ asks_two (value 2 0))) 10 InstrumentNo (value 2 0)
+  pub hears : IsNeeded Hears misheard AnyState nothing false (asks (Table NullProc) (value 0 0) (asks_two (value 1 0))) 10 (Table InstrumentNo) (value 1 0)
+  pub replies : IsNeeded Replies mistaken AnyState nothing false (asks (Table NullProc) (value 0 0) (asks_two (value 2 0))) 10 (Table InstrumentNo) (value 2 0)
+  pub repeats : IsNeeded Repeats idle AnyState nothing false (asks (Table NullProc) (value 0 0) (asks (Table InstrumentNo) (value 1 0) [])) 9 (Table InstrumentNo) (value 1 0)
+  pub keeps : IsNeeded Keeps keeps_older AnyState kept None nine 16 (Table NullProc) (value 0 0)
+  pub starts : IsNeeded Starts remembers AnyState kept None started 9 (Table InstrumentNo) (value 1 27)
+  pub stays_good : IsNeeded StaysGood wears_out InOrder nothing false (asks (Table NullProc) (value 0 0) (asks_two (value 2 0))) 10 (Table InstrumentNo) (value 2 0)
+  pub starts_good : IsNeeded StartsGood starts_broken InOrder nothing false (asks (Table NullProc) (value 0 0) (Anew ∷ asks_two (value 2 0))) 10 (Table InstrumentNo) (value 2 0)
+  -- when a client sends is needed, too: an instrument meets every clause, and the last request, which didn't go out behind the table
+  -- (`IsBehindTheTable`), has an answer booked though it was never executed
+  pub rule_is : IsAnInstrument refuses_raws AnyState kept
+  pub rule : (raw : RawCall) → IsBookedUnexecuted refuses_raws AnyState kept None (nine_raw raw) 16 (Table NullProc) (value 0 0)
   -- two limits of what may change by itself are needed: what is kept may not change, as it does where another client sends; and the
   -- new state has to be a good one
   pub shared_is : IsAnInstrument keeper AnyState kept
-  pub changes_kept : IsBookedUnexecuted keeper AnyState nothing None shared 9 InstrumentNo (value 1 27)
+  pub changes_kept : IsBookedUnexecuted keeper AnyState nothing None shared 9 (Table InstrumentNo) (value 1 27)
   pub sound_is : IsAnInstrument sound InOrder nothing
-  pub changes_good : IsBookedUnexecuted sound AnyState nothing false (asks NullProc (value 0 0) (Changes true ∷ asks_two (value 2 0))) 10 InstrumentNo (value 2 0)
+  pub changes_good : IsBookedUnexecuted sound AnyState nothing false (asks (Table NullProc) (value 0 0) (Changes true ∷ asks_two (value 2 0))) 10 (Table InstrumentNo) (value 2 0)
   -- an instrument that keeps its reply executes a request that comes twice only once (`ActsOnce`), and both clauses on that are needed:
   -- here are an instrument that lacks the first clause and has the second, and one that lacks the second and has the first
   pub again : IsExecutedTwice deals_anew AnyState kept None
-  pub again_keeps : (state : Keeper) (id : ℕ) (call : Call) → kept (deals_anew.handed state id call).state ≡ Some (record { id = id; line = (deals_anew.handed state id call).reply })
+  pub again_keeps : (state : Keeper) (id : ℕ) (call : Asked) → kept (deals_anew.handed state id call).state ≡ Some (record { id = id; line = (deals_anew.handed state id call).reply })
   pub always : IsExecutedTwice forgets AnyState nothing false
   pub always_again :
-      (state : Bool) (id : ℕ) (call : Call) (line : List ℕ) → nothing state ≡ Some (record { id = id; line = line }) → (forgets.handed state id call).executed ≡ false
+      (state : Bool) (id : ℕ) (call : Asked) (line : List ℕ) → nothing state ≡ Some (record { id = id; line = line }) → (forgets.handed state id call).executed ≡ false

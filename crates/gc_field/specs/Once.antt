@@ -1,8 +1,10 @@
 -- Acts once, this project's own: between two of its starts an instrument executes each request at most once, in the order in
 -- which they were sent. `executed` has the numbers of the requests that were executed, in order; `starts` has, for each start,
--- how many executions came before it.
-use Rattle.std.specs.Prelude.{◌≡◌, ℕ, ◌<◌, ◌≤◌, ◌⊎◌, List, Some, slice_get}
+-- how many executions came before it; `sent` are all requests.
+use Rattle.std.specs.Prelude.{◌≡◌, ℕ, ◌<◌, ◌≤◌, ◌⊎◌, Bool, true, List, Some, slice_get}
+use Rattle.gc_catalogue.specs.declared.asked.Asked.{Asked}
 use Rattle.gc_world.specs.Order.{Each}
+use Rattle.gc_field.specs.World.{Sent}
 
 -- the instrument didn't start between executions j and k: each start had at most j executions before it, or more than k
 abbrev pub HasNoStart : List ℕ → ℕ → ℕ → Type 0
@@ -13,7 +15,9 @@ HasNoStart starts j k = Each (λ s. (s ≤ j) ⊎ (k < s)) starts
 abbrev pub IsInOrder : List ℕ → Type 0
 IsInOrder executed = (j k m n : ℕ) → j < k → slice_get executed j ≡ Some m → slice_get executed k ≡ Some n → m ≤ n
 
--- of two executions with no start between them the later one is of a request that was sent later
-abbrev pub ActsOnce : List ℕ → List ℕ → Type 0
-ActsOnce executed starts =
-    (j k m n : ℕ) → j < k → HasNoStart starts j k → slice_get executed j ≡ Some m → slice_get executed k ≡ Some n → m < n
+-- of two executions with no start between them the later one is of a request that was sent later, if it is of one that the instrument knows
+-- (`knows`)
+abbrev pub ActsOnce : (Asked → Bool) → List Sent → List ℕ → List ℕ → Type 0
+ActsOnce knows sent executed starts =
+    (j k m n : ℕ) (r : Sent) → j < k → HasNoStart starts j k → slice_get executed j ≡ Some m → slice_get executed k ≡ Some n →
+    slice_get sent n ≡ Some r → knows r.call ≡ true → m < n

@@ -5,7 +5,8 @@ use Rattle.std.specs.Prelude.{◌≡◌, ℕ, ◌<◌, Bool, true, false, List, 
 use Rattle.std.specs.List.{AllByRecursion}
 use Rattle.gc_values.specs.declared.decimal.Decimal.{Decimal}
 use Rattle.gc_catalogue.specs.declared.answer.Reading.{Reading}
-use Rattle.gc_catalogue.specs.declared.call.Call.{Call}
+use Rattle.gc_catalogue.specs.declared.asked.Asked.{Asked}
+use Rattle.gc_catalogue.specs.declared.asked.Asked.TheVariants.{Table, Raw}
 use Rattle.gc_catalogue.specs.declared.call.Call.TheVariants.{Position, ChangeFace, FineAdjust}
 use Rattle.gc_instrument.specs.Execution.{exec}
 use Rattle.gc_instrument.specs.Replying.{with_kept}
@@ -20,7 +21,7 @@ use Rattle.gc_station.specs.Runs.{stood}
 use Rattle.gc_station.specs.Scopes.{Scope}
 use Rattle.gc_station.specs.Model.{opening}
 use Rattle.gc_station.specs.declared.plan.Plan.{Plan}
-use Rattle.gc_world.specs.Clients.{ends}
+use Rattle.gc_field.specs.Simulator.{ends}
 use Rattle.gc_field.specs.Begin.{UnderWay}
 use Rattle.gc_field.specs.Beginnings.{Run}
 use Rattle.gc_field.specs.Chains.{HasEffect, IsChainedTo, IsUndisturbed, behind}
@@ -28,19 +29,20 @@ use Rattle.gc_field.specs.Laws.{kept_of}
 use Rattle.gc_field.specs.Runs.{IsInField}
 use Rattle.gc_field.specs.Shown.{Stretch, stretches}
 
--- the simulator's state after a call
-abbrev pub behind_call : State → Call → State
-behind_call s call = (exec s call).state
+-- the simulator's state after a request: a procedure that isn't in the table changes nothing
+abbrev pub behind_call : State → Asked → State
+behind_call s (Table call) = (exec s call).state
+behind_call s (Raw raw) = s
 
 -- the simulator's state without the reply that it keeps
 abbrev pub bare : State → State
 bare s = with_kept None s
 
--- whether a call may turn the telescope
-abbrev pub turns : Call → Bool
-turns (Position hz v pos_mode atr_mode dummy) = true
-turns (ChangeFace pos_mode atr_mode dummy) = true
-turns (FineAdjust area_hz area_v dummy) = true
+-- whether a request may turn the simulator's telescope
+abbrev pub turns : Asked → Bool
+turns (Table (Position hz v pos_mode atr_mode dummy)) = true
+turns (Table (ChangeFace pos_mode atr_mode dummy)) = true
+turns (Table (FineAdjust area_hz area_v dummy)) = true
 turns _ = false
 
 -- no command from place a up to place b turns the telescope
@@ -55,11 +57,11 @@ pub record PointsAs (s t : State) : Type 0 where
 -- when the command of record b was executed, after the command at place a, the telescope pointed where executing the latter
 -- had left it; and where the latter was a positioning, in the direction that it commanded, in the face in which the telescope
 -- was before
-pub record IsMeasuredWhereItPointed (reads : Call → List ℕ → Reading) (commands : List Task) (ps : List Part) (ss : List (Stretch State)) (records : List Record) (a : ℕ) (b : Record) (line : List ℕ)
+pub record IsMeasuredWhereItPointed (reads : Asked → List ℕ → Reading) (commands : List Task) (ps : List Part) (ss : List (Stretch State)) (records : List Record) (a : ℕ) (b : Record) (line : List ℕ)
     (h : IsChainedTo ends IsFittingState kept_of reads commands ps ss records a b line) : Type 0 where
   pub as_left : PointsAs (behind ends h.stretch h.executed.second.front).state (behind_call (behind ends h.stretch h.executed.first.front).state h.record_a.command.call)
   pub as_commanded :
-      (hz v : Decimal) (pos_mode atr_mode dummy : _) → h.record_a.command.call ≡ Position hz v pos_mode atr_mode dummy
+      (hz v : Decimal) (pos_mode atr_mode dummy : _) → h.record_a.command.call ≡ Table (Position hz v pos_mode atr_mode dummy)
       → ((behind ends h.stretch h.executed.second.front).state.pointing ≡ record { hz = hz; v = v })
       × ((behind ends h.stretch h.executed.second.front).state.face ≡ (behind ends h.stretch h.executed.first.front).state.face)
 
@@ -80,6 +82,7 @@ ChainsAreMeasuredWhereTheyPointed =
     (plan : Plan) (commands : List Task) (scope : Scope) (acts : List Act) (u : UnderWay State) (rs : List (Run State)) → IsInField ends IsFittingState kept_of plan commands scope acts u rs →
     AllByRecursion (IsPointedInChain plan commands scope acts u rs) (stood plan commands scope acts).records
 
--- executing a call of the table makes of the simulator's state what the execution table says, apart from the reply that is kept
+-- executing a call of the table makes of the simulator's state what the execution table says, apart from the reply that is kept; another
+-- request changes nothing
 abbrev pub SimulatorHasItsEffect : Type 0
 SimulatorHasItsEffect = HasEffect ends bare behind_call

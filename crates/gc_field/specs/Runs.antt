@@ -5,7 +5,7 @@
 use Rattle.std.specs.Prelude.{◌≡◌, ℕ, ◌+◌, ◌<◌, ◌≤◌, Bool, true, false, ◌||◌, if◌then◌else◌, nat_le, List, [], ◌∷◌, ◌++◌, drop, length, map, Option, Some, slice_get}
 use Rattle.std.specs.List.{AllByRecursion}
 use Rattle.gc_catalogue.specs.declared.answer.Reading.{Reading}
-use Rattle.gc_catalogue.specs.declared.call.Call.{Call}
+use Rattle.gc_catalogue.specs.declared.asked.Asked.{Asked}
 use Rattle.gc_client.specs.Beginning.{IsSubsequence, the_word}
 use Rattle.gc_client.specs.declared.window.TheConstants.{WINDOW}
 use Rattle.gc_client.specs.Rule.{ById, Answered, Late, Settlement, lost}
@@ -26,9 +26,9 @@ use Rattle.gc_station.specs.Records.{Record}
 use Rattle.gc_station.specs.Runs.{stood}
 use Rattle.gc_station.specs.Model.{Model, opening, action_at, after, Runs}
 use Rattle.gc_station.specs.Scopes.{Scope}
-use Rattle.gc_world.specs.Clients.{ends}
+use Rattle.gc_field.specs.Simulator.{ends}
 use Rattle.gc_world.specs.Record.{IsReplyTo}
-use Rattle.gc_world.specs.World.{Ends, Numbered, Sent, World}
+use Rattle.gc_field.specs.World.{Ends, Numbered, Sent, World}
 use Rattle.gc_field.specs.Asking.{MeansTurns}
 use Rattle.gc_field.specs.Begin.{AreLines, UnderWay, ids_under_way}
 use Rattle.gc_field.specs.Beginnings.{AreOwn, AreRuns, Run}
@@ -47,7 +47,7 @@ gives_up deadline (_ ∷ ms) = gives_up deadline ms
 
 module _ {State : Type 0} (ends : Ends State) where
   -- the world after a stretch. Its requests 0 to 7 are the null procedures of the beginning, and the client's come after them
-  abbrev pub world : Stretch State → World ById State
+  abbrev pub world : Stretch State → World (ById Asked) State
   world s = behind WINDOW ends s.from s.moves
 
   -- the requests of the client in a stretch, without the null procedures of the beginning
@@ -55,7 +55,7 @@ module _ {State : Type 0} (ends : Ends State) where
   own_sent s = drop 8 (world s).wire.sent
 
   -- the settlements of the client's requests in a stretch
-  abbrev pub own_settled : Stretch State → List Settlement
+  abbrev pub own_settled : Stretch State → List (Settlement Asked)
   own_settled s = drop 8 (world s).wire.settled
 
   -- the requests of each stretch are those of its part, one for one
@@ -69,7 +69,7 @@ module _ {State : Type 0} (ends : Ends State) where
   -- moves before it goes out, and `between` those from then on until the reply comes
   abbrev pub IsInTime : Stretch State → Type 0
   IsInTime s =
-      (before between later : List (Move State)) (target : ℕ) (call : Call) (deadline : ℕ) (line : List ℕ) (rest : List (Numbered (List ℕ)))
+      (before between later : List (Move State)) (target : ℕ) (call : Asked) (deadline : ℕ) (line : List ℕ) (rest : List (Numbered (List ℕ)))
       → s.moves ≡ (before ++ Sends target call deadline ∷ between) ++ Comes line ∷ later
       → length (behind WINDOW ends s.from before).client.waiting < WINDOW
       → (behind WINDOW ends s.from (before ++ Sends target call deadline ∷ between)).wire.down ≡ record { number = length (behind WINDOW ends s.from before).wire.sent; line = line } ∷ rest
@@ -79,7 +79,7 @@ module _ {State : Type 0} (ends : Ends State) where
 
   -- the records that these stretches write down, with the moment 0: how each command ended in its own stretch, and as lost what waits where the
   -- next stretch begins
-  abbrev pub written_over : (Call → List ℕ → Reading) → List Part → List (Stretch State) → List Record
+  abbrev pub written_over : (Asked → List ℕ → Reading) → List Part → List (Stretch State) → List Record
   written_over reads (p ∷ []) (s ∷ []) = records_of reads 0 p.marks (own_settled s)
   written_over reads (p ∷ q ∷ ps) (s ∷ t ∷ ss) =
       records_of reads 0 p.marks (own_settled s ++ map lost (world s).client.waiting) ++ written_over reads (q ∷ ps) (t ∷ ss)

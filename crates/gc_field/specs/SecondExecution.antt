@@ -1,12 +1,14 @@
 -- A request whose answer was made on its second execution, after a start, this project's own. So between the executions of two
 -- commands of a chain either of the two may be executed once more, if the instrument starts between.
 use Rattle.std.specs.Prelude.{◌≡◌, List, [], ◌∷◌, codes, pos, Some, slice_get}
+use Rattle.gc_catalogue.specs.declared.asked.Asked.TheVariants.{Table}
 use Rattle.gc_catalogue.specs.declared.call.Call.TheVariants.{NullProc, SetPrism, GetPrism}
 use Rattle.gc_client.specs.declared.window.TheConstants.{WINDOW}
 use Rattle.gc_client.specs.Rule.{Answered}
 use Rattle.gc_instrument.specs.State.{State, IsFittingState, simulator_opening}
-use Rattle.gc_world.specs.Clients.{ends, by_ids}
-use Rattle.gc_world.specs.World.{Up_deliver, Up_repeat, Down_lose}
+use Rattle.gc_world.specs.Clients.{by_ids}
+use Rattle.gc_field.specs.Simulator.{ends}
+use Rattle.gc_field.specs.World.{Up_deliver, Up_repeat, Down_lose}
 use Rattle.gc_field.specs.Begin.{none_under_way}
 use Rattle.gc_field.specs.Begun.{behind, ids_begun}
 use Rattle.gc_field.specs.Field.{Move, Sends, Comes, OnLine, Anew, ArePossible}
@@ -16,13 +18,13 @@ use Rattle.gc_field.specs.Laws.{kept_of}
 -- the instrument starts; and it executes the repeated request
 abbrev pub moves : List (Move State)
 moves =
-    Sends 0 NullProc 100
+    Sends 0 (Table NullProc) 100
     ∷ OnLine Up_deliver
     ∷ Comes (codes "%R1P,0,0:0")
-    ∷ Sends 7 (SetPrism (pos 5)) 100
+    ∷ Sends 7 (Table (SetPrism (pos 5))) 100
     ∷ OnLine Up_deliver
     ∷ Comes (codes "%R1P,0,1:0")
-    ∷ Sends 7 GetPrism 100
+    ∷ Sends 7 (Table GetPrism) 100
     ∷ OnLine (Up_repeat 0)
     ∷ OnLine Up_deliver
     ∷ OnLine (Down_lose 0)
@@ -35,4 +37,4 @@ moves =
 pub record IsExecutedAgain : Type 0 where
   pub possible : ArePossible ends IsFittingState kept_of (by_ids WINDOW ends) moves (ids_begun (none_under_way simulator_opening))
   pub executed : (behind WINDOW ends (none_under_way simulator_opening) moves).wire.executed ≡ 8 ∷ 9 ∷ 10 ∷ 10 ∷ []
-  pub settled : slice_get (behind WINDOW ends (none_under_way simulator_opening) moves).wire.settled 10 ≡ Some (record { target = 7; call = GetPrism; outcome = Answered (codes "%R1P,0,2:0,0") })
+  pub settled : slice_get (behind WINDOW ends (none_under_way simulator_opening) moves).wire.settled 10 ≡ Some (record { target = 7; call = Table GetPrism; outcome = Answered (codes "%R1P,0,2:0,0") })

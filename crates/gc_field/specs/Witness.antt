@@ -4,6 +4,7 @@ use Rattle.std.specs.Prelude.{◌≡◌, ℕ, true, false, List, [], ◌∷◌, 
 use Rattle.gc_lines.specs.Lines.{with_end}
 use Rattle.gc_catalogue.specs.declared.answer.Answer.TheVariants.{Long}
 use Rattle.gc_catalogue.specs.declared.answer.Reading.TheVariants.{Value}
+use Rattle.gc_catalogue.specs.declared.asked.Asked.TheVariants.{Table}
 use Rattle.gc_catalogue.specs.declared.call.Call.TheVariants.{InstrumentNo}
 use Rattle.gc_client.specs.declared.window.TheConstants.{WINDOW}
 use Rattle.gc_instrument.specs.State.{State, IsFittingState, simulator_opening}
@@ -17,8 +18,8 @@ use Rattle.gc_links.specs.Acts.{Act, Told, Put, Gave, Closed, Opened}
 use Rattle.gc_station.specs.Progressing.{is_over}
 use Rattle.gc_station.specs.Runs.{stood}
 use Rattle.gc_station.specs.Scopes.{Scope}
-use Rattle.gc_world.specs.Clients.{ends}
-use Rattle.gc_world.specs.World.{Up_deliver}
+use Rattle.gc_field.specs.Simulator.{ends}
+use Rattle.gc_field.specs.World.{Up_deliver}
 use Rattle.gc_field.specs.Begin as turn
 use Rattle.gc_field.specs.Begin.{Turn, Asks, Reaches, UnderWay, begins, leaves, turned}
 use Rattle.gc_field.specs.Beginnings.{Run}
@@ -37,7 +38,7 @@ plan = plan_of 1
 
 -- the command: a request for the instrument's number
 abbrev pub commands : List Task
-commands = record { command = record { target = 7; call = InstrumentNo }; deadline = 100; chained = false; near = None; accepted = no_codes } ∷ []
+commands = record { command = record { target = 7; call = Table InstrumentNo }; deadline = 100; chained = false; near = None; accepted = no_codes } ∷ []
 
 -- the scope of this run: at most a hundred acts; every reply is taken to say what the reply to the command says
 abbrev pub scope : Scope
@@ -74,7 +75,7 @@ eight =
 
 -- in flight at the start: a reply with id 0, and a request with that id, which the first command will have too
 abbrev pub before : UnderWay State
-before = record { up = record { id = 0; call = InstrumentNo } ∷ []; down = codes "%R1P,0,0:0,654321" ∷ []; state = simulator_opening }
+before = record { up = record { id = 0; call = Table InstrumentNo } ∷ []; down = codes "%R1P,0,0:0,654321" ∷ []; state = simulator_opening }
 
 -- the reply to the command; the one to the request from before has the same bytes
 abbrev pub answer : List ℕ
@@ -107,7 +108,7 @@ turns = Asks ∷ turn.Comes ∷ Reaches ∷ turn.Comes ∷ Reaches ∷ turn.Come
 
 -- what the line does once the station has begun: the command reaches the simulator, and its reply comes
 abbrev pub moves : List (Move State)
-moves = Tells 15 ∷ Sends 7 InstrumentNo 115 ∷ Tells 15 ∷ OnLine Up_deliver ∷ Tells 20 ∷ Comes answer ∷ []
+moves = Tells 15 ∷ Sends 7 (Table InstrumentNo) 115 ∷ Tells 15 ∷ OnLine Up_deliver ∷ Tells 20 ∷ Comes answer ∷ []
 
 -- what happens on the line: in this run, and after its end in one more, in which nothing happens
 abbrev pub runs : List (Run State)
@@ -120,8 +121,8 @@ pub record IsAnsweredInField : Type 0 where
   pub over : is_over (stood plan commands scope acts).progress ≡ true
   pub records :
       (stood plan commands scope acts).records
-      ≡ record { sent = Some 15; utc = 20; cycle = 1; place = 0; command = record { target = 7; call = InstrumentNo }; end = end.Answered Fine (Some (Long (pos 123456))) answer } ∷ []
-  pub made_on : WasMadeOn WINDOW ends (leaves (turned ends turns (begins before))) moves 8 InstrumentNo answer
+      ≡ record { sent = Some 15; utc = 20; cycle = 1; place = 0; command = record { target = 7; call = Table InstrumentNo }; end = end.Answered Fine (Some (Long (pos 123456))) answer } ∷ []
+  pub made_on : WasMadeOn WINDOW ends (leaves (turned ends turns (begins before))) moves 8 (Table InstrumentNo) answer
 
 -- some run is one in the field
 abbrev pub SomeRunIsInField : Type 0

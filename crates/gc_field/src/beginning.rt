@@ -15,7 +15,9 @@ pub fn begins_cleanly<State>()
 {}
 
 /// After a beginning that has begun cleanly each answer that a new client settles was made on executing that very request, from
-/// its first request on, however many go out at once; and the rest of what `answers_are_their_own` says holds as well.
+/// its first request on, however many go out at once, if all are calls of the table, or the instrument keeps after each request its
+/// own reply or none, or that very request went out behind the table (`IsSafe`); and the rest of what `answers_are_their_own` says
+/// holds as well.
 pub fn answers_are_their_own_once_begun<State>()
     ensures { AnswersAreTheirOwnOnceBegun State }
 {}

@@ -14,7 +14,7 @@ ghost use Rattle.gc_field.specs.InARow.{SimulatorsStationsInARowAreFaithful, Sta
 ghost use Rattle.gc_field.specs.Instrument.{KeepingNothingSuffices};
 ghost use Rattle.gc_field.specs.LateAnswer.{IsLateInField};
 ghost use Rattle.gc_field.specs.Laws.{AnswersAreTheirOwn, SimulatorIsAnInstrument, SimulatorsAnswersAreTheirOwn};
-ghost use Rattle.gc_field.specs.Drifting.{IsAnsweredByDrifting};
+ghost use Rattle.gc_field.specs.Drifting.{SomeRunIsOverADriftingInstrument};
 ghost use Rattle.gc_field.specs.LostLineFeed.{IsBookedJoined};
 ghost use Rattle.gc_field.specs.Needed.{IsAllNeeded};
 ghost use Rattle.gc_field.specs.Pointing.{ChainsAreMeasuredWhereTheyPointed, SimulatorHasItsEffect};
@@ -23,15 +23,16 @@ ghost use Rattle.gc_field.specs.SecondExecution.{IsExecutedAgain};
 ghost use Rattle.gc_field.specs.Witness.{SomeRunIsInField};
 
 /// For any instrument, and a client without a beginning, as that of `geocom ask`, with nothing under way: over any number of
-/// connections, and whenever the client sends, each answer that it settles was made on executing that very request. The first
-/// request is excepted, and goes out alone. The instrument dealt with each request that is late; executions keep the order of
-/// sending; and where the instrument keeps its reply, it executes each request at most once between two of its starts.
+/// connections, and whenever the client sends calls of the table, each answer that it settles was made on executing that very
+/// request. The first request is excepted, and goes out alone. The instrument dealt with each request that is late; executions
+/// keep the order of sending; and where the instrument keeps its reply to each request that it knows, it executes each of these
+/// at most once between two of its starts.
 pub fn answers_are_their_own<State>()
     ensures { AnswersAreTheirOwn State }
 {}
 
-/// For any instrument, and the acts of a station that has begun cleanly, whenever it sends: each answer was made on executing its
-/// very request, from the first request on.
+/// For any instrument, and the acts of a station that has begun cleanly: each answer was made on executing its very request, from
+/// the first request on, if that went out behind the table, or all requests are calls of the table (`IsSafe`).
 pub fn stations_answers_are_their_own<State>()
     ensures { StationsAnswersAreTheirOwn State }
 {}
@@ -43,7 +44,7 @@ pub fn stations_answers_are_their_own<State>()
 /// that cycle and place. The instrument dealt with each request that is late. The records and the commands that wait are the
 /// commands that had their turn, one for one. And each stretch from one beginning to the next is faithful: its settlements and
 /// what waits are its requests, one for one and in order; requests are executed in the order of sending; and where the instrument
-/// keeps its reply, it executes each request at most once between two of its starts.
+/// keeps its reply to each request that it knows, it executes each of these at most once between two of its starts.
 pub fn runs_are_faithful<State>()
     ensures { RunsAreFaithful State }
 {}
@@ -62,9 +63,9 @@ pub fn simulators_stations_in_a_row_are_faithful()
 
 /// In every run that `runs_are_faithful` speaks of, for any instrument: a command of a chain that is answered was executed after
 /// each earlier command of the chain, in the same stretch, and the answers of both are the replies to these executions. What was
-/// executed between the two was sent between them, if the instrument keeps its reply and didn't start between. And where it
-/// neither started nor changed by itself between, its state at the later execution is what the executions from the earlier one
-/// on made of it.
+/// executed between the two was sent between them, of requests to which the instrument keeps its reply, if it didn't start
+/// between. And where it neither started nor changed by itself between, its state at the later execution is what the executions
+/// from the earlier one on made of it.
 pub fn chains_are_executed<State>()
     ensures { ChainsAreExecuted State }
 {}
@@ -77,13 +78,14 @@ pub fn chains_are_measured_where_they_pointed()
     ensures { ChainsAreMeasuredWhereTheyPointed }
 {}
 
-/// The simulator is an instrument for the calls of its table, and one that keeps its reply.
+/// The simulator is an instrument, and one that keeps its reply to each call of its table. It refuses other requests with 3081,
+/// and its refusals leave what it keeps.
 pub fn simulator_is_an_instrument()
     ensures { SimulatorIsAnInstrument }
 {}
 
-/// Executing a call makes of the simulator's state what the execution table says, apart from the reply that is kept; a reply that
-/// is sent again changes nothing.
+/// Executing a call of the table makes of the simulator's state what the execution table says, apart from the reply that is kept;
+/// a reply that is sent again changes nothing, and neither does a procedure that isn't in the table.
 pub fn simulator_has_its_effect()
     ensures { SimulatorHasItsEffect }
 {}
@@ -146,9 +148,10 @@ pub fn some_run_is_in_the_field()
 {}
 
 /// Some run is over an instrument that keeps no reply and changes by itself: with a beginning that goes on over a second
-/// connection, a lost reply, a request that is given up, a start of the instrument and a third connection.
+/// connection, a lost reply, a request that is given up, a start of the instrument and a third connection. Its second command asks
+/// for a procedure that isn't in the table, whichever that is, and its answer was made on executing that very request.
 pub fn some_run_is_over_a_drifting_instrument()
-    ensures { IsAnsweredByDrifting }
+    ensures { SomeRunIsOverADriftingInstrument }
 {}
 
 /// Some run that meets every premise of `runs_are_faithful` has a late record: its command's reply comes after the deadline, and

@@ -15,11 +15,11 @@ use std::alloc::Global;
 
 // A client, the call that it sends, and what is used again from row to row.
 #[derive(Drop)]
-struct Played<W: Window> {
+struct Played<W: Window<Asked = Call>> {
     client: Client<W>,
     call: Call,
     line: Line,
-    settled: ArrayVec<Settlement, WINDOW>,
+    settled: ArrayVec<Settlement<Call>, WINDOW>,
 }
 
 /// Plays a case twice: with a client over a window in fixed places, and with one over a ring.
@@ -32,7 +32,7 @@ pub fn play_clients(alloc: Global, case: &Case<'_>, wrong: &mut Told) {
 }
 
 // Plays a case with a client over this window.
-fn play_over<W: Window>(alloc: Global, case: &Case<'_>, window: W, wrong: &mut Told) {
+fn play_over<W: Window<Asked = Call>>(alloc: Global, case: &Case<'_>, window: W, wrong: &mut Told) {
     let mut played = Played {
         client: Client::with_width(window, width_of(case)),
         call: Call::NullProc,
@@ -50,7 +50,7 @@ fn width_of(case: &Case<'_>) -> u8
     if case.has("width", "2") { 2 } else { 7 }
 }
 
-impl<W: Window> Rows for Played<W> {
+impl<W: Window<Asked = Call>> Rows for Played<W> {
     // Plays a row, and tells what it gives, how many requests wait, and the next id.
     fn play(&mut self, _alloc: Global, word: &str, what: &str, bytes: &[u8], came: &mut Told) {
         self.play_word(word, what, bytes, came);
@@ -59,7 +59,7 @@ impl<W: Window> Rows for Played<W> {
     }
 }
 
-impl<W: Window> Played<W> {
+impl<W: Window<Asked = Call>> Played<W> {
     // Makes the call of the client that the row's word names, and tells what it gives.
     fn play_word(&mut self, word: &str, what: &str, bytes: &[u8], came: &mut Told) {
         match word {
@@ -112,7 +112,7 @@ impl<W: Window> Played<W> {
 }
 
 // Tells settlements: each with its target, and an answer with its reading and its line.
-fn tell_all(settled: &[Settlement], came: &mut Told) {
+fn tell_all(settled: &[Settlement<Call>], came: &mut Told) {
     for settlement in settled {
         came.display(&settlement.target);
         tell_outcome(&settlement.outcome, came);

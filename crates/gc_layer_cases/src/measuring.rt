@@ -79,7 +79,7 @@ impl Station {
 }
 
 // Tells how these requests ended, each in a line.
-fn tell_all(settled: &[Settlement], told: &mut String) -> Result<(), AllocError> {
+fn tell_all(settled: &[Settlement<Call>], told: &mut String) -> Result<(), AllocError> {
     for settlement in settled {
         tell(settlement, told)?;
     }
@@ -87,7 +87,7 @@ fn tell_all(settled: &[Settlement], told: &mut String) -> Result<(), AllocError>
 }
 
 // Tells how a request ended, in a line.
-fn tell(settlement: &Settlement, told: &mut String) -> Result<(), AllocError> {
+fn tell(settlement: &Settlement<Call>, told: &mut String) -> Result<(), AllocError> {
     let target = settlement.target;
     match &settlement.outcome {
         Outcome::Answered(Reading::Value(Answer::Measured { hz, v, distance }), _) => {

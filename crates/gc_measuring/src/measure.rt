@@ -18,7 +18,7 @@ use gc_links::{Link, Moment};
 use gc_messages::{Noticed, Spot, Streams, tell_turns, tell_unasked};
 use gc_rows::{When, write_head, write_record};
 use gc_station::{Book, Kept, LinkHealth, Tally, run_station};
-use gc_texts::{Command, Ending, RunFault, Stamp, Task, Tasks};
+use gc_texts::{Ending, RunFault, Stamp, Task, Tasks, Wish};
 use gc_words::{Layout, Settings};
 use std::alloc::Global;
 use std::cell::Cell;
@@ -205,7 +205,7 @@ impl<'a, K: Durable, E: Write> Book for Records<'a, K, E> {
     fn write(
         &mut self,
         stamp: Stamp,
-        command: &Command,
+        command: &Wish,
         ending: Ending<'_>,
     ) -> Result<(), PortFailed> {
         self.teller.count(stamp, ending);

@@ -1,6 +1,6 @@
 //! Angles outside one turn, in radians: a station reports them at its start, because they look like angles in gon or in degrees.
 
-use gc_catalogue::Call;
+use gc_catalogue::{Asked, Call};
 use gc_texts::Task;
 use gc_values::Decimal;
 use std::io::{self, Write};
@@ -48,7 +48,7 @@ pub fn tell_turns<E: Write>(text: &[u8], tasks: &[Task], messages: &mut E) -> io
 
 // Writes a line for each angle outside one turn, where the task of this line is a positioning.
 fn tell_turn<E: Write>(line: u32, task: &Task, messages: &mut E) -> io::Result<()> {
-    let Call::Position { hz, v, .. } = task.command.call else {
+    let Asked::Table(Call::Position { hz, v, .. }) = task.command.call else {
         return Ok(());
     };
     if is_far_round(hz) {

@@ -3,7 +3,7 @@ use Rattle.std.proofs.Common.{◌≡◌, ℕ, true, false, List, [], ◌∷◌, 
 use Rattle.std.specs.Fmt.{decimal}
 use Rattle.gc_files.specs.Rows.{has_feed, whole}
 use Rattle.gc_files.proofs.Whole.{feed_behind, whole_behind}
-use Rattle.gc_texts.specs.declared.commands.Command.{Command}
+use Rattle.gc_texts.specs.declared.wish.Wish.{Wish}
 use Rattle.gc_texts.specs.declared.name.Name.{Name}
 use Rattle.gc_texts.specs.Endings.{End}
 use Rattle.gc_texts.specs.Names.{name_text}
@@ -41,7 +41,7 @@ row [] = feed
 row (first ∷ others) = more (field_text first ++ behind_commas others) (codes "\n") feed
 
 -- the text of a record ends in a line feed, in each form
-record_ends : (form : Form) (when : When) (name : List ℕ) (command : Command) (end : End) → Ends (record_text form when name command end)
+record_ends : (form : Form) (when : When) (name : List ℕ) (command : Wish) (end : End) → Ends (record_text form when name command end)
 record_ends Lines when name command end =
     more (stamp_text when.stamp.utc ++ codes " " ++ decimal when.stamp.place ++ codes " " ++ decimal command.target ++ ending_text end) (codes "\n") feed
 record_ends Csv when name command end = row (row_fields false when name command end)

@@ -8,7 +8,7 @@ use Rattle.gc_lines.proofs.Written.{reply_back}
 use Rattle.gc_values.specs.Decimals.{rounded}
 use Rattle.gc_values.specs.Directions.{is_near}
 use Rattle.gc_catalogue.specs.declared.answer.Reading.{Reading}
-use Rattle.gc_catalogue.specs.declared.call.Call.{Call}
+use Rattle.gc_catalogue.specs.declared.asked.Asked.{Asked}
 use Rattle.gc_client.specs.Beginning.{IsSubsequence, the_word}
 use Rattle.gc_client.specs.OneForOne.{Step}
 use Rattle.gc_client.specs.Rule.{ById, id_in}
@@ -26,7 +26,7 @@ use Rattle.gc_station.specs.Scopes.{AreReadings, Scope}
 use Rattle.gc_station.specs.Tallies.{none_yet, tallied}
 use Rattle.gc_station.specs.declared.cause.Cause.TheVariants.{Done}
 use Rattle.gc_world.specs.Clients.{by_ids}
-use Rattle.gc_world.specs.World.{World}
+use Rattle.gc_field.specs.World.{World}
 use Rattle.gc_field.specs.Begin.{AreTurns, begins}
 use Rattle.gc_field.specs.Begun.{WasMadeOn, ids_begun}
 use Rattle.gc_field.specs.ChainWitness.{points}
@@ -51,7 +51,7 @@ is =
       hears = λ line. refl;
       replies = λ s id call good small. ap id_in (reply_back (record { rc_com = 0; id = Some id; rc = 0; params = s }) (record { rc_com = lit< tt; id = small; rc = lit< tt }));
       repeats = λ s id call good small not. absurd (true_is_not not);
-      keeps = λ s id call good small. inl refl;
+      keeps = λ s id call good small. inl (inl refl);
       starts = λ s good. inl refl;
       stays_good = λ s id call good small. tt;
       starts_good = λ s good. tt;
@@ -78,7 +78,7 @@ anew_shown =
 
 -- a part with requests of this cycle: for each request that goes out, in order, the place of its command and the moment at
 -- which it went out; `None` for a null procedure
-abbrev part_of_cycle : ℕ → List part.Turn → List Step → List (Option (ℕ × ℕ)) → Part
+abbrev part_of_cycle : ℕ → List part.Turn → List (Step Asked) → List (Option (ℕ × ℕ)) → Part
 part_of_cycle cycle turns steps sent =
     record { turns = turns; steps = steps; marks = map (option_map (λ x. record { cycle = cycle; place = x.0; sent = x.1; expected = expected_first (drop x.0 commands) })) sent }
 
@@ -113,11 +113,11 @@ unfolding is_elsewhere is_near header_at reply_at digits rounded
 anew_possible = (tt, (tt, (tt, (tt, (tt, ((tt, refl), units 26))))))
 
 -- these moves are possible in this world
-abbrev PossibleFrom : World ById (List ℕ) → List (Move (List ℕ)) → Type 0
+abbrev PossibleFrom : World (ById Asked) (List ℕ) → List (Move (List ℕ)) → Type 0
 PossibleFrom w ms = ArePossible reporting AnyState instrument.nothing (by_ids WINDOW reporting) ms w
 
 -- possible moves, with moves after them that are possible in the world that they leave, are possible as one list
-possible_on : (w : World ById (List ℕ)) (earlier later : List (Move (List ℕ))) → PossibleFrom w earlier → PossibleFrom (moved reporting (by_ids WINDOW reporting) earlier w) later
+possible_on : (w : World (ById Asked) (List ℕ)) (earlier later : List (Move (List ℕ))) → PossibleFrom w earlier → PossibleFrom (moved reporting (by_ids WINDOW reporting) earlier w) later
     → PossibleFrom w (earlier ++ later)
 possible_on w [] later h g = g
 possible_on w (m ∷ earlier) later h g = (h.0, possible_on (moves reporting (by_ids WINDOW reporting) w m) earlier later h.1 g)
@@ -164,7 +164,7 @@ made = record { front = take 3 breaks_moves; later = drop 4 breaks_moves; split 
 
 -- The station's part.
 
-module _ (reads : Call → List ℕ → Reading) where
+module _ (reads : Asked → List ℕ → Reading) where
   -- the scope in which `patched` says what replies say
   abbrev told : Scope
   told = scope (patched reads)
@@ -282,11 +282,11 @@ module _ (reads : Call → List ℕ → Reading) where
       record { acts = acts; tells = refl; runs = all_run; stops = refl; took = ap (texts_of text) (sym written); counts = ap (tallied none_yet) (sym written) }
 
 -- the run is eventful with every function that gives what replies say
-pub eventful : (reads : Call → List ℕ → Reading) → AreReadings reads → IsEventful reads
+pub eventful : (reads : Asked → List ℕ → Reading) → AreReadings reads → IsEventful reads
 eventful reads are = subst IsEventful (patched_same reads are) (computed reads)
 
 -- with every function that gives what replies say it is a whole run, which ends as done with this tally, and whose records have these texts
-pub ran_whole : (text : Record → List ℕ) (reads : Call → List ℕ → Reading) → AreReadings reads
+pub ran_whole : (text : Record → List ℕ) (reads : Asked → List ℕ → Reading) → AreReadings reads
     → RanTo plan commands (scope reads) text (Some []) (Some acts) (Some []) (Some (texts_of text records)) Done tally
 ran_whole text reads are =
     subst (λ r. RanTo plan commands (scope r) text (Some []) (Some acts) (Some []) (Some (texts_of text records)) Done tally) (patched_same reads are) (computed_run reads text)

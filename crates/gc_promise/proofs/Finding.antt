@@ -18,29 +18,31 @@ use Rattle.gc_values.specs.WrittenForm.{HasDecimalForm, HasWholeForm, minus_wher
 use Rattle.gc_values.specs.declared.decimal.Decimal.{Decimal}
 use Rattle.gc_values.specs.declared.value.Value.TheVariants as value
 use Rattle.gc_values.proofs.OneText.{whole_text_once, decimal_text_once}
-use Rattle.gc_catalogue.specs.Answers.{answer_fields, IsAnswerOf}
-use Rattle.gc_catalogue.specs.Calls.{call_fields}
+use Rattle.gc_catalogue.specs.Answers.{answer_fields}
 use Rattle.gc_catalogue.specs.declared.answer.Answer.{Answer}
 use Rattle.gc_catalogue.specs.declared.answer.Answer.TheVariants.{Nothing, Short, Version, Long, Name, Date, Temperature, Place, Height, Angles, Measured, MeasuredMode}
 use Rattle.gc_catalogue.specs.declared.answer.Reading.TheVariants.{Value as Answers}
+use Rattle.gc_catalogue.specs.declared.asked.Asked.{Asked}
+use Rattle.gc_catalogue.specs.declared.asked.Asked.TheVariants.{Table, Raw}
 use Rattle.gc_catalogue.specs.declared.call.Call.{Call}
 use Rattle.gc_catalogue.specs.declared.call.Call.TheVariants.{GetFace, GetPrism}
 use Rattle.gc_texts.specs.Endings.{End, Answered, Unreadable, Elsewhere, Late, Lost, Skipped, Missed, word_of, line_of, quality_of, quality_text}
 use Rattle.gc_texts.specs.Logs.{escape, escaped}
 use Rattle.gc_texts.specs.Stamps.{stamp_text}
-use Rattle.gc_texts.specs.declared.commands.Command.{Command}
+use Rattle.gc_texts.specs.declared.wish.Wish.{Wish}
 use Rattle.gc_texts.specs.declared.quality.Quality.{Quality}
 use Rattle.gc_texts.specs.declared.quality.Quality.TheVariants as quality
-use Rattle.gc_rows.specs.JsonLines.{Member, Text, Number, ending_members, json_members, last_members, more_members, quantity_members, sent_members, values_members, what_members, when_members, without_zeros, worded_members}
-use Rattle.gc_rows.specs.Laws.{members_read, record_read}
+use Rattle.gc_rows.specs.JsonLines.{Member, Text, Number, Texts, ending_members, item_members, json_members, last_members, more_members, answer_members, quantity_members, sent_members, values_members, what_members, when_members, without_zeros, worded_members}
+use Rattle.gc_rows.specs.Items.{split_items}
+use Rattle.gc_rows.specs.Laws.{members_read, record_read, texts_read}
 use Rattle.gc_rows.specs.Quantities.{column_of, quantity_names, quantity_text}
-use Rattle.gc_rows.specs.Rows.{code_of, com_of, values_of}
+use Rattle.gc_rows.specs.Rows.{code_of, com_of, procedure_of, values_of}
 use Rattle.gc_rows.specs.Told.{names_from}
 use Rattle.gc_rows.specs.declared.when.When.{When}
 use Rattle.gc_rows.proofs.Told.{have_their_names}
 use Rattle.gc_promise.specs.Fields.{quantity_in, under}
 use Rattle.gc_promise.specs.Objects.{text_of}
-use Rattle.gc_promise.proofs.Names.{all_at, texts_of, word_plain}
+use Rattle.gc_promise.proofs.Names.{IsAnswerTo, all_at, texts_of, word_plain}
 use Rattle.gc_promise.proofs.Plain.{decimal_plain, digits_plain}
 
 -- Members one after the other: the last of a name is found.
@@ -69,6 +71,9 @@ find_both key (Text name bytes ∷ xs) ys =
     ap (λ (o : Option json.Json). later_or o this) (find_both key xs ys) ∙ later_three (find key ys) (find key xs) this
 find_both key (Number name digits ∷ xs) ys =
     let this = cond (bytes_eq name key) (Some (json.number digits)) None in
+    ap (λ (o : Option json.Json). later_or o this) (find_both key xs ys) ∙ later_three (find key ys) (find key xs) this
+find_both key (Texts name texts ∷ xs) ys =
+    let this = cond (bytes_eq name key) (Some (json.array (texts_read texts))) None in
     ap (λ (o : Option json.Json). later_or o this) (find_both key xs ys) ∙ later_three (find key ys) (find key xs) this
 
 -- Which names the parts of a record's members have.
@@ -107,9 +112,19 @@ answer_apart call (Angles hz v) came = (refl, (refl, (refl, (refl, (refl, (refl,
 answer_apart call (Measured hz v distance) came = (refl, (refl, (refl, (refl, (refl, (refl, (refl, (refl, tt))))))))
 answer_apart call (MeasuredMode hz v distance mode) came = (refl, (refl, (refl, (refl, (refl, (refl, (refl, (refl, tt))))))))
 
--- no member for a quantity has one of the names of `firsts`
-quantities_apart : (call : Call) (end : End) → LacksAll (quantity_members call end) firsts
-quantities_apart call (Answered quality (Some answer) line) = answer_apart call answer (values_of line)
+-- the member for a reply's items has none of the names of `firsts`
+items_apart : (items : Option (List (List ℕ))) → LacksAll (item_members items) firsts
+items_apart None = (refl, (refl, (refl, (refl, (refl, (refl, (refl, (refl, tt))))))))
+items_apart (Some texts) = (refl, (refl, (refl, (refl, (refl, (refl, (refl, (refl, tt))))))))
+
+-- no member for an answer's quantity or items has one of the names of `firsts`
+columns_apart : (asked : Asked) (answer : Answer) (line : List ℕ) → LacksAll (answer_members asked answer line) firsts
+columns_apart (Table call) answer line = answer_apart call answer (values_of line)
+columns_apart (Raw raw) answer line = items_apart (split_items (values_of line))
+
+-- no member for a quantity or for items has one of the names of `firsts`
+quantities_apart : (call : Asked) (end : End) → LacksAll (quantity_members call end) firsts
+quantities_apart call (Answered quality (Some answer) line) = columns_apart call answer line
 quantities_apart call (Answered quality None line) = (refl, (refl, (refl, (refl, (refl, (refl, (refl, (refl, tt))))))))
 quantities_apart call (Unreadable line fault) = (refl, (refl, (refl, (refl, (refl, (refl, (refl, (refl, tt))))))))
 quantities_apart call (Elsewhere line) = (refl, (refl, (refl, (refl, (refl, (refl, (refl, (refl, tt))))))))
@@ -129,6 +144,13 @@ worded_without [] =
 worded_without (b ∷ bs) =
     (refl, (refl, (refl, (refl, (refl, (refl, (refl, (refl, (refl, (refl, (refl, (refl, (refl, (refl, (refl, (refl, (refl, (refl, (refl, (refl, (refl, (refl, (refl, (refl, tt))))))))))))))))))))))))
 
+-- the member for a reply's items has no name of a quantity
+items_without : (items : Option (List (List ℕ))) → LacksAll (item_members items) quantity_names
+items_without None =
+    (refl, (refl, (refl, (refl, (refl, (refl, (refl, (refl, (refl, (refl, (refl, (refl, (refl, (refl, (refl, (refl, (refl, (refl, (refl, (refl, (refl, (refl, (refl, (refl, tt))))))))))))))))))))))))
+items_without (Some texts) =
+    (refl, (refl, (refl, (refl, (refl, (refl, (refl, (refl, (refl, (refl, (refl, (refl, (refl, (refl, (refl, (refl, (refl, (refl, (refl, (refl, (refl, (refl, (refl, (refl, tt))))))))))))))))))))))))
+
 -- the word of a quality is found under `quality`, if there is one
 worded_found : (o : Option Quality) → text_of (find (codes "quality") (worded_members (quality_text o))) ≡ quality_text o
 worded_found (Some quality.Fine) = refl
@@ -136,7 +158,7 @@ worded_found (Some quality.Warning) = refl
 worded_found (Some quality.Refused) = refl
 worded_found None = refl
 
--- no member for a quantity has the name `quality`
+-- no member for a quantity or for items has the name `quality`
 long_unqualified : (call : Call) (n : ℤ) (came : List ℕ) → find (codes "quality") (values_members (column_of call (Long n)) (answer_fields (Long n)).values came) ≡ None
 long_unqualified GetFace n came = refl
 long_unqualified GetPrism n came = refl
@@ -146,8 +168,16 @@ answer_unqualified : (call : Call) (answer : Answer) (came : List ℕ) → find 
 answer_unqualified call (Long n) came = long_unqualified call n came
 answer_unqualified call answer came = refl
 
-quantities_unqualified : (call : Call) (end : End) → find (codes "quality") (quantity_members call end) ≡ None
-quantities_unqualified call (Answered quality (Some answer) line) = answer_unqualified call answer (values_of line)
+items_unqualified : (items : Option (List (List ℕ))) → find (codes "quality") (item_members items) ≡ None
+items_unqualified None = refl
+items_unqualified (Some texts) = refl
+
+columns_unqualified : (asked : Asked) (answer : Answer) (line : List ℕ) → find (codes "quality") (answer_members asked answer line) ≡ None
+columns_unqualified (Table call) answer line = answer_unqualified call answer (values_of line)
+columns_unqualified (Raw raw) answer line = items_unqualified (split_items (values_of line))
+
+quantities_unqualified : (call : Asked) (end : End) → find (codes "quality") (quantity_members call end) ≡ None
+quantities_unqualified call (Answered quality (Some answer) line) = columns_unqualified call answer line
 quantities_unqualified call end = refl
 
 -- no member on how a command ended, on the command, or on when has the name `quality`
@@ -160,7 +190,7 @@ ending_unqualified Lost = refl
 ending_unqualified Skipped = refl
 ending_unqualified Missed = refl
 
-what_unqualified : (command : Command) (name : List ℕ) → find (codes "quality") (what_members command name) ≡ None
+what_unqualified : (command : Wish) (name : List ℕ) → find (codes "quality") (what_members command name) ≡ None
 what_unqualified command [] = refl
 what_unqualified command (b ∷ bs) = refl
 
@@ -197,12 +227,12 @@ ending_without Missed =
     (refl, (refl, (refl, (refl, (refl, (refl, (refl, (refl, (refl, (refl, (refl, (refl, (refl, (refl, (refl, (refl, (refl, (refl, (refl, (refl, (refl, (refl, (refl, (refl, tt))))))))))))))))))))))))
 
 -- no member on a command has the name `cycle` or `place`
-what_apart : (command : Command) (name : List ℕ) → LacksAll (what_members command name) (codes "cycle" ∷ codes "place" ∷ [])
+what_apart : (command : Wish) (name : List ℕ) → LacksAll (what_members command name) (codes "cycle" ∷ codes "place" ∷ [])
 what_apart command [] = (refl, (refl, tt))
 what_apart command (b ∷ bs) = (refl, (refl, tt))
 
 -- no member on a command has the name of a quantity
-what_without : (command : Command) (name : List ℕ) → LacksAll (what_members command name) quantity_names
+what_without : (command : Wish) (name : List ℕ) → LacksAll (what_members command name) quantity_names
 what_without command [] =
     (refl, (refl, (refl, (refl, (refl, (refl, (refl, (refl, (refl, (refl, (refl, (refl, (refl, (refl, (refl, (refl, (refl, (refl, (refl, (refl, (refl, (refl, (refl, (refl, tt))))))))))))))))))))))))
 what_without command (b ∷ bs) =
@@ -223,9 +253,9 @@ moment_found None time cycle place = (refl, refl)
 moment_found (Some utc) time cycle place = (refl, refl)
 
 -- the target and the procedure are found among the members on a command
-what_found : (command : Command) (name : List ℕ)
+what_found : (command : Wish) (name : List ℕ)
     → (find (codes "target") (what_members command name) ≡ Some (json.number (decimal command.target)))
-    × (find (codes "procedure") (what_members command name) ≡ Some (json.number (decimal (call_fields command.call).number)))
+    × (find (codes "procedure") (what_members command name) ≡ Some (json.number (decimal (procedure_of command.call))))
 what_found command [] = (refl, refl)
 what_found command (b ∷ bs) = (refl, refl)
 
@@ -416,15 +446,18 @@ module _ (call : Call) (name : List ℕ) (k : ℕ) (is : slice_get quantity_name
   is_under (Measured hz v distance) came = number_under (Measured hz v distance) came (λ bytes e. cc)
   is_under (MeasuredMode hz v distance mode) came = number_under (MeasuredMode hz v distance mode) came (λ bytes e. cc)
 
-  -- under the name of a quantity stands the answer's quantity of that name
-  pub member_stands : (quality : Quality) (answer : Answer) (line : List ℕ) → IsAnswerOf call answer
-      → text_of (find name (quantity_members call (Answered quality (Some answer) line))) ≡ escaped (quantity_in call (Answers answer) name)
-  member_stands quality answer line of_call =
-      is_under answer (values_of line) ∙ ap (λ (names : List (List ℕ)). escaped (under name names (texts_of answer))) (have_their_names call answer of_call)
+-- under the name of a quantity stands the answer's quantity of that name; the items of a reply stand under no such name
+pub member_stands : (asked : Asked) (name : List ℕ) (k : ℕ) → slice_get quantity_names k ≡ Some name → (quality : Quality) (answer : Answer) (line : List ℕ) → IsAnswerTo asked answer
+    → text_of (find name (quantity_members asked (Answered quality (Some answer) line))) ≡ escaped (quantity_in asked (Answers answer) name)
+member_stands (Table call) name k is quality answer line of =
+    is_under call name k is answer (values_of line) ∙ ap (λ (names : List (List ℕ)). escaped (under name names (texts_of answer))) (have_their_names call answer of)
+member_stands (Raw raw) name k is quality answer line of =
+    let items = item_members (split_items (values_of line)) in
+    ap text_of (all_at (λ (n : List ℕ). find n items ≡ None) quantity_names (items_without (split_items (values_of line))) k name is)
 
 -- All members of a record.
 
-module _ (when : When) (text : List ℕ) (command : Command) (end : End) where
+module _ (when : When) (text : List ℕ) (command : Wish) (end : End) where
   -- the members for the record's quantities
   abbrev quantities : List Member
   quantities = quantity_members command.call end
@@ -499,9 +532,9 @@ module _ (when : When) (text : List ℕ) (command : Command) (end : End) where
       (what_found command text).0 refl
 
   -- under `procedure` the object has the number of the command's procedure
-  pub member_procedure : at_member (codes "procedure") ≡ decimal (call_fields command.call).number
+  pub member_procedure : at_member (codes "procedure") ≡ decimal (procedure_of command.call)
   member_procedure =
-      found_at (codes "procedure") None None (Some (json.number (decimal (call_fields command.call).number))) (find (codes "procedure") moments) apart.1.1.1.0
+      found_at (codes "procedure") None None (Some (json.number (decimal (procedure_of command.call)))) (find (codes "procedure") moments) apart.1.1.1.0
       (ending_apart end).1.1.1.0 (what_found command text).1 refl
 
   -- under `outcome` the object has the word of the ending

@@ -1,11 +1,11 @@
 -- What a row has of an answer, by the quality of its line.
 use Rattle.std.proofs.Common.{◌≡◌, ℕ, List, Option, Some, None, if◌then◌else◌, refl, sym, ap, ◌∙◌, subst}
 use Rattle.gc_lines.specs.Replies.{ReplyFields, IsReply}
-use Rattle.gc_catalogue.specs.Readings.{IsReading}
+use Rattle.gc_catalogue.specs.Asked.{IsAskedReading}
 use Rattle.gc_catalogue.specs.declared.answer.Answer.{Answer}
 use Rattle.gc_catalogue.specs.declared.answer.Reading.{Reading}
 use Rattle.gc_catalogue.specs.declared.answer.Reading.TheVariants as reading
-use Rattle.gc_catalogue.specs.declared.call.Call.{Call}
+use Rattle.gc_catalogue.specs.declared.asked.Asked.{Asked}
 use Rattle.gc_texts.specs.Zeroed.{as_zero}
 use Rattle.gc_texts.specs.declared.codes.Codes.{Codes}
 use Rattle.gc_texts.specs.declared.quality.Quality.{Quality}
@@ -33,13 +33,13 @@ refused_in accepted (reading.Refused code) is = (ap (λ b. if b then quality.War
 refused_in accepted (reading.ComFault code) is = (refl, refl)
 refused_in accepted (reading.Unreadable fault) is = absurd is
 
-module _ (reads : Call → List ℕ → Reading) (are : AreReadings reads) (accepted : Codes) (call : Call) (line : List ℕ) (reply : ReplyFields) (is_reply : IsReply line reply)
-    (said told : Reading) (is_said : IsReading call reply said) (is_told : IsReading call (taken (quality_in accepted said) reply) told) where
+module _ (reads : Asked → List ℕ → Reading) (are : AreReadings reads) (accepted : Codes) (call : Asked) (line : List ℕ) (reply : ReplyFields) (is_reply : IsReply line reply)
+    (said told : Reading) (is_said : IsAskedReading call reply said) (is_told : IsAskedReading call (taken (quality_in accepted said) reply) told) where
   -- what the line says, and what it would say with return code 0
-  line_says : (x : Reading) → IsReading call reply x → reads call line ≡ x
+  line_says : (x : Reading) → IsAskedReading call reply x → reads call line ≡ x
   line_says x is = are call line x (record { reply = reply; is_reply = is_reply; is_reading = is })
 
-  zeroed_says : (x : Reading) → IsReading call (record reply { rc = 0 }) x → reads call (as_zero line) ≡ x
+  zeroed_says : (x : Reading) → IsAskedReading call (record reply { rc = 0 }) x → reads call (as_zero line) ≡ x
   zeroed_says x is = are call (as_zero line) x (zero_reads call line reply x is_reply is)
 
   -- the quality of an answer is that of what its line says, and its values are those of what is told
@@ -49,7 +49,7 @@ module _ (reads : Call → List ℕ → Reading) (are : AreReadings reads) (acce
 
   -- what is told of a line that isn't a warning is what it says
   told_as_said : (q : Quality) → quality_in accepted said ≡ q → (taken q reply ≡ reply) → reads call line ≡ told
-  told_as_said q is same = line_says told (subst (λ (r : ReplyFields). IsReading call r told) (ap (λ (k : Quality). taken k reply) is ∙ same) is_told)
+  told_as_said q is same = line_says told (subst (λ (r : ReplyFields). IsAskedReading call r told) (ap (λ (k : Quality). taken k reply) is ∙ same) is_told)
 
   pub judged : (q : Quality) (values : Option Answer) → IsOfQuality reads accepted call q values line → IsJudged q values
   judged quality.Fine values (answer, has, value) =
@@ -60,7 +60,7 @@ module _ (reads : Call → List ℕ → Reading) (are : AreReadings reads) (acce
   judged quality.Warning values (code, refusal, listed, has) =
       let is : said ≡ reading.Refused code = sym (line_says said is_said) ∙ refusal in
       let warned : quality_in accepted said ≡ quality.Warning = ap (quality_in accepted) is ∙ ap (λ b. if b then quality.Warning else quality.Refused) listed in
-      let same : reads call (as_zero line) ≡ told = zeroed_says told (subst (λ (k : Quality). IsReading call (taken k reply) told) warned is_told) in
+      let same : reads call (as_zero line) ≡ told = zeroed_says told (subst (λ (k : Quality). IsAskedReading call (taken k reply) told) warned is_told) in
       record { quality_is = sym warned; values_are = has ∙ ap answer_in same }
   judged quality.Refused values (none, refusal) =
       let is : reads call line ≡ said = line_says said is_said in

@@ -5,7 +5,7 @@ use Rattle.std.proofs.lemmas.List.{append_cancel_left}
 use Rattle.std.specs.Prelude.{not, if◌then◌else◌}
 use Rattle.std.specs.Io.KnownBytes.{Appends}
 use Rattle.gc_catalogue.specs.declared.answer.Reading.{Reading}
-use Rattle.gc_catalogue.specs.declared.call.Call.{Call}
+use Rattle.gc_catalogue.specs.declared.asked.Asked.{Asked}
 use Rattle.gc_files.specs.Failing.{Sides, Event, Ran, Failed, feeds, settled, one, sides_after, runs_of, Occur, IsFound, is_trusted}
 use Rattle.gc_files.specs.Files.{Step, Life, content, MayLeave}
 use Rattle.gc_files.specs.Rows.{whole, table, cuts_none, appended}
@@ -87,7 +87,7 @@ appends_are_runs source sink K E taken lasts shown has_log station old new file 
   | inr unbegun ↦ inl unbegun.7
 ]
 
-module _ {R : Type 0} (m : Moment R) (is : IsMoment m) (reads : Call → List ℕ → Reading) (are : AreReadings reads) where
+module _ {R : Type 0} (m : Moment R) (is : IsMoment m) (reads : Asked → List ℕ → Reading) (are : AreReadings reads) where
   -- the scope of the moment's run
   abbrev scope : Scope
   scope = record { turns = m.run.course.turns; reads = reads }

@@ -6,10 +6,13 @@ use Rattle.std.specs.Fmt.{decimal}
 use Rattle.std.specs.List.{AllByRecursion, list_any}
 use Rattle.std.proofs.lemmas.List.{length-map, map-append}
 use Rattle.gc_catalogue.specs.Answers.{answer_fields, IsAnswerOf}
-use Rattle.gc_catalogue.specs.Calls.{call_fields}
 use Rattle.gc_catalogue.specs.declared.answer.Answer.{Answer}
 use Rattle.gc_catalogue.specs.declared.answer.Answer.TheVariants.{Nothing, Short, Version, Long, Name, Date, Temperature, Place, Height, Angles, Measured, MeasuredMode}
 use Rattle.gc_catalogue.specs.declared.answer.Reading.TheVariants.{Value}
+use Rattle.gc_catalogue.specs.declared.asked.Asked.{Asked}
+use Rattle.gc_catalogue.specs.declared.asked.Asked.TheVariants.{Table, Raw}
+use Rattle.gc_catalogue.specs.Asked.{IsAskedReading}
+use Rattle.gc_lines.specs.Replies.{ReplyFields}
 use Rattle.gc_catalogue.specs.declared.call.Call.{Call}
 use Rattle.gc_catalogue.specs.declared.call.Call.TheVariants.{GetFace, GetPrism}
 use Rattle.gc_values.specs.ValueFault.{fault_number}
@@ -17,12 +20,12 @@ use Rattle.gc_values.specs.declared.value.Value.TheVariants as value
 use Rattle.gc_texts.specs.Endings.{End, Answered, Unreadable, Elsewhere, Late, Lost, Skipped, Missed, word_of, fault_of, line_of, quality_of, quality_text}
 use Rattle.gc_texts.specs.Logs.{escaped}
 use Rattle.gc_texts.specs.Stamps.{stamp_text}
-use Rattle.gc_texts.specs.declared.commands.Command.{Command}
+use Rattle.gc_texts.specs.declared.wish.Wish.{Wish}
 use Rattle.gc_texts.specs.declared.quality.Quality.{Quality}
 use Rattle.gc_texts.specs.declared.quality.Quality.TheVariants as quality
 use Rattle.gc_rows.specs.Quantities.{column_of, quantity_names, quantity_text}
 use Rattle.gc_rows.specs.Records.{last_names}
-use Rattle.gc_rows.specs.Rows.{row_fields, moment_text, when_fields, what_fields, fault_field, reply_fields, more_fields, quantity_fields, last_fields, com_of, code_of, values_of, spread}
+use Rattle.gc_rows.specs.Rows.{row_fields, moment_text, when_fields, what_fields, fault_field, reply_fields, more_fields, quantity_fields, last_fields, com_of, code_of, values_of, spread, answer_columns, procedure_of}
 use Rattle.gc_rows.specs.Told.{names_from}
 use Rattle.gc_rows.specs.declared.when.When.{When}
 use Rattle.gc_rows.proofs.Told.{have_their_names, quantities_fill}
@@ -88,10 +91,10 @@ none_quality =
     (refl, (refl, (refl, (refl, (refl, (refl, (refl, (refl, (refl, (refl, (refl, (refl, (refl, (refl, (refl, (refl, (refl, (refl, (refl, (refl, (refl, (refl, (refl, (refl, tt))))))))))))))))))))))))
 
 -- the quantities of a row have as many fields as names
-filled : (call : Call) (end : End) → length (map escaped (quantity_fields call end)) ≡ length quantity_names
+filled : (call : Asked) (end : End) → length (map escaped (quantity_fields call end)) ≡ length quantity_names
 filled call end = length-map (quantity_fields call end) escaped ∙ quantities_fill call end
 
-module _ (when : When) (name : List ℕ) (command : Command) (end : End) where
+module _ (when : When) (name : List ℕ) (command : Wish) (end : End) where
   -- the field of this row under a name
   abbrev row_at : Bool → List ℕ → List ℕ
   row_at columns field = under field (header columns) (map escaped (row_fields columns when name command end))
@@ -112,9 +115,9 @@ module _ (when : When) (name : List ℕ) (command : Command) (end : End) where
   under_target true = decimal_plain command.target
 
   -- under `procedure` a row has the number of the command's procedure
-  pub under_procedure : (columns : Bool) → row_at columns (codes "procedure") ≡ decimal (call_fields command.call).number
-  under_procedure false = decimal_plain (call_fields command.call).number
-  under_procedure true = decimal_plain (call_fields command.call).number
+  pub under_procedure : (columns : Bool) → row_at columns (codes "procedure") ≡ decimal (procedure_of command.call)
+  under_procedure false = decimal_plain (procedure_of command.call)
+  under_procedure true = decimal_plain (procedure_of command.call)
 
   -- under `outcome` a row has the word of the ending
   pub under_outcome : (columns : Bool) → row_at columns (codes "outcome") ≡ word_of end
@@ -176,7 +179,7 @@ thirteen : (a b c d e f g h i j k l m : List ℕ) (others : List (List ℕ))
 thirteen a b c d e f g h i j k l m others =
     (refl, (refl, (refl, (refl, (refl, (refl, (refl, (refl, (refl, (refl, (refl, (refl, (refl, (refl, (refl, (refl, (refl, (refl, (refl, (refl, (refl, (refl, (refl, (refl, tt))))))))))))))))))))))))
 
-module _ (when : When) (text : List ℕ) (command : Command) where
+module _ (when : When) (text : List ℕ) (command : Wish) where
   -- under this name a row has what its quantities and the quality behind them have
   abbrev IsBehind : End → List ℕ → Type 0
   IsBehind end name =
@@ -188,7 +191,7 @@ module _ (when : When) (text : List ℕ) (command : Command) where
       ≡ under name (quantity_names ++ last_names) (map escaped others)) quantity_names
   by_parts word fault first code values others =
       thirteen (escaped (stamp_text when.run)) (escaped (moment_text when.stamp.sent)) (escaped (stamp_text when.stamp.utc)) (escaped (decimal when.stamp.cycle))
-      (escaped (decimal when.stamp.place)) (escaped (decimal command.target)) (escaped text) (escaped (decimal (call_fields command.call).number))
+      (escaped (decimal when.stamp.place)) (escaped (decimal command.target)) (escaped text) (escaped (decimal (procedure_of command.call)))
       (escaped word) (escaped fault) (escaped first) (escaped code) (escaped values) (map escaped others)
 
   -- under each name of a quantity a row has what its quantities and the quality behind them have, however the command ended
@@ -316,7 +319,25 @@ blank : AllByRecursion (λ (name : List ℕ). under name quantity_names (map esc
 blank =
     (refl, (refl, (refl, (refl, (refl, (refl, (refl, (refl, (refl, (refl, (refl, (refl, (refl, (refl, (refl, (refl, (refl, (refl, (refl, (refl, (refl, (refl, (refl, (refl, tt))))))))))))))))))))))))
 
-module _ (when : When) (text : List ℕ) (command : Command) (name : List ℕ) (k : ℕ) (is : slice_get quantity_names k ≡ Some name) where
+-- the answer is one to what was asked
+abbrev pub IsAnswerTo : Asked → Answer → Type 0
+IsAnswerTo (Table call) answer = IsAnswerOf call answer
+IsAnswerTo (Raw raw) answer = Unit {0}
+
+-- what a reply says of what was asked is an answer to that, if it is an answer
+pub answer_to : (asked : Asked) (fields : ReplyFields) (answer : Answer) → IsAskedReading asked fields (Value answer) → IsAnswerTo asked answer
+answer_to (Table call) fields answer says = says.2.of_call
+answer_to (Raw raw) fields answer says = tt
+
+-- the columns of an answer have, under the name of a quantity, the answer's quantity of that name
+columns_told : (asked : Asked) (answer : Answer) (name : List ℕ) (k : ℕ) → slice_get quantity_names k ≡ Some name → IsAnswerTo asked answer
+    → under name quantity_names (map escaped (answer_columns asked answer)) ≡ escaped (quantity_in asked (Value answer) name)
+columns_told (Table call) answer name k is of =
+    all_at (IsTold call answer) quantity_names (answer_told call answer) k name is
+    ∙ ap (λ (names : List (List ℕ)). escaped (under name names (texts_of answer))) (have_their_names call answer of)
+columns_told (Raw raw) answer name k is of = all_at (λ (n : List ℕ). under n quantity_names (map escaped (replicate 24 [])) ≡ []) quantity_names blank k name is
+
+module _ (when : When) (text : List ℕ) (command : Wish) (name : List ℕ) (k : ℕ) (is : slice_get quantity_names k ≡ Some name) where
   -- the field of a row under this name of a quantity
   abbrev field_of : End → List ℕ
   field_of end = under name (header true) (map escaped (row_fields true when text command end))
@@ -334,11 +355,9 @@ module _ (when : When) (text : List ℕ) (command : Command) (name : List ℕ) (
   none = all_at (λ (n : List ℕ). under n quantity_names (map escaped (replicate 24 [])) ≡ []) quantity_names blank k name is
 
   -- under the name of a quantity stands the answer's quantity of that name
-  pub quantity_stands : (quality : Quality) (answer : Answer) (line : List ℕ) → IsAnswerOf command.call answer → field_of (Answered quality (Some answer) line) ≡ escaped (quantity_in command.call (Value answer) name)
-  quantity_stands quality answer line of_call =
-      behind (Answered quality (Some answer) line)
-      ∙ all_at (IsTold command.call answer) quantity_names (answer_told command.call answer) k name is
-      ∙ ap (λ (names : List (List ℕ)). escaped (under name names (texts_of answer))) (have_their_names command.call answer of_call)
+  pub quantity_stands : (quality : Quality) (answer : Answer) (line : List ℕ) → IsAnswerTo command.call answer
+      → field_of (Answered quality (Some answer) line) ≡ escaped (quantity_in command.call (Value answer) name)
+  quantity_stands quality answer line of = behind (Answered quality (Some answer) line) ∙ columns_told command.call answer name k is of
 
   -- an answer without values has nothing under the name of a quantity
   pub none_answered : (quality : Quality) (line : List ℕ) → field_of (Answered quality None line) ≡ []

@@ -8,12 +8,12 @@ use Rattle.std.proofs.lemmas.List.{length-map}
 use Rattle.std.proofs.lemmas.List.Elements.{All-from_recursion}
 use Rattle.gc_lines.specs.Numbers.{IsNumber}
 use Rattle.gc_lines.specs.Replies.{ReplyFields, IsReply}
-use Rattle.gc_catalogue.specs.Readings.{IsReading}
+use Rattle.gc_catalogue.specs.Asked.{IsAskedReading}
 use Rattle.gc_catalogue.specs.declared.answer.Answer.{Answer}
 use Rattle.gc_catalogue.specs.declared.answer.Reading.{Reading}
 use Rattle.gc_catalogue.specs.declared.answer.Reading.TheVariants as reading
-use Rattle.gc_catalogue.specs.declared.call.Call.{Call}
-use Rattle.gc_catalogue.proofs.EachReply.{each_reply}
+use Rattle.gc_catalogue.specs.declared.asked.Asked.{Asked}
+use Rattle.gc_catalogue.proofs.AskedRules.{each_asked_reply}
 use Rattle.gc_instrument.specs.State.{KeptReply}
 use Rattle.gc_texts.specs.Cuts.{Lacks}
 use Rattle.gc_texts.specs.Endings.{End, Answered, Unreadable, Elsewhere, Late, Lost, Skipped, Missed, word_of, quality_of, quality_text}
@@ -21,7 +21,7 @@ use Rattle.gc_texts.specs.Logs.{escaped}
 use Rattle.gc_texts.specs.Names.{name_text}
 use Rattle.gc_texts.specs.Qualities.{quality_word}
 use Rattle.gc_texts.specs.Stamps.{stamp_text}
-use Rattle.gc_texts.specs.declared.commands.Command.{Command}
+use Rattle.gc_texts.specs.declared.wish.Wish.{Wish}
 use Rattle.gc_texts.specs.declared.name.Name.{Name}
 use Rattle.gc_texts.specs.declared.quality.Quality.{Quality}
 use Rattle.gc_rows.specs.JsonLines.{json_members, members_text, string_text}
@@ -47,7 +47,7 @@ use Rattle.gc_station.proofs.Answers.{answers_true}
 use Rattle.gc_station.proofs.Nearly.{as_listed}
 use Rattle.gc_measuring.specs.Measuring.{Course, front_text, text_in, when_of}
 use Rattle.gc_measuring.specs.declared.stop.Stop.{Stop}
-use Rattle.gc_world.specs.World.{Ends}
+use Rattle.gc_field.specs.World.{Ends}
 use Rattle.gc_field.specs.Begin.{UnderWay}
 use Rattle.gc_field.specs.Beginnings as field
 use Rattle.gc_field.specs.Instrument.{IsAnInstrument, AnyState}
@@ -59,6 +59,7 @@ use Rattle.gc_promise.specs.Objects.{AreOfBytes, AreOwnObjects, IsOwnObject, Obj
 use Rattle.gc_promise.specs.Tables.{acts_measured, records_in, scope_of}
 use Rattle.gc_promise.proofs.Finding.{at_member, member_cycle, member_outcome, member_place, member_procedure, member_quality, member_quantity, member_rc, member_rc_com, member_stands, member_target, member_values, zeros_gone}
 use Rattle.gc_promise.proofs.Judged.{IsJudged, judged, told_none, told_some}
+use Rattle.gc_promise.proofs.Names.{answer_to}
 use Rattle.gc_promise.proofs.Owning.{a_reply, same_line}
 use Rattle.gc_promise.proofs.Tabled.{all_front, all_written, at_map, is_answered, line_in, nothing_in, some_same, without_quality}
 use Rattle.gc_promise.proofs.Taken.{Took, behind_took}
@@ -66,8 +67,8 @@ use Rattle.gc_promise.proofs.Unbroken.{line_unbroken}
 
 -- Quantities.
 
-module _ (when : When) (text : List ℕ) (command : Command) (name : List ℕ) (k : ℕ) (is : slice_get quantity_names k ≡ Some name) where
-  module _ (fields : ReplyFields) (told : Reading) (is_told : IsReading command.call fields told) where
+module _ (when : When) (text : List ℕ) (command : Wish) (name : List ℕ) (k : ℕ) (is : slice_get quantity_names k ≡ Some name) where
+  module _ (fields : ReplyFields) (told : Reading) (is_told : IsAskedReading command.call fields told) where
     -- where the command is answered by this line, the object has the line's quantity of this name
     stands : (end : End) (quality : Quality) (values : Option Answer) (line : List ℕ) → end ≡ Answered quality values line → values ≡ answer_in told
         → at_member when text command end name ≡ escaped (quantity_in command.call told name)
@@ -76,7 +77,7 @@ module _ (when : When) (text : List ℕ) (command : Command) (name : List ℕ) (
       by_values (Some answer) has =
           let value : told ≡ reading.Value answer = told_some told answer (sym has) in
           member_quantity when text command (Answered quality (Some answer) line) name k is
-          ∙ member_stands command.call name k is quality answer line (subst (IsReading command.call fields) value is_told).2.of_call
+          ∙ member_stands command.call name k is quality answer line (answer_to command.call fields answer (subst (IsAskedReading command.call fields) value is_told))
           ∙ ap (λ (x : Reading). escaped (quantity_in command.call x name)) (sym value)
       by_values None has = member_quantity when text command (Answered quality None line) name k is ∙ sym (nothing_in command.call name told (told_none told (sym has)))
 
@@ -92,7 +93,7 @@ module _ (when : When) (text : List ℕ) (command : Command) (name : List ℕ) (
 
 -- An object.
 
-module _ {State : Type 0} (ends : Ends State) (kept : State → Option KeptReply) (course : Course) (reads : Call → List ℕ → Reading) (are : AreReadings reads)
+module _ {State : Type 0} (ends : Ends State) (kept : State → Option KeptReply) (course : Course) (reads : Asked → List ℕ → Reading) (are : AreReadings reads)
     (acts : List Act) (ps : List Part) (ss : List (Stretch State)) (r : Record) where
   -- when and where the record's command was asked
   abbrev when : When
@@ -113,8 +114,8 @@ module _ {State : Type 0} (ends : Ends State) (kept : State → Option KeptReply
       let same = same_line r.end line answered in
       let said = reply_columns line reply.0 reply.1 in
       let accepted = accepted_at course.tasks r.place in
-      let reading = each_reply r.command.call reply.0 in
-      let told = each_reply r.command.call (taken (quality_in accepted reading.0) reply.0) in
+      let reading = each_asked_reply r.command.call reply.0 in
+      let told = each_asked_reply r.command.call (taken (quality_in accepted reading.0) reply.0) in
       let by = judged reads are accepted r.command.call line reply.0 reply.1 reading.0 told.0 reading.1 told.1 in
       let judges : (quality : Quality) (values : Option Answer) (l : List ℕ) → r.end ≡ Answered quality values l
       → IsJudged reads are accepted r.command.call line reply.0 reply.1 reading.0 told.0 reading.1 told.1 quality values =
@@ -163,11 +164,11 @@ module _ {State : Type 0} (ends : Ends State) (kept : State → Option KeptReply
 -- Lines.
 
 -- the line of a record without its line feed
-abbrev line_text : When → List ℕ → Command → End → List ℕ
+abbrev line_text : When → List ℕ → Wish → End → List ℕ
 line_text when text command end = (codes "{\"run\":" ++ string_text (stamp_text when.run)) ++ (members_text (json_members when text command end) ++ codes "}")
 
 -- the text of a record is its line and a line feed
-line_ends : (when : When) (text : List ℕ) (command : Command) (end : End) → record_text Json when text command end ≡ line_text when text command end ++ 10 ∷ []
+line_ends : (when : When) (text : List ℕ) (command : Wish) (end : End) → record_text Json when text command end ≡ line_text when text command end ++ 10 ∷ []
 line_ends when text command end = front_of (codes "{\"run\":" ++ string_text (stamp_text when.run)) (members_text (json_members when text command end))
 
 -- where each text is a line and a line feed, the texts joined are the lines joined, each with its line feed
@@ -187,7 +188,7 @@ no_front true form is = refl
 no_front false form is = ap head_text is
 
 module _ {State : Type 0} (ends : Ends State) (kept : State → Option KeptReply) (is : IsAnInstrument ends AnyState kept) (course : Course) (form : course.layout.form ≡ Json)
-    (reads : Call → List ℕ → Reading) (are : AreReadings reads) (acts : List Act) (u : UnderWay State) (rs : List (field.Run State))
+    (reads : Asked → List ℕ → Reading) (are : AreReadings reads) (acts : List Act) (u : UnderWay State) (rs : List (field.Run State))
     (there : IsInField ends AnyState kept course.plan course.tasks (scope_of course reads) acts u rs) (small : AreOfBytes course (records_in course reads acts)) where
   -- the parts of the run
   abbrev parts : List Part

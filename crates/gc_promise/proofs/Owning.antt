@@ -12,7 +12,7 @@ use Rattle.gc_instrument.specs.State.{KeptReply}
 use Rattle.gc_texts.specs.Endings.{End, Answered, Unreadable, Elsewhere, Late, Lost, Skipped, Missed, word_of, fault_of, line_of}
 use Rattle.gc_texts.specs.Names.{name_text}
 use Rattle.gc_texts.specs.Stamps.{stamp_text}
-use Rattle.gc_texts.specs.declared.commands.Command.{Command}
+use Rattle.gc_texts.specs.declared.wish.Wish.{Wish}
 use Rattle.gc_texts.specs.declared.name.Name.{Name}
 use Rattle.gc_texts.specs.declared.tasks.Task.{Task}
 use Rattle.gc_rows.specs.Records.{record_text}
@@ -29,7 +29,7 @@ use Rattle.gc_station.specs.declared.plan.Plan.{Plan}
 use Rattle.gc_station.proofs.Answers.{answers_true}
 use Rattle.gc_words.specs.declared.layout.Layout.{Layout}
 use Rattle.gc_measuring.specs.Measuring.{text_in, when_of}
-use Rattle.gc_world.specs.World.{Ends}
+use Rattle.gc_field.specs.World.{Ends}
 use Rattle.gc_field.specs.Instrument.{AnyState}
 use Rattle.gc_field.specs.Runs.{IsOwnAnswer}
 use Rattle.gc_field.specs.Shown.{Stretch}
@@ -54,7 +54,7 @@ same_line Lost line e = absurd (cc)
 same_line Skipped line e = absurd (cc)
 same_line Missed line e = absurd (cc)
 
-module _ (columns : Bool) (when : When) (name : List ℕ) (command : Command) (end : End) where
+module _ (columns : Bool) (when : When) (name : List ℕ) (command : Wish) (end : End) where
   -- the fields of a row, by the line of its reply
   abbrev by_line : Option (List ℕ) → List (List ℕ)
   by_line line =
@@ -77,7 +77,7 @@ module _ (columns : Bool) (when : When) (name : List ℕ) (command : Command) (e
   under_values line e = ap (λ o. column (codes "values") (by_line o)) e
 
 -- the text of a record in a table is the row of its fields
-pub in_table : (columns : Bool) (when : When) (name : List ℕ) (command : Command) (end : End)
+pub in_table : (columns : Bool) (when : When) (name : List ℕ) (command : Wish) (end : End)
     → record_text (table columns) when name command end ≡ row_of (row_fields columns when name command end)
 in_table false when name command end = refl
 in_table true when name command end = refl

@@ -7,18 +7,18 @@ use Rattle.std.proofs.lemmas.Bool.{false≢true}
 use Rattle.std.proofs.lemmas.List.{length-map}
 use Rattle.gc_lines.specs.Numbers.{IsNumber}
 use Rattle.gc_lines.specs.Replies.{ReplyFields, IsReply}
-use Rattle.gc_catalogue.specs.Readings.{IsReading}
+use Rattle.gc_catalogue.specs.Asked.{IsAskedReading}
 use Rattle.gc_catalogue.specs.declared.answer.Answer.{Answer}
 use Rattle.gc_catalogue.specs.declared.answer.Reading.{Reading}
 use Rattle.gc_catalogue.specs.declared.answer.Reading.TheVariants as reading
-use Rattle.gc_catalogue.specs.declared.call.Call.{Call}
-use Rattle.gc_catalogue.proofs.EachReply.{each_reply}
+use Rattle.gc_catalogue.specs.declared.asked.Asked.{Asked}
+use Rattle.gc_catalogue.proofs.AskedRules.{each_asked_reply}
 use Rattle.gc_instrument.specs.State.{KeptReply}
 use Rattle.gc_texts.specs.Endings.{End, Answered, Unreadable, Elsewhere, Late, Lost, Skipped, Missed, word_of, quality_of, quality_text}
 use Rattle.gc_texts.specs.Logs.{escaped}
 use Rattle.gc_texts.specs.Names.{name_text}
 use Rattle.gc_texts.specs.Qualities.{quality_word}
-use Rattle.gc_texts.specs.declared.commands.Command.{Command}
+use Rattle.gc_texts.specs.declared.wish.Wish.{Wish}
 use Rattle.gc_texts.specs.declared.quality.Quality.{Quality}
 use Rattle.gc_rows.specs.Quantities.{quantity_names}
 use Rattle.gc_rows.specs.Records.{head_text, last_names, names, record_text}
@@ -38,7 +38,7 @@ use Rattle.gc_station.proofs.Answers.{answers_true}
 use Rattle.gc_station.proofs.Nearly.{as_listed}
 use Rattle.gc_measuring.specs.Measuring.{Course, front_text, text_in, when_of}
 use Rattle.gc_measuring.specs.declared.stop.Stop.{Stop}
-use Rattle.gc_world.specs.World.{Ends}
+use Rattle.gc_field.specs.World.{Ends}
 use Rattle.gc_field.specs.Begin.{UnderWay}
 use Rattle.gc_field.specs.Beginnings as field
 use Rattle.gc_field.specs.Instrument.{IsAnInstrument, AnyState}
@@ -48,7 +48,7 @@ use Rattle.gc_field.proofs.Joining.{run_faithful}
 use Rattle.gc_promise.specs.Fields.{IsOwn, IsQuantity, IsReplied, Says, quality_in, quantity_in, taken, under}
 use Rattle.gc_promise.specs.Tables.{AreReadAs, IsOwnTable, TablesAreTheirOwn, acts_measured, head_rows, header, records_in, scope_of, table}
 use Rattle.gc_promise.proofs.Judged.{IsJudged, judged, told_none, told_some}
-use Rattle.gc_promise.proofs.Names.{all_at, none_answered, none_else, quantity_stands, under_cycle, under_outcome, under_place, under_procedure, under_quality, under_rc, under_rc_com, under_target, under_values}
+use Rattle.gc_promise.proofs.Names.{all_at, answer_to, none_answered, none_else, quantity_stands, under_cycle, under_outcome, under_place, under_procedure, under_quality, under_rc, under_rc_com, under_target, under_values}
 use Rattle.gc_promise.proofs.Owning.{a_reply, fields_of, in_table, same_line, two_fields}
 use Rattle.gc_promise.proofs.Plain.{number_plain}
 use Rattle.gc_promise.proofs.Reading.{both_read, each_reads, none_read, row_reads}
@@ -83,7 +83,7 @@ not_answered word other is = other (ap first_of is)
 -- Quantities.
 
 -- a reply that says anything but an answer has no quantities
-pub nothing_in : (call : Call) (name : List ℕ) (said : Reading) → ((answer : Answer) → said ≡ reading.Value answer → ⊥) → escaped (quantity_in call said name) ≡ []
+pub nothing_in : (call : Asked) (name : List ℕ) (said : Reading) → ((answer : Answer) → said ≡ reading.Value answer → ⊥) → escaped (quantity_in call said name) ≡ []
 nothing_in call name (reading.Value answer) none = absurd (none answer refl)
 nothing_in call name (reading.Refused code) none = refl
 nothing_in call name (reading.ComFault code) none = refl
@@ -113,8 +113,8 @@ without_quality Lost other = refl
 without_quality Skipped other = refl
 without_quality Missed other = refl
 
-module _ (when : When) (text : List ℕ) (command : Command) (name : List ℕ) (k : ℕ) (is : slice_get quantity_names k ≡ Some name) (fields : ReplyFields) (told : Reading)
-    (is_told : IsReading command.call fields told) where
+module _ (when : When) (text : List ℕ) (command : Wish) (name : List ℕ) (k : ℕ) (is : slice_get quantity_names k ≡ Some name) (fields : ReplyFields) (told : Reading)
+    (is_told : IsAskedReading command.call fields told) where
   -- the field of the row under this name
   abbrev at_name : End → List ℕ
   at_name end = under name (header true) (map escaped (row_fields true when text command end))
@@ -124,7 +124,7 @@ module _ (when : When) (text : List ℕ) (command : Command) (name : List ℕ) (
       → at_name (Answered quality values line) ≡ escaped (quantity_in command.call told name)
   stands quality (Some answer) line has =
       let value : told ≡ reading.Value answer = told_some told answer (sym has) in
-      quantity_stands when text command name k is quality answer line (subst (IsReading command.call fields) value is_told).2.of_call
+      quantity_stands when text command name k is quality answer line (answer_to command.call fields answer (subst (IsAskedReading command.call fields) value is_told))
       ∙ ap (λ (x : Reading). escaped (quantity_in command.call x name)) (sym value)
   stands quality None line has = none_answered when text command name k is quality line ∙ sym (nothing_in command.call name told (told_none told (sym has)))
 
@@ -148,7 +148,7 @@ at_map f (x ∷ xs) (suc n) y e = at_map f xs n y e
 
 -- A row.
 
-module _ {State : Type 0} (ends : Ends State) (kept : State → Option KeptReply) (course : Course) (reads : Call → List ℕ → Reading) (are : AreReadings reads)
+module _ {State : Type 0} (ends : Ends State) (kept : State → Option KeptReply) (course : Course) (reads : Asked → List ℕ → Reading) (are : AreReadings reads)
     (acts : List Act) (ps : List Part) (ss : List (Stretch State)) (columns : Bool) where
   -- the fields of a record's row
   abbrev fields : Record → List (List ℕ)
@@ -169,7 +169,7 @@ module _ {State : Type 0} (ends : Ends State) (kept : State → Option KeptReply
 
     -- where the command is answered by a line, a row with columns of quantities (`b`) has the line's quantity under each name
     -- of one
-    quantity_at : (b : Bool) → b ≡ true → (fields : ReplyFields) (told : Reading) → IsReading r.command.call fields told → (quality : Quality) (values : Option Answer) (line : List ℕ)
+    quantity_at : (b : Bool) → b ≡ true → (fields : ReplyFields) (told : Reading) → IsAskedReading r.command.call fields told → (quality : Quality) (values : Option Answer) (line : List ℕ)
         → r.end ≡ Answered quality values line → values ≡ answer_in told → (name : List ℕ) → IsQuantity name
         → under name (header b) (map escaped (row_fields b when text r.command r.end)) ≡ escaped (quantity_in r.command.call told name)
     quantity_at true shows fields told is_told quality values line is has name quantity =
@@ -190,13 +190,14 @@ module _ {State : Type 0} (ends : Ends State) (kept : State → Option KeptReply
         let same = same_line r.end line answered in
         let said = reply_columns line reply.0 reply.1 in
         let accepted = accepted_at course.tasks r.place in
-        let reading = each_reply r.command.call reply.0 in
-        let told = each_reply r.command.call (taken (quality_in accepted reading.0) reply.0) in
+        let reading = each_asked_reply r.command.call reply.0 in
+        let told = each_asked_reply r.command.call (taken (quality_in accepted reading.0) reply.0) in
         let word = under_outcome when text r.command r.end columns in
         let by = judged reads are accepted r.command.call line reply.0 reply.1 reading.0 told.0 reading.1 told.1 in
         let judges : (quality : Quality) (values : Option Answer) (l : List ℕ) → r.end ≡ Answered quality values l
         → IsJudged reads are accepted r.command.call line reply.0 reply.1 reading.0 told.0 reading.1 told.1 quality values =
-        λ quality values l is. by quality values (subst (IsOfQuality reads accepted r.command.call quality values) (some_same l line (ap answer_of (sym is) ∙ answered)) (listed quality values l is)) in
+        λ quality values l is. by quality values (subst (IsOfQuality reads accepted r.command.call quality values) (some_same l line (ap answer_of (sym is) ∙ answered))
+        (listed quality values l is)) in
         record {
           reply = reply.0;
           is_reply = reply.1;
@@ -248,7 +249,7 @@ head_reads false columns form is = subst (λ (f : Form). AreReadAs (head_text f)
   names_read true = row_reads (names ++ (quantity_names ++ last_names)) (omega arith)
 
 module _ {State : Type 0} (ends : Ends State) (kept : State → Option KeptReply) (is : IsAnInstrument ends AnyState kept) (course : Course) (columns : Bool)
-    (form : course.layout.form ≡ table columns) (reads : Call → List ℕ → Reading) (are : AreReadings reads) (acts : List Act) (u : UnderWay State) (rs : List (field.Run State))
+    (form : course.layout.form ≡ table columns) (reads : Asked → List ℕ → Reading) (are : AreReadings reads) (acts : List Act) (u : UnderWay State) (rs : List (field.Run State))
     (there : IsInField ends AnyState kept course.plan course.tasks (scope_of course reads) acts u rs) where
   -- the parts of the run
   abbrev parts : List Part

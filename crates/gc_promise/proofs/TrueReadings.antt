@@ -22,9 +22,12 @@ use Rattle.gc_catalogue.specs.declared.answer.Answer.TheVariants.{Long, Measured
 use Rattle.gc_catalogue.specs.declared.answer.Reading.{Reading}
 use Rattle.gc_catalogue.specs.declared.answer.Shape.TheVariants as shape
 use Rattle.gc_catalogue.specs.declared.answer.Reading.TheVariants.{Value, Unreadable}
+use Rattle.gc_catalogue.specs.declared.asked.Asked.{Asked}
 use Rattle.gc_catalogue.specs.declared.call.Call.{Call}
+use Rattle.gc_catalogue.specs.declared.asked.Asked.TheVariants.{Table}
 use Rattle.gc_catalogue.specs.declared.call.Call.TheVariants.{InstrumentNo, Position, SimpleMea}
-use Rattle.gc_client.specs.Settlements.{ReadsAs}
+use Rattle.gc_catalogue.specs.Asked.{IsAskedReading}
+use Rattle.gc_client.specs.Settlements.{ReadsBy}
 use Rattle.gc_station.specs.Scopes.{AreReadings}
 use Rattle.gc_promise.specs.Eventful.{at_target, elsewhere, empty, measured, numbered, pointed}
 
@@ -41,34 +44,34 @@ replied id params = record { rc_com = 0; id = Some id; rc = 0; params = params }
 module _ (call : Call) where
   -- a line that reads as such a reply says this answer, if the parameters are the answer's values
   value_says : (line params : List ℕ) (id : ℕ) (answer : Answer) → reply_at line ≡ Ok (replied id params) → (call_fields call).answer ≡ (answer_fields answer).shape
-      → AreParams params (answer_fields answer).values → ReadsAs call line (Value answer)
+      → AreParams params (answer_fields answer).values → ReadsBy IsAskedReading (Table call) line (Value answer)
   value_says line params id answer reads of_call values =
       record { reply = replied id params; is_reply = reply_found line (replied id params) reads; is_reading = (refl, refl, record { of_call = sym of_call; values = values }) }
 
   -- the reply to command 0 says nothing but that its call was carried out
-  pointed_says : (call_fields call).answer ≡ shape.Nothing → ReadsAs call pointed (Value Nothing)
+  pointed_says : (call_fields call).answer ≡ shape.Nothing → ReadsBy IsAskedReading (Table call) pointed (Value Nothing)
   unfolding header_at reply_at digits
   pointed_says of_call = value_says pointed [] 0 Nothing refl of_call (no_params [] [] refl refl)
 
   -- the reply to command 1 says angles and a distance at target 7
-  measured_says : (call_fields call).answer ≡ shape.Measured → ReadsAs call measured (Value at_target)
+  measured_says : (call_fields call).answer ≡ shape.Measured → ReadsBy IsAskedReading (Table call) measured (Value at_target)
   unfolding header_at reply_at digits rounded
   measured_says of_call =
       value_says measured (codes "2.25,1.625,110.0625") 1 at_target refl of_call (written_reads (answer_fields at_target).values (tt, (tt, (tt, tt))))
 
   -- the reply to command 2 says angles and a distance away from target 8
-  elsewhere_says : (call_fields call).answer ≡ shape.Measured → ReadsAs call elsewhere (Value away)
+  elsewhere_says : (call_fields call).answer ≡ shape.Measured → ReadsBy IsAskedReading (Table call) elsewhere (Value away)
   unfolding header_at reply_at digits rounded
   elsewhere_says of_call = value_says elsewhere (codes "0.5,1.5,87.25") 2 away refl of_call (written_reads (answer_fields away).values (tt, (tt, (tt, tt))))
 
   -- the reply to command 3 says the number 31
-  numbered_says : (call_fields call).answer ≡ shape.Long → ReadsAs call numbered (Value (Long (pos 31)))
+  numbered_says : (call_fields call).answer ≡ shape.Long → ReadsBy IsAskedReading (Table call) numbered (Value (Long (pos 31)))
   unfolding header_at reply_at digits
   numbered_says of_call =
       value_says numbered (codes "31") 3 (Long (pos 31)) refl of_call (written_reads (value.Long (pos 31) ∷ []) ((omega (arith, ints), omega (arith, ints)), tt))
 
   -- the reply to command 4 doesn't read: it has too few values
-  empty_says : (call_fields call).answer ≡ shape.Long → ReadsAs call empty (Unreadable Count)
+  empty_says : (call_fields call).answer ≡ shape.Long → ReadsBy IsAskedReading (Table call) empty (Unreadable Count)
   unfolding header_at reply_at digits
   empty_says of_call =
       record {
@@ -82,10 +85,10 @@ abbrev saying : List ℕ → Reading → (List ℕ → Reading) → List ℕ →
 saying line reading says x = if pointwise nat_eq line x then reading else says x
 
 -- the function with these readings put in front, for the calls that have them
-abbrev pub patched : (Call → List ℕ → Reading) → Call → List ℕ → Reading
-patched reads (Position hz v pos_mode atr_mode dummy) = saying pointed (Value Nothing) (reads (Position hz v pos_mode atr_mode dummy))
-patched reads (SimpleMea wait mode) = saying measured (Value at_target) (saying elsewhere (Value away) (reads (SimpleMea wait mode)))
-patched reads InstrumentNo = saying numbered (Value (Long (pos 31))) (saying empty (Unreadable Count) (reads InstrumentNo))
+abbrev pub patched : (Asked → List ℕ → Reading) → Asked → List ℕ → Reading
+patched reads (Table (Position hz v pos_mode atr_mode dummy)) = saying pointed (Value Nothing) (reads (Table (Position hz v pos_mode atr_mode dummy)))
+patched reads (Table (SimpleMea wait mode)) = saying measured (Value at_target) (saying elsewhere (Value away) (reads (Table (SimpleMea wait mode))))
+patched reads (Table InstrumentNo) = saying numbered (Value (Long (pos 31))) (saying empty (Unreadable Count) (reads (Table InstrumentNo)))
 patched reads call = reads call
 
 -- where a function gives this reading of the line anyway, to put the reading in front changes nothing
@@ -95,18 +98,19 @@ said_so line reading says e = fun_ext (λ x. by_test x (pointwise nat_eq line x)
   by_test x true t = sym e ∙ ap says (same_text line x (sym t))
   by_test x false t = refl
 
-module _ (reads : Call → List ℕ → Reading) (are : AreReadings reads) where
+module _ (reads : Asked → List ℕ → Reading) (are : AreReadings reads) where
   -- for each call `patched` gives what the function gives, which has these readings of the five replies by the grammar
-  of_call : (call : Call) → patched reads call ≡ reads call
-  of_call (Position hz v pos_mode atr_mode dummy) =
-      let call = Position hz v pos_mode atr_mode dummy in said_so pointed (Value Nothing) (reads call) (are call pointed (Value Nothing) (pointed_says call refl))
-  of_call (SimpleMea wait mode) =
-      let call = SimpleMea wait mode in
-      ap (saying measured (Value at_target)) (said_so elsewhere (Value away) (reads call) (are call elsewhere (Value away) (elsewhere_says call refl)))
-      ∙ said_so measured (Value at_target) (reads call) (are call measured (Value at_target) (measured_says call refl))
-  of_call InstrumentNo =
-      ap (saying numbered (Value (Long (pos 31)))) (said_so empty (Unreadable Count) (reads InstrumentNo) (are InstrumentNo empty (Unreadable Count) (empty_says InstrumentNo refl)))
-      ∙ said_so numbered (Value (Long (pos 31))) (reads InstrumentNo) (are InstrumentNo numbered (Value (Long (pos 31))) (numbered_says InstrumentNo refl))
+  of_call : (call : Asked) → patched reads call ≡ reads call
+  of_call (Table (Position hz v pos_mode atr_mode dummy)) =
+      let call = Table (Position hz v pos_mode atr_mode dummy) in
+      said_so pointed (Value Nothing) (reads call) (are call pointed (Value Nothing) (pointed_says (Position hz v pos_mode atr_mode dummy) refl))
+  of_call (Table (SimpleMea wait mode)) =
+      let call = Table (SimpleMea wait mode) in
+      ap (saying measured (Value at_target)) (said_so elsewhere (Value away) (reads call) (are call elsewhere (Value away) (elsewhere_says (SimpleMea wait mode) refl)))
+      ∙ said_so measured (Value at_target) (reads call) (are call measured (Value at_target) (measured_says (SimpleMea wait mode) refl))
+  of_call (Table InstrumentNo) =
+      ap (saying numbered (Value (Long (pos 31)))) (said_so empty (Unreadable Count) (reads (Table InstrumentNo)) (are (Table InstrumentNo) empty (Unreadable Count) (empty_says InstrumentNo refl)))
+      ∙ said_so numbered (Value (Long (pos 31))) (reads (Table InstrumentNo)) (are (Table InstrumentNo) numbered (Value (Long (pos 31))) (numbered_says InstrumentNo refl))
   of_call call = refl
 
   -- `patched` of a function is the function itself

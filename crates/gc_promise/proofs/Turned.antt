@@ -6,7 +6,7 @@ use Rattle.gc_values.specs.Decimals.{rounded}
 use Rattle.gc_values.specs.Directions.{is_near}
 use Rattle.gc_catalogue.specs.declared.answer.Reading.{Reading}
 use Rattle.gc_catalogue.specs.declared.answer.Reading.TheVariants.{ComFault}
-use Rattle.gc_catalogue.specs.declared.call.Call.{Call}
+use Rattle.gc_catalogue.specs.declared.asked.Asked.{Asked}
 use Rattle.gc_texts.specs.Nears.{is_elsewhere}
 use Rattle.gc_links.specs.Acts.{Act}
 use Rattle.gc_station.specs.Keeping.{AreKept, KeepsUp, Turn}
@@ -31,7 +31,7 @@ module _ (text : Record → List ℕ) where
       record { acts = Some done; taken = Some (texts_of text s.records); lasts = true } ∷ turns_from (after plan commands s act) (done ++ act ∷ []) acts
 
   -- with these turns, at each act all that the acts before it settled is kept
-  kept_from : (reads : Call → List ℕ → Reading) (s : Model) (done acts : List Act) → s ≡ stood plan commands (scope reads) done
+  kept_from : (reads : Asked → List ℕ → Reading) (s : Model) (done acts : List Act) → s ≡ stood plan commands (scope reads) done
       → AreKept plan commands (scope reads) text (Some []) (Some []) done acts (turns_from s done acts)
   kept_from reads s done [] is = tt
   kept_from reads s done (act ∷ acts) is = (
@@ -41,11 +41,11 @@ module _ (text : Record → List ℕ) where
   )
 
   -- what is seen at the acts of the run
-  abbrev turns_by : (Call → List ℕ → Reading) → List Turn
+  abbrev turns_by : (Asked → List ℕ → Reading) → List Turn
   turns_by reads = turns_from (opening plan (scope (patched reads))) [] acts
 
   -- some function, which `patched` never asks for what the run's replies say
-  abbrev any : Call → List ℕ → Reading
+  abbrev any : Asked → List ℕ → Reading
   any call line = ComFault 0
 
   -- what is seen at the acts of the run, whatever function says what replies say
@@ -53,12 +53,12 @@ module _ (text : Record → List ℕ) where
   turns = turns_by any
 
   -- what is seen at the acts is the same with each function that says what replies say
-  same_turns : (reads : Call → List ℕ → Reading) → turns_by reads ≡ turns
+  same_turns : (reads : Asked → List ℕ → Reading) → turns_by reads ≡ turns
   unfolding is_elsewhere is_near header_at reply_at digits rounded
   same_turns reads = refl
 
   -- with the patched readings the run keeps up: at each act all that the acts before it settled is kept
-  keeps : (reads : Call → List ℕ → Reading) → KeepsUp plan commands (scope (patched reads)) text (Some []) (Some acts) (Some []) [] turns []
+  keeps : (reads : Asked → List ℕ → Reading) → KeepsUp plan commands (scope (patched reads)) text (Some []) (Some acts) (Some []) [] turns []
   keeps reads =
       record {
         acts = acts;
@@ -72,5 +72,5 @@ module _ (text : Record → List ℕ) where
       }
 
   -- with each function that says what replies say the run keeps up
-  pub keeps_whole : (reads : Call → List ℕ → Reading) → AreReadings reads → KeepsUp plan commands (scope reads) text (Some []) (Some acts) (Some []) [] turns []
+  pub keeps_whole : (reads : Asked → List ℕ → Reading) → AreReadings reads → KeepsUp plan commands (scope reads) text (Some []) (Some acts) (Some []) [] turns []
   keeps_whole reads are = subst (λ r. KeepsUp plan commands (scope r) text (Some []) (Some acts) (Some []) [] turns []) (patched_same reads are) (keeps reads)

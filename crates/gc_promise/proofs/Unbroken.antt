@@ -7,17 +7,19 @@ use Rattle.gc_values.specs.ValueFault.{fault_number}
 use Rattle.gc_values.specs.declared.value.Value.{Value}
 use Rattle.gc_values.specs.declared.value.Value.TheVariants as value
 use Rattle.gc_catalogue.specs.Answers.{answer_fields}
-use Rattle.gc_catalogue.specs.Calls.{call_fields}
-use Rattle.gc_catalogue.specs.declared.call.Call.{Call}
+use Rattle.gc_catalogue.specs.declared.answer.Answer.{Answer}
+use Rattle.gc_catalogue.specs.declared.asked.Asked.{Asked}
+use Rattle.gc_catalogue.specs.declared.asked.Asked.TheVariants.{Table, Raw}
 use Rattle.gc_texts.specs.Cuts.{Lacks}
 use Rattle.gc_texts.specs.Endings.{End, Answered, Unreadable, Elsewhere, Late, Lost, Skipped, Missed, quality_of, quality_text}
 use Rattle.gc_texts.specs.Logs.{escape, escaped, hex_digit, is_as_it_is}
 use Rattle.gc_texts.specs.Stamps.{stamp_text}
-use Rattle.gc_texts.specs.declared.commands.Command.{Command}
-use Rattle.gc_rows.specs.JsonLines.{Member, Text, Number, behind_backslash, ending_members, json_members, last_members, member_text, members_text, more_members, quantity_members, reply_members, sent_members, string_text, value_members, values_members, what_members, when_members, without_zeros, worded_members}
+use Rattle.gc_texts.specs.declared.wish.Wish.{Wish}
+use Rattle.gc_rows.specs.JsonLines.{Member, Text, Number, Texts, behind_backslash, comma_where, ending_members, item_members, json_members, last_members, list_text, member_text, members_text, more_members, answer_members, quantity_members, reply_members, sent_members, string_text, strings_text, value_members, values_members, what_members, when_members, without_zeros, worded_members}
+use Rattle.gc_rows.specs.Items.{split_items}
 use Rattle.gc_rows.specs.Laws.{IsEnd, IsMember, IsPlainName, IsReplyOfBytes}
 use Rattle.gc_rows.specs.Quantities.{column_of, quantity_name, quantity_text}
-use Rattle.gc_rows.specs.Rows.{code_of, com_of, values_of}
+use Rattle.gc_rows.specs.Rows.{code_of, com_of, procedure_of, values_of}
 use Rattle.gc_rows.specs.declared.when.When.{When}
 use Rattle.gc_rows.proofs.Columns.{reply_columns}
 use Rattle.gc_texts.specs.Cuts.{before, behind}
@@ -71,6 +73,24 @@ string_lacks bytes =
     lacks_both (codes "\"" ++ flat_map behind_backslash (escaped bytes)) (codes "\"")
     (lacks_both (codes "\"") (flat_map behind_backslash (escaped bytes)) quote_lacks (mark_lacks (escaped bytes) (escaped_lacks bytes))) quote_lacks
 
+-- a comma, where one is wanted, is no line feed
+comma_lacks : (behind : Bool) → Lacks 10 (comma_where behind)
+comma_lacks true = ((λ e. omega (arith, e)), tt)
+comma_lacks false = tt
+
+-- the strings of a list of JSON have no line feed
+strings_lack : (behind : Bool) (texts : List (List ℕ)) → Lacks 10 (strings_text behind texts)
+strings_lack behind [] = tt
+strings_lack behind (bytes ∷ others) =
+    lacks_both (comma_where behind) (string_text bytes ++ strings_text true others) (comma_lacks behind)
+    (lacks_both (string_text bytes) (strings_text true others) (string_lacks bytes) (strings_lack true others))
+
+-- a list of strings of JSON has no line feed
+list_lacks : (texts : List (List ℕ)) → Lacks 10 (list_text texts)
+list_lacks texts =
+    lacks_both (codes "[") (strings_text false texts ++ codes "]") ((λ e. omega (arith, e)), tt)
+    (lacks_both (strings_text false texts) (codes "]") (strings_lack false texts) ((λ e. omega (arith, e)), tt))
+
 -- a plain name has no line feed
 name_lacks : (name : List ℕ) → IsPlainName name → Lacks 10 name
 name_lacks [] is = tt
@@ -82,6 +102,7 @@ name_lacks (b ∷ bs) is = ((λ e. let low = is.0.0 in omega (arith, e, low)), n
 abbrev HasPlainDigits : Member → Type 0
 HasPlainDigits (Text name bytes) = Unit {0}
 HasPlainDigits (Number name digits) = IsPlain digits
+HasPlainDigits (Texts name texts) = Unit {0}
 
 -- a name with its quotes and comma has no line feed
 named_lacks : (name : List ℕ) → IsPlainName name → Lacks 10 ((codes ",\"" ++ name) ++ codes "\":")
@@ -98,6 +119,9 @@ members_lack (Text name bytes ∷ ms) are plain =
 members_lack (Number name digits ∷ ms) are plain =
     lacks_both (member_text (Number name digits)) (members_text ms)
     (lacks_both ((codes ",\"" ++ name) ++ codes "\":") digits (named_lacks name are.0.0) (plain_lacks digits plain.0)) (members_lack ms are.1 plain.1)
+members_lack (Texts name texts ∷ ms) are plain =
+    lacks_both (member_text (Texts name texts)) (members_text ms)
+    (lacks_both ((codes ",\"" ++ name) ++ codes "\":") (list_text texts) (named_lacks name are.0.0) (list_lacks texts)) (members_lack ms are.1 plain.1)
 
 -- where `HasPlainDigits` holds of the members of two lists, it holds of those of the joined list
 all_both : (xs ys : List Member) → AllByRecursion HasPlainDigits xs → AllByRecursion HasPlainDigits ys → AllByRecursion HasPlainDigits (xs ++ ys)
@@ -114,9 +138,9 @@ when_plain : (when : When) → AllByRecursion HasPlainDigits (when_members when)
 when_plain when = all_both (sent_members when.stamp.sent) _ (sent_plain when.stamp.sent) (tt, (decimal_plain when.stamp.cycle, (decimal_plain when.stamp.place, tt)))
 
 -- the members on a command have plain digits
-what_plain : (command : Command) (name : List ℕ) → AllByRecursion HasPlainDigits (what_members command name)
-what_plain command [] = (decimal_plain command.target, (decimal_plain (call_fields command.call).number, tt))
-what_plain command (b ∷ bs) = (decimal_plain command.target, (tt, (decimal_plain (call_fields command.call).number, tt)))
+what_plain : (command : Wish) (name : List ℕ) → AllByRecursion HasPlainDigits (what_members command name)
+what_plain command [] = (decimal_plain command.target, (decimal_plain (procedure_of command.call), tt))
+what_plain command (b ∷ bs) = (decimal_plain command.target, (tt, (decimal_plain (procedure_of command.call), tt)))
 
 -- the members on a reply of bytes have plain digits
 reply_plain : (line : List ℕ) → IsReplyOfBytes line → AllByRecursion HasPlainDigits (reply_members (Some line))
@@ -158,9 +182,19 @@ values_plain column (v ∷ vs) came =
     all_both (value_members (quantity_name column) v (before 44 came)) (values_members (column + 1) vs (behind 44 came)) (value_plain (quantity_name column) v (before 44 came))
     (values_plain (column + 1) vs (behind 44 came))
 
--- the members for quantities have plain digits
-quantities_plain : (call : Call) (end : End) → AllByRecursion HasPlainDigits (quantity_members call end)
-quantities_plain call (Answered quality (Some answer) line) = values_plain (column_of call answer) (answer_fields answer).values (values_of line)
+-- the member for a reply's items has no digits
+items_plain : (items : Option (List (List ℕ))) → AllByRecursion HasPlainDigits (item_members items)
+items_plain None = tt
+items_plain (Some texts) = (tt, tt)
+
+-- the members for an answer's quantities or items have plain digits
+columns_plain : (asked : Asked) (answer : Answer) (line : List ℕ) → AllByRecursion HasPlainDigits (answer_members asked answer line)
+columns_plain (Table call) answer line = values_plain (column_of call answer) (answer_fields answer).values (values_of line)
+columns_plain (Raw raw) answer line = items_plain (split_items (values_of line))
+
+-- the members for quantities or items have plain digits
+quantities_plain : (call : Asked) (end : End) → AllByRecursion HasPlainDigits (quantity_members call end)
+quantities_plain call (Answered quality (Some answer) line) = columns_plain call answer line
 quantities_plain call end = tt
 
 -- a member for a quality has no digits
@@ -169,7 +203,7 @@ worded_plain [] = tt
 worded_plain (b ∷ bs) = (tt, tt)
 
 -- the digits of all members of a record stand as they are
-members_plain : (when : When) (name : List ℕ) (command : Command) (end : End) → IsEnd end → AllByRecursion HasPlainDigits (json_members when name command end)
+members_plain : (when : When) (name : List ℕ) (command : Wish) (end : End) → IsEnd end → AllByRecursion HasPlainDigits (json_members when name command end)
 members_plain when name command end is =
     let rest = ending_members end ++ more_members command.call end in
     all_both (when_members when) (what_members command name ++ rest) (when_plain when)
@@ -177,7 +211,7 @@ members_plain when name command end is =
     (all_both (quantity_members command.call end) (last_members end) (quantities_plain command.call end) (worded_plain (quality_text (quality_of end))))))
 
 -- the line of a record, without its line feed, has none
-pub line_unbroken : (when : When) (name : List ℕ) (command : Command) (end : End) → IsEnd end → AllByRecursion IsMember (json_members when name command end)
+pub line_unbroken : (when : When) (name : List ℕ) (command : Wish) (end : End) → IsEnd end → AllByRecursion IsMember (json_members when name command end)
     → Lacks 10 ((codes "{\"run\":" ++ string_text (stamp_text when.run)) ++ (members_text (json_members when name command end) ++ codes "}"))
 line_unbroken when name command end is are =
     let front : Lacks 10 (codes "{\"run\":") =

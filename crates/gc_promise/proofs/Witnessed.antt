@@ -4,7 +4,7 @@ use Rattle.std.proofs.Common.{ℕ, List, [], Some, Ok, false, refl, subst, sym}
 use Rattle.std.specs.Fmt.{digits}
 use Rattle.std.specs.List.{AllByRecursion}
 use Rattle.gc_catalogue.specs.declared.answer.Reading.{Reading}
-use Rattle.gc_catalogue.specs.declared.call.Call.{Call}
+use Rattle.gc_catalogue.specs.declared.asked.Asked.{Asked}
 use Rattle.gc_rows.specs.declared.record.Form.{Form}
 use Rattle.gc_rows.specs.declared.record.Form.TheVariants.{Json}
 use Rattle.gc_texts.specs.Stamps.{days_after}
@@ -30,7 +30,7 @@ use Rattle.gc_promise.proofs.Objected.{objects_own}
 use Rattle.gc_promise.specs.Objects.{AreOfBytes}
 
 -- the row of each of these records, where it is an answer, is its own
-abbrev AreOwn : (Call → List ℕ → Reading) → List Record → Type 0
+abbrev AreOwn : (Asked → List ℕ → Reading) → List Record → Type 0
 AreOwn reads = AllByRecursion (IsOwnRow reporting AnyState nothing in_a_table [] commands (parts_of plan commands (opening plan (scope reads)) acts) (stretches reporting before runs))
 
 -- what is seen at each of its acts, where its records are written in this form
@@ -50,7 +50,7 @@ is_measured form =
     }
 
 -- `HasOwnRows` holds of the eventful run, with every function that gives what each reply says of its call
-own_rows : (reads : Call → List ℕ → Reading) → AreReadings reads → HasOwnRows reads
+own_rows : (reads : Asked → List ℕ → Reading) → AreReadings reads → HasOwnRows reads
 unfolding digits days_after
 own_rows reads are =
     let run = eventful reads are in

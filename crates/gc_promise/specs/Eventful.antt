@@ -13,7 +13,8 @@ use Rattle.gc_values.specs.declared.fault.ValueFault.TheVariants.{Count}
 use Rattle.gc_catalogue.specs.declared.answer.Answer.{Answer}
 use Rattle.gc_catalogue.specs.declared.answer.Answer.TheVariants.{Nothing, Long, Measured}
 use Rattle.gc_catalogue.specs.declared.answer.Reading.{Reading}
-use Rattle.gc_catalogue.specs.declared.call.Call.{Call}
+use Rattle.gc_catalogue.specs.declared.asked.Asked.{Asked}
+use Rattle.gc_catalogue.specs.declared.asked.Asked.TheVariants.{Table}
 use Rattle.gc_catalogue.specs.declared.call.Call.TheVariants.{InstrumentNo, NullProc}
 use Rattle.gc_client.specs.Rule.{heard}
 use Rattle.gc_client.specs.declared.window.TheConstants.{WINDOW}
@@ -33,7 +34,7 @@ use Rattle.gc_station.specs.Scopes.{Scope}
 use Rattle.gc_station.specs.Tallies.{none_yet, tallied}
 use Rattle.gc_station.specs.declared.plan.Plan.{Plan}
 use Rattle.gc_station.specs.declared.tally.Tally.{Tally}
-use Rattle.gc_world.specs.World.{Ends, Up_deliver, Up_lose, Up_repeat, Down_lose, Down_repeat}
+use Rattle.gc_field.specs.World.{Ends, Up_deliver, Up_lose, Up_repeat, Down_lose, Down_repeat}
 use Rattle.gc_field.specs.Begin as turn
 use Rattle.gc_field.specs.Begin.{Turn, Asks, Reaches, UnderWay, begins, leaves, turned}
 use Rattle.gc_field.specs.Beginnings.{Run, left_by_run}
@@ -67,7 +68,7 @@ abbrev pub plan : Plan
 plan = record { width = 7; deadline = 100; every = 150; cycles = 3; quiet = 10; retries = 3 }
 
 -- a command that waits 50 ms
-abbrev pub task : ℕ → Call → Bool → Option Near → Task
+abbrev pub task : ℕ → Asked → Bool → Option Near → Task
 task target call chained near = record { command = record { target = target; call = call }; deadline = 50; chained = chained; near = near; accepted = no_codes }
 
 -- where a target stands: in this direction, within a hundredth of a radian
@@ -81,7 +82,7 @@ commands =
     task 7 points false None
     ∷ task 7 reads_all true (stands 7 hz v)
     ∷ task 8 reads_all false (stands 8 (decimal (pos 125) 2 refl) (decimal (pos 15) 1 refl))
-    ∷ map (λ target. task target InstrumentNo false None) (1 ∷ 2 ∷ 3 ∷ 4 ∷ [])
+    ∷ map (λ target. task target (Table InstrumentNo) false None) (1 ∷ 2 ∷ 3 ∷ 4 ∷ [])
 
 -- the request line of command 0. The number of a command is its id, in the first cycle and in the third
 abbrev pub point : List ℕ
@@ -124,7 +125,7 @@ abbrev pub empty : List ℕ
 empty = codes "%R1P,0,4:0"
 
 -- the scope of this run: at most two hundred acts, and what each reply says of its call
-abbrev pub scope : (Call → List ℕ → Reading) → Scope
+abbrev pub scope : (Asked → List ℕ → Reading) → Scope
 scope reads = record { turns = 200; reads = reads }
 
 -- Acts and moves.
@@ -144,13 +145,13 @@ connects_again now later = Closed ∷ Told (at now) ∷ Silent (at later) ∷ Op
 -- the moves by which a request for the instrument's number goes out for each of these targets, at the first of these moments; the second is its
 -- deadline
 abbrev pub sends_all : ℕ → ℕ → List ℕ → List (Move (List ℕ))
-sends_all now deadline targets = flat_map (λ target. Sends target InstrumentNo deadline ∷ Tells now ∷ []) targets
+sends_all now deadline targets = flat_map (λ target. Sends target (Table InstrumentNo) deadline ∷ Tells now ∷ []) targets
 
 -- The beginning.
 
 -- under way at the start are a reply and a request, each with the id that command 0 will have
 abbrev pub before : UnderWay (List ℕ)
-before = record { up = record { id = 0; call = InstrumentNo } ∷ []; down = codes "%R1P,0,0:0,4" ∷ []; state = codes "5" }
+before = record { up = record { id = 0; call = Table InstrumentNo } ∷ []; down = codes "%R1P,0,0:0,4" ∷ []; state = codes "5" }
 
 -- no connection can be made at first. Over the first one the first null procedure goes out; its echo and the old reply come in one piece; and the
 -- connection breaks. All eight null procedures are answered over the second one
@@ -211,7 +212,7 @@ breaks_acts =
     ∷ Silent (at 345)
     ∷ []
 
--- command 0 is executed, and its reply is lost. Command 2 is executed, and its reply stays under way. The requests of commands 3 to 5 are lost,
+-- command 0 is executed, and its reply is lost. Wish 2 is executed, and its reply stays under way. The requests of commands 3 to 5 are lost,
 -- and so is that of the first of the two null procedures; the requests of command 6 and of the other one stay under way
 abbrev pub breaks_moves : List (Move (List ℕ))
 breaks_moves =
@@ -221,7 +222,7 @@ breaks_moves =
     ∷ OnLine Up_deliver
     ∷ OnLine (Down_lose 0)
     ∷ Tells 90
-    ∷ Sends 0 NullProc 190
+    ∷ Sends 0 (Table NullProc) 190
     ∷ Tells 90
     ∷ OnLine Up_deliver
     ∷ Tells 95
@@ -236,11 +237,11 @@ breaks_moves =
     ∷ OnLine (Up_lose 0)
     ∷ OnLine (Up_lose 0)
     ∷ Tells 145
-    ∷ Sends 0 NullProc 245
+    ∷ Sends 0 (Table NullProc) 245
     ∷ Tells 145
     ∷ OnLine (Up_lose 1)
     ∷ Tells 245
-    ∷ Sends 0 NullProc 345
+    ∷ Sends 0 (Table NullProc) 345
     ∷ Tells 245
     ∷ map Tells (295 ∷ 295 ∷ 305 ∷ 305 ∷ 315 ∷ 345 ∷ 345 ∷ [])
 
@@ -283,7 +284,7 @@ anew_turns =
 -- The second cycle, and the third.
 
 -- the clock is read nine times: the second cycle begins and is missed, its seven commands are passed over, and the third cycle
--- begins. Command 0 is answered, and the others go out; the last request is cut after five bytes, and the connection is closed.
+-- begins. Wish 0 is answered, and the others go out; the last request is cut after five bytes, and the connection is closed.
 -- Over the fifth connection come noise, a second reply to command 0, and the replies to commands 1 to 4, that to command 3
 -- twice. Commands 5 and 6 are given up; the reply to command 5 comes late, and the reply to a null procedure settles command 6
 -- as lost
@@ -321,7 +322,7 @@ chain_moves =
     ∷ Sends 8 reads_all 440
     ∷ Tells 390
     ∷ sends_all 390 440 (1 ∷ 2 ∷ 3 ∷ [])
-    ++ Sends 4 InstrumentNo 440
+    ++ Sends 4 (Table InstrumentNo) 440
     ∷ Changes (codes "2.25,1.625,110.0625")
     ∷ OnLine Up_deliver
     ∷ Changes (codes "0.5,1.5,87.25")
@@ -335,7 +336,7 @@ chain_moves =
     ++ Foreign (codes "?")
     ∷ map Comes (pointed ∷ measured ∷ elsewhere ∷ numbered ∷ numbered ∷ empty ∷ [])
     ++ Tells 440
-    ∷ Sends 0 NullProc 540
+    ∷ Sends 0 (Table NullProc) 540
     ∷ Tells 440
     ∷ Changes (codes "31")
     ∷ OnLine Up_deliver
@@ -380,7 +381,7 @@ last_stretch = record { from = leaves (turned reporting anew_turns (begins left)
 
 -- the record of a command of this cycle and place, for this target and with this call: it went out at the moment `sent`, if it
 -- did, and ended at the moment `utc`
-abbrev pub ended : Option ℕ → ℕ → ℕ → ℕ → ℕ → Call → End → Record
+abbrev pub ended : Option ℕ → ℕ → ℕ → ℕ → ℕ → Asked → End → Record
 ended sent utc cycle place target call end =
     record { sent = sent; utc = utc; cycle = cycle; place = place; command = record { target = target; call = call }; end = end }
 
@@ -402,11 +403,11 @@ elsewhere_record = ended (Some 390) 415 3 2 8 reads_all (end.Elsewhere elsewhere
 
 -- the record of command 3 in the third cycle: answered, with a number
 abbrev pub number_record : Record
-number_record = ended (Some 390) 415 3 3 1 InstrumentNo (end.Answered Fine (Some (Long (pos 31))) numbered)
+number_record = ended (Some 390) 415 3 3 1 (Table InstrumentNo) (end.Answered Fine (Some (Long (pos 31))) numbered)
 
 -- the record of command 4 in the third cycle: unreadable
 abbrev pub unreadable_record : Record
-unreadable_record = ended (Some 390) 415 3 4 2 InstrumentNo (end.Unreadable empty Count)
+unreadable_record = ended (Some 390) 415 3 4 2 (Table InstrumentNo) (end.Unreadable empty Count)
 
 -- all records of the run, in order
 abbrev pub records : List Record
@@ -414,24 +415,24 @@ records =
     ended (Some 40) 95 1 0 7 points end.Lost
     ∷ ended None 95 1 1 7 reads_all end.Skipped
     ∷ ended (Some 95) 345 1 2 8 reads_all end.Lost
-    ∷ ended (Some 95) 345 1 3 1 InstrumentNo end.Lost
-    ∷ ended (Some 95) 345 1 4 2 InstrumentNo end.Lost
-    ∷ ended (Some 95) 345 1 5 3 InstrumentNo end.Lost
-    ∷ ended (Some 95) 345 1 6 4 InstrumentNo end.Lost
+    ∷ ended (Some 95) 345 1 3 1 (Table InstrumentNo) end.Lost
+    ∷ ended (Some 95) 345 1 4 2 (Table InstrumentNo) end.Lost
+    ∷ ended (Some 95) 345 1 5 3 (Table InstrumentNo) end.Lost
+    ∷ ended (Some 95) 345 1 6 4 (Table InstrumentNo) end.Lost
     ∷ ended None 190 2 0 7 points end.Missed
     ∷ ended None 190 2 1 7 reads_all end.Missed
     ∷ ended None 190 2 2 8 reads_all end.Missed
-    ∷ ended None 190 2 3 1 InstrumentNo end.Missed
-    ∷ ended None 190 2 4 2 InstrumentNo end.Missed
-    ∷ ended None 190 2 5 3 InstrumentNo end.Missed
-    ∷ ended None 190 2 6 4 InstrumentNo end.Missed
+    ∷ ended None 190 2 3 1 (Table InstrumentNo) end.Missed
+    ∷ ended None 190 2 4 2 (Table InstrumentNo) end.Missed
+    ∷ ended None 190 2 5 3 (Table InstrumentNo) end.Missed
+    ∷ ended None 190 2 6 4 (Table InstrumentNo) end.Missed
     ∷ points_record
     ∷ chained_record
     ∷ elsewhere_record
     ∷ number_record
     ∷ unreadable_record
-    ∷ ended (Some 390) 445 3 5 3 InstrumentNo end.Late
-    ∷ ended (Some 390) 445 3 6 4 InstrumentNo end.Lost
+    ∷ ended (Some 390) 445 3 5 3 (Table InstrumentNo) end.Late
+    ∷ ended (Some 390) 445 3 6 4 (Table InstrumentNo) end.Lost
     ∷ []
 
 -- how many commands ended in each of the seven ways
@@ -448,7 +449,7 @@ connections (_ ∷ acts) = connections acts
 
 -- where `reads` gives what replies say of their calls: `reporting` is an instrument, and the run is one in the field, which is
 -- over after these acts and has these records
-pub record IsEventful (reads : Call → List ℕ → Reading) : Type 0 where
+pub record IsEventful (reads : Asked → List ℕ → Reading) : Type 0 where
   pub is : IsAnInstrument reporting AnyState nothing
   pub field : IsInField reporting AnyState nothing plan commands (scope reads) acts before runs
   pub over : is_over (stood plan commands (scope reads) acts).progress ≡ true
@@ -461,7 +462,7 @@ pub record IsEventful (reads : Call → List ℕ → Reading) : Type 0 where
   pub made : WasMadeOn WINDOW reporting first_stretch.from first_stretch.moves 8 points pointed
   -- the station begins anew where seven requests wait that are all given up. Two requests and a reply are under way then
   pub begins_anew : IsAnew plan commands (scope reads) front (Told (at 345))
-  pub up : left.up ≡ record { id = 6; call = InstrumentNo } ∷ record { id = 0; call = NullProc } ∷ []
+  pub up : left.up ≡ record { id = 6; call = Table InstrumentNo } ∷ record { id = 0; call = Table NullProc } ∷ []
   pub down : left.down ≡ codes "%R1P,0,2:0,27" ∷ []
   -- the instrument starts anew in the third cycle, after five executions
   pub starts : (world reporting last_stretch).wire.starts ≡ 5 ∷ []

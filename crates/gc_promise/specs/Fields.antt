@@ -8,10 +8,12 @@ use Rattle.gc_lines.specs.Numbers.{IsNumber}
 use Rattle.gc_lines.specs.Replies.{ReplyFields, IsReply}
 use Rattle.gc_catalogue.specs.Answers.{answer_fields}
 use Rattle.gc_catalogue.specs.Calls.{call_fields}
-use Rattle.gc_catalogue.specs.Readings.{IsReading}
+use Rattle.gc_catalogue.specs.Asked.{IsAskedReading}
 use Rattle.gc_catalogue.specs.declared.answer.Reading.{Reading}
 use Rattle.gc_catalogue.specs.declared.answer.Reading.TheVariants as reading
-use Rattle.gc_catalogue.specs.declared.call.Call.{Call}
+use Rattle.gc_catalogue.specs.declared.asked.Asked.{Asked}
+use Rattle.gc_catalogue.specs.declared.asked.Asked.TheVariants.{Table, Raw}
+use Rattle.gc_catalogue.specs.declared.answer.Answer.{Answer}
 use Rattle.gc_instrument.specs.State.{KeptReply}
 use Rattle.gc_texts.specs.Codes.{are_accepted}
 use Rattle.gc_texts.specs.Endings.{word_of}
@@ -21,12 +23,13 @@ use Rattle.gc_texts.specs.declared.codes.Codes.{Codes}
 use Rattle.gc_texts.specs.declared.quality.Quality.{Quality}
 use Rattle.gc_texts.specs.declared.quality.Quality.TheVariants.{Fine, Warning, Refused}
 use Rattle.gc_texts.specs.declared.tasks.Task.{Task}
+use Rattle.gc_rows.specs.Rows.{procedure_of}
 use Rattle.gc_rows.specs.Quantities.{quantity_names, quantity_text}
 use Rattle.gc_rows.specs.Told.{quantities_told}
 use Rattle.gc_station.specs.Parts.{Part}
 use Rattle.gc_station.specs.Qualities.{accepted_at}
 use Rattle.gc_station.specs.Records.{Record}
-use Rattle.gc_world.specs.World.{Ends}
+use Rattle.gc_field.specs.World.{Ends}
 use Rattle.gc_field.specs.Runs.{IsItsOwn}
 use Rattle.gc_field.specs.Shown.{Stretch}
 
@@ -42,7 +45,7 @@ pub record IsOf (at : List ℕ → List ℕ) (r : Record) : Type 0 where
   pub cycle : at (codes "cycle") ≡ decimal r.cycle
   pub place : at (codes "place") ≡ decimal r.place
   pub target : at (codes "target") ≡ decimal r.command.target
-  pub procedure : at (codes "procedure") ≡ decimal (call_fields r.command.call).number
+  pub procedure : at (codes "procedure") ≡ decimal (procedure_of r.command.call)
   pub outcome : at (codes "outcome") ≡ word_of r.end
 
 -- this is the outcome of a command that a reply in time has ended
@@ -53,11 +56,16 @@ IsReplied outcome = (outcome ≡ codes "answered") ⊎ (outcome ≡ codes "unrea
 abbrev pub IsQuantity : List ℕ → Type 0
 IsQuantity name = (k : ℕ) × (slice_get quantity_names k ≡ Some name)
 
--- the text of the quantity of this name in a reply to this call, by what the reply says of the call: an answer has the quantities of its
--- call, in the manual's order. Empty where the reply has no such quantity, or is no answer
-abbrev pub quantity_in : Call → Reading → List ℕ → List ℕ
-quantity_in call (reading.Value answer) name = under name (quantities_told (call_fields call).number) (map quantity_text (answer_fields answer).values)
-quantity_in call _ name = []
+-- the text of the quantity of this name in an answer to what was asked: an answer to a call of the table has the quantities of its call, in the
+-- manual's order. Empty where it has no such quantity; a procedure that isn't in the table has none
+abbrev pub quantity_of : Asked → Answer → List ℕ → List ℕ
+quantity_of (Table call) answer name = under name (quantities_told (call_fields call).number) (map quantity_text (answer_fields answer).values)
+quantity_of (Raw raw) answer name = []
+
+-- the text of the quantity of this name in a reply to what was asked, by what the reply says. Empty where it is no answer
+abbrev pub quantity_in : Asked → Reading → List ℕ → List ℕ
+quantity_in asked (reading.Value answer) name = quantity_of asked answer name
+quantity_in asked _ name = []
 
 -- the quality of an answer whose reply says this, where these return codes are accepted: fine if both codes are 0, a warning if the return
 -- code is an accepted one, and else refused. (Where the values don't read, the command isn't answered.)
@@ -76,17 +84,17 @@ taken Refused reply = reply
 -- the row of a command that this line ended has the line's codes and parameters. If the command is answered, the row has the quality of
 -- the answer, by the return codes that are accepted of the command; and, if rows have quantities, those of the line, which for a warning
 -- is read as if its return code were 0
-pub record Says (has_quantities : Bool) (at : List ℕ → List ℕ) (accepted : Codes) (call : Call) (line : List ℕ) : Type 0 where
+pub record Says (has_quantities : Bool) (at : List ℕ → List ℕ) (accepted : Codes) (call : Asked) (line : List ℕ) : Type 0 where
   pub reply : ReplyFields
   pub is_reply : IsReply line reply
   pub rc_com : IsNumber (at (codes "rc_com")) reply.rc_com
   pub rc : IsNumber (at (codes "rc")) reply.rc
   pub values : at (codes "values") ≡ escaped reply.params
   pub said : Reading
-  pub is_said : IsReading call reply said
+  pub is_said : IsAskedReading call reply said
   pub quality : at (codes "outcome") ≡ codes "answered" → at (codes "quality") ≡ quality_word (quality_in accepted said)
   pub told : Reading
-  pub is_told : IsReading call (taken (quality_in accepted said) reply) told
+  pub is_told : IsAskedReading call (taken (quality_in accepted said) reply) told
   pub quantities :
       has_quantities ≡ true → at (codes "outcome") ≡ codes "answered" →
       (name : List ℕ) → IsQuantity name → at name ≡ escaped (quantity_in call told name)

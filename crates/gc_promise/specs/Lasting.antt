@@ -2,7 +2,7 @@
 -- own.
 use Rattle.std.specs.Prelude.{◌≡◌, ◌⊎◌, ℕ, Bool, true, false, List, [], ◌∷◌, ◌++◌, Option, Some, Result}
 use Rattle.gc_catalogue.specs.declared.answer.Reading.{Reading}
-use Rattle.gc_catalogue.specs.declared.call.Call.{Call}
+use Rattle.gc_catalogue.specs.declared.asked.Asked.{Asked}
 use Rattle.gc_files.specs.Failing.{Sides, Event, Ran, Failed, Copied, Crashed, settled, one, done_by, Loses, sides_after, runs_of, Occur, IsFound, is_trusted}
 use Rattle.gc_files.specs.Files.{Step, Life, content, later_by, MayLeave}
 use Rattle.gc_files.specs.Rows.{start_of, table, IsFront}
@@ -93,14 +93,14 @@ pub record IsMoment {R : Type 0} (m : Moment R) : Type 0 where
   pub reached : IsReached m
 
 -- the rows of all records that these acts settle, in order, as the run writes them
-abbrev pub rows_by : Course → (Call → List ℕ → Reading) → List Act → List ℕ
+abbrev pub rows_by : Course → (Asked → List ℕ → Reading) → List Act → List ℕ
 rows_by course reads acts =
     texts_of (text_in course.layout course.names) (stood course.plan course.tasks (record { turns = course.turns; reads = reads }) acts).records
 
 -- `left` has the rows that are left of a run, after a moment. `settled`: the rows that the run had written by the moment's act,
 -- into this file and into others before it, are those of all records that the acts of `done` settled. `has`: all that this file
 -- had taken by then is left, and perhaps more. `own`: no other rows are left than of records that acts of the run settled
-pub record AreLeft {R : Type 0} (m : Moment R) (reads : Call → List ℕ → Reading) (left : List ℕ) : Type 0 where
+pub record AreLeft {R : Type 0} (m : Moment R) (reads : Asked → List ℕ → Reading) (left : List ℕ) : Type 0 where
   pub settled : bytes_in m.was ≡ rows_by m.run.course reads m.done
   pub more : List ℕ
   pub has : left ≡ taken_in m.was.rows ++ more
@@ -121,7 +121,7 @@ MayBeLeft life steps left = MayLeave life.start (life.steps ++ steps) left
 -- file, the next start makes of it the table that was there at first, after it rows of the earlier runs, and then the rows that
 -- are left of this run
 abbrev pub RowsOutlastCrashes : Type 0 → Type 0
-RowsOutlastCrashes R = (m : Moment R) → IsMoment m → (reads : Call → List ℕ → Reading) → AreReadings reads
+RowsOutlastCrashes R = (m : Moment R) → IsMoment m → (reads : Asked → List ℕ → Reading) → AreReadings reads
     → (head first : List ℕ) → IsHead head → (earlier : List Run) → Happen head (settled first) earlier
     → (opening : List Step) → Opens head (content (life_after (settled first) earlier)) opening
     → (found : List ℕ) → MayBeLeft (life_after (settled first) earlier) (opening ++ m.calls) found
@@ -171,7 +171,7 @@ sides_from first events = sides_after (one (settled first)) events
 -- events follow. Whatever is found then, the next start makes of it the table that was there at first, rows of the earlier
 -- runs, the rows that are left of this run, and rows of the later ones
 abbrev pub RowsOutlastFailures : Type 0 → Type 0
-RowsOutlastFailures R = (m : Moment R) → IsMoment m → (reads : Call → List ℕ → Reading) → AreReadings reads
+RowsOutlastFailures R = (m : Moment R) → IsMoment m → (reads : Asked → List ℕ → Reading) → AreReadings reads
     → (head first : List ℕ) → IsHead head → (earlier : List Event) → Occur is_trusted head (one (settled first)) false earlier → doubted_by false earlier ≡ false
     → (opening : List Step) → Opens head (content (sides_from first earlier).read) opening
     → (ending : Ending) → Ends (sides_from first earlier) (opening ++ m.calls) ending

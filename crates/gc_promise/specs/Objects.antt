@@ -7,7 +7,7 @@ use Rattle.json.specs.Find.{get_member}
 use Rattle.json.specs.Json as json
 use Rattle.json.specs.Json.{document}
 use Rattle.gc_catalogue.specs.declared.answer.Reading.{Reading}
-use Rattle.gc_catalogue.specs.declared.call.Call.{Call}
+use Rattle.gc_catalogue.specs.declared.asked.Asked.{Asked}
 use Rattle.gc_instrument.specs.State.{KeptReply}
 use Rattle.gc_texts.specs.Cuts.{Lacks}
 use Rattle.gc_texts.specs.declared.name.Name.{Name}
@@ -22,7 +22,7 @@ use Rattle.gc_station.specs.Scopes.{AreReadings}
 use Rattle.gc_station.specs.declared.tally.Tally.{Tally}
 use Rattle.gc_measuring.specs.Measuring.{Course, Places, RunsBehind, text_in, when_of}
 use Rattle.gc_measuring.specs.declared.stop.Stop.{Stop}
-use Rattle.gc_world.specs.World.{Ends}
+use Rattle.gc_field.specs.World.{Ends}
 use Rattle.gc_field.specs.Begin.{UnderWay}
 use Rattle.gc_field.specs.Beginnings as field
 use Rattle.gc_field.specs.Instrument.{IsAnInstrument, AnyState}
@@ -56,7 +56,7 @@ module _ {State : Type 0} (ends : Ends State) (Good : State → Type 0) (kept : 
 
   -- what a sink took of a run, after what it had: lines, in none of which is a line feed, and which are the run's records, one
   -- for one and in order, each its own. Where the output failed, a part of one more line may stand after them
-  pub record AreOwnObjects (course : Course) (reads : Call → List ℕ → Reading) (acts : List Act) (ps : List Part) (ss : List (Stretch State))
+  pub record AreOwnObjects (course : Course) (reads : Asked → List ℕ → Reading) (acts : List Act) (ps : List Part) (ss : List (Stretch State))
       (result : Result Tally Stop) (had : List ℕ) (has : Option (List ℕ)) : Type 0 where
     pub lines : List (List ℕ)
     pub torn : List ℕ
@@ -74,7 +74,7 @@ ObjectsAreTheirOwn State =
     (course : Course) → course.layout.form ≡ Json →
     (old new : Places) (result : Result Tally Stop) → RunsBehind course old new result →
     (told : List Act) (had : List ℕ) → old.acts ≡ Some [] → new.acts ≡ Some told → old.taken ≡ Some had →
-    (reads : Call → List ℕ → Reading) → AreReadings reads → (u : UnderWay State) (rs : List (field.Run State)) →
+    (reads : Asked → List ℕ → Reading) → AreReadings reads → (u : UnderWay State) (rs : List (field.Run State)) →
     IsInField ends AnyState kept course.plan course.tasks (scope_of course reads) (acts_measured result told) u rs →
     AreOfBytes course (records_in course reads (acts_measured result told)) →
     AreOwnObjects ends AnyState kept course reads (acts_measured result told) (parts_of course.plan course.tasks (opening course.plan (scope_of course reads)) (acts_measured result told))

@@ -9,12 +9,12 @@ use Rattle.csv.specs.Reading.{default_config}
 use Rattle.csv.specs.declared.parser.State.TheVariants.{StartRecord}
 use Rattle.gc_lines.specs.Numbers.{IsNumber}
 use Rattle.gc_lines.specs.Replies.{ReplyFields, IsReply}
-use Rattle.gc_catalogue.specs.Calls.{call_fields}
 use Rattle.gc_instrument.specs.State.{KeptReply}
 use Rattle.gc_texts.specs.Endings.{word_of}
 use Rattle.gc_texts.specs.Logs.{escaped}
 use Rattle.gc_texts.specs.declared.name.Name.{Name}
 use Rattle.gc_texts.specs.declared.tasks.Task.{Task}
+use Rattle.gc_rows.specs.Rows.{procedure_of}
 use Rattle.gc_rows.specs.Records as rows
 use Rattle.gc_rows.specs.Rows.{row_of}
 use Rattle.gc_links.specs.Acts.{Act}
@@ -27,7 +27,7 @@ use Rattle.gc_station.specs.Scopes.{Scope}
 use Rattle.gc_station.specs.declared.plan.Plan.{Plan}
 use Rattle.gc_words.specs.declared.layout.Layout.{Layout}
 use Rattle.gc_measuring.specs.Measuring.{text_in}
-use Rattle.gc_world.specs.World.{Ends}
+use Rattle.gc_field.specs.World.{Ends}
 use Rattle.gc_field.specs.Begin.{UnderWay}
 use Rattle.gc_field.specs.Beginnings.{Run}
 use Rattle.gc_field.specs.Instrument.{IsAnInstrument, AnyState}
@@ -46,7 +46,7 @@ pub record FieldsSay (fields : List (List ℕ)) (r : Record) (line : List ℕ) :
   pub cycle : column (codes "cycle") fields ≡ decimal r.cycle
   pub place : column (codes "place") fields ≡ decimal r.place
   pub target : column (codes "target") fields ≡ decimal r.command.target
-  pub procedure : column (codes "procedure") fields ≡ decimal (call_fields r.command.call).number
+  pub procedure : column (codes "procedure") fields ≡ decimal (procedure_of r.command.call)
   pub outcome : column (codes "outcome") fields ≡ word_of r.end
   pub reply : ReplyFields
   pub is_reply : IsReply line reply

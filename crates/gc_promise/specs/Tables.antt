@@ -5,7 +5,7 @@
 use Rattle.std.specs.Prelude.{◌≡◌, ℕ, ◌-◌, ◌<◌, Bool, true, false, List, [], ◌∷◌, ◌++◌, length, take, Option, Some, Result, Err, if◌then◌else◌, slice_get}
 use Rattle.csv.specs.Reading.{default_config, records}
 use Rattle.gc_catalogue.specs.declared.answer.Reading.{Reading}
-use Rattle.gc_catalogue.specs.declared.call.Call.{Call}
+use Rattle.gc_catalogue.specs.declared.asked.Asked.{Asked}
 use Rattle.gc_instrument.specs.State.{KeptReply}
 use Rattle.gc_texts.specs.declared.fault.RunFault.TheVariants.{Output}
 use Rattle.gc_rows.specs.Quantities.{quantity_names}
@@ -23,7 +23,7 @@ use Rattle.gc_words.specs.declared.layout.Layout.{Layout}
 use Rattle.gc_measuring.specs.Measuring.{Course, Places, RunsBehind, text_in}
 use Rattle.gc_measuring.specs.declared.stop.Stop.{Stop}
 use Rattle.gc_measuring.specs.declared.stop.Stop.TheVariants.{Run}
-use Rattle.gc_world.specs.World.{Ends}
+use Rattle.gc_field.specs.World.{Ends}
 use Rattle.gc_field.specs.Begin.{UnderWay}
 use Rattle.gc_field.specs.Beginnings as field
 use Rattle.gc_field.specs.Instrument.{IsAnInstrument, AnyState}
@@ -34,7 +34,7 @@ use Rattle.gc_promise.specs.Fields.{under, IsOwn}
 -- A run.
 
 -- the scope of a run of this course: at most how many acts it makes, and what each reply says of its call
-abbrev pub scope_of : Course → (Call → List ℕ → Reading) → Scope
+abbrev pub scope_of : Course → (Asked → List ℕ → Reading) → Scope
 scope_of course reads = record { turns = course.turns; reads = reads }
 
 -- the acts of a run, among those that its link told: all but the close after an output that failed
@@ -43,7 +43,7 @@ acts_measured (Err (Run Output)) told = take (length told - 1) told
 acts_measured _ told = told
 
 -- the records of a run by these acts
-abbrev pub records_in : Course → (Call → List ℕ → Reading) → List Act → List Record
+abbrev pub records_in : Course → (Asked → List ℕ → Reading) → List Act → List Record
 records_in course reads acts = (stood course.plan course.tasks (scope_of course reads) acts).records
 
 -- What a sink took.
@@ -86,7 +86,7 @@ module _ {State : Type 0} (ends : Ends State) (Good : State → Type 0) (kept : 
   -- what a sink took of a run, after what it had: a table, whose rows are the run's records, one for one and in order, each its
   -- own. Where the output failed, a part of one more row may stand after them. `behind` is said of the file of --append: after
   -- earlier bytes, which a reader takes for `earlier`, the reader goes on with these rows
-  pub record IsOwnTable (course : Course) (columns : Bool) (reads : Call → List ℕ → Reading) (acts : List Act) (ps : List Part) (ss : List (Stretch State))
+  pub record IsOwnTable (course : Course) (columns : Bool) (reads : Asked → List ℕ → Reading) (acts : List Act) (ps : List Part) (ss : List (Stretch State))
       (result : Result Tally Stop) (had : List ℕ) (has : Option (List ℕ)) : Type 0 where
     pub bytes : List ℕ
     pub torn : List ℕ
@@ -107,7 +107,7 @@ TablesAreTheirOwn State =
     (course : Course) (columns : Bool) → course.layout.form ≡ table columns →
     (old new : Places) (result : Result Tally Stop) → RunsBehind course old new result →
     (told : List Act) (had : List ℕ) → old.acts ≡ Some [] → new.acts ≡ Some told → old.taken ≡ Some had →
-    (reads : Call → List ℕ → Reading) → AreReadings reads → (u : UnderWay State) (rs : List (field.Run State)) →
+    (reads : Asked → List ℕ → Reading) → AreReadings reads → (u : UnderWay State) (rs : List (field.Run State)) →
     IsInField ends AnyState kept course.plan course.tasks (scope_of course reads) (acts_measured result told) u rs →
     IsOwnTable ends AnyState kept course columns reads (acts_measured result told) (parts_of course.plan course.tasks (opening course.plan (scope_of course reads)) (acts_measured result told))
     (stretches ends u rs) result had new.taken

@@ -1,7 +1,7 @@
 -- A run in the field with rows of answers: all that is asked in the law on rows holds of it at once.
 use Rattle.std.specs.Prelude.{◌≡◌, ℕ, Bool, true, false, List, [], Some, None, Ok, codes}
 use Rattle.gc_catalogue.specs.declared.answer.Reading.{Reading}
-use Rattle.gc_catalogue.specs.declared.call.Call.{Call}
+use Rattle.gc_catalogue.specs.declared.asked.Asked.{Asked}
 use Rattle.gc_rows.specs.declared.record.Form.{Form}
 use Rattle.gc_rows.specs.declared.record.Form.TheVariants.{Csv, Json}
 use Rattle.gc_links.specs.Acts.{Act}
@@ -62,7 +62,7 @@ abbrev pub places : List Act → List ℕ → List Turn → Places
 places told taken turns =
     record { input = record { remaining = None; reads = 0; ended = true; failed = false }; acts = Some told; taken = Some taken; messages = None; turns = turns }
 
-module _ (reads : Call → List ℕ → Reading) where
+module _ (reads : Asked → List ℕ → Reading) where
   -- the row of a record is this text, and its own, with this line as its reply
   abbrev pub IsOwn : Record → List ℕ → List ℕ → Type 0
   IsOwn r row line =

@@ -1,20 +1,22 @@
 -- Lines of JSON: the members of one, and what a reader of JSON makes of it. `escape` and `print` are those of the library's
 -- writer of JSON, and `document` is its reader.
-use Rattle.std.proofs.Common.{◌≡◌, ◌<◌, ◌^◌, ◌==◌, ◌++◌, ◌∷◌, ◌∙◌, [], ℕ, List, Some, true, false, inl, inr, refl, sym, ap, subst, arith, append_assoc, append-nil}
+use Rattle.std.proofs.Common.{◌≡◌, ◌<◌, ◌≤◌, ◌^◌, ◌==◌, ◌++◌, ◌∷◌, ◌∙◌, [], ℕ, ◌+◌, zero, suc, List, length, drop, get_or, Bool, Some, true, false, inl, inr, refl, sym, ap, subst, arith, append_assoc, append-nil}
 use Rattle.std.specs.Prelude.{◌||◌, codes, max, nat_lt}
 use Rattle.std.specs.List.{All, AllByRecursion, flat_map}
 use Rattle.std.proofs.Math.Nat.{zero-max}
 use Rattle.std.proofs.lemmas.Bool.{cases_Bool, lt-ltb}
 use Rattle.std.proofs.lemmas.Grind.{flat_map-append}
+use Rattle.std.proofs.lemmas.List.{drop_more}
 use Rattle.std.proofs.lemmas.List.Elements.{recursion_from_All}
 use Rattle.json.specs.Json as json
 use Rattle.json.specs.Json.{document}
 use Rattle.json.specs.Print.{escape, escape_byte, print, print_from}
-use Rattle.json.specs.Tree.{MembersHaveNumbers, json_tokens, members_depth, members_tokens}
+use Rattle.json.specs.Token.{Token, end_array}
+use Rattle.json.specs.Tree.{ItemsHaveNumbers, MembersHaveNumbers, items_depth, items_tokens, json_tokens, members_depth, members_tokens}
 use Rattle.json.proofs.Printed.Strings.{escape_byte_plain}
 use Rattle.json.proofs.Printed.Trees.{document-print}
-use Rattle.gc_rows.specs.JsonLines.{Member, Text, Number, behind_backslash, string_text, number_member, member_text, members_text}
-use Rattle.gc_rows.specs.Laws.{IsPlainName, IsMember, members_read, record_read, JsonLinesReadBack}
+use Rattle.gc_rows.specs.JsonLines.{Member, Text, Number, Texts, behind_backslash, string_text, number_member, comma_where, strings_text, list_text, member_text, members_text}
+use Rattle.gc_rows.specs.Laws.{IsPlainName, IsMember, texts_read, members_read, record_read, JsonLinesReadBack}
 use Rattle.gc_texts.specs.Logs.{escaped}
 use Rattle.gc_texts.specs.Stamps.{stamp_text}
 use Rattle.gc_texts.proofs.LogStamps.{IsShown, escaped_prints, stamp_shown}
@@ -89,6 +91,36 @@ regroup name text others close =
     let k = 44 ∷ 34 ∷ (name ++ 34 ∷ 58 ∷ []) in
     append_assoc (k ++ text) others close ∙ append_assoc k text (others ++ close) ∙ ap (λ l. 44 ∷ 34 ∷ (l ++ (text ++ (others ++ close)))) (sym front)
 
+-- the bracket behind the texts of a list, and what follows, are written as a writer of JSON does it
+closed_as : (behind : Bool) (others : List Token) → codes "]" ++ print_from true others ≡ print_from behind (end_array ∷ others)
+unfolding print_from
+closed_as true others = refl
+closed_as false others = refl
+
+-- a text of a list, with what stands behind it, is written as a writer of JSON does it; `behind` says whether another stands in front
+text_as : (behind : Bool) (text : List ℕ) (others : List Token) → comma_where behind ++ ((34 ∷ (escape text ++ 34 ∷ [])) ++ print_from true others) ≡ print_from behind (Token.string text ∷ others)
+unfolding print_from
+text_as true text others = refl
+text_as false text others = refl
+
+-- texts of a list, its bracket and what follows are written as a writer of JSON does it
+texts_as : (behind : Bool) (texts : List (List ℕ)) (others : List Token) → AllByRecursion (λ text. All (λ b. b < 256) text) texts
+    → strings_text behind texts ++ (codes "]" ++ print_from true others) ≡ print_from behind (items_tokens (texts_read texts) ++ others)
+texts_as behind [] others are = closed_as behind others
+texts_as behind (text ∷ texts) others are =
+    append_assoc (comma_where behind) (string_text text ++ strings_text true texts) (codes "]" ++ print_from true others)
+    ∙ ap (λ l. comma_where behind ++ l)
+    (append_assoc (string_text text) (strings_text true texts) (codes "]" ++ print_from true others)
+    ∙ ap (λ l. string_text text ++ l) (texts_as true texts others are.1)
+    ∙ ap (λ l. (34 ∷ (l ++ 34 ∷ [])) ++ print_from true (items_tokens (texts_read texts) ++ others)) (string_as text are.0))
+    ∙ text_as behind (escaped text) (items_tokens (texts_read texts) ++ others)
+
+-- a list, and what follows, are written as a writer of JSON does it
+list_as : (texts : List (List ℕ)) (others : List Token) → AllByRecursion (λ text. All (λ b. b < 256) text) texts
+    → list_text texts ++ print_from true others ≡ print_from false (Token.begin_array ∷ (items_tokens (texts_read texts) ++ others))
+unfolding print_from
+list_as texts others are = ap (λ l. 91 ∷ l) (append_assoc (strings_text false texts) (codes "]") (print_from true others) ∙ texts_as false texts others are)
+
 -- members and the closing brace are written as a writer of JSON does it
 members_as : (members : List Member) → AllByRecursion IsMember members → members_text members ++ codes "}" ≡ print_from true (members_tokens (members_read members))
 unfolding print_from
@@ -102,18 +134,41 @@ members_as (Number name digits ∷ ms) are =
     ap (λ l. ((((44 ∷ 34 ∷ l) ++ 34 ∷ 58 ∷ []) ++ digits) ++ members_text ms) ++ codes "}") (name_as name are.0.0)
     ∙ regroup (escape name) digits (members_text ms) (codes "}")
     ∙ ap (λ l. 44 ∷ (((34 ∷ (escape name ++ 34 ∷ [])) ++ 58 ∷ []) ++ (digits ++ l))) (members_as ms are.1)
+members_as (Texts name texts ∷ ms) are =
+    ap (λ l. ((((44 ∷ 34 ∷ l) ++ 34 ∷ 58 ∷ []) ++ list_text texts) ++ members_text ms) ++ codes "}") (name_as name are.0.0)
+    ∙ regroup (escape name) (list_text texts) (members_text ms) (codes "}")
+    ∙ ap (λ l. 44 ∷ (((34 ∷ (escape name ++ 34 ∷ [])) ++ 58 ∷ []) ++ (list_text texts ++ l))) (members_as ms are.1)
+    ∙ ap (λ l. 44 ∷ (((34 ∷ (escape name ++ 34 ∷ [])) ++ 58 ∷ []) ++ l)) (list_as texts (members_tokens (members_read ms)) are.0.1)
+
+-- the texts of a list are no numbers
+no_numbers : (texts : List (List ℕ)) → ItemsHaveNumbers (texts_read texts)
+no_numbers [] = tt
+no_numbers (text ∷ texts) = (tt, no_numbers texts)
 
 -- the numbers among members are numbers of JSON
 have_numbers : (members : List Member) → AllByRecursion IsMember members → MembersHaveNumbers (members_read members)
 have_numbers [] are = tt
 have_numbers (Text name bytes ∷ ms) are = (tt, have_numbers ms are.1)
 have_numbers (Number name digits ∷ ms) are = (are.0.1, have_numbers ms are.1)
+have_numbers (Texts name texts ∷ ms) are = (no_numbers texts, have_numbers ms are.1)
 
--- members hold no object or list
-flat : (members : List Member) → members_depth (members_read members) ≡ 0
-flat [] = refl
-flat (Text name bytes ∷ ms) = ap (max 0) (flat ms) ∙ zero-max 0
-flat (Number name digits ∷ ms) = ap (max 0) (flat ms) ∙ zero-max 0
+-- the texts of a list hold no object or list
+flat_texts : (texts : List (List ℕ)) → items_depth (texts_read texts) ≡ 0
+flat_texts [] = refl
+flat_texts (text ∷ texts) = ap (max 0) (flat_texts texts) ∙ zero-max 0
+
+-- 1 is the greater of 1 and a number up to 1
+one_most : (n : ℕ) → n ≤ 1 → max 1 n ≤ 1
+one_most zero few = omega arith
+one_most (suc zero) few = omega arith
+one_most (suc (suc n)) few = absurd (omega (arith, few))
+
+-- members hold no object, and lists of texts alone
+flat : (members : List Member) → members_depth (members_read members) ≤ 1
+flat [] = omega arith
+flat (Text name bytes ∷ ms) = subst (λ n. n ≤ 1) (sym (zero-max (members_depth (members_read ms)))) (flat ms)
+flat (Number name digits ∷ ms) = subst (λ n. n ≤ 1) (sym (zero-max (members_depth (members_read ms)))) (flat ms)
+flat (Texts name texts ∷ ms) = subst (λ n. max (suc n) (members_depth (members_read ms)) ≤ 1) (sym (flat_texts texts)) (one_most (members_depth (members_read ms)) (flat ms))
 
 -- the characters of a printable text are bytes
 pub bytes_shown : (text : List ℕ) → AllByRecursion IsShown text → AllByRecursion (λ b. b < 256) text
@@ -144,8 +199,9 @@ whole_as run members below are =
 pub reads_as : (run : ℕ) (members : List Member) → run < 2 ^ 64 → AllByRecursion IsMember members
     → document ((codes "{\"run\":" ++ string_text (stamp_text run)) ++ (members_text members ++ codes "}")) ≡ Some (json.object (record_read run members))
 reads_as run members below are =
-    let shallow = zero-max (members_depth (members_read members)) ∙ flat members in
-    ap document (whole_as run members below are) ∙ document-print (json.object (record_read run members)) (tt, have_numbers members are) (omega (arith, shallow))
+    let same = zero-max (members_depth (members_read members)) in
+    let shallow = flat members in
+    ap document (whole_as run members below are) ∙ document-print (json.object (record_read run members)) (tt, have_numbers members are) (omega (arith, same, shallow))
 
 -- the law: a line of JSON reads back as its members
 pub read_back : JsonLinesReadBack
@@ -154,3 +210,13 @@ read_back run members below are = (
   front_of (codes "{\"run\":" ++ string_text (stamp_text run)) (members_text members),
   reads_as run members below are,
 )
+
+-- the strings of the texts from place k on, behind `mid`, are the comma and the string of the text there, and those behind it
+pub strings_next : (old mid : List ℕ) (texts : List (List ℕ)) (k : ℕ) (behind next : Bool) → k < length texts → next ≡ true → mid ++ strings_text behind (drop k texts) ≡ old
+    → ((mid ++ comma_where behind) ++ string_text (get_or texts k [])) ++ strings_text next (drop (k + 1) texts) ≡ old
+strings_next old mid texts k behind next lt more so =
+    let text = string_text (get_or texts k []) in
+    let others = strings_text true (drop (k + 1) texts) in
+    ap (λ z. ((mid ++ comma_where behind) ++ text) ++ strings_text z (drop (k + 1) texts)) more
+    ∙ append_assoc (mid ++ comma_where behind) text others ∙ append_assoc mid (comma_where behind) (text ++ others)
+    ∙ ap (λ ts. mid ++ strings_text behind ts) (sym (drop_more texts k [] lt)) ∙ so

@@ -1,6 +1,6 @@
 -- The members of a record's line: their names are plain, their texts hold bytes, and their numbers are JSON's. That is
 -- `IsMember`; a member of which it holds is said to read back.
-use Rattle.std.proofs.Common.{zero, suc, ◌≡◌, ◌≢◌, ◌<◌, ◌≤◌, ◌^◌, ◌==◌, ◌++◌, ◌∷◌, ◌∙◌, [], ℕ, ◌+◌, List, Bool, true, false, cond, Option, Some, None, IfSome, length, drop, get_or, option_and_then, refl, sym, ap, subst, arith, append-nil}
+use Rattle.std.proofs.Common.{zero, suc, ◌≡◌, ◌≢◌, ◌<◌, ◌≤◌, ◌^◌, ◌%◌, ◌==◌, ◌++◌, ◌∷◌, ◌∙◌, [], ℕ, ◌+◌, List, Bool, true, false, cond, Option, Some, None, IfSome, length, drop, get_or, option_and_then, refl, sym, ap, subst, arith, append-nil}
 use Rattle.std.specs.Prelude.{codes, nat_lt, not, ◌&&◌}
 use Rattle.std.specs.Char.{is_ascii_digit}
 use Rattle.std.specs.Fmt.{decimal}
@@ -14,13 +14,14 @@ use Rattle.json.specs.Print.{IsNumber}
 use Rattle.json.specs.Word.{head, after_digits, after_whole, after_fraction, after_exponent, after_number}
 use Rattle.json.proofs.Printed.Decimals.{IsNumber-decimal}
 use Rattle.gc_catalogue.specs.Answers.{answer_fields}
-use Rattle.gc_catalogue.specs.Calls.{call_fields}
 use Rattle.gc_catalogue.specs.declared.answer.Answer.{Answer}
 use Rattle.gc_catalogue.specs.declared.answer.Answer.TheVariants.{Nothing, Short, Version, Long, Name, Date, Temperature, Place, Height, Angles, Measured, MeasuredMode}
-use Rattle.gc_catalogue.specs.declared.call.Call.{Call}
+use Rattle.gc_catalogue.specs.declared.asked.Asked.{Asked}
+use Rattle.gc_catalogue.specs.declared.asked.Asked.TheVariants.{Table, Raw}
 use Rattle.gc_catalogue.proofs.Table.{number_fits}
 use Rattle.gc_values.specs.Boolean.{boolean_text}
 use Rattle.gc_values.specs.Digits.{AreDigits}
+use Rattle.gc_values.specs.Params.{quotes}
 use Rattle.gc_values.specs.ValueFault.{fault_number}
 use Rattle.gc_values.specs.Whole.{signed_text}
 use Rattle.gc_values.specs.Written.{written}
@@ -31,16 +32,18 @@ use Rattle.gc_values.specs.declared.value.Value.{Value}
 use Rattle.gc_values.specs.declared.value.Value.TheVariants as value
 use Rattle.gc_values.proofs.OneText.{whole_text_once, decimal_text_once}
 use Rattle.gc_texts.specs.Endings.{End, Answered, Unreadable, Elsewhere, Late, Lost, Skipped, Missed}
-use Rattle.gc_rows.specs.JsonLines.{Text, Number, without_zeros, sent_members, when_members, name_members, what_members, reply_members, ending_members, value_members, values_members, quantity_members, last_members, more_members}
+use Rattle.gc_rows.specs.JsonLines.{Text, Number, without_zeros, sent_members, when_members, name_members, what_members, reply_members, ending_members, value_members, values_members, item_members, answer_members, quantity_members, last_members, more_members}
 use Rattle.gc_rows.specs.Laws.{IsPlainName, IsMember, IsReplyOfBytes, IsAnswerOfBytes, IsEnd, IsWhen, ColumnsSay, RecordsAreMembers}
 use Rattle.gc_rows.specs.Quantities.{column_of, quantity_name, quantity_names}
 use Rattle.gc_texts.specs.declared.quality.Quality.TheVariants.{Fine, Warning, Refused}
 use Rattle.gc_texts.specs.Cuts.{before, behind}
-use Rattle.gc_rows.specs.Rows.{com_of, code_of, values_of}
+use Rattle.gc_rows.specs.Rows.{com_of, code_of, values_of, procedure_of}
 use Rattle.gc_texts.specs.Stamps.{stamp_text}
-use Rattle.gc_texts.specs.declared.commands.Command.{Command}
+use Rattle.gc_texts.specs.declared.wish.Wish.{Wish}
 use Rattle.gc_rows.specs.declared.when.When.{When}
+use Rattle.gc_rows.specs.Items.{items_of, split_items}
 use Rattle.gc_rows.proofs.Columns.{reply_columns}
+use Rattle.gc_rows.proofs.Items.{AreOfBytes, items_bytes}
 use Rattle.gc_rows.proofs.JsonLines.{bytes_shown}
 use Rattle.gc_texts.proofs.LogStamps.{IsShown, stamp_shown}
 
@@ -235,12 +238,17 @@ name_are : (name : List ℕ) → All (λ b. b < 256) name → AllByRecursion IsM
 name_are [] h = tt
 name_are (b ∷ bs) h = ((plain_name (codes "name") refl, h), tt)
 
+-- the number of a procedure has 64 bits at most
+procedure_fits : (asked : Asked) → procedure_of asked < 2 ^ 64
+procedure_fits (Table call) = omega (arith, number_fits call)
+procedure_fits (Raw raw) = omega (arith, raw.is.bound)
+
 -- the members of a command's target, its name and the procedure read back
-what_are : (command : Command) (name : List ℕ) → All (λ b. b < 256) name → command.target < 2 ^ 64 → AllByRecursion IsMember (what_members command name)
+what_are : (command : Wish) (name : List ℕ) → All (λ b. b < 256) name → command.target < 2 ^ 64 → AllByRecursion IsMember (what_members command name)
 what_are command name bytes target = (
   (plain_name (codes "target") refl, IsNumber-decimal command.target target),
-  all_both IsMember (name_members name) (Number (codes "procedure") (decimal (call_fields command.call).number) ∷ []) (name_are name bytes)
-      ((plain_name (codes "procedure") refl, IsNumber-decimal (call_fields command.call).number (omega (arith, number_fits command.call))), tt),
+  all_both IsMember (name_members name) (Number (codes "procedure") (decimal (procedure_of command.call)) ∷ []) (name_are name bytes)
+      ((plain_name (codes "procedure") refl, IsNumber-decimal (procedure_of command.call) (procedure_fits command.call)), tt),
 )
 
 -- the member of an outcome reads back
@@ -324,11 +332,29 @@ answer_holds (Angles hz v) is = (tt, (tt, tt))
 answer_holds (Measured hz v distance) is = (tt, (tt, (tt, tt)))
 answer_holds (MeasuredMode hz v distance mode) is = (tt, (tt, (tt, (tt, tt))))
 
+-- texts of bytes are, in the form by `All`
+all_texts : (texts : List (List ℕ)) → AreOfBytes texts → AllByRecursion (λ text. All (λ b. b < 256) text) texts
+all_texts [] are = tt
+all_texts (text ∷ texts) are = (all_bytes text are.0, all_texts texts are.1)
+
+-- the member of a text's items, where it splits, reads back; `z` is whether it does
+items_where : (z : Bool) (items : List (List ℕ)) → AreOfBytes items → AllByRecursion IsMember (item_members (cond z (Some items) None))
+items_where true items are = ((plain_name (codes "items") refl, all_texts items are), tt)
+items_where false items are = tt
+
+-- the member of a text's items reads back
+items_are : (text : List ℕ) → AllByRecursion (λ b. b < 256) text → AllByRecursion IsMember (item_members (split_items text))
+items_are text are = items_where ((quotes text % 2 == 0) && not (nat_lt 16 (length (items_of text)))) (items_of text) (items_bytes text are)
+
 -- the members of an answer's quantities read back
-quantities_are : (call : Call) (end : End) → IsEnd end → AllByRecursion IsMember (quantity_members call end)
-quantities_are call (Answered quality (Some answer) line) is =
-    values_are (column_of call answer) (answer_fields answer).values (values_of line) (answer_holds answer is.1) (values_bytes line is.0.2)
-quantities_are call end is = tt
+columns_are : (asked : Asked) (answer : Answer) (line : List ℕ) → IsReplyOfBytes line → IsAnswerOfBytes answer → AllByRecursion IsMember (answer_members asked answer line)
+columns_are (Table call) answer line is fits = values_are (column_of call answer) (answer_fields answer).values (values_of line) (answer_holds answer fits) (values_bytes line is.2)
+columns_are (Raw raw) answer line is fits = items_are (values_of line) (values_bytes line is.2)
+
+-- the members of a command's quantities read back
+quantities_are : (asked : Asked) (end : End) → IsEnd end → AllByRecursion IsMember (quantity_members asked end)
+quantities_are asked (Answered quality (Some answer) line) is = columns_are asked answer line is.0 is.1
+quantities_are asked end is = tt
 
 -- the member of a quality reads back
 quality_is : (text : List ℕ) → are_fit text ≡ true → IsMember (Text (codes "quality") text)

@@ -5,14 +5,16 @@ use Rattle.std.proofs.lemmas.List.{length-append, length-map, length-replicate}
 use Rattle.gc_catalogue.specs.Answers.{answer_fields}
 use Rattle.gc_catalogue.specs.declared.answer.Answer.{Answer}
 use Rattle.gc_catalogue.specs.declared.answer.Answer.TheVariants.{Nothing, Short, Version, Long, Name, Date, Temperature, Place, Height, Angles, Measured, MeasuredMode}
+use Rattle.gc_catalogue.specs.declared.asked.Asked.{Asked}
+use Rattle.gc_catalogue.specs.declared.asked.Asked.TheVariants.{Table, Raw}
 use Rattle.gc_catalogue.specs.declared.call.Call.{Call}
 use Rattle.gc_catalogue.specs.declared.call.Call.TheVariants.{GetPrecision, ComVersion, InstrumentNo, InstrumentName, GetDate, IntTemp, CsvVersion, GetStation, GetHeight, GetFace, GetAngle, SimpleMea, QuickDist, GetPrism, MeasDistance}
 use Rattle.gc_texts.specs.Endings.{End, Answered}
 use Rattle.gc_rows.specs.Quantities.{column_of, column_of_long, quantity_names, quantity_text}
 use Rattle.gc_rows.specs.Records.{names, last_names}
-use Rattle.gc_rows.specs.Rows.{spread, quantity_fields, last_fields, row_fields}
+use Rattle.gc_rows.specs.Rows.{spread, answer_columns, quantity_fields, last_fields, row_fields}
 use Rattle.gc_rows.specs.Told.{QuantitiesHaveTheirNames, RowsFillTheirColumns}
-use Rattle.gc_texts.specs.declared.commands.Command.{Command}
+use Rattle.gc_texts.specs.declared.wish.Wish.{Wish}
 use Rattle.gc_rows.specs.declared.when.When.{When}
 
 -- the law: the values of an answer stand under the names of the quantities that its procedure returns
@@ -81,26 +83,31 @@ spread_fills first texts fits =
     let d = length-replicate (24 - first - length texts) none in
     omega (arith, a, b, c, d, fits)
 
--- however a command ended, its quantities have 24 fields
-pub quantities_fill : (call : Call) (end : End) → length (quantity_fields call end) ≡ 24
-quantities_fill call (Answered quality (Some answer) line) =
+-- an answer's quantities have 24 fields
+columns_filled : (asked : Asked) (answer : Answer) → length (answer_columns asked answer) ≡ 24
+columns_filled (Table call) answer =
     let texts = map quantity_text (answer_fields answer).values in
     let few = answer_fits call answer in
     let same = length-map (answer_fields answer).values quantity_text in
     spread_fills (column_of call answer) texts (omega (arith, few, same))
-quantities_fill call end = refl
+columns_filled (Raw raw) answer = refl
+
+-- however a command ended, its quantities have 24 fields
+pub quantities_fill : (asked : Asked) (end : End) → length (quantity_fields asked end) ≡ 24
+quantities_fill asked (Answered quality (Some answer) line) = columns_filled asked answer
+quantities_fill asked end = refl
 
 -- however a command ended, its quantities and, behind them, its quality have 25 fields
-more_fill : (call : Call) (end : End) → length (quantity_fields call end ++ last_fields end) ≡ 25
-more_fill call end = length-append (quantity_fields call end) (last_fields end) ∙ ap (λ n. n + 1) (quantities_fill call end)
+more_fill : (asked : Asked) (end : End) → length (quantity_fields asked end ++ last_fields end) ≡ 25
+more_fill asked end = length-append (quantity_fields asked end) (last_fields end) ∙ ap (λ n. n + 1) (quantities_fill asked end)
 
 -- a row without quantities has a field for each name of its header
-csv_fills : (when : When) (name : List ℕ) (command : Command) (end : End) → length (row_fields false when name command end) ≡ length (names ++ last_names)
+csv_fills : (when : When) (name : List ℕ) (command : Wish) (end : End) → length (row_fields false when name command end) ≡ length (names ++ last_names)
 csv_fills when name command (Answered quality answer line) = refl
 csv_fills when name command end = refl
 
 -- a row with quantities has a field for each name of its header
-columns_fill : (when : When) (name : List ℕ) (command : Command) (end : End) → length (row_fields true when name command end) ≡ length (names ++ (quantity_names ++ last_names))
+columns_fill : (when : When) (name : List ℕ) (command : Wish) (end : End) → length (row_fields true when name command end) ≡ length (names ++ (quantity_names ++ last_names))
 columns_fill when name command (Answered quality answer line) = ap (λ n. suc (suc (suc (suc (suc (suc (suc (suc (suc (suc (suc (suc (suc n))))))))))))) (more_fill command.call (Answered quality answer line))
 columns_fill when name command end = refl
 

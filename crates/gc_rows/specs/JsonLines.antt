@@ -1,22 +1,24 @@
 -- Lines of JSON: a record as one object, whose members' names are this project's own. A string is printable ASCII: other bytes stand as
 -- `\x` and two digits, and so does a backslash, as in a row; and then each backslash and each double quote stands behind a backslash.
-use Rattle.std.specs.Prelude.{ℕ, ◌+◌, ◌==◌, ◌||◌, List, [], ◌∷◌, ◌++◌, Option, Some, None, if◌then◌else◌, codes}
+use Rattle.std.specs.Prelude.{ℕ, ◌+◌, ◌==◌, ◌||◌, Bool, true, false, List, [], ◌∷◌, ◌++◌, Option, Some, None, if◌then◌else◌, codes}
 use Rattle.std.specs.Fmt.{decimal}
 use Rattle.std.specs.List.{flat_map}
 use Rattle.gc_catalogue.specs.Answers.{answer_fields}
-use Rattle.gc_catalogue.specs.Calls.{call_fields}
-use Rattle.gc_catalogue.specs.declared.call.Call.{Call}
+use Rattle.gc_catalogue.specs.declared.answer.Answer.{Answer}
+use Rattle.gc_catalogue.specs.declared.asked.Asked.{Asked}
+use Rattle.gc_catalogue.specs.declared.asked.Asked.TheVariants.{Table, Raw}
 use Rattle.gc_values.specs.ValueFault.{fault_number}
 use Rattle.gc_values.specs.declared.fault.ValueFault.{ValueFault}
 use Rattle.gc_values.specs.declared.value.Value.{Value}
 use Rattle.gc_values.specs.declared.value.Value.TheVariants as value
-use Rattle.gc_texts.specs.declared.commands.Command.{Command}
+use Rattle.gc_texts.specs.declared.wish.Wish.{Wish}
 use Rattle.gc_rows.specs.declared.when.When.{When}
 use Rattle.gc_texts.specs.Endings.{End, Answered, word_of, fault_of, line_of, quality_of, quality_text}
 use Rattle.gc_texts.specs.Logs.{escaped}
+use Rattle.gc_rows.specs.Items.{split_items}
 use Rattle.gc_rows.specs.Quantities.{column_of, quantity_name, quantity_text}
 use Rattle.gc_texts.specs.Cuts.{before, behind}
-use Rattle.gc_rows.specs.Rows.{com_of, code_of, values_of}
+use Rattle.gc_rows.specs.Rows.{com_of, code_of, values_of, procedure_of}
 use Rattle.gc_texts.specs.Stamps.{stamp_text}
 
 -- a byte of a string: a double quote and a backslash stand behind a backslash
@@ -31,10 +33,12 @@ in_quotes text = codes "\"" ++ flat_map behind_backslash text ++ codes "\""
 abbrev pub string_text : List ℕ → List ℕ
 string_text bytes = in_quotes (escaped bytes)
 
--- a member of an object: its name, and its value, which is a string that holds these bytes, or a number with these digits
+-- a member of an object: its name, and its value, which is a string that holds these bytes, a number with these digits, or a list of strings
+-- that hold these bytes
 pub data Member : Type 0 where
   Text : (name bytes : List ℕ) → Member
   Number : (name digits : List ℕ) → Member
+  Texts : (name : List ℕ) (texts : List (List ℕ)) → Member
 
 -- the name of a member behind a comma, with its colon
 abbrev pub named : List ℕ → List ℕ
@@ -48,10 +52,29 @@ text_member name bytes = named name ++ string_text bytes
 abbrev pub number_member : List ℕ → List ℕ → List ℕ
 number_member name digits = named name ++ digits
 
+-- a comma where one is wanted
+abbrev pub comma_where : Bool → List ℕ
+comma_where true = codes ","
+comma_where false = []
+
+-- strings that hold these bytes, with commas between them, and one in front of the first where `behind` says so
+abbrev pub strings_text : Bool → List (List ℕ) → List ℕ
+strings_text behind [] = []
+strings_text behind (bytes ∷ others) = comma_where behind ++ (string_text bytes ++ strings_text true others)
+
+-- a list of strings that hold these bytes
+abbrev pub list_text : List (List ℕ) → List ℕ
+list_text texts = codes "[" ++ (strings_text false texts ++ codes "]")
+
+-- a member that is a list of such strings, as it is written
+abbrev pub texts_member : List ℕ → List (List ℕ) → List ℕ
+texts_member name texts = named name ++ list_text texts
+
 -- a member as it is written
 abbrev pub member_text : Member → List ℕ
 member_text (Text name bytes) = text_member name bytes
 member_text (Number name digits) = number_member name digits
+member_text (Texts name texts) = texts_member name texts
 
 -- members as they are written, in order
 abbrev pub members_text : List Member → List ℕ
@@ -84,9 +107,9 @@ name_members [] = []
 name_members (b ∷ bs) = Text (codes "name") (b ∷ bs) ∷ []
 
 -- the target of a command, its name, and the number of the procedure
-abbrev pub what_members : Command → List ℕ → List Member
+abbrev pub what_members : Wish → List ℕ → List Member
 what_members command name =
-    Number (codes "target") (decimal command.target) ∷ (name_members name ++ Number (codes "procedure") (decimal (call_fields command.call).number) ∷ [])
+    Number (codes "target") (decimal command.target) ∷ (name_members name ++ Number (codes "procedure") (decimal (procedure_of command.call)) ∷ [])
 
 -- the fault of a reply's values, where they don't read
 abbrev pub fault_members : Option ValueFault → List Member
@@ -115,10 +138,20 @@ abbrev pub values_members : ℕ → List Value → List ℕ → List Member
 values_members column [] came = []
 values_members column (v ∷ vs) came = value_members (quantity_name column) v (before 44 came) ++ values_members (column + 1) vs (behind 44 came)
 
--- the quantities of a call's answer, where its command ended with one
-abbrev pub quantity_members : Call → End → List Member
-quantity_members call (Answered quality (Some answer) line) = values_members (column_of call answer) (answer_fields answer).values (values_of line)
-quantity_members call _ = []
+-- the items of a reply's values, where these split
+abbrev pub item_members : Option (List (List ℕ)) → List Member
+item_members None = []
+item_members (Some items) = Texts (codes "items") items ∷ []
+
+-- the quantities of an answer to a call of the table, which this line gave; of any other procedure the items of the line's values
+abbrev pub answer_members : Asked → Answer → List ℕ → List Member
+answer_members (Table call) answer line = values_members (column_of call answer) (answer_fields answer).values (values_of line)
+answer_members (Raw raw) answer line = item_members (split_items (values_of line))
+
+-- the quantities or the items of a command's answer, where it ended with one
+abbrev pub quantity_members : Asked → End → List Member
+quantity_members asked (Answered quality (Some answer) line) = answer_members asked answer line
+quantity_members asked _ = []
 
 -- a member for the word of a quality; none where the word is empty
 abbrev pub worded_members : List ℕ → List Member
@@ -129,10 +162,10 @@ worded_members (b ∷ bs) = Text (codes "quality") (b ∷ bs) ∷ []
 abbrev pub last_members : End → List Member
 last_members end = worded_members (quality_text (quality_of end))
 
--- the members of the quantities of a call's answer, and behind them the one of its quality
-abbrev pub more_members : Call → End → List Member
-more_members call end = quantity_members call end ++ last_members end
+-- the members of the quantities or the items of an answer, and behind them the one of its quality
+abbrev pub more_members : Asked → End → List Member
+more_members asked end = quantity_members asked end ++ last_members end
 
 -- the members of a record's object behind the first, which is `run`
-abbrev pub json_members : When → List ℕ → Command → End → List Member
+abbrev pub json_members : When → List ℕ → Wish → End → List Member
 json_members when name command end = when_members when ++ (what_members command name ++ (ending_members end ++ more_members command.call end))

@@ -12,15 +12,17 @@ use Rattle.gc_catalogue.specs.Answers.{IsFittingAnswer}
 use Rattle.gc_catalogue.specs.declared.answer.Answer.{Answer}
 use Rattle.gc_catalogue.specs.declared.answer.Answer.TheVariants as answers
 use Rattle.gc_lines.specs.Numbers as numbers
+use Rattle.gc_values.specs.Params.{IsParams}
 use Rattle.gc_lines.specs.Replies.{ReplyFields, IsReply}
 use Rattle.gc_rows.specs.Quantities.{quantity_names}
 use Rattle.gc_rows.specs.Records.{names, last_names, head_text}
-use Rattle.gc_rows.specs.JsonLines.{Member, Text, Number, json_line, json_members}
+use Rattle.gc_rows.specs.Items.{items_of}
+use Rattle.gc_rows.specs.JsonLines.{Member, Text, Number, Texts, json_line, json_members}
 use Rattle.gc_rows.specs.Rows.{com_of, code_of, values_of, row_of}
 use Rattle.gc_rows.specs.declared.record.Form.TheVariants.{Csv, Columns}
 use Rattle.gc_texts.specs.Logs.{escaped, IsPrintable}
 use Rattle.gc_texts.specs.Stamps.{stamp_text}
-use Rattle.gc_texts.specs.declared.commands.Command.{Command}
+use Rattle.gc_texts.specs.declared.wish.Wish.{Wish}
 use Rattle.gc_rows.specs.declared.when.When.{When}
 
 -- the three columns of a reply's line say its communication code, its return code and its values
@@ -32,6 +34,10 @@ pub record ColumnsSay (line : List ℕ) (r : ReplyFields) : Type 0 where
 -- the columns of each reply's line are its fields
 abbrev pub ColumnsAreFields : Type 0
 ColumnsAreFields = (line : List ℕ) (r : ReplyFields) → IsReply line r → ColumnsSay line r
+
+-- where a reply's values are parameters of the grammar, these are the items that an object has of them
+abbrev pub ItemsAreTheGrammars : Type 0
+ItemsAreTheGrammars = (text : List ℕ) (items : List (List ℕ)) → IsParams text items → items_of text ≡ items
 
 -- rows read back by a reader of comma-separated values, whatever bytes their fields hold. `row`: a row of two fields or more
 -- gives its fields, and the reader goes on behind the row. `table`: rows of two fields or more give a table of their fields.
@@ -54,17 +60,24 @@ RowsArePrintable =
 abbrev pub IsPlainName : List ℕ → Type 0
 IsPlainName name = AllByRecursion (λ b. (32 ≤ b) × ((b ≢ 34) × (b ≢ 92))) name
 
--- a member has a plain name, and holds bytes or a number of JSON
+-- a member has a plain name, and holds bytes, a number of JSON, or texts of bytes
 abbrev pub IsMember : Member → Type 0
 IsMember (Text name bytes) = IsPlainName name × All (λ b. b < 256) bytes
 IsMember (Number name digits) = IsPlainName name × IsNumber digits
+IsMember (Texts name texts) = IsPlainName name × AllByRecursion (λ text. All (λ b. b < 256) text) texts
 
--- members as a reader of JSON gives them back, in their order: a text as a string, whose bytes are escaped as in a row, and a
--- number by its digits
+-- texts as a reader of JSON gives them back as items of a list: each a string, whose bytes are escaped as in a row
+abbrev pub texts_read : List (List ℕ) → json.Items
+texts_read [] = json.no_items
+texts_read (text ∷ texts) = json.item (json.string (escaped text)) (texts_read texts)
+
+-- members as a reader of JSON gives them back, in their order: a text as a string, whose bytes are escaped as in a row, a number by its
+-- digits, and texts as a list of strings
 abbrev pub members_read : List Member → json.Members
 members_read [] = json.no_members
 members_read (Text name bytes ∷ members) = json.member name (json.string (escaped bytes)) (members_read members)
 members_read (Number name digits ∷ members) = json.member name (json.number digits) (members_read members)
+members_read (Texts name texts ∷ members) = json.member name (json.array (texts_read texts)) (members_read members)
 
 -- what a line of JSON reads as: an object of the run's moment and these members
 abbrev pub record_read : ℕ → List Member → json.Members
@@ -108,6 +121,6 @@ pub record IsWhen (when : When) : Type 0 where
 -- `JsonLinesReadBack`
 abbrev pub RecordsAreMembers : Type 0
 RecordsAreMembers =
-    (when : When) (name : List ℕ) (command : Command) (end : End)
+    (when : When) (name : List ℕ) (command : Wish) (end : End)
     → IsWhen when → All (λ b. b < 256) name → command.target < 2 ^ 64 → IsEnd end
     → AllByRecursion IsMember (json_members when name command end)

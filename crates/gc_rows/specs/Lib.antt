@@ -1,4 +1,5 @@
 pub mod Quantities
+pub mod Items
 pub mod Rows
 pub mod JsonLines
 pub mod Records

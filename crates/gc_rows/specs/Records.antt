@@ -4,7 +4,7 @@ use Rattle.std.specs.Prelude.{ℕ, true, false, List, [], ◌∷◌, ◌++◌, O
 use Rattle.std.specs.Fmt.{decimal}
 use Rattle.gc_values.specs.ValueFault.{fault_number}
 use Rattle.gc_values.specs.declared.fault.ValueFault.{ValueFault}
-use Rattle.gc_texts.specs.declared.commands.Command.{Command}
+use Rattle.gc_texts.specs.declared.wish.Wish.{Wish}
 use Rattle.gc_rows.specs.declared.record.Form.{Form}
 use Rattle.gc_rows.specs.declared.record.Form.TheVariants.{Lines, Csv, Columns, Json}
 use Rattle.gc_rows.specs.declared.when.When.{When}
@@ -31,12 +31,12 @@ abbrev pub ending_text : End → List ℕ
 ending_text end = codes " " ++ word_of end ++ spaced_fault (fault_of end) ++ spaced_line (line_of end)
 
 -- the line of a record: when its command ended, the command's place, its target, and how it ended
-abbrev pub record_line : When → Command → End → List ℕ
+abbrev pub record_line : When → Wish → End → List ℕ
 record_line when command end =
     stamp_text when.stamp.utc ++ codes " " ++ decimal when.stamp.place ++ codes " " ++ decimal command.target ++ ending_text end ++ codes "\n"
 
 -- a record in its form: its moments, the target's name, the command, and how it ended
-abbrev pub record_text : Form → When → List ℕ → Command → End → List ℕ
+abbrev pub record_text : Form → When → List ℕ → Wish → End → List ℕ
 record_text Lines when name command end = record_line when command end
 record_text Csv when name command end = row_of (row_fields false when name command end)
 record_text Columns when name command end = row_of (row_fields true when name command end)

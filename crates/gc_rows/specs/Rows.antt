@@ -4,12 +4,14 @@ use Rattle.std.specs.Prelude.{ℕ, ◌-◌, ◌==◌, ◌||◌, Bool, true, fals
 use Rattle.std.specs.Fmt.{decimal}
 use Rattle.std.specs.List.{flat_map, list_any}
 use Rattle.gc_catalogue.specs.Answers.{answer_fields}
-use Rattle.gc_catalogue.specs.Calls.{call_fields}
-use Rattle.gc_catalogue.specs.declared.call.Call.{Call}
+use Rattle.gc_catalogue.specs.Asked.{asked_request}
+use Rattle.gc_catalogue.specs.declared.answer.Answer.{Answer}
+use Rattle.gc_catalogue.specs.declared.asked.Asked.{Asked}
+use Rattle.gc_catalogue.specs.declared.asked.Asked.TheVariants.{Table, Raw}
 use Rattle.gc_values.specs.ValueFault.{fault_number}
 use Rattle.gc_values.specs.declared.fault.ValueFault.{ValueFault}
 use Rattle.gc_values.specs.declared.value.Value.{Value}
-use Rattle.gc_texts.specs.declared.commands.Command.{Command}
+use Rattle.gc_texts.specs.declared.wish.Wish.{Wish}
 use Rattle.gc_rows.specs.declared.when.When.{When}
 use Rattle.gc_texts.specs.Endings.{End, Answered, word_of, fault_of, line_of, quality_of, quality_text}
 use Rattle.gc_texts.specs.Cuts.{before, behind}
@@ -67,9 +69,13 @@ moment_text (Some utc) = stamp_text utc
 abbrev pub when_fields : When → List (List ℕ)
 when_fields when = moment_text when.stamp.sent ∷ stamp_text when.stamp.utc ∷ decimal when.stamp.cycle ∷ decimal when.stamp.place ∷ []
 
+-- the number of the procedure that is asked for
+abbrev pub procedure_of : Asked → ℕ
+procedure_of asked = (asked_request None asked).rpc
+
 -- the target of a command, its name, and the number of the procedure
-abbrev pub what_fields : Command → List ℕ → List (List ℕ)
-what_fields command name = decimal command.target ∷ name ∷ decimal (call_fields command.call).number ∷ []
+abbrev pub what_fields : Wish → List ℕ → List (List ℕ)
+what_fields command name = decimal command.target ∷ name ∷ decimal (procedure_of command.call) ∷ []
 
 -- the number of a fault; empty where there is none
 abbrev pub fault_field : Option ValueFault → List ℕ
@@ -94,22 +100,27 @@ value_text value = behind_comma (quantity_text value)
 abbrev pub spread : ℕ → List (List ℕ) → List (List ℕ)
 spread first texts = replicate first [] ++ (texts ++ replicate (24 - first - length texts) [])
 
--- the quantities of a call's answer, each in its column; all columns are empty where its command ended without one
-abbrev pub quantity_fields : Call → End → List (List ℕ)
-quantity_fields call (Answered quality (Some answer) line) = spread (column_of call answer) (map quantity_text (answer_fields answer).values)
-quantity_fields call _ = replicate 24 []
+-- the quantities of an answer to what was asked, each in its column; none of a procedure that isn't in the table
+abbrev pub answer_columns : Asked → Answer → List (List ℕ)
+answer_columns (Table call) answer = spread (column_of call answer) (map quantity_text (answer_fields answer).values)
+answer_columns (Raw raw) answer = replicate 24 []
+
+-- the quantities of a command's answer, each in its column; all columns are empty where it ended without one
+abbrev pub quantity_fields : Asked → End → List (List ℕ)
+quantity_fields asked (Answered quality (Some answer) line) = answer_columns asked answer
+quantity_fields asked _ = replicate 24 []
 
 -- the field behind all others: the quality of the command's answer, and empty where it wasn't answered
 abbrev pub last_fields : End → List (List ℕ)
 last_fields end = quality_text (quality_of end) ∷ []
 
 -- the fields behind the first thirteen: those of the quantities if a row has columns for them (`true`), and the one of the quality
-abbrev pub more_fields : Bool → Call → End → List (List ℕ)
-more_fields true call end = quantity_fields call end ++ last_fields end
-more_fields false call end = last_fields end
+abbrev pub more_fields : Bool → Asked → End → List (List ℕ)
+more_fields true asked end = quantity_fields asked end ++ last_fields end
+more_fields false asked end = last_fields end
 
 -- the fields of a record's row: when its run began, when its command was sent and ended, and which one of the run it was; the target, its
 -- name and the procedure; how the command ended; if `columns` asks for them, a field for each quantity; and last the quality of the answer
-abbrev pub row_fields : Bool → When → List ℕ → Command → End → List (List ℕ)
+abbrev pub row_fields : Bool → When → List ℕ → Wish → End → List (List ℕ)
 row_fields columns when name command end =
     stamp_text when.run ∷ (when_fields when ++ (what_fields command name ++ (ending_fields end ++ more_fields columns command.call end)))

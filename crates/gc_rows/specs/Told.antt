@@ -10,7 +10,7 @@ use Rattle.gc_texts.specs.Endings.{End}
 use Rattle.gc_rows.specs.Quantities.{column_of, quantity_name, quantity_names}
 use Rattle.gc_rows.specs.Records.{names, last_names}
 use Rattle.gc_rows.specs.Rows.{row_fields}
-use Rattle.gc_texts.specs.declared.commands.Command.{Command}
+use Rattle.gc_texts.specs.declared.wish.Wish.{Wish}
 use Rattle.gc_rows.specs.declared.when.When.{When}
 
 -- the angles that an instrument measures
@@ -64,5 +64,5 @@ QuantitiesHaveTheirNames =
 
 -- however a command ended, its row has a field for each name of the header, and no other
 pub record RowsFillTheirColumns : Type 0 where
-  pub csv : (when : When) (name : List ℕ) (command : Command) (end : End) → length (row_fields false when name command end) ≡ length (names ++ last_names)
-  pub columns : (when : When) (name : List ℕ) (command : Command) (end : End) → length (row_fields true when name command end) ≡ length (names ++ (quantity_names ++ last_names))
+  pub csv : (when : When) (name : List ℕ) (command : Wish) (end : End) → length (row_fields false when name command end) ≡ length (names ++ last_names)
+  pub columns : (when : When) (name : List ℕ) (command : Wish) (end : End) → length (row_fields true when name command end) ≡ length (names ++ (quantity_names ++ last_names))

@@ -1,20 +1,21 @@
-//! Lines of JSON: a record as one object, with its quantities by their names, as numbers and as they came.
+//! Lines of JSON: a record as one object, with its quantities by their names, as numbers and as they came, or with its items.
 
-ghost use Rattle.std.specs.Prelude.{◌≡◌, ℕ, ◌+◌, ◌*◌, ◌≤◌, ◌<◌, ◌++◌, length, option_map, Some, codes};
+ghost use Rattle.std.specs.Prelude.{◌≡◌, ℕ, ◌+◌, ◌*◌, ◌≤◌, ◌<◌, ◌++◌, false, length, option_map, Some, codes};
 ghost use Rattle.std.specs.List.{flat_map};
 ghost use Rattle.arrayvec.specs.ArrayVec.{array_vec_len};
+ghost use Rattle.gc_rows.specs.Items.{bytes_in, split_items};
 ghost use Rattle.gc_texts.specs.Endings.{ending_seen};
 ghost use Rattle.gc_texts.specs.Logs.{escaped};
-ghost use Rattle.gc_rows.specs.JsonLines.{behind_backslash, in_quotes, named, string_text, text_member, number_member, members_text, without_zeros, sent_members, when_members, name_members, what_members, fault_members, reply_members, ending_members, value_members, values_members, quantity_members, worded_members, last_members, more_members, json_line, json_members};
+ghost use Rattle.gc_rows.specs.JsonLines.{behind_backslash, in_quotes, named, string_text, text_member, number_member, comma_where, strings_text, texts_member, item_members, members_text, without_zeros, sent_members, when_members, name_members, what_members, fault_members, reply_members, ending_members, value_members, values_members, answer_members, quantity_members, worded_members, last_members, more_members, json_line, json_members};
 
 use crate::quantity::{answer_values, column_of, quantity_name, quantity_text};
 use crate::row::texts_of;
 use crate::when::When;
 use arrayvec::ArrayVec;
-use gc_catalogue::Call;
+use gc_catalogue::{Answer, Asked};
 use gc_lines::{Line, append};
-use gc_texts::{Command, Ending, before, behind, escaped, stamp_text};
-use gc_values::{Value, ValueFault};
+use gc_texts::{Ending, Wish, before, behind, escaped, stamp_text};
+use gc_values::{Items, Value, ValueFault, split};
 use itoa::Buffer;
 
 /// The most bytes of a line.
@@ -122,7 +123,7 @@ fn append_called<const N: usize>(line: &mut ArrayVec<u8, N>, name: &[u8])
 }
 
 // Appends the target of a command, its name, and the number of the procedure.
-fn append_what<const N: usize>(line: &mut ArrayVec<u8, N>, command: &Command, name: &[u8])
+fn append_what<const N: usize>(line: &mut ArrayVec<u8, N>, command: &Wish, name: &[u8])
     requires short { length name.now ≤ 64 }
     requires room { array_vec_len line.old + 1408 ≤ N }
     ensures text { line.new.items ≡ line.old.items ++ members_text (what_members command.now name.now) }
@@ -240,19 +241,88 @@ fn append_values<const N: usize>(
     }
 }
 
-// Appends the quantities of a command's answer, if it ended with one.
-fn append_quantities<const N: usize>(line: &mut ArrayVec<u8, N>, call: &Call, ending: Ending<'_>)
+// Appends a comma, where `behind` says so.
+fn append_comma<const N: usize>(line: &mut ArrayVec<u8, N>, behind: bool)
+    requires { array_vec_len line.old + 1 ≤ N }
+    ensures text { line.new.items ≡ line.old.items ++ comma_where behind }
+    ensures room { array_vec_len line.new ≤ array_vec_len line.old + 1 }
+{
+    if behind {
+        append(line, b",");
+    }
+}
+
+// Appends strings that hold these texts, with commas between them.
+fn append_strings<const N: usize>(line: &mut ArrayVec<u8, N>, texts: &Items<'_>)
+    requires short { bytes_in texts.now ≤ 512 }
+    requires few { length texts.now ≤ 16 }
+    requires room { array_vec_len line.old + 4144 ≤ N }
+    ensures text { line.new.items ≡ line.old.items ++ strings_text false texts.now }
+    ensures room { array_vec_len line.new ≤ array_vec_len line.old + 4144 }
+{
+    for k in 0..texts.len() {
+        append_comma(line, k > 0);
+        append_string(line, texts.get(k));
+    }
+}
+
+// Appends the member `items`, which is a list of strings that hold these texts.
+fn append_list<const N: usize>(line: &mut ArrayVec<u8, N>, texts: &Items<'_>)
+    requires short { bytes_in texts.now ≤ 512 }
+    requires few { length texts.now ≤ 16 }
+    requires room { array_vec_len line.old + 4187 ≤ N }
+    ensures text { line.new.items ≡ line.old.items ++ texts_member (codes "items") texts.now }
+    ensures room { array_vec_len line.new ≤ array_vec_len line.old + 4187 }
+{
+    append_name(line, b"items", b"");
+    append(line, b"[");
+    append_strings(line, texts);
+    append(line, b"]");
+}
+
+// Appends the items of a reply's values, where these split.
+fn append_items<const N: usize>(line: &mut ArrayVec<u8, N>, values: &[u8])
+    requires short { length values.now ≤ 512 }
+    requires room { array_vec_len line.old + 4187 ≤ N }
+    ensures text { line.new.items ≡ line.old.items ++ members_text (item_members (split_items values.now)) }
+    ensures room { array_vec_len line.new ≤ array_vec_len line.old + 4187 }
+{
+    match split(values) {
+        Ok(items) => append_list(line, &items),
+        Err(_) => {}
+    }
+}
+
+// Appends the quantities of an answer to a call of the table, which this line gave; of any other procedure the items of the line's values.
+fn append_answer<const N: usize>(
+    line: &mut ArrayVec<u8, N>,
+    asked: &Asked,
+    answer: &Answer,
+    reply: &Line,
+)
     requires { array_vec_len line.old + 28416 ≤ N }
-    ensures text { line.new.items ≡ line.old.items ++ members_text (quantity_members call.now (ending_seen ending.entry)) }
+    ensures text { line.new.items ≡ line.old.items ++ members_text (answer_members asked.now answer.now reply.now.items) }
     ensures room { array_vec_len line.new ≤ array_vec_len line.old + 28416 }
 {
-    if let Ending::Answered(_, Some(answer), reply) = ending {
-        append_values(
+    match asked {
+        Asked::Table(call) => append_values(
             line,
             column_of(call, answer),
             &answer_values(answer),
             texts_of(reply).values,
-        );
+        ),
+        Asked::Raw(_) => append_items(line, texts_of(reply).values),
+    }
+}
+
+// Appends the quantities or the items of a command's answer, if it ended with one.
+fn append_quantities<const N: usize>(line: &mut ArrayVec<u8, N>, asked: &Asked, ending: Ending<'_>)
+    requires { array_vec_len line.old + 28416 ≤ N }
+    ensures text { line.new.items ≡ line.old.items ++ members_text (quantity_members asked.now (ending_seen ending.entry)) }
+    ensures room { array_vec_len line.new ≤ array_vec_len line.old + 28416 }
+{
+    if let Ending::Answered(_, Some(answer), reply) = ending {
+        append_answer(line, asked, answer, reply);
     }
 }
 
@@ -268,13 +338,13 @@ fn append_quality<const N: usize>(line: &mut ArrayVec<u8, N>, word: &[u8])
     }
 }
 
-// Appends a member for each quantity of a command's answer, and behind them the member of the answer's quality.
-fn append_more<const N: usize>(line: &mut ArrayVec<u8, N>, call: &Call, ending: Ending<'_>)
+// Appends a member for each quantity of a command's answer, or one for its items, and behind them the member of the answer's quality.
+fn append_more<const N: usize>(line: &mut ArrayVec<u8, N>, asked: &Asked, ending: Ending<'_>)
     requires { array_vec_len line.old + 28587 ≤ N }
-    ensures text { line.new.items ≡ line.old.items ++ members_text (more_members call.now (ending_seen ending.entry)) }
+    ensures text { line.new.items ≡ line.old.items ++ members_text (more_members asked.now (ending_seen ending.entry)) }
     ensures room { array_vec_len line.new ≤ array_vec_len line.old + 28587 }
 {
-    append_quantities(line, call, ending);
+    append_quantities(line, asked, ending);
     append_quality(line, ending.quality_text());
 }
 
@@ -282,7 +352,7 @@ fn append_more<const N: usize>(line: &mut ArrayVec<u8, N>, call: &Call, ending: 
 pub(crate) fn json_line(
     when: &When,
     name: &[u8],
-    command: &Command,
+    command: &Wish,
     ending: Ending<'_>,
 ) -> ArrayVec<u8, JSON_ROOM>
     requires { length name.now ≤ 64 }

@@ -1,12 +1,17 @@
 //! What is proved of the definitions themselves. The functions have no effect: their contracts are the laws.
 
 ghost use Rattle.gc_rows.specs.Told.{QuantitiesHaveTheirNames, RowsFillTheirColumns};
-ghost use Rattle.gc_rows.specs.Laws.{ColumnsAreFields, RowsReadBack, RowsArePrintable, JsonLinesReadBack, RecordsAreMembers};
+ghost use Rattle.gc_rows.specs.Laws.{ColumnsAreFields, ItemsAreTheGrammars, RowsReadBack, RowsArePrintable, JsonLinesReadBack, RecordsAreMembers};
 
 /// The columns `rc_com`, `rc` and `values` of a record are the fields of the reply's line: its communication code, its return
 /// code and its values.
 pub fn columns_are_a_replys_fields()
     ensures { ColumnsAreFields }
+{}
+
+/// The items of a reply's values are the parameters that the grammar has of them.
+pub fn items_are_the_grammars()
+    ensures { ItemsAreTheGrammars }
 {}
 
 /// A reader of comma-separated values gives each row back as its fields, and a table as its rows, whatever bytes a reply had.
@@ -20,14 +25,14 @@ pub fn rows_are_printable()
     ensures { RowsArePrintable }
 {}
 
-/// A line of JSON, whose members have plain names and hold bytes or numbers of JSON, reads as an object of these members, in
+/// A line of JSON, whose members have plain names and hold bytes, numbers of JSON or lists of bytes, reads as an object of these members, in
 /// their order, whatever the bytes.
 pub fn json_lines_read_back()
     ensures { JsonLinesReadBack }
 {}
 
-/// Each record's line of JSON is one of which `json_lines_read_back` speaks: its members have plain names and hold bytes or
-/// numbers of JSON.
+/// Each record's line of JSON is one of which `json_lines_read_back` speaks: its members have plain names and hold bytes,
+/// numbers of JSON or lists of bytes.
 pub fn records_are_members()
     ensures { RecordsAreMembers }
 {}

@@ -12,7 +12,7 @@ use crate::row::csv_row;
 use crate::when::When;
 use arrayvec::ArrayVec;
 use gc_lines::{Line, Sink, append, write_whole};
-use gc_texts::{Command, Ending, append_escaped, stamp_text};
+use gc_texts::{Ending, Wish, append_escaped, stamp_text};
 use gc_values::ValueFault;
 use itoa::Buffer;
 
@@ -73,7 +73,7 @@ pub fn write_record<K: Sink>(
     form: Form,
     when: &When,
     name: &[u8],
-    command: &Command,
+    command: &Wish,
     ending: Ending<'_>,
 ) -> Result<(), usize>
     requires { length name.now ≤ 64 }
@@ -96,7 +96,7 @@ const ENDING_ROOM: usize = 1 + 16 + 21 + 1 + 4 * 512;
 const LINE_ROOM: usize = 40 + 1 + 20 + 1 + 10 + ENDING_ROOM + 1;
 
 // The line of a record: the moment, the place, the target, and how the command ended.
-fn record_line(when: &When, command: &Command, ending: Ending<'_>) -> ArrayVec<u8, LINE_ROOM>
+fn record_line(when: &When, command: &Wish, ending: Ending<'_>) -> ArrayVec<u8, LINE_ROOM>
     ensures { result.items ≡ record_line when.now command.now (ending_seen ending.entry) }
 {
     let mut digits = Buffer::new();

@@ -3,18 +3,19 @@
 ghost use Rattle.std.specs.Prelude.{◌≡◌, ℕ, ◌+◌, ◌*◌, ◌≤◌, ◌++◌, length, map, option_map, replicate};
 ghost use Rattle.std.specs.List.{flat_map, list_any};
 ghost use Rattle.arrayvec.specs.ArrayVec.{array_vec_len};
+ghost use Rattle.gc_catalogue.specs.declared.asked.Asked.TheVariants.{Table};
 ghost use Rattle.gc_texts.specs.Cuts.{before, behind};
 ghost use Rattle.gc_texts.specs.Endings.{ending_seen};
-ghost use Rattle.gc_rows.specs.Rows.{com_of, code_of, values_of, is_special, within_quotes, csv_field, field_text, behind_comma, behind_commas, fault_field, reply_fields, ending_fields, moment_text, when_fields, what_fields, quantity_fields, last_fields, more_fields, spread, value_text, row_of, row_fields};
+ghost use Rattle.gc_rows.specs.Rows.{com_of, code_of, values_of, is_special, within_quotes, csv_field, field_text, behind_comma, behind_commas, fault_field, reply_fields, ending_fields, moment_text, when_fields, what_fields, answer_columns, quantity_fields, last_fields, more_fields, spread, value_text, row_of, row_fields};
 ghost use Rattle.gc_rows.specs.Quantities.{column_of, quantity_text};
 ghost use Rattle.gc_catalogue.specs.Answers.{answer_fields};
 
 use crate::quantity::{QUANTITIES, answer_values, column_of, quantity_text};
 use crate::when::When;
 use arrayvec::ArrayVec;
-use gc_catalogue::{Answer, Call};
+use gc_catalogue::{Answer, Asked, Call};
 use gc_lines::{Line, append};
-use gc_texts::{Command, Ending, STAMP_ROOM, before, behind, escaped, stamp_text};
+use gc_texts::{Ending, STAMP_ROOM, Wish, before, behind, escaped, stamp_text};
 use gc_values::{Value, ValueFault};
 use itoa::Buffer;
 
@@ -153,7 +154,7 @@ fn append_when<const N: usize>(row: &mut ArrayVec<u8, N>, when: &When)
 }
 
 // Appends the target of a command, its name, and the number of the procedure.
-fn append_what<const N: usize>(row: &mut ArrayVec<u8, N>, command: &Command, name: &[u8])
+fn append_what<const N: usize>(row: &mut ArrayVec<u8, N>, command: &Wish, name: &[u8])
     requires short { length name.now ≤ 64 }
     requires room { array_vec_len row.old + 5120 ≤ N }
     ensures text { row.new.items ≡ row.old.items ++ behind_commas (what_fields command.now name.now) }
@@ -218,9 +219,9 @@ fn append_values<const N: usize>(row: &mut ArrayVec<u8, N>, values: &[Value])
 }
 
 // Appends the quantities of an answer to a call, each in its column; the other columns are empty.
-fn append_answer<const N: usize>(row: &mut ArrayVec<u8, N>, call: &Call, answer: &Answer)
+fn append_columns<const N: usize>(row: &mut ArrayVec<u8, N>, call: &Call, answer: &Answer)
     requires { array_vec_len row.old + 3200 ≤ N }
-    ensures text { row.new.items ≡ row.old.items ++ behind_commas (spread (column_of call.now answer.now) (map quantity_text (answer_fields answer.now).values)) }
+    ensures text { row.new.items ≡ row.old.items ++ behind_commas (answer_columns (Table call.now) answer.now) }
     ensures room { array_vec_len row.new ≤ array_vec_len row.old + 3200 }
 {
     let values = answer_values(answer);
@@ -230,14 +231,27 @@ fn append_answer<const N: usize>(row: &mut ArrayVec<u8, N>, call: &Call, answer:
     append_blanks(row, QUANTITIES - first - values.len());
 }
 
-// Appends the quantities of a command's answer, each in its column. All columns are empty where it ended without one.
-fn append_quantities<const N: usize>(row: &mut ArrayVec<u8, N>, call: &Call, ending: Ending<'_>)
+// Appends the quantities of an answer to what was asked, each in its column. All columns are empty of a procedure that isn't in
+// the table.
+fn append_answer<const N: usize>(row: &mut ArrayVec<u8, N>, asked: &Asked, answer: &Answer)
     requires { array_vec_len row.old + 3200 ≤ N }
-    ensures text { row.new.items ≡ row.old.items ++ behind_commas (quantity_fields call.now (ending_seen ending.entry)) }
+    ensures text { row.new.items ≡ row.old.items ++ behind_commas (answer_columns asked.now answer.now) }
+    ensures room { array_vec_len row.new ≤ array_vec_len row.old + 3200 }
+{
+    match asked {
+        Asked::Table(call) => append_columns(row, call, answer),
+        Asked::Raw(_) => append_blanks(row, QUANTITIES),
+    }
+}
+
+// Appends the quantities of a command's answer, each in its column. All columns are empty where it ended without one.
+fn append_quantities<const N: usize>(row: &mut ArrayVec<u8, N>, asked: &Asked, ending: Ending<'_>)
+    requires { array_vec_len row.old + 3200 ≤ N }
+    ensures text { row.new.items ≡ row.old.items ++ behind_commas (quantity_fields asked.now (ending_seen ending.entry)) }
     ensures room { array_vec_len row.new ≤ array_vec_len row.old + 3200 }
 {
     match ending {
-        Ending::Answered(_, Some(answer), _) => append_answer(row, call, answer),
+        Ending::Answered(_, Some(answer), _) => append_answer(row, asked, answer),
         _ => append_blanks(row, QUANTITIES),
     }
 }
@@ -252,12 +266,12 @@ fn append_last<const N: usize>(row: &mut ArrayVec<u8, N>, ending: Ending<'_>)
 }
 
 // Appends the quantities of a command's answer, each in its column, and behind them the quality.
-fn append_both<const N: usize>(row: &mut ArrayVec<u8, N>, call: &Call, ending: Ending<'_>)
+fn append_both<const N: usize>(row: &mut ArrayVec<u8, N>, asked: &Asked, ending: Ending<'_>)
     requires { array_vec_len row.old + 3331 ≤ N }
-    ensures text { row.new.items ≡ row.old.items ++ behind_commas (quantity_fields call.now (ending_seen ending.entry) ++ last_fields (ending_seen ending.entry)) }
+    ensures text { row.new.items ≡ row.old.items ++ behind_commas (quantity_fields asked.now (ending_seen ending.entry) ++ last_fields (ending_seen ending.entry)) }
     ensures room { array_vec_len row.new ≤ array_vec_len row.old + 3331 }
 {
-    append_quantities(row, call, ending);
+    append_quantities(row, asked, ending);
     append_last(row, ending);
 }
 
@@ -266,15 +280,15 @@ fn append_both<const N: usize>(row: &mut ArrayVec<u8, N>, call: &Call, ending: E
 fn append_more<const N: usize>(
     row: &mut ArrayVec<u8, N>,
     columns: bool,
-    call: &Call,
+    asked: &Asked,
     ending: Ending<'_>,
 )
     requires { array_vec_len row.old + 3331 ≤ N }
-    ensures text { row.new.items ≡ row.old.items ++ behind_commas (more_fields columns call.now (ending_seen ending.entry)) }
+    ensures text { row.new.items ≡ row.old.items ++ behind_commas (more_fields columns asked.now (ending_seen ending.entry)) }
     ensures room { array_vec_len row.new ≤ array_vec_len row.old + 3331 }
 {
     if columns {
-        append_both(row, call, ending);
+        append_both(row, asked, ending);
     } else {
         append_last(row, ending);
     }
@@ -285,7 +299,7 @@ pub(crate) fn csv_row(
     columns: bool,
     when: &When,
     name: &[u8],
-    command: &Command,
+    command: &Wish,
     ending: Ending<'_>,
 ) -> ArrayVec<u8, ROW_ROOM>
     requires { length name.now ≤ 64 }

@@ -5,6 +5,7 @@
 use Rattle.std.proofs.Common.{◌≡◌, ℕ, ◌<◌, inl, ◌&&◌, ◌||◌, Bool, true, false, not, List, [], ◌∷◌, length, if◌then◌else◌, nat_eq, nat_lt, Option, Some, None, refl, sym, ap, subst}
 use Rattle.std.proofs.lemmas.Bool.{eqb-true}
 use Rattle.gc_lines.specs.Frames.{rest_behind}
+use Rattle.gc_catalogue.specs.declared.asked.Asked.{Asked}
 use Rattle.gc_client.specs.Rule.{ById, heard, hears, id_settled, place_in}
 use Rattle.gc_client.proofs.OneForOne.{heard_parts}
 use Rattle.gc_texts.specs.declared.tasks.Task.{Task}
@@ -105,7 +106,7 @@ pub record Listening (plan : Plan) (commands : List Task) (s : Model) : Type 0 w
   pub is_ready : s.progress.phase ≡ Ready
 
 -- hearing a line leaves the client's next id
-same_next : (c : ById) (line : List ℕ) (o : Option ℕ) → (hears c line o).client.next ≡ c.next
+same_next : (c : ById Asked) (line : List ℕ) (o : Option ℕ) → (hears c line o).client.next ≡ c.next
 same_next c line None = refl
 same_next c line (Some id) = by_place (nat_lt (place_in c id) (length c.waiting)) where
   -- the lemma above, whether a request with the line's id waits (`true`) or not

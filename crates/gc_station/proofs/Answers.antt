@@ -5,12 +5,13 @@ use Rattle.std.proofs.Common.{◌≡◌, ◌⊎◌, inl, inr, ℕ, ◌+◌, ◌-
 use Rattle.std.specs.List.{AllByRecursion}
 use Rattle.std.proofs.lemmas.Bool.Decides.{nat_tests}
 use Rattle.std.proofs.lemmas.List.{length-drop}
-use Rattle.gc_catalogue.specs.declared.call.Call.{Call}
+use Rattle.gc_catalogue.specs.declared.asked.Asked.{Asked}
+use Rattle.gc_catalogue.specs.declared.asked.Asked.TheVariants.{Table}
 use Rattle.gc_catalogue.specs.declared.call.Call.TheVariants.{NullProc}
 use Rattle.gc_client.specs.declared.window.TheConstants.{WINDOW}
 use Rattle.gc_client.specs.Rule.{ById, id_send, pending_of, sends}
 use Rattle.gc_client.proofs.Digits.{sending}
-use Rattle.gc_texts.specs.declared.commands.Command.{Command}
+use Rattle.gc_texts.specs.declared.wish.Wish.{Wish}
 use Rattle.gc_texts.specs.declared.tasks.Task.{Task}
 use Rattle.gc_texts.specs.Endings.{Skipped, Missed}
 use Rattle.gc_station.specs.declared.mark.Mark.{Mark}
@@ -52,19 +53,19 @@ puts_still bytes act o d = absurd o
 
 -- the client (the first argument) once a request with this target, call and deadline was sent, where the window has room: the
 -- next id is counted on, and one more request waits
-abbrev pub with_sent : ById → ℕ → Call → ℕ → ById
+abbrev pub with_sent : ById Asked → ℕ → Asked → ℕ → ById Asked
 with_sent c target call deadline = record { next = (c.next + 1) % 8; waiting = c.waiting ++ pending_of target call deadline ∷ [] }
 
 -- where the window has room, a send isn't refused, and leaves the client `with_sent`
-pub client_is : (c : ById) (target : ℕ) (call : Call) (deadline : ℕ) → length c.waiting < 7 → client_sent c (sends WINDOW c target call deadline) ≡ with_sent c target call deadline
+pub client_is : (c : ById Asked) (target : ℕ) (call : Asked) (deadline : ℕ) → length c.waiting < 7 → client_sent c (sends WINDOW c target call deadline) ≡ with_sent c target call deadline
 client_is c target call deadline room = ap (λ (b : Bool). client_sent c (id_send c target call deadline b)) (not_full (length c.waiting) 7 room) where
   -- a number below 7 isn't 7
   not_full : (n w : ℕ) → n < w → nat_eq n w ≡ false
   not_full n w low = grind (arith, nat_tests, low)
 
 -- an act that sends a request keeps `Honest`: one more request waits, behind the others
-sent_honest : (plan : Plan) (commands : List Task) (scope : Scope) (acts : List Act) (act : Act) (c : ById) (marks : List (Option Mark))
-    (records : List Record) (target : ℕ) (call : Call) (deadline : ℕ) (mark : Option Mark)
+sent_honest : (plan : Plan) (commands : List Task) (scope : Scope) (acts : List Act) (act : Act) (c : ById Asked) (marks : List (Option Mark))
+    (records : List Record) (target : ℕ) (call : Asked) (deadline : ℕ) (mark : Option Mark)
     → ((d : ℕ) → IsBefore d act) → c.next < 8 → length c.waiting < 7 → length marks ≡ length c.waiting
     → Waits plan commands scope (acts ++ act ∷ []) ((c.next + 1) % 8) (length c.waiting + 1) (length acts) (length c.waiting) (pending_of target call deadline) mark
     → Honest plan commands scope acts (acts ++ act ∷ []) c marks records
@@ -91,7 +92,7 @@ sent_honest plan commands scope acts act c marks records target call deadline ma
     }
 
 -- the request that goes out waits as `Waits` says, put as the last of the acts
-asked_here : (plan : Plan) (commands : List Task) (scope : Scope) (acts : List Act) (act : Act) (target : ℕ) (call : Call) (deadline : ℕ) (mark : Option Mark)
+asked_here : (plan : Plan) (commands : List Task) (scope : Scope) (acts : List Act) (act : Act) (target : ℕ) (call : Asked) (deadline : ℕ) (mark : Option Mark)
     → Invariant plan commands (stood plan commands scope acts)
     → length (stood plan commands scope acts).client.waiting < 7 → (0 < length (stood plan commands scope acts).client.waiting → IsAsking (action_at plan (stood plan commands scope acts)))
     → ((m : Mark) → mark ≡ Some m → Marked plan commands scope acts m)
@@ -122,7 +123,7 @@ is_asking o (inl is) = subst (λ (x : Action). IsAsking x) (sym is) tt
 is_asking o (inr is) = subst (λ (x : Action). IsAsking x) (sym is) tt
 
 -- an act that sends a command keeps `Honest`
-command_honest : (plan : Plan) (commands : List Task) (scope : Scope) (acts : List Act) (act : Act) (target : ℕ) (call : Call)
+command_honest : (plan : Plan) (commands : List Task) (scope : Scope) (acts : List Act) (act : Act) (target : ℕ) (call : Asked)
     → Invariant plan commands (stood plan commands scope acts) → IsHonest plan commands scope acts (acts ++ act ∷ []) (stood plan commands scope acts)
     → action_at plan (stood plan commands scope acts) ≡ actions.Send → length (stood plan commands scope acts).client.waiting < 7
     → Puts (request_text (stood plan commands scope acts).client call) act
@@ -161,7 +162,7 @@ first_honest plan commands scope acts act next_is_chained [] fine h is room some
 first_honest plan commands scope acts act next_is_chained (task ∷ others) fine h is room some at puts =
     let s = stood plan commands scope acts in
     let d : later s.progress.moment.elapsed task.deadline ≡ deadline_behind plan commands scope acts = ap (λ (left : List Task). later s.progress.moment.elapsed (first_deadline left)) (sym at) in
-    subst (λ (c : ById). Honest plan commands scope (acts ++ act ∷ []) (acts ++ act ∷ []) c (s.marks ++ Some (mark_next plan commands s.progress) ∷ []) s.records)
+    subst (λ (c : ById Asked). Honest plan commands scope (acts ++ act ∷ []) (acts ++ act ∷ []) c (s.marks ++ Some (mark_next plan commands s.progress) ∷ []) s.records)
     (sym (ap (λ (e : ℕ). client_sent s.client (sends WINDOW s.client task.command.target task.command.call e)) d
     ∙ client_is s.client task.command.target task.command.call (deadline_behind plan commands scope acts) room))
     (command_honest plan commands scope acts act task.command.target task.command.call fine h is room puts)
@@ -170,14 +171,14 @@ first_honest plan commands scope acts act next_is_chained (task ∷ others) fine
 null_honest : (plan : Plan) (commands : List Task) (scope : Scope) (acts : List Act) (act : Act) (f : Progress → Progress)
     → Invariant plan commands (stood plan commands scope acts) → IsHonest plan commands scope acts (acts ++ act ∷ []) (stood plan commands scope acts)
     → length (stood plan commands scope acts).client.waiting < 7 → (0 < length (stood plan commands scope acts).client.waiting → IsAsking (action_at plan (stood plan commands scope acts)))
-    → Puts (request_text (stood plan commands scope acts).client NullProc) act
+    → Puts (request_text (stood plan commands scope acts).client (Table NullProc)) act
     → IsHonest plan commands scope (acts ++ act ∷ []) (acts ++ act ∷ []) (with_progress f (asks_null plan (with_progress turned (stood plan commands scope acts))))
 null_honest plan commands scope acts act f fine h room asks puts =
     let s = stood plan commands scope acts in
     let d = later s.progress.moment.elapsed plan.deadline in
-    subst (λ (c : ById). Honest plan commands scope (acts ++ act ∷ []) (acts ++ act ∷ []) c (s.marks ++ None ∷ []) s.records) (sym (client_is s.client 0 NullProc d room))
-    (sent_honest plan commands scope acts act s.client s.marks s.records 0 NullProc d None (puts_still _ act puts) fine.digit room fine.paired
-    (asked_here plan commands scope acts act 0 NullProc d None fine room asks (λ m its. absurd (never m its)) (λ m its. absurd (never m its)) puts) h) where
+    subst (λ (c : ById Asked). Honest plan commands scope (acts ++ act ∷ []) (acts ++ act ∷ []) c (s.marks ++ None ∷ []) s.records) (sym (client_is s.client 0 (Table NullProc) d room))
+    (sent_honest plan commands scope acts act s.client s.marks s.records 0 (Table NullProc) d None (puts_still _ act puts) fine.digit room fine.paired
+    (asked_here plan commands scope acts act 0 (Table NullProc) d None fine room asks (λ m its. absurd (never m its)) (λ m its. absurd (never m its)) puts) h) where
       -- a null procedure has no mark
       never : (m : Mark) → None ≡ Some m → ⊥
       never m e = cc
@@ -191,7 +192,7 @@ put_honest plan commands scope acts requests f t act h = h
 -- A command that isn't sent is neither answered nor late nor lost.
 
 -- the record of a command that isn't sent is true: it is neither an answer nor late nor lost
-unsent_true : (plan : Plan) (commands : List Task) (scope : Scope) (all : List Act) (b : Bool) (utc : ℕ) (mark : Mark) (command : Command)
+unsent_true : (plan : Plan) (commands : List Task) (scope : Scope) (all : List Act) (b : Bool) (utc : ℕ) (mark : Mark) (command : Wish)
     → IsTrue plan commands scope all (record { sent = None; utc = utc; cycle = mark.cycle; place = mark.place; command = command; end = if b then Missed else Skipped })
 unsent_true plan commands scope all true utc mark command = record { answered = λ line e. cc; late = λ e. cc; lost = λ e. cc }
 unsent_true plan commands scope all false utc mark command = record { answered = λ line e. cc; late = λ e. cc; lost = λ e. cc }
@@ -279,7 +280,7 @@ moved_honest plan commands scope acts actions.Skip act tail fine h is needs o en
 moved_honest plan commands scope acts actions.Flush act tail fine h is needs o ends =
     let s = stood plan commands scope acts in
     put_honest plan commands scope (acts ++ act ∷ []) _ (λ (x : Model). with_progress asking (asks_null plan x)) (with_progress turned s) act
-    (null_honest plan commands scope acts act asking fine h needs.5.1 (λ above. is_asking _ (inr is)) o)
+    (null_honest plan commands scope acts act asking fine h needs.4.1 (λ above. is_asking _ (inr is)) o)
 moved_honest plan commands scope acts (actions.Read until) act tail fine h is needs o ends = read_honest plan commands scope acts until act tail fine h o ends
 moved_honest plan commands scope acts (actions.Close why) act tail fine h is needs o ends = still plan commands scope acts act _ _ _ (close_still act o) h
 moved_honest plan commands scope acts (actions.Stop why) act tail fine h is needs o ends = absurd o

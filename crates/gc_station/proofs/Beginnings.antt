@@ -6,6 +6,7 @@ use Rattle.std.specs.List.{filter_map}
 use Rattle.std.proofs.lemmas.Bool.{eqb-true}
 use Rattle.std.proofs.lemmas.List.{nil_from_length}
 use Rattle.std.proofs.lemmas.List.Elements.{filter_map-append}
+use Rattle.gc_catalogue.specs.declared.asked.Asked.{Asked}
 use Rattle.gc_client.specs.Beginning.{IsSubsequence, the_word, left_by, left_by_one}
 use Rattle.gc_client.specs.Rule.{ById, heard}
 use Rattle.gc_texts.specs.declared.tasks.Task.{Task}
@@ -135,7 +136,7 @@ module _ (plan : Plan) (commands : List Task) (scope : Scope) (acts : List Act) 
       let needs = action_for plan here.progress (waiting_of here) in
       record {
         client = new;
-        marks = nil_from_length here.marks (fine.paired ∙ ap (λ (c : ById). length c.waiting) new);
+        marks = nil_from_length here.marks (fine.paired ∙ ap (λ (c : ById Asked). length c.waiting) new);
         asks = λ asks. subst (λ (o : Action). Performs commands here o act) (asks_only plan commands (action_at plan here) here act obeys asks needs begins) obeys;
         left = ap (λ (x : Model). x.progress.word) (after_all-append plan commands (opening plan scope) acts (act ∷ [])) ∙ word_after plan commands here act obeys begins;
       }

@@ -9,9 +9,9 @@ use Rattle.std.proofs.lemmas.List.{length-map, length-append, map-append}
 use Rattle.std.proofs.lemmas.Bool.{ne_eqb}
 use Rattle.gc_catalogue.specs.declared.answer.Answer.{Answer}
 use Rattle.gc_catalogue.specs.declared.answer.Reading.{Reading}
-use Rattle.gc_catalogue.specs.declared.call.Call.{Call}
+use Rattle.gc_catalogue.specs.declared.asked.Asked.{Asked}
 use Rattle.gc_catalogue.specs.declared.answer.Reading.TheVariants as kind
-use Rattle.gc_client.specs.OneForOne.{Asked, Course, Step, Send, Hear, Expire, Restart, sent_on, goes, course, of_settled, of_pending}
+use Rattle.gc_client.specs.OneForOne.{Wanted, Course, Step, Send, Hear, Expire, Restart, sent_on, goes, course, of_settled, of_pending}
 use Rattle.gc_client.specs.Rule.{ById, Outcome, Answered, Late, Lost, Sending, Settlement, fresh, heard, hears, expires, lost, id_send, sends}
 use Rattle.gc_client.proofs.OneForOne.{heard_parts, lost_parts}
 use Rattle.gc_texts.specs.Codes.{are_accepted}
@@ -31,49 +31,49 @@ use Rattle.gc_station.specs.Parts.{Turn, Part, only_turns, only, nothing, joined
 -- Steps.
 
 -- the course at its start: this client has sent and settled nothing
-abbrev pub course_at : ById → Course
+abbrev pub course_at : ById Asked → Course Asked
 course_at c = record { sent = []; settlements = []; client = c }
 
 -- this client after one step
-abbrev pub stepped : ById → Step → ById
+abbrev pub stepped : ById Asked → Step Asked → ById Asked
 stepped c s = (goes 7 (course_at c) s).client
 
 -- this client after these steps, in order
-abbrev pub client_after : ById → List Step → ById
+abbrev pub client_after : ById Asked → List (Step Asked) → ById Asked
 client_after c [] = c
 client_after c (s ∷ ss) = client_after (stepped c s) ss
 
 -- what these steps settle, from this client on
-abbrev pub settled_by : ById → List Step → List Settlement
+abbrev pub settled_by : ById Asked → List (Step Asked) → List (Settlement Asked)
 settled_by c [] = []
 settled_by c (s ∷ ss) = (goes 7 (course_at c) s).settlements ++ settled_by (stepped c s) ss
 
 -- what these steps send, from this client on
-abbrev pub sent_by : ById → List Step → List Asked
+abbrev pub sent_by : ById Asked → List (Step Asked) → List (Wanted Asked)
 sent_by c [] = []
 sent_by c (s ∷ ss) = (goes 7 (course_at c) s).sent ++ sent_by (stepped c s) ss
 
 -- a client after two lists of steps is the one after the second, from the one after the first on
-pub client_append : (c : ById) (first later : List Step) → client_after c (first ++ later) ≡ client_after (client_after c first) later
+pub client_append : (c : ById Asked) (first later : List (Step Asked)) → client_after c (first ++ later) ≡ client_after (client_after c first) later
 client_append c [] later = refl
 client_append c (s ∷ first) later = client_append (stepped c s) first later
 
 -- two lists of steps settle what the first settles and then what the second settles after it
-pub settled_append : (c : ById) (first later : List Step) → settled_by c (first ++ later) ≡ settled_by c first ++ settled_by (client_after c first) later
+pub settled_append : (c : ById Asked) (first later : List (Step Asked)) → settled_by c (first ++ later) ≡ settled_by c first ++ settled_by (client_after c first) later
 settled_append c [] later = refl
 settled_append c (s ∷ first) later =
     ap (λ k. (goes 7 (course_at c) s).settlements ++ k) (settled_append (stepped c s) first later)
     ∙ sym (append_assoc (goes 7 (course_at c) s).settlements (settled_by (stepped c s) first) (settled_by (client_after (stepped c s) first) later))
 
 -- two lists of steps send what the first sends and then what the second sends after it
-pub sent_append : (c : ById) (first later : List Step) → sent_by c (first ++ later) ≡ sent_by c first ++ sent_by (client_after c first) later
+pub sent_append : (c : ById Asked) (first later : List (Step Asked)) → sent_by c (first ++ later) ≡ sent_by c first ++ sent_by (client_after c first) later
 sent_append c [] later = refl
 sent_append c (s ∷ first) later =
     ap (λ k. (goes 7 (course_at c) s).sent ++ k) (sent_append (stepped c s) first later)
     ∙ sym (append_assoc (goes 7 (course_at c) s).sent (sent_by (stepped c s) first) (sent_by (client_after (stepped c s) first) later))
 
 -- a send adds the same to any course as to one at its start with the same client
-sent_parts : (x : Course) (target : ℕ) (call : Call) (o : Option (Sending ById))
+sent_parts : (x : Course Asked) (target : ℕ) (call : Asked) (o : Option (Sending (ById Asked)))
     → ((sent_on x target call o).settlements ≡ x.settlements ++ (sent_on (course_at x.client) target call o).settlements)
     × ((sent_on x target call o).sent ≡ x.sent ++ (sent_on (course_at x.client) target call o).sent)
     × ((sent_on x target call o).client ≡ (sent_on (course_at x.client) target call o).client)
@@ -81,7 +81,7 @@ sent_parts x target call None = (sym (append-nil x.settlements), sym (append-nil
 sent_parts x target call (Some s) = (sym (append-nil x.settlements), refl, refl)
 
 -- a step adds the same to any course as to one at its start with the same client
-goes_parts : (x : Course) (s : Step)
+goes_parts : (x : Course Asked) (s : Step Asked)
     → ((goes 7 x s).settlements ≡ x.settlements ++ (goes 7 (course_at x.client) s).settlements)
     × ((goes 7 x s).sent ≡ x.sent ++ (goes 7 (course_at x.client) s).sent) × ((goes 7 x s).client ≡ stepped x.client s)
 goes_parts x (Send target call deadline) = sent_parts x target call (sends 7 x.client target call deadline)
@@ -90,7 +90,7 @@ goes_parts x (Expire now) = (sym (append-nil x.settlements), sym (append-nil x.s
 goes_parts x Restart = (refl, sym (append-nil x.sent), refl)
 
 -- steps add to the settlements of a course what they settle from its client on
-pub course_settled : (steps : List Step) (x : Course) → (course 7 x steps).settlements ≡ x.settlements ++ settled_by x.client steps
+pub course_settled : (steps : List (Step Asked)) (x : Course Asked) → (course 7 x steps).settlements ≡ x.settlements ++ settled_by x.client steps
 course_settled [] x = sym (append-nil x.settlements)
 course_settled (s ∷ ss) x =
     let p = goes_parts x s in
@@ -99,7 +99,7 @@ course_settled (s ∷ ss) x =
     course_settled ss y ∙ ap (λ l. l ++ settled_by y.client ss) p.0 ∙ ap (λ c. (x.settlements ++ now) ++ settled_by c ss) p.2 ∙ append_assoc x.settlements now (settled_by (stepped x.client s) ss)
 
 -- steps add to the requests of a course what they send from its client on
-pub course_sent : (steps : List Step) (x : Course) → (course 7 x steps).sent ≡ x.sent ++ sent_by x.client steps
+pub course_sent : (steps : List (Step Asked)) (x : Course Asked) → (course 7 x steps).sent ≡ x.sent ++ sent_by x.client steps
 course_sent [] x = sym (append-nil x.sent)
 course_sent (s ∷ ss) x =
     let p = goes_parts x s in
@@ -108,7 +108,7 @@ course_sent (s ∷ ss) x =
     course_sent ss y ∙ ap (λ l. l ++ sent_by y.client ss) p.1 ∙ ap (λ c. (x.sent ++ now) ++ sent_by c ss) p.2 ∙ append_assoc x.sent now (sent_by (stepped x.client s) ss)
 
 -- the client of a course after steps is its client after them
-pub course_client : (steps : List Step) (x : Course) → (course 7 x steps).client ≡ client_after x.client steps
+pub course_client : (steps : List (Step Asked)) (x : Course Asked) → (course 7 x steps).client ≡ client_after x.client steps
 course_client [] x = refl
 course_client (s ∷ ss) x = course_client ss (goes 7 x s) ∙ ap (λ c. client_after c ss) (goes_parts x s).2
 
@@ -128,25 +128,25 @@ drop_none (suc n) [] e = refl
 drop_none (suc n) (x ∷ xs) e = cc
 
 -- to drop as many elements as the settlements `ss`, and then as `ts`, is to drop as many as both
-drop_twice : {A : Type 0} (ss ts : List Settlement) (xs : List A) → drop (length ts) (drop (length ss) xs) ≡ drop (length (ss ++ ts)) xs
+drop_twice : {A : Type 0} (ss ts : List (Settlement Asked)) (xs : List A) → drop (length ts) (drop (length ss) xs) ≡ drop (length (ss ++ ts)) xs
 drop_twice [] ts xs = refl
 drop_twice (s ∷ ss) ts [] = drop_none (length ts) [] refl
 drop_twice (s ∷ ss) ts (x ∷ xs) = drop_twice ss ts xs
 
 -- no settlements have no records
-pub records_none : (reads : Call → List ℕ → Reading) (utc : ℕ) (ms : List (Option Mark)) → records_of reads utc ms [] ≡ []
+pub records_none : (reads : Asked → List ℕ → Reading) (utc : ℕ) (ms : List (Option Mark)) → records_of reads utc ms [] ≡ []
 records_none reads utc [] = refl
 records_none reads utc (m ∷ ms) = refl
 
 -- records without their moment are those of moment 0
-records_timeless : (reads : Call → List ℕ → Reading) (utc : ℕ) (ms : List (Option Mark)) (ss : List Settlement) → map timeless (records_of reads utc ms ss) ≡ records_of reads 0 ms ss
+records_timeless : (reads : Asked → List ℕ → Reading) (utc : ℕ) (ms : List (Option Mark)) (ss : List (Settlement Asked)) → map timeless (records_of reads utc ms ss) ≡ records_of reads 0 ms ss
 records_timeless reads utc [] ss = refl
 records_timeless reads utc (m ∷ ms) [] = refl
 records_timeless reads utc (None ∷ ms) (s ∷ ss) = records_timeless reads utc ms ss
 records_timeless reads utc (Some mark ∷ ms) (s ∷ ss) = ap (λ rs. record_of reads 0 mark s ∷ rs) (records_timeless reads utc ms ss)
 
 -- the records of two lists of settlements are those of the first and, by the marks that are left, those of the second
-records_append : (reads : Call → List ℕ → Reading) (ms : List (Option Mark)) (ss ts : List Settlement)
+records_append : (reads : Asked → List ℕ → Reading) (ms : List (Option Mark)) (ss ts : List (Settlement Asked))
     → records_of reads 0 ms (ss ++ ts) ≡ records_of reads 0 ms ss ++ records_of reads 0 (drop (length ss) ms) ts
 records_append reads [] [] ts = refl
 records_append reads [] (s ∷ ss) ts = refl
@@ -155,7 +155,7 @@ records_append reads (None ∷ ms) (s ∷ ss) ts = records_append reads ms ss ts
 records_append reads (Some mark ∷ ms) (s ∷ ss) ts = ap (λ rs. record_of reads 0 mark s ∷ rs) (records_append reads ms ss ts)
 
 -- settlements have the same records with more marks behind those of their requests
-records_more : (reads : Call → List ℕ → Reading) (ms more : List (Option Mark)) (ss : List Settlement) → length ss ≤ length ms → records_of reads 0 (ms ++ more) ss ≡ records_of reads 0 ms ss
+records_more : (reads : Asked → List ℕ → Reading) (ms more : List (Option Mark)) (ss : List (Settlement Asked)) → length ss ≤ length ms → records_of reads 0 (ms ++ more) ss ≡ records_of reads 0 ms ss
 records_more reads [] more [] le = records_none reads 0 more
 records_more reads [] more (s ∷ ss) le = absurd (omega (arith, le))
 records_more reads (m ∷ ms) more [] le = refl
@@ -187,13 +187,13 @@ end_sent expected (kind.ComFault code) zeroed line = refl
 end_sent expected (kind.Unreadable fault) zeroed line = refl
 
 -- a command whose request was settled went out, however it ended
-pub ended_sent : (reads : Call → List ℕ → Reading) (expected : Expected) (call : Call) (o : Outcome) → went_out (end_of reads expected call o) ≡ true
+pub ended_sent : (reads : Asked → List ℕ → Reading) (expected : Expected) (call : Asked) (o : Outcome) → went_out (end_of reads expected call o) ≡ true
 ended_sent reads expected call (Answered line) = end_sent expected (reads call line) (reads call (as_zero line)) line
 ended_sent reads expected call Late = refl
 ended_sent reads expected call Lost = refl
 
 -- all records of settlements are of commands that went out
-records_sent : (reads : Call → List ℕ → Reading) (utc : ℕ) (ms : List (Option Mark)) (ss : List Settlement) → sent_of (records_of reads utc ms ss) ≡ records_of reads utc ms ss
+records_sent : (reads : Asked → List ℕ → Reading) (utc : ℕ) (ms : List (Option Mark)) (ss : List (Settlement Asked)) → sent_of (records_of reads utc ms ss) ≡ records_of reads utc ms ss
 records_sent reads utc [] ss = refl
 records_sent reads utc (m ∷ ms) [] = refl
 records_sent reads utc (None ∷ ms) (s ∷ ss) = records_sent reads utc ms ss
@@ -212,28 +212,28 @@ sent_both [] ys = refl
 sent_both (r ∷ xs) ys = ap (sent_with (went_out r.end) r) (sent_both xs ys) ∙ sent_more (went_out r.end) r (sent_of xs) (sent_of ys)
 
 -- the records of settlements, behind others, are all of commands that went out
-pub sent_records : (reads : Call → List ℕ → Reading) (rs : List Record) (utc : ℕ) (ms : List (Option Mark)) (ss : List Settlement)
+pub sent_records : (reads : Asked → List ℕ → Reading) (rs : List Record) (utc : ℕ) (ms : List (Option Mark)) (ss : List (Settlement Asked))
     → sent_of (rs ++ records_of reads utc ms ss) ≡ sent_of rs ++ records_of reads utc ms ss
 sent_records reads rs utc ms ss = sent_both rs (records_of reads utc ms ss) ∙ ap (λ xs. sent_of rs ++ xs) (records_sent reads utc ms ss)
 
 -- `AreOf` says of marks and requests, one for one, that each request is of the command that its mark names. Where it holds of
 -- `ms` and `xs`, and of `ns` and `ys`, it holds of both joined
-pub of_append : (commands : List Task) (ms ns : List (Option Mark)) (xs ys : List Asked) → AreOf commands ms xs → AreOf commands ns ys → AreOf commands (ms ++ ns) (xs ++ ys)
+pub of_append : (commands : List Task) (ms ns : List (Option Mark)) (xs ys : List (Wanted Asked)) → AreOf commands ms xs → AreOf commands ns ys → AreOf commands (ms ++ ns) (xs ++ ys)
 of_append commands [] ns [] ys h g = g
 of_append commands [] ns (x ∷ xs) ys h g = absurd h
 of_append commands (m ∷ ms) ns [] ys h g = absurd h
 of_append commands (m ∷ ms) ns (x ∷ xs) ys h g = (h.0, of_append commands ms ns xs ys h.1 g)
 
 -- where `AreOf` holds, there are as many marks as requests
-pub of_length : (commands : List Task) (ms : List (Option Mark)) (xs : List Asked) → AreOf commands ms xs → length ms ≡ length xs
+pub of_length : (commands : List Task) (ms : List (Option Mark)) (xs : List (Wanted Asked)) → AreOf commands ms xs → length ms ≡ length xs
 of_length commands [] [] h = refl
 of_length commands [] (x ∷ xs) h = absurd h
 of_length commands (m ∷ ms) [] h = absurd h
 of_length commands (m ∷ ms) (x ∷ xs) h = ap suc (of_length commands ms xs h.1)
 
 -- the request at a place asks what the mark at that place says
-pub of_at : (commands : List Task) (ms : List (Option Mark)) (xs : List Asked) (n : ℕ) (mark : Option Mark) → AreOf commands ms xs
-    → slice_get ms n ≡ Some mark → (a : Asked) × (slice_get xs n ≡ Some a) × IsOf commands mark a
+pub of_at : (commands : List Task) (ms : List (Option Mark)) (xs : List (Wanted Asked)) (n : ℕ) (mark : Option Mark) → AreOf commands ms xs
+    → slice_get ms n ≡ Some mark → (a : Wanted Asked) × (slice_get xs n ≡ Some a) × IsOf commands mark a
 of_at commands [] [] n mark h e = cc
 of_at commands [] (x ∷ xs) n mark h e = absurd h
 of_at commands (m ∷ ms) [] n mark h e = absurd h
@@ -244,8 +244,8 @@ of_at commands (m ∷ ms) (x ∷ xs) zero mark h e = (x, refl, subst (λ (k : Op
 of_at commands (m ∷ ms) (x ∷ xs) (suc n) mark h e = of_at commands ms xs n mark h.1 e
 
 -- what holds of each record of a settlement, by its mark and the settlement, holds of all records of these settlements
-pub all_records : (reads : Call → List ℕ → Reading) (P : Record → Type 0) (ms : List (Option Mark)) (ss : List Settlement)
-    → ((n : ℕ) (mark : Mark) (s : Settlement) → slice_get ms n ≡ Some (Some mark) → slice_get ss n ≡ Some s → P (record_of reads 0 mark s)) → AllByRecursion P (records_of reads 0 ms ss)
+pub all_records : (reads : Asked → List ℕ → Reading) (P : Record → Type 0) (ms : List (Option Mark)) (ss : List (Settlement Asked))
+    → ((n : ℕ) (mark : Mark) (s : Settlement Asked) → slice_get ms n ≡ Some (Some mark) → slice_get ss n ≡ Some s → P (record_of reads 0 mark s)) → AllByRecursion P (records_of reads 0 ms ss)
 all_records reads P [] ss f = tt
 all_records reads P (m ∷ ms) [] f = tt
 all_records reads P (None ∷ ms) (s ∷ ss) f = all_records reads P ms ss (λ n mark x at got. f (suc n) mark x at got)
@@ -255,15 +255,15 @@ all_records reads P (Some mark ∷ ms) (s ∷ ss) f = (f 0 mark s refl refl, all
 
 -- a station with the marks `ms` and the records `rs` sends the requests `asks`, with the marks `more`, and the settlements `ss`
 -- come: then it has the marks `ms'` and the records `rs'`, which are compared without their moments
-pub record Wrote (reads : Call → List ℕ → Reading) (commands : List Task) (ms : List (Option Mark)) (rs : List Record) (more : List (Option Mark))
-    (ss : List Settlement) (asks : List Asked) (ms' : List (Option Mark)) (rs' : List Record) : Type 0 where
+pub record Wrote (reads : Asked → List ℕ → Reading) (commands : List Task) (ms : List (Option Mark)) (rs : List Record) (more : List (Option Mark))
+    (ss : List (Settlement Asked)) (asks : List (Wanted Asked)) (ms' : List (Option Mark)) (rs' : List Record) : Type 0 where
   pub marks : ms' ≡ drop (length ss) (ms ++ more)
   pub count : length ss ≤ length (ms ++ more)
   pub records : map timeless rs' ≡ map timeless rs ++ records_of reads 0 (ms ++ more) ss
   pub sent : AreOf commands more asks
 
 -- where `Wrote` holds of settlements, and of others behind them, it holds of all
-wrote_both : (reads : Call → List ℕ → Reading) (commands : List Task) (ms ms1 ms2 more1 more2 : List (Option Mark)) (rs rs1 rs2 : List Record) (ss1 ss2 : List Settlement) (asks1 asks2 : List Asked)
+wrote_both : (reads : Asked → List ℕ → Reading) (commands : List Task) (ms ms1 ms2 more1 more2 : List (Option Mark)) (rs rs1 rs2 : List Record) (ss1 ss2 : List (Settlement Asked)) (asks1 asks2 : List (Wanted Asked))
     → Wrote reads commands ms rs more1 ss1 asks1 ms1 rs1 → Wrote reads commands ms1 rs1 more2 ss2 asks2 ms2 rs2
     → Wrote reads commands ms rs (more1 ++ more2) (ss1 ++ ss2) (asks1 ++ asks2) ms2 rs2
 wrote_both reads commands ms ms1 ms2 more1 more2 rs rs1 rs2 ss1 ss2 asks1 asks2 h g =
@@ -293,30 +293,30 @@ wrote_both reads commands ms ms1 ms2 more1 more2 rs rs1 rs2 ss1 ss2 asks1 asks2 
       drop_length (suc n) (x ∷ xs) le = let more = drop_length n xs (omega (arith, le)) in omega (arith, more)
 
 -- the steps of part `p` take client `c`, with its marks and records, to client `c'` with the last marks and records
-pub record Books (reads : Call → List ℕ → Reading) (commands : List Task) (c : ById) (ms : List (Option Mark)) (rs : List Record) (p : Part) (c' : ById)
+pub record Books (reads : Asked → List ℕ → Reading) (commands : List Task) (c : ById Asked) (ms : List (Option Mark)) (rs : List Record) (p : Part) (c' : ById Asked)
     (ms' : List (Option Mark)) (rs' : List Record) : Type 0 where
   pub client : client_after c p.steps ≡ c'
   pub wrote : Wrote reads commands ms rs p.marks (settled_by c p.steps) (sent_by c p.steps) ms' rs'
 
 -- where part p takes a client to c1, and part q takes c1 to c2 (`Books`), p joined with q takes it to c2
-pub books_both : (reads : Call → List ℕ → Reading) (commands : List Task) (c c1 c2 : ById) (ms ms1 ms2 : List (Option Mark)) (rs rs1 rs2 : List Record) (p q : Part)
+pub books_both : (reads : Asked → List ℕ → Reading) (commands : List Task) (c c1 c2 : ById Asked) (ms ms1 ms2 : List (Option Mark)) (rs rs1 rs2 : List Record) (p q : Part)
     → Books reads commands c ms rs p c1 ms1 rs1 → Books reads commands c1 ms1 rs1 q c2 ms2 rs2 → Books reads commands c ms rs (joined p q) c2 ms2 rs2
 books_both reads commands c c1 c2 ms ms1 ms2 rs rs1 rs2 p q h g =
     let at = client_after c p.steps in
     let g' : Wrote reads commands ms1 rs1 q.marks (settled_by at q.steps) (sent_by at q.steps) ms2 rs2 =
-    subst (λ (d : ById). Wrote reads commands ms1 rs1 q.marks (settled_by d q.steps) (sent_by d q.steps) ms2 rs2) (sym h.client) g.wrote in
+    subst (λ (d : ById Asked). Wrote reads commands ms1 rs1 q.marks (settled_by d q.steps) (sent_by d q.steps) ms2 rs2) (sym h.client) g.wrote in
     record {
       client = client_append c p.steps q.steps ∙ ap (λ d. client_after d q.steps) h.client ∙ g.client;
       wrote =
           subst (λ ss. Wrote reads commands ms rs (p.marks ++ q.marks) ss (sent_by c (p.steps ++ q.steps)) ms2 rs2) (sym (settled_append c p.steps q.steps))
-          (subst (λ (asks : List Asked). Wrote reads commands ms rs (p.marks ++ q.marks) (settled_by c p.steps ++ settled_by at q.steps) asks ms2 rs2) (sym (sent_append c p.steps q.steps))
+          (subst (λ (asks : List (Wanted Asked)). Wrote reads commands ms rs (p.marks ++ q.marks) (settled_by c p.steps ++ settled_by at q.steps) asks ms2 rs2) (sym (sent_append c p.steps q.steps))
           (wrote_both reads commands ms ms1 ms2 p.marks q.marks rs rs1 rs2 (settled_by c p.steps) (settled_by at q.steps) (sent_by c p.steps) (sent_by at q.steps) h.wrote g'));
     }
 
 -- Single steps.
 
 -- where nothing is settled and nothing sent, the marks and the records stay
-wrote_none : (reads : Call → List ℕ → Reading) (commands : List Task) (ms : List (Option Mark)) (rs : List Record) → Wrote reads commands ms rs [] [] [] ms rs
+wrote_none : (reads : Asked → List ℕ → Reading) (commands : List Task) (ms : List (Option Mark)) (rs : List Record) → Wrote reads commands ms rs [] [] [] ms rs
 wrote_none reads commands ms rs = record {
   marks = sym (append-nil ms);
   count = omega arith;
@@ -325,21 +325,21 @@ wrote_none reads commands ms rs = record {
 }
 
 -- a part in which nothing happens leaves the client, the marks and the records
-pub books_nothing : (reads : Call → List ℕ → Reading) (commands : List Task) (c : ById) (ms : List (Option Mark)) (rs : List Record) → Books reads commands c ms rs nothing c ms rs
+pub books_nothing : (reads : Asked → List ℕ → Reading) (commands : List Task) (c : ById Asked) (ms : List (Option Mark)) (rs : List Record) → Books reads commands c ms rs nothing c ms rs
 books_nothing reads commands c ms rs = record { client = refl; wrote = wrote_none reads commands ms rs }
 
 -- turns of a beginning leave the client, the marks and the records
-pub books_turns : (reads : Call → List ℕ → Reading) (commands : List Task) (c : ById) (ms : List (Option Mark)) (rs : List Record) (turns : List Turn)
+pub books_turns : (reads : Asked → List ℕ → Reading) (commands : List Task) (c : ById Asked) (ms : List (Option Mark)) (rs : List Record) (turns : List Turn)
     → Books reads commands c ms rs (only_turns turns) c ms rs
 books_turns reads commands c ms rs turns = record { client = refl; wrote = wrote_none reads commands ms rs }
 
 -- a moment, which may give requests up, leaves the marks and the records
-pub books_moment : (reads : Call → List ℕ → Reading) (commands : List Task) (c : ById) (ms : List (Option Mark)) (rs : List Record) (now : ℕ)
+pub books_moment : (reads : Asked → List ℕ → Reading) (commands : List Task) (c : ById Asked) (ms : List (Option Mark)) (rs : List Record) (now : ℕ)
     → Books reads commands c ms rs (only (Expire now ∷ [])) (expires c now) ms rs
 books_moment reads commands c ms rs now = record { client = refl; wrote = wrote_none reads commands ms rs }
 
 -- settlements of the oldest requests (`ss`, also called `ts`) take out as many of the first marks, and add their records
-wrote_settled : (reads : Call → List ℕ → Reading) (commands : List Task) (ms : List (Option Mark)) (rs : List Record) (utc : ℕ) (ss ts : List Settlement)
+wrote_settled : (reads : Asked → List ℕ → Reading) (commands : List Task) (ms : List (Option Mark)) (rs : List Record) (utc : ℕ) (ss ts : List (Settlement Asked))
     → ts ≡ ss → length ss ≤ length ms → Wrote reads commands ms rs [] ts [] (drop (length ss) ms) (rs ++ records_of reads utc ms ss)
 wrote_settled reads commands ms rs utc ss ts same few =
     let whole : ms ++ [] ≡ ms = append-nil ms in
@@ -351,7 +351,7 @@ wrote_settled reads commands ms rs utc ss ts same few =
     })
 
 -- no more requests are settled than have marks
-few_settled : (ms : List (Option Mark)) (c d : ById) (ss : List Settlement) → length ms ≡ length c.waiting
+few_settled : (ms : List (Option Mark)) (c d : ById Asked) (ss : List (Settlement Asked)) → length ms ≡ length c.waiting
     → map of_settled ss ++ map of_pending d.waiting ≡ map of_pending c.waiting → length ss ≤ length ms
 few_settled ms c d ss paired parts =
     let ended : length (map of_settled ss) ≡ length ss = length-map ss of_settled in
@@ -360,7 +360,7 @@ few_settled ms c d ss paired parts =
     omega (arith, ended, count, paired)
 
 -- a line that the client hears: its settlements take out their marks, and add their records
-pub books_line : (reads : Call → List ℕ → Reading) (commands : List Task) (c : ById) (ms : List (Option Mark)) (rs : List Record) (utc : ℕ) (line : List ℕ) → length ms ≡ length c.waiting
+pub books_line : (reads : Asked → List ℕ → Reading) (commands : List Task) (c : ById Asked) (ms : List (Option Mark)) (rs : List Record) (utc : ℕ) (line : List ℕ) → length ms ≡ length c.waiting
     → (let x = hears c line (heard line) in Books reads commands c ms rs (only (Hear line ∷ [])) x.client (drop (length x.settlements) ms) (rs ++ records_of reads utc ms x.settlements))
 books_line reads commands c ms rs utc line paired =
     let x = hears c line (heard line) in
@@ -375,30 +375,30 @@ abbrev pub restarting : Part
 restarting = only (Restart ∷ [])
 
 -- a restart: all requests that wait are lost, which takes out their marks and adds their records
-pub books_restart : (reads : Call → List ℕ → Reading) (commands : List Task) (c : ById) (ms : List (Option Mark)) (rs : List Record) (utc : ℕ) → length ms ≡ length c.waiting
+pub books_restart : (reads : Asked → List ℕ → Reading) (commands : List Task) (c : ById Asked) (ms : List (Option Mark)) (rs : List Record) (utc : ℕ) → length ms ≡ length c.waiting
     → Books reads commands c ms rs restarting fresh (drop (length (map lost c.waiting)) ms) (rs ++ records_of reads utc ms (map lost c.waiting))
 books_restart reads commands c ms rs utc paired =
     let ss = map lost c.waiting in
     record { client = refl; wrote = wrote_settled reads commands ms rs utc ss (ss ++ []) (append-nil ss) (few_settled ms c fresh ss paired (append-nil (map of_settled ss) ∙ lost_parts c.waiting)) }
 
 -- what a client sends that isn't refused: the id, and the client after it
-abbrev pub sending_of : ById → ℕ → Call → ℕ → Sending ById
+abbrev pub sending_of : ById Asked → ℕ → Asked → ℕ → Sending (ById Asked)
 sending_of c target call deadline = record { id = c.next; client = client_sent c (id_send c target call deadline false) }
 
 -- a send isn't refused where the window has room
-pub sends_with_room : (c : ById) (target : ℕ) (call : Call) (deadline : ℕ) → length c.waiting < 7 → sends 7 c target call deadline ≡ Some (sending_of c target call deadline)
+pub sends_with_room : (c : ById Asked) (target : ℕ) (call : Asked) (deadline : ℕ) → length c.waiting < 7 → sends 7 c target call deadline ≡ Some (sending_of c target call deadline)
 sends_with_room c target call deadline room = ap (λ b. id_send c target call deadline b) (ne_eqb (length c.waiting) 7 (λ e. omega (arith, e, room)))
 
 -- a send to `target` of `call` with the outcome `o` (the last argument; `None` where the client refuses it) takes the client c
 -- to `client_sent c o`, and adds its mark to the marks `ms`; the records `rs` stay
-abbrev pub SentAt : (Call → List ℕ → Reading) → List Task → ById → List (Option Mark) → List Record → ℕ → Call → Option Mark → Option (Sending ById) → Type 0
+abbrev pub SentAt : (Asked → List ℕ → Reading) → List Task → ById Asked → List (Option Mark) → List Record → ℕ → Asked → Option Mark → Option (Sending (ById Asked)) → Type 0
 SentAt reads commands c ms rs target call mark o =
     ((sent_on (course_at c) target call o).client ≡ client_sent c o)
     × Wrote reads commands ms rs (mark ∷ []) ((sent_on (course_at c) target call o).settlements ++ []) ((sent_on (course_at c) target call o).sent ++ []) (ms ++ mark ∷ []) rs
 
 -- `SentAt` holds of a send that isn't refused
-sent_some : (reads : Call → List ℕ → Reading) (commands : List Task) (c : ById) (ms : List (Option Mark)) (rs : List Record) (target : ℕ) (call : Call)
-    (mark : Option Mark) (x : Sending ById) → IsOf commands mark (record { target = target; call = call })
+sent_some : (reads : Asked → List ℕ → Reading) (commands : List Task) (c : ById Asked) (ms : List (Option Mark)) (rs : List Record) (target : ℕ) (call : Asked)
+    (mark : Option Mark) (x : Sending (ById Asked)) → IsOf commands mark (record { target = target; call = call })
     → SentAt reads commands c ms rs target call mark (Some x)
 sent_some reads commands c ms rs target call mark x is = (
   refl,
@@ -411,7 +411,7 @@ sent_some reads commands c ms rs target call mark x is = (
 )
 
 -- a send where there is room: its mark is added, and the records stay
-pub books_send : (reads : Call → List ℕ → Reading) (commands : List Task) (c : ById) (ms : List (Option Mark)) (rs : List Record) (target : ℕ) (call : Call)
+pub books_send : (reads : Asked → List ℕ → Reading) (commands : List Task) (c : ById Asked) (ms : List (Option Mark)) (rs : List Record) (target : ℕ) (call : Asked)
     (deadline : ℕ) (mark : Option Mark) → length c.waiting < 7 → IsOf commands mark (record { target = target; call = call })
     → Books reads commands c ms rs (asking target call deadline mark) (client_sent c (sends 7 c target call deadline)) (ms ++ mark ∷ []) rs
 books_send reads commands c ms rs target call deadline mark room is =

@@ -4,7 +4,9 @@
 use Rattle.std.proofs.Common.{◌≡◌, ℕ, ◌⊎◌, inl, inr, ◌&&◌, ◌||◌, Bool, true, false, not, List, [], ◌∷◌, ◌++◌, length, drop, Option, Some, None, if◌then◌else◌, nat_lt, nat_eq, refl, sym, ap, ◌∙◌, subst, arith}
 use Rattle.std.proofs.lemmas.Bool.Decides.{nat_tests}
 use Rattle.std.proofs.lemmas.List.{nil_from_length}
+use Rattle.gc_catalogue.specs.declared.asked.Asked.TheVariants.{Table}
 use Rattle.gc_catalogue.specs.declared.call.Call.TheVariants.{NullProc}
+use Rattle.gc_catalogue.specs.declared.asked.Asked.{Asked}
 use Rattle.gc_client.specs.Rule.{ById}
 use Rattle.gc_texts.specs.declared.tasks.Task.{Task}
 use Rattle.gc_station.specs.declared.plan.Plan.{Plan}
@@ -162,7 +164,7 @@ moved_decides plan commands action.Send s act c o done e =
     walk plan commands (DecidesSo plan s action.Send c) action.Send (with_progress turned s) act o
     (λ m g. inr (inr refl), λ n g. fail_decides at at (is_up at) (cause.Write (requests_out plan commands (turned s.progress)) n) c (Cut text n) refl (text, refl) (λ d. d) g) e
 moved_decides plan commands action.Flush s act c o done e =
-    let text = request_text s.client NullProc in
+    let text = request_text s.client (Table NullProc) in
     let at = s.progress.phase in
     walk plan commands (DecidesSo plan s action.Flush c) action.Flush (with_progress turned s) act o
     (λ m g. inr (inr refl), λ n g. fail_decides at at (is_up at) (cause.Write (requests_out plan commands (turned s.progress)) n) c (Cut text n) refl (text, refl) (λ d. d) g) e
@@ -225,7 +227,7 @@ runs_split plan commands s (x ∷ xs) later act runs = let r = runs_split plan c
 
 -- where a null procedure of a beginning is next, nothing waits and the client is new
 goes_alone : (plan : Plan) (commands : List Task) (s : Model) (next : Action) → Invariant plan commands s → IsFor plan s.progress (waiting_of s) next → IsAlone next s
-goes_alone plan commands s action.Ask fine needs = let new = fine.begins needs.1 in (new, nil_from_length s.marks (fine.paired ∙ ap (λ (c : ById). length c.waiting) new))
+goes_alone plan commands s action.Ask fine needs = let new = fine.begins needs.1 in (new, nil_from_length s.marks (fine.paired ∙ ap (λ (c : ById Asked). length c.waiting) new))
 goes_alone plan commands s next fine needs = tt
 
 -- each act of a run is `IsReasoned`: it performs the action that is next, whose conditions hold

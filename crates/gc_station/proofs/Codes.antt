@@ -6,12 +6,12 @@ use Rattle.std.proofs.Common.{◌≡◌, ◌==◌, ◌&&◌, ◌||◌, ◌⊎◌
 use Rattle.std.specs.List.{list_any}
 use Rattle.std.proofs.lemmas.Bool.Decides.{eqb_tells}
 use Rattle.gc_lines.specs.Replies.{ReplyFields, IsReply}
-use Rattle.gc_catalogue.specs.Answers.{IsAnswer}
 use Rattle.gc_catalogue.specs.declared.answer.Answer.{Answer}
 use Rattle.gc_catalogue.specs.declared.answer.Reading.{Reading}
 use Rattle.gc_catalogue.specs.declared.answer.Reading.TheVariants as reading
-use Rattle.gc_catalogue.specs.declared.call.Call.{Call}
-use Rattle.gc_catalogue.specs.Readings.{IsReading}
+use Rattle.gc_catalogue.specs.declared.asked.Asked.{Asked}
+use Rattle.gc_catalogue.specs.declared.asked.Asked.TheVariants.{Table, Raw}
+use Rattle.gc_catalogue.specs.Asked.{IsAskedReading}
 use Rattle.gc_client.specs.Rule.{Answered}
 use Rattle.gc_texts.specs.Codes.{are_accepted, no_codes}
 use Rattle.gc_texts.specs.Nears.{is_elsewhere}
@@ -26,6 +26,16 @@ use Rattle.gc_station.specs.Codes.{WellIsAnAcceptedCode}
 use Rattle.gc_station.specs.Qualities.{GoodIsAnAnswer}
 use Rattle.gc_station.specs.Marks.{value_as, warned_as, refused_as, answer_as, end_of, is_well}
 use Rattle.gc_station.specs.Scopes.{AreReadings}
+
+-- a reply with a communication code other than 0 says that fault, whatever was asked
+pub com_fault_is : (asked : Asked) (r : ReplyFields) → (r.rc_com ≡ 0 → ⊥) → IsAskedReading asked r (reading.ComFault r.rc_com)
+com_fault_is (Table call) r other = (other, refl)
+com_fault_is (Raw raw) r other = (other, refl)
+
+-- a reply with communication code 0 and a return code other than 0 says that refusal, whatever was asked
+pub refused_is : (asked : Asked) (r : ReplyFields) → r.rc_com ≡ 0 → (r.rc ≡ 0 → ⊥) → IsAskedReading asked r (reading.Refused r.rc)
+refused_is (Table call) r none other = (none, other, refl)
+refused_is (Raw raw) r none other = (none, other, refl)
 
 -- a test isn't true and false
 apart : (b : Bool) → b ≡ true → b ≡ false → ⊥
@@ -51,13 +61,13 @@ none_accepted code e = elim (eqb_tells code 0) as (λ _. ⊥) [
   | inr other ↦ none_is 16 code other.1 (sym (ap (λ b. not b && list_any (λ c. c == code) (replicate 16 0)) other.0) ∙ e)
 ]
 
-module _ (reads : Call → List ℕ → Reading) (expected : Expected) (call : Call) (line : List ℕ) (r : ReplyFields) (are : AreReadings reads) (is : IsReply line r) where
-  -- where a reply's fields r mean `said` for the call (`IsReading`), `reads` reads its line as `said`
-  says : (said : Reading) → IsReading call r said → reads call line ≡ said
+module _ (reads : Asked → List ℕ → Reading) (expected : Expected) (call : Asked) (line : List ℕ) (r : ReplyFields) (are : AreReadings reads) (is : IsReply line r) where
+  -- where a reply's fields r mean `said` for the call (`IsAskedReading`), `reads` reads its line as `said`
+  says : (said : Reading) → IsAskedReading call r said → reads call line ≡ said
   says said reading = are call line said (record { reply = r; is_reply = is; is_reading = reading })
 
   -- where the same fields with return code 0 mean `said`, `reads` reads the line with return code 0 (`as_zero`) as `said`
-  says_zeroed : (said : Reading) → IsReading call (record r { rc = 0 }) said → reads call (as_zero line) ≡ said
+  says_zeroed : (said : Reading) → IsAskedReading call (record r { rc = 0 }) said → reads call (as_zero line) ≡ said
   says_zeroed said reading = are call (as_zero line) said (zero_reads call line r said is reading)
 
   -- the ending of a command that this line answers is `answer_as` of what the line says, and of what it says with return code 0
@@ -77,7 +87,7 @@ module _ (reads : Call → List ℕ → Reading) (expected : Expected) (call : C
   com_zero : is_well (end_of reads expected call (Answered line)) ≡ true → r.rc_com ≡ 0
   com_zero well = elim (eqb_tells r.rc_com 0) as (λ _. r.rc_com ≡ 0) [
     | inl same ↦ same.1
-    | inr other ↦ absurd (apart _ well (ap is_well (ended (reading.ComFault r.rc_com) (says (reading.ComFault r.rc_com) (other.1, refl)))))
+    | inr other ↦ absurd (apart _ well (ap is_well (ended (reading.ComFault r.rc_com) (says (reading.ComFault r.rc_com) (com_fault_is call r other.1)))))
   ]
 
   -- a command that is refused, and is answered well nevertheless, was refused with an accepted code
@@ -90,7 +100,7 @@ module _ (reads : Call → List ℕ → Reading) (expected : Expected) (call : C
   rc_zero : r.rc_com ≡ 0 → is_well (end_of reads expected call (Answered line)) ≡ true → (r.rc ≡ 0) ⊎ (are_accepted expected.accepted r.rc ≡ true)
   rc_zero none well = elim (eqb_tells r.rc 0) as (λ _. (r.rc ≡ 0) ⊎ (are_accepted expected.accepted r.rc ≡ true)) [
     | inl same ↦ inl same.1
-    | inr other ↦ inr (accepted_one (are_accepted expected.accepted r.rc) refl (says (reading.Refused r.rc) (none, other.1, refl)) well)
+    | inr other ↦ inr (accepted_one (are_accepted expected.accepted r.rc) refl (says (reading.Refused r.rc) (refused_is call r none other.1)) well)
   ]
 
   -- where no code is accepted, the return code is 0
@@ -108,16 +118,16 @@ module _ (reads : Call → List ℕ → Reading) (expected : Expected) (call : C
 
   -- a reply with both codes 0 and an answer ends a command as answered with the quality `Fine`, or as elsewhere where its
   -- direction isn't near the target's place
-  value_ends : (answer : Answer) → r.rc_com ≡ 0 → r.rc ≡ 0 → IsAnswer call r.params answer
+  value_ends : (answer : Answer) → IsAskedReading call r (reading.Value answer)
       → end_of reads expected call (Answered line) ≡ value_as quality.Fine (is_elsewhere expected.near answer) answer line
-  value_ends answer none rc has = ended (reading.Value answer) (says (reading.Value answer) (none, rc, has))
+  value_ends answer has = ended (reading.Value answer) (says (reading.Value answer) has)
 
   -- a reply with an accepted return code other than 0 ends a command as `warned_as` says, by what its line says with return
   -- code 0
-  warned_ends : (said : Reading) → r.rc_com ≡ 0 → (r.rc ≡ 0 → ⊥) → are_accepted expected.accepted r.rc ≡ true → IsReading call (record r { rc = 0 }) said
+  warned_ends : (said : Reading) → r.rc_com ≡ 0 → (r.rc ≡ 0 → ⊥) → are_accepted expected.accepted r.rc ≡ true → IsAskedReading call (record r { rc = 0 }) said
       → end_of reads expected call (Answered line) ≡ warned_as expected.near said line
   warned_ends said none some accepted read =
-      ended_refused r.rc true (says (reading.Refused r.rc) (none, some, refl)) accepted ∙ ap (λ x. warned_as expected.near x line) (says_zeroed said read)
+      ended_refused r.rc true (says (reading.Refused r.rc) (refused_is call r none some)) accepted ∙ ap (λ x. warned_as expected.near x line) (says_zeroed said read)
 
 -- where no code is accepted, an answer of a good quality has both codes 0
 pub without_accept : GoodIsAnAnswer
@@ -135,16 +145,16 @@ accepted_codes = record {
       let first = com_zero reads expected call line r are is well in
       (first, without_codes reads expected call line r are is none (rc_zero reads expected call line r are is first well));
   unread = λ reads expected call line r said are is reading none unlisted. unread_well reads expected call line r are is said (says reads expected call line r are is said reading) none unlisted;
-  found = λ reads expected call line r answer are is none rc has.
-      ap is_well (value_ends reads expected call line r are is answer none rc has) ∙ value_well quality.Fine refl answer line (is_elsewhere expected.near answer);
-  away = λ reads expected call line r answer are is none rc has elsewhere.
-      value_ends reads expected call line r are is answer none rc has ∙ ap (λ b. value_as quality.Fine b answer line) elsewhere;
+  found = λ reads expected call line r answer are is has.
+      ap is_well (value_ends reads expected call line r are is answer has) ∙ value_well quality.Fine refl answer line (is_elsewhere expected.near answer);
+  away = λ reads expected call line r answer are is has elsewhere.
+      value_ends reads expected call line r are is answer has ∙ ap (λ b. value_as quality.Fine b answer line) elsewhere;
   warned = λ reads expected call line r answer are is none some accepted has.
-      ap is_well (warned_ends reads expected call line r are is (reading.Value answer) none some accepted (none, refl, has))
+      ap is_well (warned_ends reads expected call line r are is (reading.Value answer) none some accepted has)
       ∙ value_well quality.Warning refl answer line (is_elsewhere expected.near answer);
   warned_away = λ reads expected call line r answer are is none some accepted has elsewhere.
-      warned_ends reads expected call line r are is (reading.Value answer) none some accepted (none, refl, has) ∙ ap (λ b. value_as quality.Warning b answer line) elsewhere;
+      warned_ends reads expected call line r are is (reading.Value answer) none some accepted has ∙ ap (λ b. value_as quality.Warning b answer line) elsewhere;
   warned_without = λ reads expected call line r fault are is none some accepted unreadable.
-      warned_ends reads expected call line r are is (reading.Unreadable fault) none some accepted (none, refl, unreadable);
+      warned_ends reads expected call line r are is (reading.Unreadable fault) none some accepted unreadable;
   none = λ reads expected call. (refl, refl, refl, refl);
 }

@@ -2,6 +2,7 @@
 -- connection, and where it is to be closed. So a call that fails keeps them, and so does a close. What each other act has to
 -- keep is `OnLine`. An act is one call of the link, with what came of it.
 use Rattle.std.proofs.Common.{◌≡◌, ℕ, ◌&&◌, Bool, true, false, not, List, [], ◌∷◌, ◌++◌, drop, length, if◌then◌else◌, refl, ap}
+use Rattle.gc_catalogue.specs.declared.asked.Asked.TheVariants.{Table}
 use Rattle.gc_catalogue.specs.declared.call.Call.TheVariants.{NullProc}
 use Rattle.gc_texts.specs.declared.tasks.Task.{Task}
 use Rattle.gc_links.specs.declared.link.Moment.{Moment}
@@ -68,7 +69,7 @@ OnLine plan commands F actions.Ask s acts = (m : Moment) → F (null_sent plan s
 OnLine plan commands F actions.Send s acts = (m : Moment) → F (sent (is_chained_behind_next commands s.progress) s.progress)
     (acts ++ Put (first_text s.client (drop (place_next commands s.progress) commands)) ∷ [])
 OnLine plan commands F actions.Skip s acts = (m : Moment) → F (reckoned_early plan (commands_in s.marks) (skipped (is_chained_behind_next commands s.progress) m s.progress)) (acts ++ Told m ∷ [])
-OnLine plan commands F actions.Flush s acts = (m : Moment) → F (asking s.progress) (acts ++ Put (request_text s.client NullProc) ∷ [])
+OnLine plan commands F actions.Flush s acts = (m : Moment) → F (asking s.progress) (acts ++ Put (request_text s.client (Table NullProc)) ∷ [])
 OnLine plan commands F (actions.Read until) s acts =
     ((bytes : List ℕ) (m : Moment) → F (piece_at plan until bytes m s).progress (acts ++ Gave bytes m ∷ []))
     × ((m : Moment) → Silenced plan F until m s.progress acts)

@@ -1,8 +1,8 @@
 -- A cycle begins only where it is due. `p` is how far the station is, and `w` what waits; each `action_...` is the next action
 -- under some conditions. `BeginsDue` says of an action: if it begins a cycle, the cycle is due.
-use Rattle.std.proofs.Common.{◌≡◌, ◌-◌, ◌&&◌, Bool, true, false, nat_lt, nat_le, nat_eq, if◌then◌else◌, not}
-use Rattle.gc_station.specs.Deciding.{is_up, is_idle, is_finished, has_begun, is_dead, is_due, has_room, action_of, action_in, action_on, action_told, may_go, action_ready, action_begun, action_beginning, action_sent, action_settled, action_done, action_room, action_waiting, action_up}
-use Rattle.gc_station.specs.Progressing.{told, begun, beginning}
+use Rattle.std.proofs.Common.{◌≡◌, ◌&&◌, Bool, true, false, nat_lt, nat_le, nat_eq, if◌then◌else◌, not}
+use Rattle.gc_client.specs.declared.window.TheConstants.{WINDOW}
+use Rattle.gc_station.specs.Deciding.{is_up, is_idle, is_finished, has_begun, is_dead, is_due, has_room, action_of, action_in, action_on, action_told, may_go, action_ready, action_begun, action_beginning, action_sent, action_settled, action_done, action_next, action_room, action_waiting, action_up}
 use Rattle.gc_station.specs.declared.cause.Cause.TheVariants as cause
 use Rattle.gc_station.specs.declared.plan.Plan.{Plan}
 use Rattle.gc_station.specs.declared.progress.Action.{Action}
@@ -30,6 +30,12 @@ module _ (plan : Plan) (p : Progress) (w : Waiting) where
   pub room_not : (next : Action) → BeginsDue plan p next → BeginsDue plan p (action_room plan p w next)
   room_not next not = either (BeginsDue plan p) next (action_waiting plan p w) (has_room plan w) (λ e. not) (λ e. waits_not)
 
+  -- no cycle begins where the next command may go out
+  pub next_not : BeginsDue plan p (action_next plan p w)
+  next_not =
+      either (BeginsDue plan p) (action_room plan p w actions.Send) _ (nat_lt p.behind WINDOW) (λ e. room_not actions.Send (λ b. cc))
+      (λ e. either (BeginsDue plan p) (action_room plan p w actions.Flush) (action_waiting plan p w) (nat_eq w.current 0) (λ d. room_not actions.Flush (λ b. cc)) (λ d. waits_not))
+
   -- where each command of the cycle is settled, the next cycle begins only when it is due
   pub done_due : BeginsDue plan p (action_done plan p)
   done_due =
@@ -39,8 +45,8 @@ module _ (plan : Plan) (p : Progress) (w : Waiting) where
   -- where each command that was sent is settled, the next cycle begins only when it is due
   pub settled_due : BeginsDue plan p (action_settled plan p w)
   settled_due =
-      either (BeginsDue plan p) (action_done plan p) (if may_go p w then action_room plan p w actions.Send else actions.Skip) (nat_eq p.unsent 0) (λ e. done_due)
-      (λ e. either (BeginsDue plan p) (action_room plan p w actions.Send) actions.Skip (may_go p w) (λ d. room_not actions.Send (λ b. cc)) (λ d b. cc))
+      either (BeginsDue plan p) (action_done plan p) (if may_go p w then action_next plan p w else actions.Skip) (nat_eq p.unsent 0) (λ e. done_due)
+      (λ e. either (BeginsDue plan p) (action_next plan p w) actions.Skip (may_go p w) (λ d. next_not) (λ d b. cc))
 
   -- where no command may go out, the next cycle begins only when it is due
   pub sent_due : BeginsDue plan p (action_sent plan p w)
@@ -51,7 +57,7 @@ module _ (plan : Plan) (p : Progress) (w : Waiting) where
   -- once the station has begun, a cycle begins only when it is due
   pub begun_due : BeginsDue plan p (action_begun plan p w)
   begun_due =
-      either (BeginsDue plan p) (action_room plan p w actions.Send) (action_sent plan p w) (nat_lt 0 p.unsent && not p.next_is_chained) (λ d. room_not actions.Send (λ b. cc)) (λ d. sent_due)
+      either (BeginsDue plan p) (action_next plan p w) (action_sent plan p w) (nat_lt 0 p.unsent && not p.next_is_chained) (λ d. next_not) (λ d. sent_due)
 
   -- no cycle begins where a null procedure goes out or is waited for
   pub asks_not : BeginsDue plan p (if nat_le p.again p.moment.elapsed then actions.Ask else actions.Read Limit)

@@ -4,6 +4,7 @@
 -- `None` of a null procedure.
 use Rattle.std.proofs.Common.{◌≡◌, ℕ, ◌-◌, ◌<◌, ◌⊎◌, inl, inr, ◌||◌, ◌&&◌, Bool, true, false, not, List, [], ◌∷◌, length, drop, map, nat_eq, Option, refl, sym, ap, ◌∙◌, subst, arith, append-nil, if◌then◌else◌}
 use Rattle.std.proofs.lemmas.List.{length-drop}
+use Rattle.gc_catalogue.specs.declared.asked.Asked.TheVariants.{Table}
 use Rattle.gc_catalogue.specs.declared.call.Call.TheVariants.{NullProc}
 use Rattle.gc_texts.specs.declared.tasks.Task.{Task}
 use Rattle.gc_links.specs.declared.link.Moment.{Moment}
@@ -64,7 +65,7 @@ mid_flushed : (plan : Plan) (commands : List Task) (s : Model) → s.progress.ph
     → Mid plan commands (with_progress asking (asks_null plan s))
 mid_flushed plan commands s is room mid =
     let p = s.progress in (
-      sound_null plan commands p.left p.unsent s.client s.marks s.records 0 NullProc (later p.moment.elapsed plan.deadline) room mid.0,
+      sound_null plan commands p.left p.unsent s.client s.marks s.records 0 (Table NullProc) (later p.moment.elapsed plan.deadline) room mid.0,
       going_placed p.phase p.left p.unsent s.rest (asks_null plan s).marks is,
     )
 
@@ -144,7 +145,7 @@ mid_moved plan commands s action.Skip act fine is =
     mid_skip plan commands next_is_chained t act is.0 is.2 is.3 (mid_of plan commands s fine)
 mid_moved plan commands s action.Flush act fine is =
     let t = with_progress turned s in
-    mid_put plan commands _ (λ (x : Model). with_progress asking (asks_null plan x)) t act (mid_flushed plan commands t is.0 is.5.1 (mid_of plan commands s fine))
+    mid_put plan commands _ (λ (x : Model). with_progress asking (asks_null plan x)) t act (mid_flushed plan commands t is.0 is.4.1 (mid_of plan commands s fine))
 mid_moved plan commands s (action.Read until) act fine is = mid_read plan commands until (with_progress turned s) act (mid_of plan commands s fine)
 mid_moved plan commands s (action.Close why) act fine is = mid_close plan commands (with_progress turned s) why (close_done plan commands s (waiting_of s) why fine is) (mid_of plan commands s fine)
 mid_moved plan commands s (action.Stop why) act fine is = mid_of plan commands s fine

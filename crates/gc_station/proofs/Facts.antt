@@ -14,8 +14,8 @@ use Rattle.gc_station.specs.declared.progress.Action.TheVariants as action
 use Rattle.gc_station.specs.declared.progress.Progress.{Progress}
 use Rattle.gc_station.specs.declared.progress.Until.TheVariants.{Limit, Due}
 use Rattle.gc_station.specs.declared.progress.Waiting.{Waiting}
-use Rattle.gc_station.specs.Reasons.{IsFor, IsHeld, HasRoom, NothingMayGo}
-use Rattle.gc_station.specs.Deciding.{width_of, has_begun, is_up, is_dead, is_due, is_idle, is_finished, has_room, action_of, action_in, action_on, action_told, may_go, action_ready, action_begun, action_beginning, action_sent, action_settled, action_done, action_room, action_waiting, action_up}
+use Rattle.gc_station.specs.Reasons.{IsFor, IsHeld, HasRoom, MayGo, NothingMayGo}
+use Rattle.gc_station.specs.Deciding.{width_of, has_begun, is_up, is_dead, is_due, is_idle, is_finished, has_room, action_of, action_in, action_on, action_told, may_go, action_ready, action_begun, action_beginning, action_sent, action_settled, action_done, action_next, action_room, action_waiting, action_up}
 use Rattle.gc_station.specs.Stations.{IsFitting}
 
 -- what holds of x where a test holds, and of y where it doesn't, holds of the one that the test chooses
@@ -134,6 +134,17 @@ room_for plan p w o awake begun step =
     either (Holds plan p w) o _ (has_room plan w) (λ e. step (room_there plan w e))
     (λ e. let none = one_false (nat_lt w.current (width_of plan)) (nat_lt w.all WINDOW) e in waits plan p w awake begun (no_room plan p w none) (no_room_full plan w none))
 
+-- `Holds` is true where the next command may go out
+next_for : (plan : Plan) (p : Progress) (w : Waiting) → Awake p → has_begun p ≡ true → 0 < p.unsent → MayGo p w → Holds plan p w (action_next plan p w)
+next_for plan p w awake begun some may =
+    let P = Holds plan p w in
+    either P _ _ (nat_lt p.behind WINDOW)
+    (λ near. room_for plan p w action.Send awake begun (λ room. ((awake.1, begun, some, room, may, ltb-true p.behind WINDOW near), tt, awake)))
+    (λ far. let many = ltb-false p.behind WINDOW far in either P _ _ (nat_eq w.current 0)
+    (λ given. room_for plan p w action.Flush awake begun (λ room. ((awake.1, begun, inr (some, may, many), eqb-true w.current 0 given, room), tt, awake)))
+    (λ current. let under = some_left w.current current in
+    waits plan p w awake begun (inr (inr (inr (inr (many, under))))) (λ none. absurd (omega (arith, none, under)))))
+
 -- `Holds` is true where each command of the cycle is settled
 done_for : (plan : Plan) (p : Progress) (w : Waiting) → Awake p → has_begun p ≡ true → p.unsent ≡ 0 → w.commands ≡ 0 → Holds plan p w (action_done plan p)
 done_for plan p w awake begun sent settled =
@@ -152,8 +163,7 @@ settled_for plan p w awake begun held settled =
     let P = Holds plan p w in
     either P _ _ (nat_eq p.unsent 0) (λ e. done_for plan p w awake begun (eqb-true p.unsent 0 e) settled)
     (λ e. either P _ action.Skip (may_go p w)
-    (λ well. let it = both_true w.well p.chain_unbroken well in room_for plan p w action.Send awake begun
-    (λ room. ((awake.1, begun, some_left p.unsent e, room, inr (settled, it.0, it.1)), tt, awake)))
+    (λ well. let it = both_true w.well p.chain_unbroken well in next_for plan p w awake begun (some_left p.unsent e) (inr (settled, it.0, it.1)))
     (λ broken. ((awake.1, begun, some_left p.unsent e, settled, chained p held e, broken), tt, tt)))
 
 -- `Holds` is true where no command may go out before those that wait are settled
@@ -162,8 +172,8 @@ sent_for plan p w awake begun held =
     let P = Holds plan p w in
     either P _ _ (nat_eq w.commands 0) (λ e. settled_for plan p w awake begun held (eqb-true w.commands 0 e))
     (λ e. either P _ _ (nat_eq w.current 0)
-    (λ given. room_for plan p w action.Flush awake begun (λ room. ((awake.1, begun, held, some_left w.commands e, eqb-true w.current 0 given, room), tt, awake)))
-    (λ some. let many = some_left w.current some in waits plan p w awake begun (inr (inr (inr (held, some_left w.commands e, many)))) (λ none. absurd (omega (arith, none, many)))))
+    (λ given. room_for plan p w action.Flush awake begun (λ room. ((awake.1, begun, inl (held, some_left w.commands e), eqb-true w.current 0 given, room), tt, awake)))
+    (λ some. let many = some_left w.current some in waits plan p w awake begun (inr (inr (inr (inl (held, some_left w.commands e, many))))) (λ none. absurd (omega (arith, none, many)))))
 
 -- a command that may not go out at once waits for those before it (`IsHeld`)
 held_so : (p : Progress) → (nat_lt 0 p.unsent && not p.next_is_chained) ≡ false → IsHeld p
@@ -188,7 +198,7 @@ begun_for : (plan : Plan) (p : Progress) (w : Waiting) → Awake p → has_begun
 begun_for plan p w awake begun =
     either (Holds plan p w) _ _ (nat_lt 0 p.unsent && not p.next_is_chained)
     (λ some. let it = both_true (nat_lt 0 p.unsent) (not p.next_is_chained) some in
-    room_for plan p w action.Send awake begun (λ room. ((awake.1, begun, ltb-true 0 p.unsent it.0, room, inl (free_so p.next_is_chained it.1)), tt, awake)))
+    next_for plan p w awake begun (ltb-true 0 p.unsent it.0) (inl (free_so p.next_is_chained it.1)))
     (λ none. sent_for plan p w awake begun (held_so p none))
 
 -- what `is_finished` says: no cycle and no command is left, and none waits
@@ -262,7 +272,7 @@ fits : (plan : Plan) (p : Progress) (w : Waiting) (next : Action) → IsFor plan
 fits plan p w action.Ask is = is.1
 fits plan p w action.Send is = (is.2, is.3.1)
 fits plan p w action.Skip is = is.2
-fits plan p w action.Flush is = is.5.1
+fits plan p w action.Flush is = is.4.1
 fits plan p w next is = tt
 
 -- the action that is next has what its call needs

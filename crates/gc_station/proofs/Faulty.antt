@@ -1,6 +1,6 @@
 -- A run that stopped for a cause fails with the fault of that cause. An act is one call of the link, with what came of it.
 -- `told` and `told'` are what the link had told before the run and after it, `taken` and `taken'` what the book had taken.
-use Rattle.std.proofs.Common.{◌≡◌, ℕ, List, Option, Some, None, Result, Err, refl, subst}
+use Rattle.std.proofs.Common.{◌≡◌, ℕ, List, Option, Some, Err, refl, subst}
 use Rattle.gc_links.specs.Acts.{Act}
 use Rattle.gc_texts.specs.declared.fault.RunFault.{RunFault}
 use Rattle.gc_texts.specs.declared.fault.RunFault.TheVariants as fault

@@ -5,7 +5,7 @@
 use Rattle.std.proofs.Common.{◌≡◌, ℕ, ◌&&◌, Bool, true, false, List, [], ◌∷◌, ◌++◌, length, map, drop, Option, refl, sym, ◌∙◌, ap, subst, append_assoc, append-nil}
 use Rattle.std.proofs.lemmas.List.{nil_from_length}
 use Rattle.gc_catalogue.specs.declared.answer.Reading.{Reading}
-use Rattle.gc_catalogue.specs.declared.call.Call.{Call}
+use Rattle.gc_catalogue.specs.declared.asked.Asked.{Asked}
 use Rattle.gc_client.specs.OneForOne.{Step}
 use Rattle.gc_client.specs.Rule.{ById, fresh, lost}
 use Rattle.gc_texts.specs.declared.tasks.Task.{Task}
@@ -28,7 +28,7 @@ use Rattle.gc_station.proofs.Readings.{moved_reads, ended_reads}
 
 -- the steps of these parts, from this client, these marks and these records on, lead to the model `end`: after each part but the
 -- last the client restarts, and what waits is written down as lost
-abbrev pub BooksInParts : (Call → List ℕ → Reading) → List Task → ById → List (Option Mark) → List Record → List Part → Model → Type 0
+abbrev pub BooksInParts : (Asked → List ℕ → Reading) → List Task → ById Asked → List (Option Mark) → List Record → List Part → Model → Type 0
 BooksInParts reads commands c ms rs [] end = ⊥
 BooksInParts reads commands c ms rs (p ∷ []) end = Books reads commands c ms rs p end.client end.marks (sent_of end.records)
 BooksInParts reads commands c ms rs (p ∷ q ∷ ps) end =
@@ -38,17 +38,17 @@ BooksInParts reads commands c ms rs (p ∷ q ∷ ps) end =
 joined_assoc : (p q r : Part) → joined (joined p q) r ≡ joined p (joined q r)
 joined_assoc p q r =
     ap (λ (turns : List Turn). record { turns = turns; steps = (p.steps ++ q.steps) ++ r.steps; marks = (p.marks ++ q.marks) ++ r.marks }) (append_assoc p.turns q.turns r.turns)
-    ∙ ap (λ (steps : List Step). record { turns = p.turns ++ (q.turns ++ r.turns); steps = steps; marks = (p.marks ++ q.marks) ++ r.marks }) (append_assoc p.steps q.steps r.steps)
+    ∙ ap (λ (steps : List (Step Asked)). record { turns = p.turns ++ (q.turns ++ r.turns); steps = steps; marks = (p.marks ++ q.marks) ++ r.marks }) (append_assoc p.steps q.steps r.steps)
     ∙ ap (λ (marks : List (Option Mark)). record { turns = p.turns ++ (q.turns ++ r.turns); steps = p.steps ++ (q.steps ++ r.steps); marks = marks }) (append_assoc p.marks q.marks r.marks)
 
 -- `BooksInParts` with one more part in front, after which the client restarts
-follows_cut : (reads : Call → List ℕ → Reading) (commands : List Task) (c : ById) (ms : List (Option Mark)) (rs mid : List Record) (p : Part) (ps : List Part) (end : Model)
+follows_cut : (reads : Asked → List ℕ → Reading) (commands : List Task) (c : ById Asked) (ms : List (Option Mark)) (rs mid : List Record) (p : Part) (ps : List Part) (end : Model)
     → Books reads commands c ms rs (joined p restarting) fresh [] mid → BooksInParts reads commands fresh [] mid ps end → BooksInParts reads commands c ms rs (p ∷ ps) end
 follows_cut reads commands c ms rs mid p [] end h g = absurd g
 follows_cut reads commands c ms rs mid p (q ∷ ps) end h g = (mid, h, g)
 
 -- `BooksInParts` with a part in front that is joined to the first of them
-follows_on : (reads : Call → List ℕ → Reading) (commands : List Task) (c c1 : ById) (ms ms1 : List (Option Mark)) (rs rs1 : List Record) (p : Part) (ps : List Part) (end : Model)
+follows_on : (reads : Asked → List ℕ → Reading) (commands : List Task) (c c1 : ById Asked) (ms ms1 : List (Option Mark)) (rs rs1 : List Record) (p : Part) (ps : List Part) (end : Model)
     → Books reads commands c ms rs p c1 ms1 rs1 → BooksInParts reads commands c1 ms1 rs1 ps end → BooksInParts reads commands c ms rs (in_front p false ps) end
 follows_on reads commands c c1 ms ms1 rs rs1 p [] end h g = absurd g
 follows_on reads commands c c1 ms ms1 rs rs1 p (q ∷ []) end h g = books_both reads commands c c1 end.client ms ms1 end.marks rs rs1 (sent_of end.records) p q h g
@@ -77,10 +77,10 @@ kept_same t true is = cc
 kept_same t false is = refl
 
 -- where the client is new nothing waits, so a restart writes nothing down
-leads_idle : (reads : Call → List ℕ → Reading) (commands : List Task) (c : ById) (ms : List (Option Mark)) (rs : List Record) (utc : ℕ) → c ≡ fresh
+leads_idle : (reads : Asked → List ℕ → Reading) (commands : List Task) (c : ById Asked) (ms : List (Option Mark)) (rs : List Record) (utc : ℕ) → c ≡ fresh
     → Books reads commands c ms (sent_of rs) nothing fresh (drop (length (map lost c.waiting)) ms) (sent_of (rs ++ records_of reads utc ms (map lost c.waiting)))
 leads_idle reads commands c ms rs utc is =
-    subst (λ (d : ById). Books reads commands d ms (sent_of rs) nothing fresh (drop (length (map lost d.waiting)) ms) (sent_of (rs ++ records_of reads utc ms (map lost d.waiting)))) (sym is)
+    subst (λ (d : ById Asked). Books reads commands d ms (sent_of rs) nothing fresh (drop (length (map lost d.waiting)) ms) (sent_of (rs ++ records_of reads utc ms (map lost d.waiting)))) (sym is)
     (subst (λ (l : List Record). Books reads commands fresh ms (sent_of rs) nothing fresh ms (sent_of l))
     (sym (ap (λ l. rs ++ l) (records_none reads utc ms) ∙ append-nil rs)) (books_nothing reads commands fresh ms (sent_of rs)))
 
@@ -93,18 +93,18 @@ idle_lost commands t false is = books_nothing t.reads commands t.client t.marks 
 joined_nothing : (p : Part) → joined p nothing ≡ p
 joined_nothing p =
     ap (λ (turns : List Turn). record { turns = turns; steps = p.steps ++ []; marks = p.marks ++ [] }) (append-nil p.turns)
-    ∙ ap (λ (steps : List Step). record { turns = p.turns; steps = steps; marks = p.marks ++ [] }) (append-nil p.steps)
+    ∙ ap (λ (steps : List (Step Asked)). record { turns = p.turns; steps = steps; marks = p.marks ++ [] }) (append-nil p.steps)
     ∙ ap (λ (marks : List (Option Mark)). record { turns = p.turns; steps = p.steps; marks = marks }) (append-nil p.marks)
 
 -- the part p leads from one model to another, with these readings of replies
-abbrev LeadsBy : (Call → List ℕ → Reading) → List Task → Model → Part → Model → Type 0
+abbrev LeadsBy : (Asked → List ℕ → Reading) → List Task → Model → Part → Model → Type 0
 LeadsBy reads commands s p t = Books reads commands s.client s.marks (sent_of s.records) p t.client t.marks (sent_of t.records)
 
 -- `Leads` gives `LeadsBy` with the model's own readings
-leads_by : (reads : Call → List ℕ → Reading) (commands : List Task) (s : Model) (p : Part) (t : Model) → s.reads ≡ reads → Leads commands s p t → LeadsBy reads commands s p t
-leads_by reads commands s p t is h = subst (λ (r : Call → List ℕ → Reading). LeadsBy r commands s p t) is h
+leads_by : (reads : Asked → List ℕ → Reading) (commands : List Task) (s : Model) (p : Part) (t : Model) → s.reads ≡ reads → Leads commands s p t → LeadsBy reads commands s p t
+leads_by reads commands s p t is h = subst (λ (r : Asked → List ℕ → Reading). LeadsBy r commands s p t) is h
 
-module _ (plan : Plan) (commands : List Task) (reads : Call → List ℕ → Reading) where
+module _ (plan : Plan) (commands : List Task) (reads : Asked → List ℕ → Reading) where
   -- where the client is new, as while the station begins, `LeadsBy` holds after the loss, too
   leads_idly : (s : Model) (p : Part) (t : Model) → t.reads ≡ reads → t.client ≡ fresh → LeadsBy reads commands s p t → LeadsBy reads commands s p (losing (loses_all t.progress) t)
   leads_idly s p t same is h =
@@ -131,14 +131,14 @@ module _ (plan : Plan) (commands : List Task) (reads : Call → List ℕ → Rea
   one_more s p t ps end true true same w l fine later paired h k others =
       let u = losing (loses_all t.progress) t in
       let new : u.client ≡ fresh = lost_fresh t (loses_all t.progress) l in
-      let none : u.marks ≡ [] = nil_from_length u.marks (later.paired ∙ ap (λ (c : ById). length c.waiting) new) in
+      let none : u.marks ≡ [] = nil_from_length u.marks (later.paired ∙ ap (λ (c : ById Asked). length c.waiting) new) in
       let lost_here = leads_by reads commands t restarting u same (leads_lost commands t (loses_all t.progress) l paired) in
       let both = books_both reads commands s.client t.client u.client s.marks t.marks u.marks (sent_of s.records) (sent_of t.records) (sent_of u.records) p restarting h lost_here in
       follows_cut reads commands s.client s.marks (sent_of s.records) (sent_of u.records) p ps end
       (subst (λ (ms : List (Option Mark)). Books reads commands s.client s.marks (sent_of s.records) (joined p restarting) fresh ms (sent_of u.records)) none
-      (subst (λ (c : ById). Books reads commands s.client s.marks (sent_of s.records) (joined p restarting) c u.marks (sent_of u.records)) new both))
+      (subst (λ (c : ById Asked). Books reads commands s.client s.marks (sent_of s.records) (joined p restarting) c u.marks (sent_of u.records)) new both))
       (subst (λ (ms : List (Option Mark)). BooksInParts reads commands fresh ms (sent_of u.records) ps end) none
-      (subst (λ (c : ById). BooksInParts reads commands c u.marks (sent_of u.records) ps end) new others))
+      (subst (λ (c : ById Asked). BooksInParts reads commands c u.marks (sent_of u.records) ps end) new others))
 
   -- the records of a run are those that its parts write down
   pub follows : (s : Model) (acts : List Act) → s.reads ≡ reads → Invariant plan commands s → Runs plan commands s acts

@@ -19,7 +19,7 @@ use Rattle.gc_lines.specs.declared.frame.Lent.{Lent}
 use Rattle.gc_lines.specs.declared.frame.Lent.TheVariants as lent
 use Rattle.gc_lines.proofs.Passing.{Takes}
 use Rattle.gc_catalogue.specs.declared.answer.Reading.{Reading}
-use Rattle.gc_catalogue.specs.declared.call.Call.{Call}
+use Rattle.gc_catalogue.specs.declared.asked.Asked.{Asked}
 use Rattle.gc_client.specs.declared.pending.Pending.{Pending}
 use Rattle.gc_client.specs.Rule.{ById, Windowed, Settled, Settlement, hears, id_settled, settle, lost, restarts, place_in, expires, expired}
 use Rattle.gc_links.specs.Acts.{Act, Tells}
@@ -34,7 +34,7 @@ use Rattle.gc_station.specs.declared.progress.Waiting.{Waiting}
 use Rattle.gc_station.specs.declared.station.Station.{Station}
 use Rattle.gc_station.specs.Marks.{commands_in, records_of, last_well}
 use Rattle.gc_station.specs.Deciding.{is_none_left}
-use Rattle.gc_station.specs.Progressing.{noted, gave, reckoned_early, again, closed, lines_asked, line_asked}
+use Rattle.gc_station.specs.Progressing.{caught_up, noted, gave, reckoned_early, again, closed, lines_asked, line_asked}
 use Rattle.gc_station.specs.Records.{Record, texts_of, WritesPart, WritesAll}
 use Rattle.gc_station.specs.Model.{Model, line_came, lines_came, lines_behind, with_rest, with_progress, with_moment, waiting_of, settles, piece_came, piece_asked, came}
 use Rattle.gc_station.specs.Stations.{waiting_in, Refines, Took, TookPart, ComesTo}
@@ -147,18 +147,18 @@ with_kept station kept rest s stands is = record {
 -- As many marks are taken out as requests are settled.
 
 -- where a reply is of the request at place k, it settles k + 1 requests
-settle_less : (k : ℕ) (line : List ℕ) (ps : List Pending) → length ps - length (settle k line ps) ≡ length ps - (k + 1)
+settle_less : (k : ℕ) (line : List ℕ) (ps : List (Pending Asked)) → length ps - length (settle k line ps) ≡ length ps - (k + 1)
 settle_less k line [] = omega arith
 settle_less zero line (p ∷ ps) = omega arith
 settle_less (suc k) line (p ∷ ps) = let more = settle_less k line ps in omega (arith, more)
 
 -- each request that is left after these settlements has a mark, where `marks` are those before: as many of them go as there are
 -- settlements
-abbrev pub StayPaired : List (Option Mark) → Settled ById → Type 0
+abbrev pub StayPaired : List (Option Mark) → Settled Asked (ById Asked) → Type 0
 StayPaired marks x = length (drop (length x.settlements) marks) ≡ length x.client.waiting
 
 -- `StayPaired` holds after a line, whether it has the id of the request at place k (`b`) or no id that waits
-settled_paired : (marks : List (Option Mark)) (c : ById) (line : List ℕ) (k : ℕ) (b : Bool) → length marks ≡ length c.waiting → StayPaired marks (id_settled c line k b)
+settled_paired : (marks : List (Option Mark)) (c : ById Asked) (line : List ℕ) (k : ℕ) (b : Bool) → length marks ≡ length c.waiting → StayPaired marks (id_settled c line k b)
 settled_paired marks c line k true is =
     let less = settle_less k line c.waiting in
     let left = length-drop (length (settle k line c.waiting)) marks in
@@ -167,12 +167,12 @@ settled_paired marks c line k true is =
 settled_paired marks c line k false is = is
 
 -- `StayPaired` holds after any line
-pub hears_paired : (marks : List (Option Mark)) (c : ById) (line : List ℕ) (id : Option ℕ) → length marks ≡ length c.waiting → StayPaired marks (hears c line id)
+pub hears_paired : (marks : List (Option Mark)) (c : ById Asked) (line : List ℕ) (id : Option ℕ) → length marks ≡ length c.waiting → StayPaired marks (hears c line id)
 hears_paired marks c line None is = is
 hears_paired marks c line (Some id) is = settled_paired marks c line (place_in c id) _ is
 
 -- `StayPaired` holds after a restart
-pub restarts_paired : (marks : List (Option Mark)) (c : ById) → length marks ≡ length c.waiting → StayPaired marks (restarts c)
+pub restarts_paired : (marks : List (Option Mark)) (c : ById Asked) → length marks ≡ length c.waiting → StayPaired marks (restarts c)
 restarts_paired marks c is =
     let many = length-map c.waiting lost in
     let left = length-drop (length (map lost c.waiting)) marks in
@@ -180,7 +180,7 @@ restarts_paired marks c is =
 
 -- a station (`mid`) whose client has settled requests, so that it is at `ids`, and which has written none of their records yet:
 -- all else is as before (`old`)
-pub record Between (old mid : Station) (ids : ById) : Type 0 where
+pub record Between (old mid : Station) (ids : ById Asked) : Type 0 where
   pub ids_are : mid.client.ids ≡ ids
   pub width : mid.client.width ≡ old.client.width
   pub marks : mid.marks ≡ old.marks
@@ -190,7 +190,7 @@ pub record Between (old mid : Station) (ids : ById) : Type 0 where
   pub well : mid.well ≡ old.well
 
 -- the records that a station is to write (`Between`) are those that the model has for these settlements
-records_same : (old mid : Station) (s : Model) (ids : ById) (xs ys : List Settlement) → Refines old s → Between old mid ids → xs ≡ ys
+records_same : (old mid : Station) (s : Model) (ids : ById Asked) (xs ys : List (Settlement Asked)) → Refines old s → Between old mid ids → xs ≡ ys
     → records_of s.reads mid.progress.moment.utc mid.marks.items xs ≡ records_of s.reads s.progress.moment.utc s.marks ys
 records_same old mid s ids xs ys stands between e =
     ap (λ (p : Progress). records_of s.reads p.moment.utc mid.marks.items xs) (between.progress ∙ stands.progress)
@@ -198,15 +198,15 @@ records_same old mid s ids xs ys stands between e =
     ∙ ap (records_of s.reads s.progress.moment.utc s.marks) e
 
 -- between these two stations the tally counts the records of these settlements
-abbrev pub Counts : Station → Station → List Settlement → Type 0
-Counts mid new xs = (reads : Call → List ℕ → Reading) → AreReadings reads → new.tally ≡ tallied mid.tally (records_of reads mid.progress.moment.utc mid.marks.items xs)
+abbrev pub Counts : Station → Station → List (Settlement Asked) → Type 0
+Counts mid new xs = (reads : Asked → List ℕ → Reading) → AreReadings reads → new.tally ≡ tallied mid.tally (records_of reads mid.progress.moment.utc mid.marks.items xs)
 
 -- between these two stations `well` becomes whether the last command of these settlements was answered well
-abbrev pub Minds : Station → Station → List Settlement → Type 0
-Minds mid new xs = (reads : Call → List ℕ → Reading) → AreReadings reads → new.well ≡ last_well mid.well (records_of reads mid.progress.moment.utc mid.marks.items xs)
+abbrev pub Minds : Station → Station → List (Settlement Asked) → Type 0
+Minds mid new xs = (reads : Asked → List ℕ → Reading) → AreReadings reads → new.well ≡ last_well mid.well (records_of reads mid.progress.moment.utc mid.marks.items xs)
 
 -- where the records of settlements were written, the station is as the model after them
-pub settles_ok : (text : Record → List ℕ) (old mid new : Station) (s : Model) (x : Settled ById) (xs : List Settlement) (n : ℕ) (start taken' : Option (List ℕ))
+pub settles_ok : (text : Record → List ℕ) (old mid new : Station) (s : Model) (x : Settled Asked (ById Asked)) (xs : List (Settlement Asked)) (n : ℕ) (start taken' : Option (List ℕ))
     → Refines old s → Between old mid x.client → xs ≡ x.settlements → n ≡ length x.settlements → StayPaired s.marks x
     → (AreReadings s.reads → Appends start taken' (texts_of text (s.records ++ records_of s.reads mid.progress.moment.utc mid.marks.items xs)))
     → new ≡ record mid { marks = record { items = drop n mid.marks.items }; tally = new.tally; well = new.well }
@@ -231,7 +231,7 @@ settles_ok text old mid new s x xs n start taken' stands between e many paired w
     )
 
 -- where the book failed at a record of settlements, it took the model's earlier records and a part of the others
-pub settles_part : (text : Record → List ℕ) (old mid : Station) (s : Model) (x : Settled ById) (xs : List Settlement) (start taken' : Option (List ℕ))
+pub settles_part : (text : Record → List ℕ) (old mid : Station) (s : Model) (x : Settled Asked (ById Asked)) (xs : List (Settlement Asked)) (start taken' : Option (List ℕ))
     → Refines old s → Between old mid x.client → xs ≡ x.settlements
     → (AreReadings s.reads → WritesPart text s.records (s.records ++ records_of s.reads mid.progress.moment.utc mid.marks.items xs) start taken')
     → TookPart text s.records start taken' (settles x s)
@@ -239,7 +239,7 @@ settles_part text old mid s x xs start taken' stands between e wrote are =
     subst (λ (rs : List Record). WritesPart text s.records (s.records ++ rs) start taken') (records_same old mid s x.client xs x.settlements stands between e) (wrote are)
 
 -- where the records of settlements were written the station is as the model after them; or the book failed at one of them
-pub settles_either : {X E : Type 0} (text : Record → List ℕ) (old mid new : Station) (s : Model) (x : Settled ById) (xs : List Settlement) (n : ℕ)
+pub settles_either : {X E : Type 0} (text : Record → List ℕ) (old mid new : Station) (s : Model) (x : Settled Asked (ById Asked)) (xs : List (Settlement Asked)) (n : ℕ)
     (start taken' : Option (List ℕ)) (result : Result X E)
     → Refines old s → Between old mid x.client → xs ≡ x.settlements → n ≡ length x.settlements → StayPaired s.marks x
     → (AreReadings s.reads → WritesAll text s.records (s.records ++ records_of s.reads mid.progress.moment.utc mid.marks.items xs) start taken' result)
@@ -270,14 +270,28 @@ with_noted mid p b b' s stands e is = record {
   well = stands.well;
 }
 
+-- a station that noted what a line settled is as the model that noted it
+pub with_caught : (mid : Station) (p : Progress) (t t' : Bool) (n n' : ℕ) (s : Model) → Refines mid s → t ≡ t' → n ≡ n' → p ≡ caught_up t n mid.progress
+    → Refines (record mid { progress = p }) (with_progress (caught_up t' n') s)
+with_caught mid p t t' n n' s stands e f is = record {
+  progress = is ∙ ap (λ b. caught_up b n mid.progress) e ∙ ap (λ m. caught_up t' m mid.progress) f ∙ ap (caught_up t' n') stands.progress;
+  ids = stands.ids;
+  width = stands.width;
+  marks = stands.marks;
+  paired = stands.paired;
+  assembles = stands.assembles;
+  tally = stands.tally;
+  well = stands.well;
+}
+
 -- a station that gave up requests at a moment is as the model at that moment
-pub stands_expired : (station : Station) (p q : Progress) (client : Windowed) (m : Moment) (s : Model) → Refines station s → p ≡ q
+pub stands_expired : (station : Station) (p q : Progress) (client : Windowed Asked) (m : Moment) (s : Model) → Refines station s → p ≡ q
     → client ≡ record station.client { ids = expires station.client.ids m.elapsed }
     → Refines (record station { progress = p; client = client }) (with_moment m (with_progress (λ x. q) s))
 stands_expired station p q client m s stands e is = record {
   progress = e;
-  ids = ap (λ (w : Windowed). w.ids) is ∙ ap (λ ids. expires ids m.elapsed) stands.ids;
-  width = ap (λ (w : Windowed). w.width) is ∙ stands.width;
+  ids = ap (λ (w : Windowed Asked). w.ids) is ∙ ap (λ ids. expires ids m.elapsed) stands.ids;
+  width = ap (λ (w : Windowed Asked). w.width) is ∙ stands.width;
   marks = stands.marks;
   paired = stands.paired ∙ sym (length-map s.client.waiting (expired m.elapsed));
   assembles = stands.assembles;
@@ -287,7 +301,7 @@ stands_expired station p q client m s stands e is = record {
 
 -- as many requests wait at a station as in its model
 pub all_same : (station : Station) (s : Model) → Refines station s → (waiting_in station).all ≡ (waiting_of s).all
-all_same station s stands = ap (λ (c : ById). length c.waiting) stands.ids
+all_same station s stands = ap (λ (c : ById Asked). length c.waiting) stands.ids
 
 -- as many commands wait at a station as in its model
 pub commands_same : (station : Station) (s : Model) → Refines station s → (waiting_in station).commands ≡ (waiting_of s).commands

@@ -54,3 +54,6 @@ mod Unsent
 mod Pauses
 mod Qualified
 pub mod Nearly
+pub mod Behind
+pub mod GoesBehind
+mod HeldUp

@@ -4,11 +4,11 @@ use Rattle.std.proofs.Common.{◌≡◌, ◌⊎◌, inl, inr, ℕ, ◌&&◌, ◌
 use Rattle.std.specs.List.{AllByRecursion}
 use Rattle.std.proofs.lemmas.List.{nil_from_length}
 use Rattle.gc_catalogue.specs.declared.answer.Reading.{Reading}
-use Rattle.gc_catalogue.specs.declared.call.Call.{Call}
+use Rattle.gc_catalogue.specs.declared.asked.Asked.{Asked}
 use Rattle.gc_client.specs.declared.pending.Pending.{Pending}
 use Rattle.gc_client.specs.Ids.{id_at}
 use Rattle.gc_client.specs.Rule.{ById, Settlement, Answered, Late, Lost, lost}
-use Rattle.gc_texts.specs.declared.commands.Command.{Command}
+use Rattle.gc_texts.specs.declared.wish.Wish.{Wish}
 use Rattle.gc_texts.specs.declared.tasks.Task.{Task}
 use Rattle.gc_station.specs.declared.cause.Cause.{Cause}
 use Rattle.gc_station.specs.declared.cause.Cause.TheVariants as cause
@@ -37,7 +37,7 @@ use Rattle.gc_station.proofs.Growing.{moved_grew}
 use Rattle.gc_station.proofs.Lists.{all_append, all_split, Cut as CutOf, AtEnd, Before, cut_at, rows_all}
 use Rattle.gc_station.proofs.Meets.{IsRecordOf, records_all, was_answered, was_late}
 use Rattle.gc_station.proofs.Midway.{clash}
-use Rattle.gc_station.proofs.Waiting.{Asked, Stayed, Waits, IsTrue, IsHonest}
+use Rattle.gc_station.proofs.Waiting.{WasAsked, Stayed, Waits, IsTrue, IsHonest}
 use Rattle.gc_station.proofs.Parting.{keeps_action}
 use Rattle.gc_station.proofs.Walk.{is_sent, moved_changed}
 use Rattle.gc_station.proofs.Words.{renews_only, renews_needs}
@@ -45,7 +45,7 @@ use Rattle.gc_station.specs.Scopes.{Scope}
 
 -- none of these marks is a command's, so that no record is written
 abbrev Unwritten : List (Option Mark) → Type 0
-Unwritten marks = (reads : Call → List ℕ → Reading) (utc : ℕ) (settlements : List Settlement) → records_of reads utc marks settlements ≡ []
+Unwritten marks = (reads : Asked → List ℕ → Reading) (utc : ℕ) (settlements : List (Settlement Asked)) → records_of reads utc marks settlements ≡ []
 
 -- where there are no marks, no record is written
 unwritten_none : (marks : List (Option Mark)) → marks ≡ [] → Unwritten marks
@@ -96,7 +96,7 @@ loses_why plan commands scope acts act fine obeys loses = by_test (is_over t.pro
       let new = fine.begins begins in
       unwritten_none t.marks
       ((keeps_action plan commands s (action_at plan s) act (action_for plan s.progress (waiting_of s)) obeys begins new).1
-      ∙ nil_from_length s.marks (fine.paired ∙ ap (λ (c : ById). length c.waiting) new))
+      ∙ nil_from_length s.marks (fine.paired ∙ ap (λ (c : ById Asked). length c.waiting) new))
 
   -- where the station hasn't begun after the act: it hadn't before it, or it begins anew at it
   renews : (begun : Bool) → has_begun s.progress ≡ begun → has_begun t.progress ≡ false → Unwritten t.marks ⊎ (BeginsAnew plan commands scope acts act ⊎ IsLast plan commands scope acts act [])
@@ -143,17 +143,17 @@ send_loses_none plan commands s act fine needs =
 -- The records of those that are lost.
 
 -- this settlement is of a request that is lost, with this mark; that request was put among these acts
-pub record LostOf (plan : Plan) (commands : List Task) (scope : Scope) (acts : List Act) (x : Settlement) (mark : Option Mark) : Type 0 where
+pub record LostOf (plan : Plan) (commands : List Task) (scope : Scope) (acts : List Act) (x : Settlement Asked) (mark : Option Mark) : Type 0 where
   pub number : ℕ
   pub at : ℕ
   pub id : ℕ
-  pub pending : Pending
+  pub pending : Pending Asked
   pub is : x ≡ lost pending
-  pub asked : Asked plan commands scope acts Stayed number at id pending mark
+  pub asked : WasAsked plan commands scope acts Stayed number at id pending mark
 
 -- the record is of the settlement of a command that is lost (`LostOf`), with the cycle, place and moment of its mark
 abbrev IsLostRecord : Plan → List Task → Scope → List Act → Record → Type 0
-IsLostRecord plan commands scope acts r = (mark : Mark) × (y : Settlement) × (r.cycle ≡ mark.cycle) × (r.place ≡ mark.place) × (r.sent ≡ Some mark.sent)
+IsLostRecord plan commands scope acts r = (mark : Mark) × (y : Settlement Asked) × (r.cycle ≡ mark.cycle) × (r.place ≡ mark.place) × (r.sent ≡ Some mark.sent)
     × IsRecordOf r y × LostOf plan commands scope acts y (Some mark)
 
 -- where all that wait are lost because the station begins anew or no act follows, each record that the act writes of them is true
@@ -174,12 +174,12 @@ lost_true plan commands scope acts act r news earlier later fine loses why ends 
   x = it.6
 
   -- that request was put among the acts
-  a : Asked plan commands scope (acts ++ act ∷ []) Stayed x.number x.at x.id x.pending (Some it.0)
+  a : WasAsked plan commands scope (acts ++ act ∷ []) Stayed x.number x.at x.id x.pending (Some it.0)
   a = x.asked
 
   -- the outcome is that it is lost
   outcome : it.1.outcome ≡ Lost
-  outcome = ap (λ (y : Settlement). y.outcome) x.is
+  outcome = ap (λ (y : Settlement Asked). y.outcome) x.is
 
   -- a request that is lost isn't answered
   not_answered : (line : List ℕ) → Lost ≡ Answered line → ⊥
@@ -218,8 +218,8 @@ lost_true plan commands scope acts act r news earlier later fine loses why ends 
           cycle = it.2 ∙ its.cycle;
           place = it.3 ∙ its.place;
           sent = it.4 ∙ ap Some its.sent;
-          put = subst (λ (y : Call). Puts (request_text (stood plan commands scope a.before).client y) a.request)
-              (sym (ap (λ (y : Command). y.call) it.5.command ∙ ap (λ (y : Settlement). y.call) x.is)) a.put;
+          put = subst (λ (y : Asked). Puts (request_text (stood plan commands scope a.before).client y) a.request)
+              (sym (ap (λ (y : Wish). y.call) it.5.command ∙ ap (λ (y : Settlement Asked). y.call) x.is)) a.put;
         };
         written = subst (λ (xs : List Act). IsWrittenAt plan commands scope xs act r) at here;
         shown = inr (subst (λ (xs : List Act). BeginsAnew plan commands scope xs act ⊎ IsLast plan commands scope xs act []) at why);

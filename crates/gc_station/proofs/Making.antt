@@ -6,11 +6,11 @@ use Rattle.std.proofs.Common.{◌≡◌, ℕ, zero, suc, ◌+◌, ◌<◌, Bool,
 use Rattle.std.proofs.lemmas.Bool.{ne_eqb}
 use Rattle.std.proofs.lemmas.List.{length-append}
 use Rattle.gc_lines.specs.Assembler.{StandsFor}
-use Rattle.gc_catalogue.specs.declared.call.Call.{Call}
+use Rattle.gc_catalogue.specs.declared.asked.Asked.{Asked}
 use Rattle.gc_client.specs.declared.window.TheConstants.{WINDOW}
 use Rattle.gc_client.specs.Rule.{ById, sends, id_send}
 use Rattle.gc_texts.specs.Endings.{End, Skipped, Missed}
-use Rattle.gc_texts.specs.declared.commands.Command.{Command}
+use Rattle.gc_texts.specs.declared.wish.Wish.{Wish}
 use Rattle.gc_texts.specs.declared.tasks.Task.{Task}
 use Rattle.gc_links.specs.declared.link.Moment.{Moment}
 use Rattle.gc_station.specs.declared.mark.Mark.{Mark}
@@ -69,16 +69,16 @@ put_took text start taken (Err n) bytes requests f s so = so
 
 -- the client after a send of this command at the moment `now`, which waits for `wait` milliseconds. The arguments are how many
 -- requests may wait at once, the client before, the command, `now` and `wait`
-abbrev sent_to : ℕ → ById → Command → ℕ → ℕ → ById
+abbrev sent_to : ℕ → ById Asked → Wish → ℕ → ℕ → ById Asked
 sent_to width ids command now wait = client_sent ids (sends width ids command.target command.call (later now wait))
 
 -- one request more waits after a send
-sent_count : (c : ById) (target : ℕ) (call : Call) (deadline : ℕ) (b : Bool) → b ≡ false → length (client_sent c (id_send c target call deadline b)).waiting ≡ length c.waiting + 1
+sent_count : (c : ById Asked) (target : ℕ) (call : Asked) (deadline : ℕ) (b : Bool) → b ≡ false → length (client_sent c (id_send c target call deadline b)).waiting ≡ length c.waiting + 1
 sent_count c target call deadline true e = cc
 sent_count c target call deadline false e = length-append c.waiting _
 
 -- a station that sent a request is as the model that sent it
-pub asks_stands : (old new : Station) (s : Model) (wait : ℕ) (command other : Command) (mark : Option Mark) → Refines old s → length old.client.ids.waiting < WINDOW → command ≡ other
+pub asks_stands : (old new : Station) (s : Model) (wait : ℕ) (command other : Wish) (mark : Option Mark) → Refines old s → length old.client.ids.waiting < WINDOW → command ≡ other
     → new ≡ record old {
       client = record old.client { ids = client_sent old.client.ids (sends old.client.width old.client.ids command.target command.call (later old.progress.moment.elapsed wait)) };
       marks = record { items = old.marks.items ++ mark ∷ [] };
@@ -86,7 +86,7 @@ pub asks_stands : (old new : Station) (s : Model) (wait : ℕ) (command other : 
     → Refines new (asks wait other.target other.call mark s)
 asks_stands old new s wait command other mark stands room e is =
     let elapsed = old.progress.moment.elapsed in
-    let fewer : length s.client.waiting < WINDOW = subst (λ (c : ById). length c.waiting < WINDOW) stands.ids room in
+    let fewer : length s.client.waiting < WINDOW = subst (λ (c : ById Asked). length c.waiting < WINDOW) stands.ids room in
     let more = sent_count s.client other.target other.call (later s.progress.moment.elapsed wait) (nat_eq (length s.client.waiting) WINDOW)
     (ne_eqb (length s.client.waiting) WINDOW (λ same. omega (arith, same, fewer))) in
     let marks : length (s.marks ++ mark ∷ []) ≡ length s.marks + 1 = length-append s.marks (mark ∷ []) in

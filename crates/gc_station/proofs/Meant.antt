@@ -2,7 +2,8 @@
 -- line are kept after it. An act is one call of the link, with what came of it.
 use Rattle.std.proofs.Common.{◌≡◌, ◌⊎◌, inl, inr, ℕ, ◌-◌, ◌<◌, Bool, true, false, List, [], ◌∷◌, length, drop, Option, Some, None, refl, ◌∙◌, arith, length-drop}
 use Rattle.gc_lines.specs.Frames.{rest_behind}
-use Rattle.gc_catalogue.specs.declared.call.Call.{Call}
+use Rattle.gc_catalogue.specs.declared.asked.Asked.{Asked}
+use Rattle.gc_catalogue.specs.declared.asked.Asked.TheVariants.{Table}
 use Rattle.gc_catalogue.specs.declared.call.Call.TheVariants.{NullProc}
 use Rattle.gc_texts.specs.declared.tasks.Task.{Task}
 use Rattle.gc_station.specs.declared.mark.Mark.{Mark}
@@ -22,7 +23,7 @@ use Rattle.gc_station.proofs.Givens.{rest_with, after_rest}
 -- the part p is that of a request that goes out, and these bytes are its line
 pub record IsSent (s : Model) (bytes : List ℕ) (p : Part) : Type 0 where
   pub target : ℕ
-  pub call : Call
+  pub call : Asked
   pub deadline : ℕ
   pub mark : Option Mark
   pub part : p ≡ asking target call deadline mark
@@ -74,9 +75,9 @@ module _ (plan : Plan) (commands : List Task) where
   }
 
   -- the bytes of a null procedure after commands are the line of the request of its part
-  null_put : (s : Model) (bytes : List ℕ) → length s.client.waiting < 7 → bytes ≡ request_text s.client NullProc
-      → IsSent s bytes (asking 0 NullProc (later s.progress.moment.elapsed plan.deadline) None)
-  null_put s bytes room e = record { target = 0; call = NullProc; deadline = later s.progress.moment.elapsed plan.deadline; mark = None; part = refl; text = e; room = room }
+  null_put : (s : Model) (bytes : List ℕ) → length s.client.waiting < 7 → bytes ≡ request_text s.client (Table NullProc)
+      → IsSent s bytes (asking 0 (Table NullProc) (later s.progress.moment.elapsed plan.deadline) None)
+  null_put s bytes room e = record { target = 0; call = Table NullProc; deadline = later s.progress.moment.elapsed plan.deadline; mark = None; part = refl; text = e; room = room }
 
   -- once the station has begun, the bytes that an act of this action puts are as `IsPut` says of the action's part
   put_order : (s : Model) (o : Action) (act : Act) (bytes : List ℕ) → Invariant plan commands s → IsFor plan s.progress (waiting_of s) o
@@ -84,7 +85,7 @@ module _ (plan : Plan) (commands : List Task) where
   put_order s action.Clear act bytes fine is obeys e begun = inl (puts_same (10 ∷ []) bytes act e obeys, refl)
   put_order s action.Ask act bytes fine is obeys e begun = absurd (clash (has_begun s.progress) begun is.1)
   put_order s action.Renew act bytes fine is obeys e begun = absurd (never_puts act bytes e (inl obeys))
-  put_order s action.Flush act bytes fine is obeys e begun = inr (null_put s bytes is.5.1 (puts_same (request_text s.client NullProc) bytes act e obeys))
+  put_order s action.Flush act bytes fine is obeys e begun = inr (null_put s bytes is.4.1 (puts_same (request_text s.client (Table NullProc)) bytes act e obeys))
   put_order s action.Send act bytes fine is obeys e begun =
       let left = drop (place_next commands s.progress) commands in
       let many : length left ≡ length commands - place_next commands s.progress = length-drop (place_next commands s.progress) commands in

@@ -8,7 +8,7 @@ use Rattle.std.proofs.lemmas.List.{length-drop}
 use Rattle.gc_catalogue.specs.declared.answer.Answer.{Answer}
 use Rattle.gc_catalogue.specs.declared.answer.Reading.{Reading}
 use Rattle.gc_catalogue.specs.declared.answer.Reading.TheVariants as reading
-use Rattle.gc_catalogue.specs.declared.call.Call.{Call}
+use Rattle.gc_catalogue.specs.declared.asked.Asked.{Asked}
 use Rattle.gc_client.specs.declared.pending.Pending.{Pending}
 use Rattle.gc_client.specs.Ids
 use Rattle.gc_client.specs.Ids.{id_at, IsWindow}
@@ -35,13 +35,13 @@ use Rattle.gc_station.proofs.Waiting.{StayedAt, WaitsAt, asked_as}
 use Rattle.gc_station.specs.Scopes.{Scope}
 
 -- the id that was heard is that of the request that waits at this place
-pub record HasPlace (c : ById) (o : Option ℕ) (at : ℕ) : Type 0 where
+pub record HasPlace (c : ById Asked) (o : Option ℕ) (at : ℕ) : Type 0 where
   pub id : ℕ
   pub has : o ≡ Some id
   pub is : at ≡ place_in c id
 
 -- behind the request with this number and at this place, another one waits, whose id was heard
-pub record Overtakes (P : ℕ → ℕ → Pending → Option Mark → Type 0) (c : ById) (o : Option ℕ) (number at : ℕ) : Type 0 where
+pub record Overtakes (P : ℕ → ℕ → Pending Asked → Option Mark → Type 0) (c : ById Asked) (o : Option ℕ) (number at : ℕ) : Type 0 where
   pub place : ℕ
   pub above : at < place
   pub found : RowAt P (suc number) place
@@ -50,9 +50,9 @@ pub record Overtakes (P : ℕ → ℕ → Pending → Option Mark → Type 0) (c
 -- this settlement is of the request that waits at the place `at`, with this mark. If it is an answer, it is this line, and the
 -- request isn't given up; if it is late, the request is given up; in both cases the id that was heard is the request's. If it is
 -- lost, that id is of a request behind it
-pub record EndedBy (P : ℕ → ℕ → Pending → Option Mark → Type 0) (c : ById) (o : Option ℕ) (line : List ℕ) (at : ℕ) (x : Settlement) (mark : Option Mark) : Type 0 where
+pub record EndedBy (P : ℕ → ℕ → Pending Asked → Option Mark → Type 0) (c : ById Asked) (o : Option ℕ) (line : List ℕ) (at : ℕ) (x : Settlement Asked) (mark : Option Mark) : Type 0 where
   pub number : ℕ
-  pub pending : Pending
+  pub pending : Pending Asked
   pub holds : P number at pending mark
   pub asks : pending.call ≡ x.call
   pub answered : (l : List ℕ) → x.outcome ≡ Answered l → (l ≡ line) × (pending.given_up ≡ false) × HasPlace c o at
@@ -75,7 +75,7 @@ met_lost true line e = cc
 met_lost false line e = cc
 
 -- `EndedBy` holds of the request whose own reply came
-met_ended : (P : ℕ → ℕ → Pending → Option Mark → Type 0) (c : ById) (o : Option ℕ) (line : List ℕ) (number at : ℕ) (p : Pending) (mark : Option Mark)
+met_ended : (P : ℕ → ℕ → Pending Asked → Option Mark → Type 0) (c : ById Asked) (o : Option ℕ) (line : List ℕ) (number at : ℕ) (p : Pending Asked) (mark : Option Mark)
     → HasPlace c o at → P number at p mark → EndedBy P c o line at (met p line) mark
 met_ended P c o line number at p mark place holds = record {
   number = number;
@@ -88,7 +88,7 @@ met_ended P c o line number at p mark place holds = record {
 }
 
 -- `EndedBy` holds of each request up to the one whose own reply came
-settle_ended : (P : ℕ → ℕ → Pending → Option Mark → Type 0) (c : ById) (o : Option ℕ) (line : List ℕ) (there low k at : ℕ) (ps : List Pending)
+settle_ended : (P : ℕ → ℕ → Pending Asked → Option Mark → Type 0) (c : ById Asked) (o : Option ℕ) (line : List ℕ) (there low k at : ℕ) (ps : List (Pending Asked))
     (marks : List (Option Mark)) → HasPlace c o there → there ≡ k + at → k < length ps
     → Rows P low at ps marks → AllAt (EndedBy P c o line) at (settle k line ps) marks
 settle_ended P c o line there low k at [] marks has is below all = absurd (omega (arith, below))
@@ -113,7 +113,7 @@ settle_ended P c o line there low (suc k) at (p ∷ ps) (mark ∷ marks) has is 
     )
 
 -- `EndedBy` holds of each request that a line settles
-pub heard_ended : (P : ℕ → ℕ → Pending → Option Mark → Type 0) (c : ById) (marks : List (Option Mark)) (line : List ℕ) (o : Option ℕ)
+pub heard_ended : (P : ℕ → ℕ → Pending Asked → Option Mark → Type 0) (c : ById Asked) (marks : List (Option Mark)) (line : List ℕ) (o : Option ℕ)
     → Rows P 0 0 c.waiting marks → AllAt (EndedBy P c o line) 0 (hears c line o).settlements marks
 heard_ended P c marks line None all = tt
 heard_ended P c marks line (Some id) all = by_test (place_in c id) refl (nat_lt (place_in c id) (length c.waiting)) refl where
@@ -127,7 +127,7 @@ heard_ended P c marks line (Some id) all = by_test (place_in c id) refl (nat_lt 
   by_test k is false fits = tt
 
 -- the requests that a line leaves waiting: all but the oldest, as many as it settled
-pub record Left (c : ById) (x : Settled ById) : Type 0 where
+pub record Left (c : ById Asked) (x : Settled Asked (ById Asked)) : Type 0 where
   pub count : ℕ
   pub enough : count ≤ length c.waiting
   pub next : x.client.next ≡ c.next
@@ -135,13 +135,13 @@ pub record Left (c : ById) (x : Settled ById) : Type 0 where
   pub settled : length x.settlements ≡ count
 
 -- where a reply is of the request at place k, it settles k + 1 requests
-settle_length : (k : ℕ) (line : List ℕ) (ps : List Pending) → k < length ps → length (settle k line ps) ≡ k + 1
+pub settle_length : (k : ℕ) (line : List ℕ) (ps : List (Pending Asked)) → k < length ps → length (settle k line ps) ≡ k + 1
 settle_length k line [] low = absurd (omega (arith, low))
 settle_length zero line (p ∷ ps) low = refl
 settle_length (suc k) line (p ∷ ps) low = let more = settle_length k line ps (omega (arith, low)) in omega (arith, more)
 
 -- after a line the requests that wait are those that `Left` says: all but the oldest, as many as it settled
-pub heard_left : (c : ById) (line : List ℕ) (o : Option ℕ) → Left c (hears c line o)
+pub heard_left : (c : ById Asked) (line : List ℕ) (o : Option ℕ) → Left c (hears c line o)
 heard_left c line None = record { count = 0; enough = omega arith; next = refl; waiting = refl; settled = refl }
 heard_left c line (Some id) = by_test (place_in c id) (nat_lt (place_in c id) (length c.waiting)) refl where
   -- the lemma above, by whether the id is of a request that waits (`true`)
@@ -150,15 +150,15 @@ heard_left c line (Some id) = by_test (place_in c id) (nat_lt (place_in c id) (l
   by_test k false fits = record { count = 0; enough = omega arith; next = refl; waiting = refl; settled = refl }
 
 -- a line leaves as many requests as waited, less those that it settled
-pub left_count : (c : ById) (x : Settled ById) (l : Left c x) → length x.client.waiting ≡ length c.waiting - l.count
+pub left_count : (c : ById Asked) (x : Settled Asked (ById Asked)) (l : Left c x) → length x.client.waiting ≡ length c.waiting - l.count
 left_count c x l = ap length l.waiting ∙ length-drop l.count c.waiting
 
 -- what a line leaves is still a window
-pub left_window : (c : ById) (x : Settled ById) → Left c x → IsWindow c → IsWindow x.client
+pub left_window : (c : ById Asked) (x : Settled Asked (ById Asked)) → Left c x → IsWindow c → IsWindow x.client
 left_window c x l w = let many = left_count c x l in record { digit = subst (λ (n : ℕ). n < 8) (sym l.next) w.digit; few = omega (arith, many, w.few) }
 
 -- the requests that a line leaves waiting are as they were (`WaitsAt`), with the same numbers and at lower places
-pub left_waits : (plan : Plan) (commands : List Task) (scope : Scope) (acts : List Act) (first : ById) (now : ℕ) (c : ById) (x : Settled ById) (marks : List (Option Mark)) → Left c x → IsWindow c
+pub left_waits : (plan : Plan) (commands : List Task) (scope : Scope) (acts : List Act) (first : ById Asked) (now : ℕ) (c : ById Asked) (x : Settled Asked (ById Asked)) (marks : List (Option Mark)) → Left c x → IsWindow c
     → Rows (WaitsAt plan commands scope acts first now c.next (length c.waiting)) 0 0 c.waiting marks
     → Rows (WaitsAt plan commands scope acts first now x.client.next (length x.client.waiting)) 0 0 x.client.waiting (drop (length x.settlements) marks)
 left_waits plan commands scope acts first now c x marks l w all =
@@ -166,7 +166,7 @@ left_waits plan commands scope acts first now c x marks l w all =
     let d = x.client in
     let W = WaitsAt plan commands scope acts first now c.next (length c.waiting) in
     let dropped = rows_drop W n 0 0 c.waiting marks all in
-    let there = subst (λ (ps : List Pending). Rows W 0 (n + 0) ps (drop n marks)) (sym l.waiting) dropped in
+    let there = subst (λ (ps : List (Pending Asked)). Rows W 0 (n + 0) ps (drop n marks)) (sym l.waiting) dropped in
     let marked = subst (λ (k : ℕ). Rows W 0 (n + 0) d.waiting (drop k marks)) (sym l.settled) there in
     rows_on W (WaitsAt plan commands scope acts first now d.next (length d.waiting)) n 0 0 d.waiting (drop (length x.settlements) marks)
     (λ number j p mark low wait.
@@ -178,8 +178,8 @@ left_waits plan commands scope acts first now c x marks l w all =
     (asked_as plan commands scope acts (StayedAt now) number (n + j) j _ _ p mark (λ above. omega (arith, above)) ids wait.0, subst (λ (i : ℕ). Ids.Waits first i) (sym ids) wait.1)) marked
 
 -- a record is of this settlement: it has its command, and its ending by some readings of replies and some place of the target
-pub record IsRecordOf (r : Record) (x : Settlement) : Type 0 where
-  pub reads : Call → List ℕ → Reading
+pub record IsRecordOf (r : Record) (x : Settlement Asked) : Type 0 where
+  pub reads : Asked → List ℕ → Reading
   pub expected : Expected
   pub command : r.command ≡ command_of x
   pub ended : r.end ≡ end_of reads expected x.call x.outcome
@@ -213,39 +213,39 @@ unanswered : (expected : Expected) (x y : Reading) (line : List ℕ) (end : End)
 unanswered expected x y line end none e = let bad : Some line ≡ None = sym (answer_line expected x y line) ∙ ap answer_of e ∙ none in cc
 
 -- a command whose ending has a reply's line was settled as answered, by that line
-pub answered_so : (reads : Call → List ℕ → Reading) (expected : Expected) (call : Call) (o : Outcome) (l : List ℕ) → answer_of (end_of reads expected call o) ≡ Some l → o ≡ Answered l
+pub answered_so : (reads : Asked → List ℕ → Reading) (expected : Expected) (call : Asked) (o : Outcome) (l : List ℕ) → answer_of (end_of reads expected call o) ≡ Some l → o ≡ Answered l
 answered_so reads expected call (Answered line) l e = let same : Some line ≡ Some l = sym (answer_line expected (reads call line) (reads call (as_zero line)) line) ∙ e in cc
 answered_so reads expected call Late l e = cc
 answered_so reads expected call Lost l e = cc
 
 -- a command that ended as late was settled as late
-late_so : (reads : Call → List ℕ → Reading) (expected : Expected) (call : Call) (o : Outcome) → end_of reads expected call o ≡ ends.Late → o ≡ Late
+late_so : (reads : Asked → List ℕ → Reading) (expected : Expected) (call : Asked) (o : Outcome) → end_of reads expected call o ≡ ends.Late → o ≡ Late
 late_so reads expected call (Answered line) e = absurd (unanswered expected (reads call line) (reads call (as_zero line)) line ends.Late refl e)
 late_so reads expected call Late e = refl
 late_so reads expected call Lost e = cc
 
 -- a command that ended as lost was settled as lost
-lost_so : (reads : Call → List ℕ → Reading) (expected : Expected) (call : Call) (o : Outcome) → end_of reads expected call o ≡ ends.Lost → o ≡ Lost
+lost_so : (reads : Asked → List ℕ → Reading) (expected : Expected) (call : Asked) (o : Outcome) → end_of reads expected call o ≡ ends.Lost → o ≡ Lost
 lost_so reads expected call (Answered line) e = absurd (unanswered expected (reads call line) (reads call (as_zero line)) line ends.Lost refl e)
 lost_so reads expected call Late e = cc
 lost_so reads expected call Lost e = refl
 
 -- the settlement of a record of an answer is an answer, of the same line
-pub was_answered : (r : Record) (x : Settlement) → IsRecordOf r x → (l : List ℕ) → answer_of r.end ≡ Some l → x.outcome ≡ Answered l
+pub was_answered : (r : Record) (x : Settlement Asked) → IsRecordOf r x → (l : List ℕ) → answer_of r.end ≡ Some l → x.outcome ≡ Answered l
 was_answered r x is l e = answered_so is.reads is.expected x.call x.outcome l (ap answer_of (sym is.ended) ∙ e)
 
 -- the settlement of a late record is late
-pub was_late : (r : Record) (x : Settlement) → IsRecordOf r x → r.end ≡ ends.Late → x.outcome ≡ Late
+pub was_late : (r : Record) (x : Settlement Asked) → IsRecordOf r x → r.end ≡ ends.Late → x.outcome ≡ Late
 was_late r x is e = late_so is.reads is.expected x.call x.outcome (sym is.ended ∙ e)
 
 -- the settlement of a lost record is lost
-pub was_lost : (r : Record) (x : Settlement) → IsRecordOf r x → r.end ≡ ends.Lost → x.outcome ≡ Lost
+pub was_lost : (r : Record) (x : Settlement Asked) → IsRecordOf r x → r.end ≡ ends.Lost → x.outcome ≡ Lost
 was_lost r x is e = lost_so is.reads is.expected x.call x.outcome (sym is.ended ∙ e)
 
 -- where Q of a settlement and its mark gives R of its record, and Q holds of these settlements and marks, one for one, R holds
 -- of all their records
-pub records_all : (Q : ℕ → Settlement → Option Mark → Type 0) (R : Record → Type 0) (reads : Call → List ℕ → Reading) (utc j : ℕ) (xs : List Settlement) (marks : List (Option Mark))
-    → ((i : ℕ) (x : Settlement) (m : Mark) → Q i x (Some m) → R (record_of reads utc m x)) → AllAt Q j xs marks → AllByRecursion R (records_of reads utc marks xs)
+pub records_all : (Q : ℕ → Settlement Asked → Option Mark → Type 0) (R : Record → Type 0) (reads : Asked → List ℕ → Reading) (utc j : ℕ) (xs : List (Settlement Asked)) (marks : List (Option Mark))
+    → ((i : ℕ) (x : Settlement Asked) (m : Mark) → Q i x (Some m) → R (record_of reads utc m x)) → AllAt Q j xs marks → AllByRecursion R (records_of reads utc marks xs)
 records_all Q R reads utc j xs [] step all = tt
 records_all Q R reads utc j [] (mark ∷ marks) step all = tt
 records_all Q R reads utc j (x ∷ xs) (None ∷ marks) step all = records_all Q R reads utc (suc j) xs marks step all.1

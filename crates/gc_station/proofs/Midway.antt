@@ -5,7 +5,7 @@ use Rattle.std.proofs.Math.Nat.{mod-lt}
 use Rattle.std.proofs.lemmas.Bool.Decides.{nat_tests}
 use Rattle.std.proofs.lemmas.List.{length-map, length-drop, nil_from_length}
 use Rattle.gc_catalogue.specs.declared.answer.Reading.{Reading}
-use Rattle.gc_catalogue.specs.declared.call.Call.{Call}
+use Rattle.gc_catalogue.specs.declared.asked.Asked.{Asked}
 use Rattle.gc_client.specs.declared.window.TheConstants.{WINDOW, IDS}
 use Rattle.gc_client.specs.declared.pending.Pending.{Pending}
 use Rattle.gc_client.specs.Rule.{ById, Settlement, expires, expired, fresh, lost, pending_of, id_send, sends}
@@ -30,7 +30,7 @@ use Rattle.gc_station.proofs.Invariant.{Invariant, is_bare, says_done}
 -- where `left` cycles haven't begun, and `unsent` commands of the present one haven't had their turn: the records, and after
 -- them the commands that wait, are the commands that had their turn, sent or not, in order. Each request that waits has its
 -- mark, at most 7 wait, and the next id is below 8
-pub record Sound (plan : Plan) (commands : List Task) (left unsent : ℕ) (client : ById) (marks : List (Option Mark)) (records : List Record) : Type 0 where
+pub record Sound (plan : Plan) (commands : List Task) (left unsent : ℕ) (client : ById Asked) (marks : List (Option Mark)) (records : List Record) : Type 0 where
   pub unsents : unsent ≤ length commands
   pub lefts : left ≤ plan.cycles
   pub begun : 0 < unsent → left < plan.cycles
@@ -45,7 +45,7 @@ pub record Placed (phase : Phase) (left unsent : ℕ) (rest : List ℕ) (marks :
   pub finished : says_done phase ≡ true → (left ≡ 0) × (unsent ≡ 0) × ((is_over_in phase ≡ true) ⊎ (commands_in marks ≡ 0))
 
 -- `Sound` by the counts of this progress
-abbrev pub SoundAt : Plan → List Task → Progress → ById → List (Option Mark) → List Record → Type 0
+abbrev pub SoundAt : Plan → List Task → Progress → ById Asked → List (Option Mark) → List Record → Type 0
 SoundAt plan commands p client marks records = Sound plan commands p.left p.unsent client marks records
 
 -- `Placed` by the phase and the counts of this progress
@@ -81,7 +81,7 @@ clash b e g = cc
 -- What holds of the counts and the records.
 
 -- a moment that gives requests up keeps `Sound`
-pub sound_moment : (plan : Plan) (commands : List Task) (left unsent : ℕ) (client : ById) (marks : List (Option Mark)) (records : List Record) (m : ℕ)
+pub sound_moment : (plan : Plan) (commands : List Task) (left unsent : ℕ) (client : ById Asked) (marks : List (Option Mark)) (records : List Record) (m : ℕ)
     → Sound plan commands left unsent client marks records
     → Sound plan commands left unsent (expires client m) marks records
 sound_moment plan commands left unsent client marks records m sound =
@@ -97,8 +97,8 @@ sound_moment plan commands left unsent client marks records m sound =
     }
 
 -- settlements of the oldest requests keep `Sound`
-pub sound_settles : (reads : Call → List ℕ → Reading) (plan : Plan) (commands : List Task) (left unsent : ℕ) (client next : ById) (marks : List (Option Mark))
-    (records : List Record) (utc : ℕ) (ss : List Settlement)
+pub sound_settles : (reads : Asked → List ℕ → Reading) (plan : Plan) (commands : List Task) (left unsent : ℕ) (client next : ById Asked) (marks : List (Option Mark))
+    (records : List Record) (utc : ℕ) (ss : List (Settlement Asked))
     → map of_settled ss ++ map of_pending next.waiting ≡ map of_pending client.waiting → next.next < 8 → Sound plan commands left unsent client marks records
     → Sound plan commands left unsent next (drop (length ss) marks) (records ++ records_of reads utc marks ss)
 sound_settles reads plan commands left unsent client next marks records utc ss parts low sound =
@@ -119,7 +119,7 @@ sound_settles reads plan commands left unsent client next marks records utc ss p
     }
 
 -- where there is room, the client after a send has the next id, and one request more that waits
-pub client_behind : (client : ById) (target : ℕ) (call : Call) (deadline : ℕ) → length client.waiting < 7
+pub client_behind : (client : ById Asked) (target : ℕ) (call : Asked) (deadline : ℕ) → length client.waiting < 7
     → client_sent client (sends WINDOW client target call deadline) ≡ record { next = (client.next + 1) % IDS; waiting = client.waiting ++ pending_of target call deadline ∷ [] }
 client_behind client target call deadline room =
     ap (λ (b : Bool). client_sent client (id_send client target call deadline b)) (room_left (length client.waiting) room) where
@@ -128,17 +128,17 @@ client_behind client target call deadline room =
       room_left n room = grind (arith, nat_tests, room)
 
 -- with one request and one mark more there are still as many
-one_more : (marks : List (Option Mark)) (ws : List Pending) (m : Option Mark) (p : Pending) → length marks ≡ length ws → length (marks ++ m ∷ []) ≡ length (ws ++ p ∷ [])
+one_more : (marks : List (Option Mark)) (ws : List (Pending Asked)) (m : Option Mark) (p : Pending Asked) → length marks ≡ length ws → length (marks ++ m ∷ []) ≡ length (ws ++ p ∷ [])
 one_more marks ws m p paired = length-append marks (m ∷ []) ∙ ap (λ n. n + 1) paired ∙ sym (length-append ws (p ∷ []))
 
 -- a null procedure that is sent keeps `Sound`
-pub sound_null : (plan : Plan) (commands : List Task) (left unsent : ℕ) (client : ById) (marks : List (Option Mark)) (records : List Record) (target : ℕ) (call : Call) (deadline : ℕ)
+pub sound_null : (plan : Plan) (commands : List Task) (left unsent : ℕ) (client : ById Asked) (marks : List (Option Mark)) (records : List Record) (target : ℕ) (call : Asked) (deadline : ℕ)
     → length client.waiting < 7 → Sound plan commands left unsent client marks records
     → Sound plan commands left unsent (client_sent client (sends WINDOW client target call deadline)) (marks ++ None ∷ []) records
 sound_null plan commands left unsent client marks records target call deadline room sound =
     let p = pending_of target call deadline in
     let more : length (client.waiting ++ p ∷ []) ≡ length client.waiting + 1 = length-append client.waiting (p ∷ []) in
-    subst (λ (c : ById). Sound plan commands left unsent c (marks ++ None ∷ []) records) (sym (client_behind client target call deadline room)) (record {
+    subst (λ (c : ById Asked). Sound plan commands left unsent c (marks ++ None ∷ []) records) (sym (client_behind client target call deadline room)) (record {
       unsents = sound.unsents;
       lefts = sound.lefts;
       begun = sound.begun;
@@ -149,7 +149,7 @@ sound_null plan commands left unsent client marks records target call deadline r
     })
 
 -- a command that is sent keeps `Sound`, with one command less unsent
-pub sound_sent : (plan : Plan) (commands : List Task) (left unsent : ℕ) (client : ById) (marks : List (Option Mark)) (records : List Record) (utc deadline : ℕ) (expected : Expected) (task : Task) (others : List Task)
+pub sound_sent : (plan : Plan) (commands : List Task) (left unsent : ℕ) (client : ById Asked) (marks : List (Option Mark)) (records : List Record) (utc deadline : ℕ) (expected : Expected) (task : Task) (others : List Task)
     → length client.waiting < 7 → 0 < unsent → drop (length commands - unsent) commands ≡ task ∷ others → Sound plan commands left unsent client marks records
     → Sound plan commands left (unsent - 1) (client_sent client (sends WINDOW client task.command.target task.command.call deadline))
     (marks ++ Some (record { cycle = plan.cycles - left; place = length commands - unsent; sent = utc; expected = expected }) ∷ []) records
@@ -163,7 +163,7 @@ sound_sent plan commands left unsent client marks records utc deadline expected 
     let many : 0 < begun = omega (arith, below) in
     let place_is : length commands - (unsent - 1) ≡ place + 1 = omega (arith, some, sound.unsents) in
     let each = each_sent commands begun place utc expected marks client.waiting p records task others sound.paired at refl many sound.each in
-    subst (λ (c : ById). Sound plan commands left (unsent - 1) c (marks ++ Some mark ∷ []) records) (sym (client_behind client task.command.target task.command.call deadline room)) (record {
+    subst (λ (c : ById Asked). Sound plan commands left (unsent - 1) c (marks ++ Some mark ∷ []) records) (sym (client_behind client task.command.target task.command.call deadline room)) (record {
       unsents = omega (arith, sound.unsents);
       lefts = sound.lefts;
       begun = λ e. below;
@@ -174,7 +174,7 @@ sound_sent plan commands left unsent client marks records utc deadline expected 
     })
 
 -- a command that isn't sent keeps `Sound`, with one command less unsent
-pub sound_skipped : (plan : Plan) (commands : List Task) (left unsent : ℕ) (client : ById) (marks : List (Option Mark)) (records : List Record) (utc : ℕ) (end : End) (task : Task) (others : List Task)
+pub sound_skipped : (plan : Plan) (commands : List Task) (left unsent : ℕ) (client : ById Asked) (marks : List (Option Mark)) (records : List Record) (utc : ℕ) (end : End) (task : Task) (others : List Task)
     → commands_in marks ≡ 0 → 0 < unsent → drop (length commands - unsent) commands ≡ task ∷ others → Sound plan commands left unsent client marks records
     → Sound plan commands left (unsent - 1) client marks (records ++ record
     { sent = None; utc = utc; cycle = plan.cycles - left; place = length commands - unsent; command = task.command; end = end } ∷ [])
@@ -197,7 +197,7 @@ sound_skipped plan commands left unsent client marks records utc end task others
     }
 
 -- the beginning of a cycle keeps `Sound`
-pub sound_begun : (plan : Plan) (commands : List Task) (left unsent : ℕ) (client : ById) (marks : List (Option Mark)) (records : List Record)
+pub sound_begun : (plan : Plan) (commands : List Task) (left unsent : ℕ) (client : ById Asked) (marks : List (Option Mark)) (records : List Record)
     → unsent ≡ 0 → commands_in marks ≡ 0 → 0 < left → Sound plan commands left unsent client marks records → Sound plan commands (left - 1) (length commands) client marks records
 sound_begun plan commands left unsent client marks records none settled some sound =
     let lefts = sound.lefts in

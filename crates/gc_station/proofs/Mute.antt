@@ -10,8 +10,10 @@ use Rattle.gc_lines.specs.Frames.{rest_behind}
 use Rattle.gc_lines.specs.declared.fault.LineFault.{LineFault}
 use Rattle.gc_lines.specs.Replies.{ReplyFields}
 use Rattle.gc_lines.specs.Readers.{reply_at}
+use Rattle.gc_catalogue.specs.declared.asked.Asked.{Asked}
 use Rattle.gc_client.specs.Beginning.{the_word, is_answered, left_by}
 use Rattle.gc_client.specs.Rule.{ById, heard, id_in}
+use Rattle.gc_catalogue.specs.declared.asked.Asked.TheVariants.{Table}
 use Rattle.gc_catalogue.specs.declared.call.Call.TheVariants.{NullProc}
 use Rattle.gc_texts.specs.declared.tasks.Task.{Task}
 use Rattle.gc_links.specs.declared.link.Moment.{Moment}
@@ -423,7 +425,7 @@ module _ (plan : Plan) (commands : List Task) (scope : Scope) where
       let p = s.progress in λ m. asks_mute (is_sought p.word (later p.moment.elapsed plan.deadline) true) p acts (null_text p.word) needs.0 tells q
   mute_line actions.Send s acts needs tells rest q =
       let p = s.progress in λ m. asks_mute (is_sought p.word p.again true) p acts (first_text s.client (drop (place_next commands p) commands)) needs.0 tells q
-  mute_line actions.Flush s acts needs tells rest q = let p = s.progress in λ m. asks_mute (is_sought p.word p.again true) p acts (request_text s.client NullProc) needs.0 tells q
+  mute_line actions.Flush s acts needs tells rest q = let p = s.progress in λ m. asks_mute (is_sought p.word p.again true) p acts (request_text s.client (Table NullProc)) needs.0 tells q
   mute_line (actions.Read until) s acts needs tells rest q =
       let p = s.progress in
       let sought = is_sought p.word p.again p.asked in (
@@ -469,7 +471,7 @@ module _ (plan : Plan) (commands : List Task) (scope : Scope) where
     by_begun : (b : Bool) → has_begun p ≡ b → nat_lt 0 (length s.client.waiting) ≡ true → is_sought p.word p.again p.asked ≡ true
     by_begun true begun some = sought_begun p.word p.again p.asked begun
     by_begun false begins some =
-        let none : length s.client.waiting ≡ 0 = ap (λ (c : ById). length c.waiting) (fine.begins begins) in
+        let none : length s.client.waiting ≡ 0 = ap (λ (c : ById Asked). length c.waiting) (fine.begins begins) in
         let many = ltb-true 0 (length s.client.waiting) some in
         absurd (omega (arith, none, many))
 

@@ -9,7 +9,8 @@ use Rattle.std.specs.List.{AllByRecursion}
 use Rattle.gc_lines.specs.Frames.{rest_behind}
 use Rattle.gc_catalogue.specs.declared.answer.Answer.{Answer}
 use Rattle.gc_catalogue.specs.declared.answer.Reading.{Reading}
-use Rattle.gc_catalogue.specs.declared.call.Call.{Call}
+use Rattle.gc_catalogue.specs.declared.asked.Asked.{Asked}
+use Rattle.gc_catalogue.specs.declared.asked.Asked.TheVariants.{Table}
 use Rattle.gc_catalogue.specs.declared.call.Call.TheVariants.{NullProc}
 use Rattle.gc_client.specs.Rule
 use Rattle.gc_client.specs.Rule.{heard, hears, restarts}
@@ -60,7 +61,7 @@ module _ (plan : Plan) (commands : List Task) (scope : Scope) where
   IsSo r = IsAtItsTarget commands r × IsTrulyElsewhere scope.reads commands r × IsAsListed scope.reads commands r
 
   -- the record of a settlement whose mark is `IsPlaced` is `IsSo`
-  record_so : (utc : ℕ) (mark : Mark) (x : Rule.Settlement) → IsPlaced (Some mark) → IsSo (record_of scope.reads utc mark x)
+  record_so : (utc : ℕ) (mark : Mark) (x : Rule.Settlement Asked) → IsPlaced (Some mark) → IsSo (record_of scope.reads utc mark x)
   record_so utc mark x placed = (
     (λ task near quality answer line d at has e toward.
         let stands : mark.expected.near ≡ Some near = ap (λ (k : Expected). k.near) (placed ∙ expected_there commands mark.place task at) ∙ has in
@@ -84,7 +85,7 @@ module _ (plan : Plan) (commands : List Task) (scope : Scope) where
   )
 
   -- the records of settlements whose marks are `IsPlaced` are all `IsSo`
-  records_so : (utc : ℕ) (marks : List (Option Mark)) (settlements : List Rule.Settlement) → AllByRecursion IsPlaced marks → AllByRecursion IsSo (records_of scope.reads utc marks settlements)
+  records_so : (utc : ℕ) (marks : List (Option Mark)) (settlements : List (Rule.Settlement Asked)) → AllByRecursion IsPlaced marks → AllByRecursion IsSo (records_of scope.reads utc marks settlements)
   records_so utc [] settlements all = tt
   records_so utc (mark ∷ marks) [] all = tt
   records_so utc (None ∷ marks) (x ∷ others) all = records_so utc marks others all.1
@@ -103,10 +104,10 @@ module _ (plan : Plan) (commands : List Task) (scope : Scope) where
     records : AllByRecursion IsSo s.records
 
   -- settlements that are written down keep all records `IsSo`
-  settles_so : (s : Model) (x : List Rule.Settlement) → Keeps s → AllByRecursion IsSo (s.records ++ records_of s.reads s.progress.moment.utc s.marks x)
+  settles_so : (s : Model) (x : List (Rule.Settlement Asked)) → Keeps s → AllByRecursion IsSo (s.records ++ records_of s.reads s.progress.moment.utc s.marks x)
   settles_so s x k =
       all_append IsSo s.records _ k.records
-      (subst (λ (reads : Call → List ℕ → Reading). AllByRecursion IsSo (records_of reads s.progress.moment.utc s.marks x)) (sym k.reads) (records_so s.progress.moment.utc s.marks x k.marks))
+      (subst (λ (reads : Asked → List ℕ → Reading). AllByRecursion IsSo (records_of reads s.progress.moment.utc s.marks x)) (sym k.reads) (records_so s.progress.moment.utc s.marks x k.marks))
 
   -- `Keeps` lasts over a line that is heard
   line_so : (s : Model) (line : List ℕ) → Keeps s → Keeps (line_came s line)
@@ -127,7 +128,7 @@ module _ (plan : Plan) (commands : List Task) (scope : Scope) where
   losing_so false s k = k
 
   -- `Keeps` lasts over a request that is sent, if its mark is `IsPlaced`
-  asks_so : (wait target : ℕ) (call : Call) (mark : Option Mark) (s : Model) → IsPlaced mark → Keeps s → Keeps (asks wait target call mark s)
+  asks_so : (wait target : ℕ) (call : Asked) (mark : Option Mark) (s : Model) → IsPlaced mark → Keeps s → Keeps (asks wait target call mark s)
   asks_so wait target call mark s placed k = record { reads = k.reads; marks = all_append IsPlaced s.marks _ k.marks (placed, tt); records = k.records }
 
   -- `Keeps` lasts over the send of the first of these commands, if its mark is `IsPlaced`
@@ -165,8 +166,8 @@ module _ (plan : Plan) (commands : List Task) (scope : Scope) where
   moved_so : (next : Action) (s : Model) (act : Act) → Keeps s → Keeps (moved plan commands next s act)
   moved_so actions.Send s (Cut bytes count) k = let n = next_so s k in record { reads = n.reads; marks = n.marks; records = n.records }
   moved_so actions.Send s act k = let n = next_so s k in record { reads = n.reads; marks = n.marks; records = n.records }
-  moved_so actions.Flush s (Cut bytes count) k = let n = asks_so plan.deadline 0 NullProc None s tt k in record { reads = n.reads; marks = n.marks; records = n.records }
-  moved_so actions.Flush s act k = let n = asks_so plan.deadline 0 NullProc None s tt k in record { reads = n.reads; marks = n.marks; records = n.records }
+  moved_so actions.Flush s (Cut bytes count) k = let n = asks_so plan.deadline 0 (Table NullProc) None s tt k in record { reads = n.reads; marks = n.marks; records = n.records }
+  moved_so actions.Flush s act k = let n = asks_so plan.deadline 0 (Table NullProc) None s tt k in record { reads = n.reads; marks = n.marks; records = n.records }
   moved_so actions.Skip s (Told m) k = record {
     reads = k.reads;
     marks = k.marks;

@@ -6,7 +6,9 @@ use Rattle.std.proofs.Common.{◌≡◌, ℕ, zero, suc, ◌-◌, ◌<◌, Bool,
 use Rattle.std.specs.Prelude.{slice_get}
 use Rattle.std.proofs.lemmas.List.{length-map}
 use Rattle.gc_lines.specs.Frames.{rest_behind}
+use Rattle.gc_catalogue.specs.declared.asked.Asked.TheVariants.{Table}
 use Rattle.gc_catalogue.specs.declared.call.Call.TheVariants.{NullProc}
+use Rattle.gc_catalogue.specs.declared.asked.Asked.{Asked}
 use Rattle.gc_client.specs.OneForOne.{Hear, Expire}
 use Rattle.gc_client.specs.Rule.{ById, fresh, heard, hears, expired, expires}
 use Rattle.gc_texts.specs.declared.tasks.Task.{Task}
@@ -100,8 +102,8 @@ module _ (plan : Plan) (commands : List Task) where
       (task, at_place (place_next commands s.progress) commands task others at, refl)
 
   -- a null procedure after commands leads on by the part of its request
-  leads_null : (s : Model) → length s.client.waiting < 7 → Leads commands s (asking 0 NullProc (later s.progress.moment.elapsed plan.deadline) None) (asks_null plan s)
-  leads_null s room = books_send s.reads commands s.client s.marks (sent_of s.records) 0 NullProc (later s.progress.moment.elapsed plan.deadline) None room refl
+  leads_null : (s : Model) → length s.client.waiting < 7 → Leads commands s (asking 0 (Table NullProc) (later s.progress.moment.elapsed plan.deadline) None) (asks_null plan s)
+  leads_null s room = books_send s.reads commands s.client s.marks (sent_of s.records) 0 (Table NullProc) (later s.progress.moment.elapsed plan.deadline) None room refl
 
   -- the record of a command that isn't sent isn't among those of commands that went out
   skips_first_unsent : (p : Progress) (m : Moment) (mark : Mark) (left : List Task) → sent_of (skips_first p m mark left) ≡ []
@@ -138,7 +140,7 @@ module _ (plan : Plan) (commands : List Task) where
   leads_order s action.Open act fine is obeys begun = walk plan commands (LeadsSo action.Open s) action.Open (with_progress turned s) act obeys (λ m. none_booked s, λ n. none_booked s)
   leads_order s action.Clear act fine is obeys begun = walk plan commands (LeadsSo action.Clear s) action.Clear (with_progress turned s) act obeys (λ m. none_booked s, λ n. none_booked s)
   leads_order s action.Ask act fine is obeys begun = absurd (clash (has_begun s.progress) begun is.1)
-  leads_order s action.Flush act fine is obeys begun = walk plan commands (LeadsSo action.Flush s) action.Flush (with_progress turned s) act obeys (λ m. leads_null s is.5.1, λ n. leads_null s is.5.1)
+  leads_order s action.Flush act fine is obeys begun = walk plan commands (LeadsSo action.Flush s) action.Flush (with_progress turned s) act obeys (λ m. leads_null s is.4.1, λ n. leads_null s is.4.1)
   leads_order s action.Send act fine is obeys begun =
       let left = drop (place_next commands s.progress) commands in
       let many : length left ≡ length commands - place_next commands s.progress = length-drop (place_next commands s.progress) commands in
@@ -211,7 +213,7 @@ module _ (plan : Plan) (commands : List Task) where
   same_led : (s : Model) (turns : List Turn) (t : Model) → s.client ≡ t.client → s.marks ≡ t.marks → s.records ≡ t.records → Leads commands s (only_turns turns) t
   same_led s turns t c ms rs =
       let books = Books s.reads commands s.client s.marks (sent_of s.records) (only_turns turns) in
-      subst (λ (x : ById). books x t.marks (sent_of t.records)) c
+      subst (λ (x : ById Asked). books x t.marks (sent_of t.records)) c
       (subst (λ (x : List (Option Mark)). books s.client x (sent_of t.records)) ms
       (subst (λ (x : List Record). books s.client s.marks (sent_of x)) rs (books_turns s.reads commands s.client s.marks (sent_of s.records) turns)))
 

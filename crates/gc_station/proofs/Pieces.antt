@@ -5,12 +5,12 @@ use Rattle.std.proofs.Common.{◌≡◌, inl, inr, ℕ, ◌<◌, ◌≤◌, Bool
 use Rattle.std.specs.List.{AllByRecursion}
 use Rattle.gc_lines.specs.Frames.{rest_behind}
 use Rattle.gc_catalogue.specs.declared.answer.Reading.{Reading}
-use Rattle.gc_catalogue.specs.declared.call.Call.{Call}
+use Rattle.gc_catalogue.specs.declared.asked.Asked.{Asked}
 use Rattle.gc_client.specs.declared.pending.Pending.{Pending}
 use Rattle.gc_client.specs.Ids.{Waits, id_at, IsWindow}
 use Rattle.gc_client.specs.Rule.{ById, Settlement, place as place_behind, heard, hears}
 use Rattle.gc_client.proofs.Digits.{heard_by_grammar}
-use Rattle.gc_texts.specs.declared.commands.Command.{Command}
+use Rattle.gc_texts.specs.declared.wish.Wish.{Wish}
 use Rattle.gc_texts.specs.declared.tasks.Task.{Task}
 use Rattle.gc_station.specs.declared.mark.Mark.{Mark}
 use Rattle.gc_station.specs.declared.plan.Plan.{Plan}
@@ -27,7 +27,7 @@ use Rattle.gc_station.specs.Model.{Model, action_at, request_text, with_progress
 use Rattle.gc_station.proofs.Growing.{lines_records}
 use Rattle.gc_station.proofs.Lists.{all_append, all_split, cuts_on, Rows}
 use Rattle.gc_station.proofs.Meets.{HasPlace, EndedBy, heard_ended, heard_left, left_window, left_waits, records_all, IsRecordOf, was_answered, was_late, was_lost}
-use Rattle.gc_station.proofs.Waiting.{Asked, StayedAt, WaitsAt, IsTrue, IsHonest, past_more, past_here, expired_waits, expired_window, behind_moment, moment_told}
+use Rattle.gc_station.proofs.Waiting.{WasAsked, StayedAt, WaitsAt, IsTrue, IsHonest, past_more, past_here, expired_waits, expired_window, behind_moment, moment_told}
 use Rattle.gc_station.specs.Scopes.{Scope}
 
 -- ids count from 0 to 7 and then from 0 again: the id at the place of the id `id`, among the `count` requests that wait before
@@ -64,10 +64,10 @@ pub record WrittenDown (plan : Plan) (commands : List Task) (scope : Scope) (act
 
 -- a record that the piece wrote, of the request with this mark, is `WrittenDown`: that request was put before, and is the
 -- record's own
-written_down : (plan : Plan) (commands : List Task) (scope : Scope) (acts : List Act) (piece : List ℕ) (m : Moment) (number at id : ℕ) (p : Pending)
+written_down : (plan : Plan) (commands : List Task) (scope : Scope) (acts : List Act) (piece : List ℕ) (m : Moment) (number at id : ℕ) (p : Pending Asked)
     (mark : Mark) (r : Record) (news earlier later more : List Record)
     → r.cycle ≡ mark.cycle → r.place ≡ mark.place → r.sent ≡ Some mark.sent → p.call ≡ r.command.call
-    → (s : Asked plan commands scope acts (StayedAt m.elapsed) number at id p (Some mark))
+    → (s : WasAsked plan commands scope acts (StayedAt m.elapsed) number at id p (Some mark))
     → (stood plan commands scope (acts ++ Gave piece m ∷ [])).records ≡ (((stood plan commands scope acts).records ++ news) ++ (earlier ++ r ∷ later)) ++ more
     → WrittenDown plan commands scope acts piece m s.before s.request s.between r
 written_down plan commands scope acts piece m number at id p mark r news earlier later more cycle place sent asks s ends =
@@ -79,7 +79,7 @@ written_down plan commands scope acts piece m number at id p mark r news earlier
         cycle = cycle ∙ its.cycle;
         place = place ∙ its.place;
         sent = sent ∙ ap Some its.sent;
-        put = subst (λ (y : Call). Puts (request_text (stood plan commands scope s.before).client y) s.request) asks s.put;
+        put = subst (λ (y : Asked). Puts (request_text (stood plan commands scope s.before).client y) s.request) asks s.put;
       };
       written = record {
         earlier = news ++ earlier;
@@ -91,13 +91,13 @@ written_down plan commands scope acts piece m number at id p mark r news earlier
     }
 
 -- the id that was heard is that of the request at its place
-id_heard : (c : ById) (line : List ℕ) (at next : ℕ) → IsWindow c → HasPlace c (heard line) at → id_at c.next (length c.waiting) at ≡ next → heard line ≡ Some next
+id_heard : (c : ById Asked) (line : List ℕ) (at next : ℕ) → IsWindow c → HasPlace c (heard line) at → id_at c.next (length c.waiting) at ≡ next → heard line ≡ Some next
 id_heard c line at next w has is =
     let back = id_back c.next (length c.waiting) has.id w.digit w.few (id_digit line has.id has.has) in
     has.has ∙ ap Some (sym back ∙ ap (λ (k : ℕ). id_at c.next (length c.waiting) k) (sym has.is) ∙ is)
 
 -- a line of the piece has the id `next`, which is that of the request at the place `at`: so the piece brings that id (`Brings`)
-brings : (plan : Plan) (commands : List Task) (scope : Scope) (acts : List Act) (piece : List ℕ) (c : ById) (front others : List (List ℕ)) (line : List ℕ)
+brings : (plan : Plan) (commands : List Task) (scope : Scope) (acts : List Act) (piece : List ℕ) (c : ById Asked) (front others : List (List ℕ)) (line : List ℕ)
     (at next : ℕ) (before : List Act) (request : Act) (between : List Act)
     → front ++ line ∷ others ≡ lines_behind (stood plan commands scope acts).rest piece → acts ≡ before ++ request ∷ between → IsWindow c
     → HasPlace c (heard line) at → id_at c.next (length c.waiting) at ≡ next
@@ -125,10 +125,10 @@ too_late now d true acts act is past (inr reached) = past_here d acts act (past 
 too_late now d false acts act is past both = cc
 
 -- the record of an answer, of the request with this mark, is as `IsAnsweredIn` says
-answered : (plan : Plan) (commands : List Task) (scope : Scope) (acts : List Act) (piece : List ℕ) (m : Moment) (c : ById) (front others : List (List ℕ))
-    (line l : List ℕ) (number at : ℕ) (p : Pending) (mark : Mark) (r : Record)
+answered : (plan : Plan) (commands : List Task) (scope : Scope) (acts : List Act) (piece : List ℕ) (m : Moment) (c : ById Asked) (front others : List (List ℕ))
+    (line l : List ℕ) (number at : ℕ) (p : Pending Asked) (mark : Mark) (r : Record)
     → front ++ line ∷ others ≡ lines_behind (stood plan commands scope acts).rest piece → IsWindow c
-    → (s : Asked plan commands scope acts (StayedAt m.elapsed) number at (id_at c.next (length c.waiting) at) p (Some mark))
+    → (s : WasAsked plan commands scope acts (StayedAt m.elapsed) number at (id_at c.next (length c.waiting) at) p (Some mark))
     → WrittenDown plan commands scope acts piece m s.before s.request s.between r
     → l ≡ line → p.given_up ≡ false → HasPlace c (heard line) at
     → IsAnsweredIn plan commands scope (acts ++ Gave piece m ∷ []) r l
@@ -159,10 +159,10 @@ answered plan commands scope acts piece m c front others line l number at p mark
     }
 
 -- the record of a late reply, of the request with this mark, is as `IsLateIn` says
-late : (plan : Plan) (commands : List Task) (scope : Scope) (acts : List Act) (piece : List ℕ) (m : Moment) (c : ById) (front others : List (List ℕ))
-    (line : List ℕ) (number at : ℕ) (p : Pending) (mark : Mark) (r : Record)
+late : (plan : Plan) (commands : List Task) (scope : Scope) (acts : List Act) (piece : List ℕ) (m : Moment) (c : ById Asked) (front others : List (List ℕ))
+    (line : List ℕ) (number at : ℕ) (p : Pending Asked) (mark : Mark) (r : Record)
     → front ++ line ∷ others ≡ lines_behind (stood plan commands scope acts).rest piece → IsWindow c
-    → (s : Asked plan commands scope acts (StayedAt m.elapsed) number at (id_at c.next (length c.waiting) at) p (Some mark))
+    → (s : WasAsked plan commands scope acts (StayedAt m.elapsed) number at (id_at c.next (length c.waiting) at) p (Some mark))
     → WrittenDown plan commands scope acts piece m s.before s.request s.between r
     → p.given_up ≡ true → HasPlace c (heard line) at
     → IsLateIn plan commands scope (acts ++ Gave piece m ∷ []) r
@@ -182,10 +182,10 @@ late plan commands scope acts piece m c front others line number at p mark r spl
 }
 
 -- a request that is lost was overtaken: the piece brings the reply to a request that was put after it, and that waits
-overtaken : (plan : Plan) (commands : List Task) (scope : Scope) (acts : List Act) (piece : List ℕ) (m : Moment) (c : ById) (front others : List (List ℕ))
-    (line : List ℕ) (number at there : ℕ) (p q : Pending) (mark mark' : Option Mark) (number' : ℕ)
+overtaken : (plan : Plan) (commands : List Task) (scope : Scope) (acts : List Act) (piece : List ℕ) (m : Moment) (c : ById Asked) (front others : List (List ℕ))
+    (line : List ℕ) (number at there : ℕ) (p q : Pending Asked) (mark mark' : Option Mark) (number' : ℕ)
     → front ++ line ∷ others ≡ lines_behind (stood plan commands scope acts).rest piece → IsWindow c
-    → (s : Asked plan commands scope acts (StayedAt m.elapsed) number at (id_at c.next (length c.waiting) at) p mark)
+    → (s : WasAsked plan commands scope acts (StayedAt m.elapsed) number at (id_at c.next (length c.waiting) at) p mark)
     → WaitsAt plan commands scope acts (stood plan commands scope acts).client m.elapsed c.next (length c.waiting) number' there q mark'
     → number < number' → at < there → HasPlace c (heard line) there
     → IsOvertaken plan commands scope s.before s.request s.between (Gave piece m)
@@ -214,13 +214,13 @@ overtaken plan commands scope acts piece m c front others line number at there p
     }
 
 -- this record is of a request that the line settles (`EndedBy`)
-abbrev pub IsRecorded : Plan → List Task → Scope → List Act → ℕ → ById → List ℕ → Record → Type 0
+abbrev pub IsRecorded : Plan → List Task → Scope → List Act → ℕ → ById Asked → List ℕ → Record → Type 0
 IsRecorded plan commands scope acts now c line r =
-    (at : ℕ) × (mark : Mark) × (x : Settlement) × (r.cycle ≡ mark.cycle) × (r.place ≡ mark.place) × (r.sent ≡ Some mark.sent) × IsRecordOf r x
+    (at : ℕ) × (mark : Mark) × (x : Settlement Asked) × (r.cycle ≡ mark.cycle) × (r.place ≡ mark.place) × (r.sent ≡ Some mark.sent) × IsRecordOf r x
     × EndedBy (WaitsAt plan commands scope acts (stood plan commands scope acts).client now c.next (length c.waiting)) c (heard line) line at x (Some mark)
 
 -- each record of a line is of a request that the line settles
-pub line_written : (plan : Plan) (commands : List Task) (scope : Scope) (acts : List Act) (reads : Call → List ℕ → Reading) (now utc : ℕ) (c : ById) (marks : List (Option Mark)) (line : List ℕ)
+pub line_written : (plan : Plan) (commands : List Task) (scope : Scope) (acts : List Act) (reads : Asked → List ℕ → Reading) (now utc : ℕ) (c : ById Asked) (marks : List (Option Mark)) (line : List ℕ)
     → Rows (WaitsAt plan commands scope acts (stood plan commands scope acts).client now c.next (length c.waiting)) 0 0 c.waiting marks
     → AllByRecursion (IsRecorded plan commands scope acts now c line) (records_of reads utc marks (hears c line (heard line)).settlements)
 line_written plan commands scope acts reads now utc c marks line waits =
@@ -229,7 +229,7 @@ line_written plan commands scope acts reads now utc c marks line waits =
     (λ i y mark ended. (i, mark, y, refl, refl, refl, record { reads = reads; expected = mark.expected; command = refl; ended = refl }, ended)) (heard_ended W c marks line (heard line) waits)
 
 -- the record of a request that a line settles is true
-line_true : (plan : Plan) (commands : List Task) (scope : Scope) (acts : List Act) (piece : List ℕ) (m : Moment) (c : ById) (front others : List (List ℕ))
+line_true : (plan : Plan) (commands : List Task) (scope : Scope) (acts : List Act) (piece : List ℕ) (m : Moment) (c : ById Asked) (front others : List (List ℕ))
     (line : List ℕ) (r : Record) (news earlier later more : List Record)
     → front ++ line ∷ others ≡ lines_behind (stood plan commands scope acts).rest piece → IsWindow c
     → (stood plan commands scope (acts ++ Gave piece m ∷ [])).records ≡ (((stood plan commands scope acts).records ++ news) ++ (earlier ++ r ∷ later)) ++ more
@@ -240,7 +240,7 @@ line_true plan commands scope acts piece m c front others line r news earlier la
     let of_it = it.6 in
     let x = it.7 in
     let s = x.holds.0 in
-    let down = written_down plan commands scope acts piece m x.number at _ x.pending mark r news earlier later more it.3 it.4 it.5 (x.asks ∙ sym (ap (λ (y : Command). y.call) of_it.command)) s ends in
+    let down = written_down plan commands scope acts piece m x.number at _ x.pending mark r news earlier later more it.3 it.4 it.5 (x.asks ∙ sym (ap (λ (y : Wish). y.call) of_it.command)) s ends in
     record {
       answered = λ l e. let a = x.answered l (was_answered r it.2 of_it l e) in answered plan commands scope acts piece m c front others line l x.number at x.pending mark r split w s down a.0 a.1 a.2;
       late = λ e. let a = x.late (was_late r it.2 of_it e) in late plan commands scope acts piece m c front others line x.number at x.pending mark r split w s down a.0 a.1;

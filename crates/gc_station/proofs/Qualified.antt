@@ -6,9 +6,10 @@ use Rattle.std.proofs.Common.{◌≡◌, inl, inr, ℕ, Bool, true, false, List,
 use Rattle.gc_catalogue.specs.declared.answer.Answer.{Answer}
 use Rattle.gc_catalogue.specs.declared.answer.Reading.{Reading}
 use Rattle.gc_catalogue.specs.declared.answer.Reading.TheVariants as reading
-use Rattle.gc_catalogue.specs.declared.call.Call.{Call}
+use Rattle.gc_catalogue.specs.declared.asked.Asked.{Asked}
 use Rattle.gc_client.specs.Rule
-use Rattle.gc_client.specs.Settlements.{outcome_seen, IsWellRead}
+use Rattle.gc_catalogue.specs.Asked.{IsAskedReading}
+use Rattle.gc_client.specs.Settlements.{outcome_seen, IsReadBy}
 use Rattle.gc_client.specs.declared.settlement.Outcome.{Outcome}
 use Rattle.gc_client.specs.declared.settlement.Outcome.TheVariants as outcomes
 use Rattle.gc_texts.specs.Codes.{are_accepted}
@@ -70,7 +71,7 @@ module _ (near : Option Near) (line : List ℕ) where
   refused_away true z e = (refl, warned_away z e)
   refused_away false z e = cc
 
-module _ (reads : Call → List ℕ → Reading) (expected : Expected) (call : Call) (line : List ℕ) where
+module _ (reads : Asked → List ℕ → Reading) (expected : Expected) (call : Asked) (line : List ℕ) where
   -- if a reply in time, which says x, ends a command as answered, with an answer, that answer isn't elsewhere
   answer_near : (x z : Reading) (k : Quality) (answer : Answer) → answer_as expected x z line ≡ Answered k (Some answer) line → is_elsewhere expected.near answer ≡ false
   answer_near (reading.Value a) z k answer e = value_near expected.near line quality.Fine k a answer (is_elsewhere expected.near a) refl e
@@ -165,11 +166,11 @@ module _ (reads : Call → List ℕ → Reading) (expected : Expected) (call : C
 
 -- `end` is what the code makes of a refused reply: the ending of the refusal, by whether its code is accepted, and by what the
 -- line says with return code 0 (`zeroed`). It is the ending that `end_of` gives the settlement
-pub refused_ends : (reads : Call → List ℕ → Reading) (expected : Expected) (call : Call) (outcome : Outcome) (code : ℕ) (line : _) (zeroed : Reading) (end : End)
-    → AreReadings reads → outcome ≡ outcomes.Answered (reading.Refused code) line → IsWellRead call outcome → IsZeroOf call outcome zeroed
+pub refused_ends : (reads : Asked → List ℕ → Reading) (expected : Expected) (call : Asked) (outcome : Outcome) (code : ℕ) (line : _) (zeroed : Reading) (end : End)
+    → AreReadings reads → outcome ≡ outcomes.Answered (reading.Refused code) line → IsReadBy IsAskedReading call outcome → IsZeroOf call outcome zeroed
     → end ≡ refused_as (are_accepted expected.accepted code) expected.near zeroed line.items → end ≡ end_of reads expected call (outcome_seen outcome)
 refused_ends reads expected call outcome code line zeroed end are is read zero_is e =
-    let r : IsWellRead call (outcomes.Answered (reading.Refused code) line) = subst (IsWellRead call) is read in
+    let r : IsReadBy IsAskedReading call (outcomes.Answered (reading.Refused code) line) = subst (IsReadBy IsAskedReading call) is read in
     let z : IsZeroOf call (outcomes.Answered (reading.Refused code) line) zeroed = subst (λ (o : Outcome). IsZeroOf call o zeroed) is zero_is in
     let said : reads call line.items ≡ reading.Refused code = are call line.items (reading.Refused code) r in
     let bare : reads call (as_zero line.items) ≡ zeroed = are call (as_zero line.items) zeroed (z r.reply r.is_reply) in

@@ -6,6 +6,7 @@ use Rattle.std.proofs.Common.{◌≡◌, ℕ, ◌-◌, ◌≤◌, ◌⊎◌, inl
 use Rattle.std.specs.List.{AllByRecursion}
 use Rattle.std.proofs.Math.Nat.{min-eq_left, min-eq_right}
 use Rattle.std.proofs.lemmas.Bool.{leb-true, leb-false}
+use Rattle.gc_catalogue.specs.declared.asked.Asked.TheVariants.{Table}
 use Rattle.gc_catalogue.specs.declared.call.Call.TheVariants.{NullProc}
 use Rattle.gc_texts.specs.declared.tasks.Task.{Task}
 use Rattle.gc_links.specs.declared.link.Moment.{Moment}
@@ -295,7 +296,7 @@ module _ (plan : Plan) (commands : List Task) (scope : Scope) where
   stage_line actions.Send s acts there needs time st =
       let p = s.progress in λ m. stage_ready (has_begun p) (has_begun p) p.stale true p.since p.since p.phase acts (Put (first_text s.client (drop (place_next commands p) commands))) tt needs.0 st
   stage_line actions.Flush s acts there needs time st = let p = s.progress in
-      λ m. stage_ready (has_begun p) (has_begun p) p.stale true p.since p.since p.phase acts (Put (request_text s.client NullProc)) tt needs.0 st
+      λ m. stage_ready (has_begun p) (has_begun p) p.stale true p.since p.since p.phase acts (Put (request_text s.client (Table NullProc))) tt needs.0 st
   stage_line actions.Renew s acts there needs time st = let p = s.progress in λ m. stage_ready (has_begun p) false p.stale false p.since m.elapsed p.phase acts (Told m) tt needs.0 st
   stage_line next s acts there needs time st = let p = s.progress in λ m. stage_ready (has_begun p) (has_begun p) p.stale false p.since m.elapsed p.phase acts (Told m) tt needs.0 st
 

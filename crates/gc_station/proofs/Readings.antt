@@ -5,11 +5,10 @@ use Rattle.gc_lines.specs.Readers.{reply_at}
 use Rattle.gc_lines.specs.declared.fault.LineFault.{LineFault}
 use Rattle.gc_lines.proofs.Replies.{reply_again, reply_one}
 use Rattle.gc_catalogue.specs.declared.answer.Reading.{Reading}
-use Rattle.gc_catalogue.specs.declared.call.Call.{Call}
-use Rattle.gc_catalogue.specs.Readings.{IsReading}
+use Rattle.gc_catalogue.specs.declared.asked.Asked.{Asked}
+use Rattle.gc_catalogue.specs.Asked.{IsAskedReading}
 use Rattle.gc_catalogue.specs.declared.answer.Reading.TheVariants.{Refused}
-use Rattle.gc_catalogue.proofs.AnswerLaws.{one_reading}
-use Rattle.gc_catalogue.proofs.EachReply.{each_reply}
+use Rattle.gc_catalogue.proofs.AskedRules.{one_asked_reading, each_asked_reply}
 use Rattle.gc_texts.specs.declared.tasks.Task.{Task}
 use Rattle.gc_station.specs.declared.plan.Plan.{Plan}
 use Rattle.gc_station.specs.declared.progress.Action.{Action}
@@ -49,18 +48,18 @@ pub stood_reads : (plan : Plan) (commands : List Task) (scope : Scope) (acts : L
 stood_reads plan commands scope acts = all_reads plan commands (opening plan scope) acts
 
 -- a function that equals one that gives readings gives them, too
-pub are_same : (a b : Call → List ℕ → Reading) → a ≡ b → AreReadings b → AreReadings a
-are_same a b e are = subst (λ (r : Call → List ℕ → Reading). AreReadings r) (sym e) are
+pub are_same : (a b : Asked → List ℕ → Reading) → a ≡ b → AreReadings b → AreReadings a
+are_same a b e are = subst (λ (r : Asked → List ℕ → Reading). AreReadings r) (sym e) are
 
 -- a line has at most one reading for a call
 pub one_for_a_line : OneReadingForALine
 one_for_a_line call line x y p q =
     let same = reply_one line p.reply q.reply p.is_reply q.is_reply in
-    one_reading call q.reply x y (subst (λ (r : ReplyFields). IsReading call r x) same p.is_reading) q.is_reading
+    one_asked_reading call q.reply x y (subst (λ (r : ReplyFields). IsAskedReading call r x) same p.is_reading) q.is_reading
 
 -- the reading of a line for a call: that of its reply, and any where it is no reply
-said : Call → Result ReplyFields LineFault → Reading
-said call (Ok reply) = (each_reply call reply).0
+said : Asked → Result ReplyFields LineFault → Reading
+said call (Ok reply) = (each_asked_reply call reply).0
 said call (Err fault) = Refused 0
 
 -- some function gives each line's reading for a call: it reads the line as a reply, and that for the call
@@ -70,9 +69,9 @@ some_readings = (
   λ call line. said call (reply_at line),
   λ call line reading is.
       ap (said call) (reply_again line is.reply is.is_reply)
-      ∙ one_reading call is.reply (each_reply call is.reply).0 reading (each_reply call is.reply).1 is.is_reading,
+      ∙ one_asked_reading call is.reply (each_asked_reply call is.reply).0 reading (each_asked_reply call is.reply).1 is.is_reading,
 )
 
 -- what holds for every function that gives the readings is `ForReadings`, because there is such a function
-pub for_readings : (Holds : (Call → List ℕ → Reading) → Type 0) → ((reads : Call → List ℕ → Reading) → AreReadings reads → Holds reads) → ForReadings Holds
+pub for_readings : (Holds : (Asked → List ℕ → Reading) → Type 0) → ((reads : Asked → List ℕ → Reading) → AreReadings reads → Holds reads) → ForReadings Holds
 for_readings Holds each = (each, (some_readings.0, some_readings.1, each some_readings.0 some_readings.1))

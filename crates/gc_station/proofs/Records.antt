@@ -8,7 +8,7 @@ use Rattle.std.proofs.lemmas.List.{length-map, length-take, map-append, map_more
 use Rattle.std.specs.Io.KnownBytes.{Appends}
 use Rattle.gc_lines.proofs.Known.{Appends-append}
 use Rattle.gc_catalogue.specs.declared.answer.Reading.{Reading}
-use Rattle.gc_catalogue.specs.declared.call.Call.{Call}
+use Rattle.gc_catalogue.specs.declared.asked.Asked.{Asked}
 use Rattle.gc_client.specs.declared.settlement.Settlement.{Settlement}
 use Rattle.gc_client.specs.Rule
 use Rattle.gc_client.specs.Settlements.{settlement_seen}
@@ -54,25 +54,25 @@ commands_more marks i b below e =
 -- Records.
 
 -- no settlements have no records
-pub records-none : (reads : Call → List ℕ → Reading) (utc : ℕ) (marks : List (Option Mark)) → records_of reads utc marks [] ≡ []
+pub records-none : (reads : Asked → List ℕ → Reading) (utc : ℕ) (marks : List (Option Mark)) → records_of reads utc marks [] ≡ []
 records-none reads utc [] = refl
 records-none reads utc (mark ∷ marks) = refl
 
 -- the record of one settlement, which is of the oldest request, is made by the first mark alone
-mark_here : (reads : Call → List ℕ → Reading) (utc : ℕ) (mark : Option Mark) (marks : List (Option Mark)) (x : Rule.Settlement)
+mark_here : (reads : Asked → List ℕ → Reading) (utc : ℕ) (mark : Option Mark) (marks : List (Option Mark)) (x : Rule.Settlement Asked)
     → records_of reads utc (mark ∷ marks) (x ∷ []) ≡ records_of reads utc (mark ∷ []) (x ∷ [])
 mark_here reads utc None marks x = records-none reads utc marks
 mark_here reads utc (Some mark) marks x = ap (λ rs. record_of reads utc mark x ∷ rs) (records-none reads utc marks)
 
 -- the record of one settlement is made by the first mark alone, where that mark is given by its place, 0
-pub mark_first : (reads : Call → List ℕ → Reading) (utc : ℕ) (marks : List (Option Mark)) (mark : Option Mark) (x : Rule.Settlement)
+pub mark_first : (reads : Asked → List ℕ → Reading) (utc : ℕ) (marks : List (Option Mark)) (mark : Option Mark) (x : Rule.Settlement Asked)
     → Some mark ≡ slice_get marks 0 → records_of reads utc marks (x ∷ []) ≡ records_of reads utc (mark ∷ []) (x ∷ [])
 mark_first reads utc [] mark x e = cc
 mark_first reads utc (m ∷ marks) mark x e = let same : m ≡ mark = cc in mark_here reads utc m marks x ∙ ap (λ k. records_of reads utc (k ∷ []) (x ∷ [])) same
 
 -- the records of settlements and of others behind them are those of the first, and behind them those of the others by the marks
 -- that are left
-pub records-append : (reads : Call → List ℕ → Reading) (utc : ℕ) (marks : List (Option Mark)) (xs ys : List Rule.Settlement)
+pub records-append : (reads : Asked → List ℕ → Reading) (utc : ℕ) (marks : List (Option Mark)) (xs ys : List (Rule.Settlement Asked))
     → records_of reads utc marks (xs ++ ys) ≡ records_of reads utc marks xs ++ records_of reads utc (drop (length xs) marks) ys
 records-append reads utc [] [] ys = refl
 records-append reads utc [] (x ∷ xs) ys = refl
@@ -81,7 +81,7 @@ records-append reads utc (None ∷ marks) (x ∷ xs) ys = records-append reads u
 records-append reads utc (Some mark ∷ marks) (x ∷ xs) ys = ap (λ rs. record_of reads utc mark x ∷ rs) (records-append reads utc marks xs ys)
 
 -- the records of the first i + 1 settlements are those of the first i, and that of s, the one at place i, by its mark
-pub front_more : (reads : Call → List ℕ → Reading) (utc : ℕ) (marks : List (Option Mark)) (ss : List Settlement) (i : ℕ) (s : Settlement) (mark : Option Mark) → i < length ss → s ≡ get_or ss i s
+pub front_more : (reads : Asked → List ℕ → Reading) (utc : ℕ) (marks : List (Option Mark)) (ss : List (Settlement Asked)) (i : ℕ) (s : Settlement Asked) (mark : Option Mark) → i < length ss → s ≡ get_or ss i s
     → records_of reads utc (drop i marks) (settlement_seen s ∷ []) ≡ records_of reads utc (mark ∷ []) (settlement_seen s ∷ [])
     → records_of reads utc marks (map settlement_seen (take (i + 1) ss)) ≡ records_of reads utc marks (map settlement_seen (take i ss)) ++ records_of reads utc (mark ∷ []) (settlement_seen s ∷ [])
 front_more reads utc marks ss i s mark below is here =
@@ -93,7 +93,7 @@ front_more reads utc marks ss i s mark below is here =
     ∙ ap (λ rs. records_of reads utc marks front ++ rs) here
 
 -- all records are those of the first i settlements, and of the others
-pub front_left : (reads : Call → List ℕ → Reading) (utc : ℕ) (marks : List (Option Mark)) (ss : List Settlement) (i : ℕ)
+pub front_left : (reads : Asked → List ℕ → Reading) (utc : ℕ) (marks : List (Option Mark)) (ss : List (Settlement Asked)) (i : ℕ)
     → records_of reads utc marks (map settlement_seen ss) ≡ records_of reads utc marks (map settlement_seen (take i ss)) ++ records_of reads utc
     (drop (length (map settlement_seen (take i ss))) marks) (map settlement_seen (drop i ss))
 front_left reads utc marks ss i =
@@ -200,10 +200,10 @@ pub last_more : (a b c : Bool) (front one next : List Record) → b ≡ last_wel
 last_more a b c front one next so more is = more ∙ ap (λ x. last_well x one) so ∙ sym (last-append a front one) ∙ sym (ap (last_well a) is)
 
 -- the record of a settlement, with this ending in place of its own
-abbrev pub record_as : ℕ → Mark → Rule.Settlement → End → Record
+abbrev pub record_as : ℕ → Mark → Rule.Settlement Asked → End → Record
 record_as utc mark settlement end = record { sent = Some mark.sent; utc = utc; cycle = mark.cycle; place = mark.place; command = command_of settlement; end = end }
 
 -- the record with the ending that a settlement gives is the record of the settlement
-pub record_same : (reads : Call → List ℕ → Reading) (utc : ℕ) (mark : Mark) (x : Rule.Settlement) (end : End) → end ≡ end_of reads mark.expected x.call x.outcome
+pub record_same : (reads : Asked → List ℕ → Reading) (utc : ℕ) (mark : Mark) (x : Rule.Settlement Asked) (end : End) → end ≡ end_of reads mark.expected x.call x.outcome
     → record_as utc mark x end ≡ record_of reads utc mark x
 record_same reads utc mark x end is = ap (record_as utc mark x) is

@@ -6,6 +6,7 @@
 use Rattle.std.proofs.Common.{◌≡◌, ◌≢◌, ◌⊎◌, inl, inr, ℕ, suc, ◌+◌, ◌-◌, ◌<◌, ◌≤◌, Bool, true, false, not, List, [], ◌∷◌, ◌++◌, length, map, Option, Some, None, if◌then◌else◌, nat_lt, refl, sym, ap, ◌∙◌, subst, arith, append_assoc, append-nil}
 use Rattle.std.proofs.lemmas.Bool.{ltb-true, ltb-false}
 use Rattle.std.proofs.lemmas.List.{length-map, length-append, nil_from_length}
+use Rattle.gc_catalogue.specs.declared.asked.Asked.{Asked}
 use Rattle.gc_client.specs.declared.pending.Pending.{Pending}
 use Rattle.gc_client.specs.Rule.{ById}
 use Rattle.gc_texts.specs.declared.tasks.Task.{Task}
@@ -123,7 +124,7 @@ untook plan s t act h = h
 -- A read gives tries back where, and only where, it settled a command.
 
 -- as many commands wait as marks are of commands
-waiting_count : (marks : List (Option Mark)) (waits : List Pending) → length marks ≡ length waits → length (still_waiting marks waits) ≡ commands_in marks
+waiting_count : (marks : List (Option Mark)) (waits : List (Pending Asked)) → length marks ≡ length waits → length (still_waiting marks waits) ≡ commands_in marks
 waiting_count [] [] e = refl
 waiting_count [] (w ∷ waits) e = refl
 waiting_count (mark ∷ marks) [] e = absurd (omega (arith, e))
@@ -184,7 +185,7 @@ kept_marks : (plan : Plan) (commands : List Task) (s t : Model) (b : Bool) → l
 kept_marks plan commands s t false e goes begins fine = inl refl
 kept_marks plan commands s t true e goes begins fine =
     let new = fine.begins (begins (negated (has_begun t.progress) (either_true (not (has_begun t.progress)) (is_over t.progress) e goes))) in
-    let none : length s.marks ≡ 0 = fine.paired ∙ ap (λ (c : ById). length c.waiting) new in
+    let none : length s.marks ≡ 0 = fine.paired ∙ ap (λ (c : ById Asked). length c.waiting) new in
     inr (ap commands_in (nil_from_length s.marks none)) where
       -- if the negation of a test holds, the test doesn't
       negated : (b : Bool) → not b ≡ true → b ≡ false

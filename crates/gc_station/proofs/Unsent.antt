@@ -5,7 +5,7 @@ use Rattle.std.proofs.Common.{◌≡◌, ◌⊎◌, inl, inr, ℕ, ◌<◌, Bool
 use Rattle.std.specs.List.{AllByRecursion}
 use Rattle.gc_lines.specs.Frames.{rest_behind}
 use Rattle.gc_catalogue.specs.declared.answer.Reading.{Reading}
-use Rattle.gc_catalogue.specs.declared.call.Call.{Call}
+use Rattle.gc_catalogue.specs.declared.asked.Asked.{Asked}
 use Rattle.gc_client.specs.Rule
 use Rattle.gc_client.specs.Rule.{heard, hears, lost, restarts}
 use Rattle.gc_texts.specs.Endings.{Skipped, Missed}
@@ -84,7 +84,7 @@ module _ (plan : Plan) (commands : List Task) (scope : Scope) (some : 0 < plan.e
   sent_truly acts r out = (λ e. absurd (clash (went_out r.end) out (ap went_out e)), λ e. absurd (clash (went_out r.end) out (ap went_out e)))
 
   -- the records of settlements say nothing of being missed or skipped
-  settled_truly : (acts : List Act) (reads : Call → List ℕ → Reading) (utc : ℕ) (marks : List (Option Mark)) (settlements : List Rule.Settlement)
+  settled_truly : (acts : List Act) (reads : Asked → List ℕ → Reading) (utc : ℕ) (marks : List (Option Mark)) (settlements : List (Rule.Settlement Asked))
       → AllByRecursion (Truly acts) (records_of reads utc marks settlements)
   settled_truly acts reads utc [] settlements = tt
   settled_truly acts reads utc (mark ∷ marks) [] = tt

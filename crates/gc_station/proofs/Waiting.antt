@@ -5,6 +5,7 @@ use Rattle.std.proofs.Common.{◌≡◌, ◌⊎◌, inl, inr, ℕ, ◌+◌, ◌<
 use Rattle.std.specs.List.{AllByRecursion}
 use Rattle.std.proofs.lemmas.Bool.Decides.{nat_tests}
 use Rattle.std.proofs.lemmas.List.{length-map}
+use Rattle.gc_catalogue.specs.declared.asked.Asked.{Asked}
 use Rattle.gc_client.specs.declared.pending.Pending.{Pending}
 use Rattle.gc_client.specs.Ids
 use Rattle.gc_client.specs.Ids.{id_at, IsWindow}
@@ -33,7 +34,7 @@ pub record Marked (plan : Plan) (commands : List Task) (scope : Scope) (acts : L
 
 -- the request p that waits at the place `at`, with this id and mark, was put among these acts; `number` acts came before it, and
 -- `Stays` holds of the acts after it, by whether p is given up and its deadline
-pub record Asked (plan : Plan) (commands : List Task) (scope : Scope) (acts : List Act) (Stays : Bool → ℕ → List Act → Type 0) (number at with_id : ℕ) (p : Pending) (mark : Option Mark) : Type 0 where
+pub record WasAsked (plan : Plan) (commands : List Task) (scope : Scope) (acts : List Act) (Stays : Bool → ℕ → List Act → Type 0) (number at with_id : ℕ) (p : Pending Asked) (mark : Option Mark) : Type 0 where
   pub before : List Act
   pub request : Act
   pub between : List Act
@@ -58,14 +59,14 @@ StayedAt now false deadline acts = AllByRecursion (IsBefore deadline) acts × (n
 
 -- a request that waits at the place `at` was put among these acts, with the id of that place, and `Stayed` holds of it since. The
 -- client's next id is `next`, and `count` requests wait
-abbrev pub Waits : Plan → List Task → Scope → List Act → (next count : ℕ) → (number at : ℕ) → Pending → Option Mark → Type 0
-Waits plan commands scope acts next count number at p mark = Asked plan commands scope acts Stayed number at (id_at next count at) p mark
+abbrev pub Waits : Plan → List Task → Scope → List Act → (next count : ℕ) → (number at : ℕ) → Pending Asked → Option Mark → Type 0
+Waits plan commands scope acts next count number at p mark = WasAsked plan commands scope acts Stayed number at (id_at next count at) p mark
 
 -- as `Waits`, at the moment `now`, which isn't among the acts yet; and a request with that id waited at the client as it was
 -- after the acts
-abbrev pub WaitsAt : Plan → List Task → Scope → List Act → ById → ℕ → (next count : ℕ) → (number at : ℕ) → Pending → Option Mark → Type 0
+abbrev pub WaitsAt : Plan → List Task → Scope → List Act → ById Asked → ℕ → (next count : ℕ) → (number at : ℕ) → Pending Asked → Option Mark → Type 0
 WaitsAt plan commands scope acts client now next count number at p mark =
-    Asked plan commands scope acts (StayedAt now) number at (id_at next count at) p mark × Ids.Waits client (id_at next count at)
+    WasAsked plan commands scope acts (StayedAt now) number at (id_at next count at) p mark × Ids.Waits client (id_at next count at)
 
 -- a record is true: if it is of a reply in time, late or lost, it came about as the law on such records says
 pub record IsTrue (plan : Plan) (commands : List Task) (scope : Scope) (acts : List Act) (r : Record) : Type 0 where
@@ -75,7 +76,7 @@ pub record IsTrue (plan : Plan) (commands : List Task) (scope : Scope) (acts : L
 
 -- what every run keeps: the requests that wait at the client c, with these marks, were put among the acts, in order (`Waits`);
 -- and the records are true by `all` acts
-pub record Honest (plan : Plan) (commands : List Task) (scope : Scope) (acts all : List Act) (c : ById) (marks : List (Option Mark)) (records : List Record) : Type 0 where
+pub record Honest (plan : Plan) (commands : List Task) (scope : Scope) (acts all : List Act) (c : ById Asked) (marks : List (Option Mark)) (records : List Record) : Type 0 where
   pub waiting : Rows (Waits plan commands scope acts c.next (length c.waiting)) 0 0 c.waiting marks
   pub written : AllByRecursion (IsTrue plan commands scope all) records
 
@@ -85,9 +86,9 @@ IsHonest plan commands scope acts all s = Honest plan commands scope acts all s.
 
 -- a request that was put among acts was put among them and one more. S is what holds of the acts since, and gives T of those
 -- and the one more
-pub asked_more : (plan : Plan) (commands : List Task) (scope : Scope) (acts : List Act) (act : Act) (S T : Bool → ℕ → List Act → Type 0) (number at id : ℕ) (p : Pending) (mark : Option Mark)
+pub asked_more : (plan : Plan) (commands : List Task) (scope : Scope) (acts : List Act) (act : Act) (S T : Bool → ℕ → List Act → Type 0) (number at id : ℕ) (p : Pending Asked) (mark : Option Mark)
     → ((b : Bool) (d : ℕ) (xs : List Act) → S b d xs → T b d (xs ++ act ∷ []))
-    → Asked plan commands scope acts S number at id p mark → Asked plan commands scope (acts ++ act ∷ []) T number at id p mark
+    → WasAsked plan commands scope acts S number at id p mark → WasAsked plan commands scope (acts ++ act ∷ []) T number at id p mark
 asked_more plan commands scope acts act S T number at id p mark step s = record {
   before = s.before;
   request = s.request;
@@ -102,11 +103,11 @@ asked_more plan commands scope acts act S T number at id p mark step s = record 
   stays = step p.given_up p.deadline s.between s.stays;
 }
 
--- a request that was `Asked` at the place `at` with an id was so at any place at' with an equal id, if `at` is above 0 wherever
+-- a request that was `WasAsked` at the place `at` with an id was so at any place at' with an equal id, if `at` is above 0 wherever
 -- at' is (0 is the place of the oldest)
 pub asked_as : (plan : Plan) (commands : List Task) (scope : Scope) (acts : List Act) (S : Bool → ℕ → List Act → Type 0) (number at at' id id' : ℕ)
-    (p : Pending) (mark : Option Mark) → (0 < at' → 0 < at) → id' ≡ id
-    → Asked plan commands scope acts S number at id p mark → Asked plan commands scope acts S number at' id' p mark
+    (p : Pending Asked) (mark : Option Mark) → (0 < at' → 0 < at) → id' ≡ id
+    → WasAsked plan commands scope acts S number at id p mark → WasAsked plan commands scope acts S number at' id' p mark
 asked_as plan commands scope acts S number at at' id id' p mark places ids s = record {
   before = s.before;
   request = s.request;
@@ -122,8 +123,8 @@ asked_as plan commands scope acts S number at at' id id' p mark places ids s = r
 }
 
 -- the number of a request that was put is below the count of the acts
-pub asked_among : (plan : Plan) (commands : List Task) (scope : Scope) (acts : List Act) (S : Bool → ℕ → List Act → Type 0) (number at id : ℕ) (p : Pending) (mark : Option Mark)
-    → Asked plan commands scope acts S number at id p mark → number < length acts
+pub asked_among : (plan : Plan) (commands : List Task) (scope : Scope) (acts : List Act) (S : Bool → ℕ → List Act → Type 0) (number at id : ℕ) (p : Pending Asked) (mark : Option Mark)
+    → WasAsked plan commands scope acts S number at id p mark → number < length acts
 asked_among plan commands scope acts S number at id p mark s =
     let whole : length acts ≡ length s.before + length (s.request ∷ s.between) = ap length s.order ∙ length-append s.before (s.request ∷ s.between) in
     let many = s.many in
@@ -242,7 +243,7 @@ stays_still act on true d xs told = past_more d xs (act ∷ []) told
 stays_still act on false d xs all = all_append (IsBefore d) xs (act ∷ []) all (on d, tt)
 
 -- an act that changes nothing of the client, and tells no moment, keeps `Honest`
-pub still : (plan : Plan) (commands : List Task) (scope : Scope) (acts : List Act) (act : Act) (c : ById) (marks : List (Option Mark)) (rs : List Record) → ((d : ℕ) → IsBefore d act)
+pub still : (plan : Plan) (commands : List Task) (scope : Scope) (acts : List Act) (act : Act) (c : ById Asked) (marks : List (Option Mark)) (rs : List Record) → ((d : ℕ) → IsBefore d act)
     → Honest plan commands scope acts (acts ++ act ∷ []) c marks rs → Honest plan commands scope (acts ++ act ∷ []) (acts ++ act ∷ []) c marks rs
 still plan commands scope acts act c marks rs on h = record {
   waiting = rows_same (Waits plan commands scope acts c.next (length c.waiting)) (Waits plan commands scope (acts ++ act ∷ []) c.next (length c.waiting)) 0 0 c.waiting marks
@@ -261,9 +262,9 @@ stays_at now false d xs all = by_test (nat_le d now) refl where
 
 -- a request that was put among acts, with `Stayed` since, was put with `StayedAt` since once the moment `now` has given it up
 -- or not
-pub at_moment : (plan : Plan) (commands : List Task) (scope : Scope) (acts : List Act) (now number at id : ℕ) (p : Pending) (mark : Option Mark)
-    → Asked plan commands scope acts Stayed number at id p mark
-    → Asked plan commands scope acts (StayedAt now) number at id (expired now p) mark
+pub at_moment : (plan : Plan) (commands : List Task) (scope : Scope) (acts : List Act) (now number at id : ℕ) (p : Pending Asked) (mark : Option Mark)
+    → WasAsked plan commands scope acts Stayed number at id p mark
+    → WasAsked plan commands scope acts (StayedAt now) number at id (expired now p) mark
 at_moment plan commands scope acts now number at id p mark s = record {
   before = s.before;
   request = s.request;
@@ -279,11 +280,11 @@ at_moment plan commands scope acts now number at id p mark s = record {
 }
 
 -- the client once the requests whose deadline has come at this moment are given up
-abbrev pub at_expired : ById → ℕ → ById
+abbrev pub at_expired : ById Asked → ℕ → ById Asked
 at_expired c now = record { next = c.next; waiting = map (expired now) c.waiting }
 
 -- once the moment `now` has given up the requests whose deadline has come, the same requests wait, as `WaitsAt` says
-pub expired_waits : (plan : Plan) (commands : List Task) (scope : Scope) (acts : List Act) (now : ℕ) (c : ById) (marks : List (Option Mark))
+pub expired_waits : (plan : Plan) (commands : List Task) (scope : Scope) (acts : List Act) (now : ℕ) (c : ById Asked) (marks : List (Option Mark))
     → Rows (Waits plan commands scope acts c.next (length c.waiting)) 0 0 c.waiting marks
     → Rows (WaitsAt plan commands scope acts c now c.next (length (map (expired now) c.waiting))) 0 0 (map (expired now) c.waiting) marks
 expired_waits plan commands scope acts now c marks all =
@@ -292,7 +293,7 @@ expired_waits plan commands scope acts now c marks all =
     (λ n j p mark low w. let below : j < length c.waiting = omega (arith, low) in (at_moment plan commands scope acts now n j _ p mark w, (j, below, refl))) all)
 
 -- after a moment the client's window is still one
-pub expired_window : (c : ById) (now : ℕ) → IsWindow c → IsWindow (at_expired c now)
+pub expired_window : (c : ById Asked) (now : ℕ) → IsWindow c → IsWindow (at_expired c now)
 expired_window c now w = record { digit = w.digit; few = let n : length (map (expired now) c.waiting) ≡ length c.waiting = length-map c.waiting (expired now) in omega (arith, n, w.few) }
 
 -- once the act that tells the moment `now` is among the acts, `StayedAt` becomes `Stayed`
@@ -303,7 +304,7 @@ stays_behind act now on past true d xs (inr reached) = past_here d xs act (past 
 stays_behind act now on past false d xs both = all_append (IsBefore d) xs (act ∷ []) both.0 (on d both.1, tt)
 
 -- the requests that wait as `WaitsAt` says wait as `Waits` says after the act that tells the moment
-pub behind_moment : (plan : Plan) (commands : List Task) (scope : Scope) (acts : List Act) (act : Act) (client : ById) (now next count : ℕ) (ps : List Pending) (marks : List (Option Mark))
+pub behind_moment : (plan : Plan) (commands : List Task) (scope : Scope) (acts : List Act) (act : Act) (client : ById Asked) (now next count : ℕ) (ps : List (Pending Asked)) (marks : List (Option Mark))
     → ((d : ℕ) → now < d → IsBefore d act) → ((d : ℕ) → d ≤ now → IsPast d act)
     → Rows (WaitsAt plan commands scope acts client now next count) 0 0 ps marks → Rows (Waits plan commands scope (acts ++ act ∷ []) next count) 0 0 ps marks
 behind_moment plan commands scope acts act client now next count ps marks on past all =
@@ -311,7 +312,7 @@ behind_moment plan commands scope acts act client now next count ps marks on pas
     (λ n j p mark w. asked_more plan commands scope acts act (StayedAt now) Stayed n j _ p mark (stays_behind act now on past) w.0) all
 
 -- an act that tells a moment, and so gives requests up, keeps `Honest`
-pub moment_told : (plan : Plan) (commands : List Task) (scope : Scope) (acts : List Act) (act : Act) (now : ℕ) (c : ById) (marks : List (Option Mark))
+pub moment_told : (plan : Plan) (commands : List Task) (scope : Scope) (acts : List Act) (act : Act) (now : ℕ) (c : ById Asked) (marks : List (Option Mark))
     (rs : List Record) → ((d : ℕ) → now < d → IsBefore d act) → ((d : ℕ) → d ≤ now → IsPast d act)
     → Honest plan commands scope acts (acts ++ act ∷ []) c marks rs → Honest plan commands scope (acts ++ act ∷ []) (acts ++ act ∷ []) (at_expired c now) marks rs
 moment_told plan commands scope acts act now c marks rs on past h = record {

@@ -3,6 +3,7 @@
 -- call of the link, with what came of it.
 use Rattle.std.proofs.Common.{◌≡◌, ℕ, Bool, true, false, List, [], ◌∷◌, drop, length, if◌then◌else◌, refl, sym, subst}
 use Rattle.gc_lines.specs.Frames.{rest_behind}
+use Rattle.gc_catalogue.specs.declared.asked.Asked.TheVariants.{Table}
 use Rattle.gc_catalogue.specs.declared.call.Call.TheVariants.{NullProc}
 use Rattle.gc_texts.specs.declared.tasks.Task.{Task}
 use Rattle.gc_links.specs.declared.link.Moment.{Moment}
@@ -85,12 +86,12 @@ told_of p q = record p { phase = q.phase; moment = q.moment; since = q.since; al
 
 -- the progress p with those fields of q that a request changes
 abbrev asking_of : Progress → Progress → Progress
-asking_of p q = record p { phase = q.phase; alive = q.alive; asked = q.asked; stale = q.stale }
+asking_of p q = record p { phase = q.phase; alive = q.alive; asked = q.asked; stale = q.stale; behind = q.behind }
 
 -- the progress p with those fields of q that an act of this action changes
 abbrev progress_of : Action → Progress → Progress → Progress
 progress_of ReadClock p q = told_of p q
-progress_of Renew p q = record (told_of p q) { word = q.word; again = q.again; asked = q.asked; chain_unbroken = q.chain_unbroken }
+progress_of Renew p q = record (told_of p q) { word = q.word; again = q.again; asked = q.asked; chain_unbroken = q.chain_unbroken; behind = q.behind }
 progress_of Begin p q = record (told_of p q) { due = q.due; missed = q.missed; left = q.left; unsent = q.unsent; next_is_chained = q.next_is_chained; chain_unbroken = q.chain_unbroken }
 progress_of Open p q = record p { phase = q.phase; stale = q.stale; tries = q.tries; pause = q.pause; chain_unbroken = q.chain_unbroken }
 progress_of Clear p q = record p { phase = q.phase; again = q.again; asked = q.asked; stale = q.stale }
@@ -98,7 +99,7 @@ progress_of Ask p q = record (asking_of p q) { again = q.again }
 progress_of Send p q = record (asking_of p q) { unsent = q.unsent; next_is_chained = q.next_is_chained; chain_unbroken = q.chain_unbroken }
 progress_of Skip p q = record (told_of p q) { unsent = q.unsent; next_is_chained = q.next_is_chained; chain_unbroken = q.chain_unbroken }
 progress_of Flush p q = asking_of p q
-progress_of (Read until) p q = record (told_of p q) { word = q.word; again = q.again; asked = q.asked; tries = q.tries; pause = q.pause }
+progress_of (Read until) p q = record (told_of p q) { word = q.word; again = q.again; asked = q.asked; tries = q.tries; pause = q.pause; behind = q.behind }
 progress_of (Close why) p q = record p { phase = q.phase; stale = q.stale; tries = q.tries; pause = q.pause; chain_unbroken = q.chain_unbroken }
 progress_of (Stop why) p q = p
 
@@ -124,7 +125,7 @@ changed action s t = record (changed_by action s t) { progress = record (progres
 
 -- the progress p with those fields of q that lines change which are heard while the station begins
 abbrev asked_of : Progress → Progress → Progress
-asked_of p q = record p { word = q.word; again = q.again; alive = q.alive; asked = q.asked }
+asked_of p q = record p { word = q.word; again = q.again; alive = q.alive; asked = q.asked; behind = q.behind }
 
 -- lines that are heard while the station begins change what `asked_of` says
 lines_changed : (p : Progress) (lines : List (List ℕ)) → lines_asked p lines ≡ asked_of p (lines_asked p lines)
@@ -210,7 +211,7 @@ Behind plan commands P Skip s =
     ((m : Moment) → P (Told m) (with_moment m (with_progress (λ p. reckoned_early plan (commands_in s.marks)
     (skipped (is_chained_behind_next commands s.progress) m p)) (with_records (skips plan commands s.progress (Told m)) s))))
     × ((n : ℕ) → P Untold (with_progress (failing cause.Clock) (with_records [] s)))
-Behind plan commands P Flush s = Putting P (requests_out plan commands s.progress) (request_text s.client NullProc) (with_progress asking (asks_null plan s))
+Behind plan commands P Flush s = Putting P (requests_out plan commands s.progress) (request_text s.client (Table NullProc)) (with_progress asking (asks_null plan s))
 Behind plan commands P (Read until) s =
     ((bytes : List ℕ) (m : Moment) → P (Gave bytes m) (piece_at plan until bytes m s)) × ((m : Moment) → P (Silent m) (after_read plan until s (Silent m)))
     × P Ended (with_progress (failing cause.End) s) × P Broke (with_progress (failing cause.Read) s) × P Untold (with_progress (failing cause.Clock) s)
@@ -248,7 +249,7 @@ walk plan commands P Send s act o h =
 walk plan commands P Skip s (Told m) o h = h.0 m
 walk plan commands P Skip s Untold o h = h.1 0
 walk plan commands P Skip s act o h = absurd o
-walk plan commands P Flush s act o h = put_walk P (requests_out plan commands s.progress) (request_text s.client NullProc) (λ (x : Model). with_progress asking (asks_null plan x)) s act o h
+walk plan commands P Flush s act o h = put_walk P (requests_out plan commands s.progress) (request_text s.client (Table NullProc)) (λ (x : Model). with_progress asking (asks_null plan x)) s act o h
 walk plan commands P (Read until) s (Gave bytes m) o h = h.0 bytes m
 walk plan commands P (Read until) s (Silent m) o h = h.1 m
 walk plan commands P (Read until) s Ended o h = h.2

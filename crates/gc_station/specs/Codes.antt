@@ -1,12 +1,11 @@
 -- Whether a command was answered well, in the codes of its reply's line: this project's own.
 use Rattle.std.specs.Prelude.{◌≡◌, ◌≢◌, ◌⊎◌, ℕ, true, false, not, List, None}
 use Rattle.gc_lines.specs.Replies.{ReplyFields, IsReply}
-use Rattle.gc_catalogue.specs.Answers.{IsAnswer, IsUnreadable}
-use Rattle.gc_catalogue.specs.Readings.{IsReading}
+use Rattle.gc_catalogue.specs.Asked.{IsAskedReading}
 use Rattle.gc_catalogue.specs.declared.answer.Answer.{Answer}
 use Rattle.gc_catalogue.specs.declared.answer.Reading.{Reading}
 use Rattle.gc_catalogue.specs.declared.answer.Reading.TheVariants as reading
-use Rattle.gc_catalogue.specs.declared.call.Call.{Call}
+use Rattle.gc_catalogue.specs.declared.asked.Asked.{Asked}
 use Rattle.gc_client.specs.Rule.{Answered, Late, Lost}
 use Rattle.gc_texts.specs.Codes.{are_accepted, no_codes}
 use Rattle.gc_texts.specs.Endings as end
@@ -22,33 +21,33 @@ use Rattle.gc_station.specs.Scopes.{AreReadings}
 -- `only`, `without`: the command was answered well only if the communication code is 0, and the return code is 0 or an accepted
 -- one. Where no code is accepted, both codes have to be 0.
 -- `unread`: it wasn't answered well where the reply says neither an answer nor a refusal with an accepted code.
--- `found`, `away`: both codes are 0, and the parameters are an answer of the call. Then the command was answered well, unless
+-- `found`, `away`: both codes are 0, and the parameters are an answer to what was asked. Then the command was answered well, unless
 -- the answer was measured elsewhere than the target stands; then it ended as elsewhere.
 -- `warned`, `warned_away`: the same with an accepted return code other than 0.
 -- `warned_without`: with an accepted return code other than 0, and parameters that don't read, it is answered with a warning,
 -- and without values.
 -- `none`: a command that is late, lost, skipped or missed was never answered well
 pub record WellIsAnAcceptedCode : Type 0 where
-  pub only : (reads : Call → List ℕ → Reading) (expected : Expected) (call : Call) (line : List ℕ) (r : ReplyFields) → AreReadings reads → IsReply line r
+  pub only : (reads : Asked → List ℕ → Reading) (expected : Expected) (call : Asked) (line : List ℕ) (r : ReplyFields) → AreReadings reads → IsReply line r
       → is_well (end_of reads expected call (Answered line)) ≡ true → (r.rc_com ≡ 0) × ((r.rc ≡ 0) ⊎ (are_accepted expected.accepted r.rc ≡ true))
-  pub without : (reads : Call → List ℕ → Reading) (expected : Expected) (call : Call) (line : List ℕ) (r : ReplyFields) → AreReadings reads → IsReply line r
+  pub without : (reads : Asked → List ℕ → Reading) (expected : Expected) (call : Asked) (line : List ℕ) (r : ReplyFields) → AreReadings reads → IsReply line r
       → expected.accepted ≡ no_codes → is_well (end_of reads expected call (Answered line)) ≡ true → (r.rc_com ≡ 0) × (r.rc ≡ 0)
-  pub unread : (reads : Call → List ℕ → Reading) (expected : Expected) (call : Call) (line : List ℕ) (r : ReplyFields) (said : Reading) → AreReadings reads → IsReply line r
-      → IsReading call r said → ((answer : Answer) → said ≡ reading.Value answer → ⊥) → ((code : ℕ) → said ≡ reading.Refused code → are_accepted expected.accepted code ≡ false)
+  pub unread : (reads : Asked → List ℕ → Reading) (expected : Expected) (call : Asked) (line : List ℕ) (r : ReplyFields) (said : Reading) → AreReadings reads → IsReply line r
+      → IsAskedReading call r said → ((answer : Answer) → said ≡ reading.Value answer → ⊥) → ((code : ℕ) → said ≡ reading.Refused code → are_accepted expected.accepted code ≡ false)
       → is_well (end_of reads expected call (Answered line)) ≡ false
-  pub found : (reads : Call → List ℕ → Reading) (expected : Expected) (call : Call) (line : List ℕ) (r : ReplyFields) (answer : Answer) → AreReadings reads → IsReply line r
-      → r.rc_com ≡ 0 → r.rc ≡ 0 → IsAnswer call r.params answer → is_well (end_of reads expected call (Answered line)) ≡ not (is_elsewhere expected.near answer)
-  pub away : (reads : Call → List ℕ → Reading) (expected : Expected) (call : Call) (line : List ℕ) (r : ReplyFields) (answer : Answer) → AreReadings reads → IsReply line r
-      → r.rc_com ≡ 0 → r.rc ≡ 0 → IsAnswer call r.params answer → is_elsewhere expected.near answer ≡ true → end_of reads expected call (Answered line) ≡ end.Elsewhere line
-  pub warned : (reads : Call → List ℕ → Reading) (expected : Expected) (call : Call) (line : List ℕ) (r : ReplyFields) (answer : Answer) → AreReadings reads → IsReply line r
-      → r.rc_com ≡ 0 → r.rc ≢ 0 → are_accepted expected.accepted r.rc ≡ true → IsAnswer call r.params answer
+  pub found : (reads : Asked → List ℕ → Reading) (expected : Expected) (call : Asked) (line : List ℕ) (r : ReplyFields) (answer : Answer) → AreReadings reads → IsReply line r
+      → IsAskedReading call r (reading.Value answer) → is_well (end_of reads expected call (Answered line)) ≡ not (is_elsewhere expected.near answer)
+  pub away : (reads : Asked → List ℕ → Reading) (expected : Expected) (call : Asked) (line : List ℕ) (r : ReplyFields) (answer : Answer) → AreReadings reads → IsReply line r
+      → IsAskedReading call r (reading.Value answer) → is_elsewhere expected.near answer ≡ true → end_of reads expected call (Answered line) ≡ end.Elsewhere line
+  pub warned : (reads : Asked → List ℕ → Reading) (expected : Expected) (call : Asked) (line : List ℕ) (r : ReplyFields) (answer : Answer) → AreReadings reads → IsReply line r
+      → r.rc_com ≡ 0 → r.rc ≢ 0 → are_accepted expected.accepted r.rc ≡ true → IsAskedReading call (record r { rc = 0 }) (reading.Value answer)
       → is_well (end_of reads expected call (Answered line)) ≡ not (is_elsewhere expected.near answer)
-  pub warned_away : (reads : Call → List ℕ → Reading) (expected : Expected) (call : Call) (line : List ℕ) (r : ReplyFields) (answer : Answer) → AreReadings reads → IsReply line r
-      → r.rc_com ≡ 0 → r.rc ≢ 0 → are_accepted expected.accepted r.rc ≡ true → IsAnswer call r.params answer → is_elsewhere expected.near answer ≡ true
+  pub warned_away : (reads : Asked → List ℕ → Reading) (expected : Expected) (call : Asked) (line : List ℕ) (r : ReplyFields) (answer : Answer) → AreReadings reads → IsReply line r
+      → r.rc_com ≡ 0 → r.rc ≢ 0 → are_accepted expected.accepted r.rc ≡ true → IsAskedReading call (record r { rc = 0 }) (reading.Value answer) → is_elsewhere expected.near answer ≡ true
       → end_of reads expected call (Answered line) ≡ end.Elsewhere line
-  pub warned_without : (reads : Call → List ℕ → Reading) (expected : Expected) (call : Call) (line : List ℕ) (r : ReplyFields) (fault : ValueFault) → AreReadings reads → IsReply line r
-      → r.rc_com ≡ 0 → r.rc ≢ 0 → are_accepted expected.accepted r.rc ≡ true → IsUnreadable call r.params fault
+  pub warned_without : (reads : Asked → List ℕ → Reading) (expected : Expected) (call : Asked) (line : List ℕ) (r : ReplyFields) (fault : ValueFault) → AreReadings reads → IsReply line r
+      → r.rc_com ≡ 0 → r.rc ≢ 0 → are_accepted expected.accepted r.rc ≡ true → IsAskedReading call (record r { rc = 0 }) (reading.Unreadable fault)
       → end_of reads expected call (Answered line) ≡ end.Answered quality.Warning None line
-  pub none : (reads : Call → List ℕ → Reading) (expected : Expected) (call : Call)
+  pub none : (reads : Asked → List ℕ → Reading) (expected : Expected) (call : Asked)
       → (is_well (end_of reads expected call Late) ≡ false) × (is_well (end_of reads expected call Lost) ≡ false)
       × (is_well end.Skipped ≡ false) × (is_well end.Missed ≡ false)

@@ -103,6 +103,15 @@ has_room plan w = nat_lt w.current (width_of plan) && nat_lt w.all WINDOW
 abbrev pub action_room : Plan → Progress → Waiting → Action → Action
 action_room plan p w action = if has_room plan w then action else action_waiting plan p w
 
+-- the next action where the next command may go out: it does, if there is room, where one of the seven requests before it is a
+-- call of the table that a reply ended (`behind`). Else a null procedure goes out first, once no request is under way that isn't
+-- given up
+abbrev pub action_next : Plan → Progress → Waiting → Action
+action_next plan p w =
+    if nat_lt p.behind WINDOW then action_room plan p w Send
+    else if nat_eq w.current 0 then action_room plan p w Flush
+    else action_waiting plan p w
+
 -- whether the next command of a chain may go out: the one before it was answered well, and since that went out no connection was
 -- closed, and the station didn't begin anew
 abbrev pub may_go : Progress → Waiting → Bool
@@ -112,7 +121,7 @@ may_go p w = w.well && p.chain_unbroken
 abbrev pub action_settled : Plan → Progress → Waiting → Action
 action_settled plan p w =
     if nat_eq p.unsent 0 then action_done plan p
-    else if may_go p w then action_room plan p w Send
+    else if may_go p w then action_next plan p w
     else Skip
 
 -- the next action where no command may go out before those that wait are settled: each of the cycle was sent, or the next
@@ -123,10 +132,10 @@ action_sent plan p w =
     else if nat_eq w.current 0 then action_room plan p w Flush
     else action_waiting plan p w
 
--- the next action once the station has begun: to send the next command, if there is one that needn't wait for the answer of the command
--- before it, and there is room; else as `action_sent` or `action_room` says
+-- the next action once the station has begun: that of `action_next`, if there is a command that needn't wait for the answer of
+-- the command before it; else that of `action_sent`
 abbrev pub action_begun : Plan → Progress → Waiting → Action
-action_begun plan p w = if nat_lt 0 p.unsent && not p.next_is_chained then action_room plan p w Send else action_sent plan p w
+action_begun plan p w = if nat_lt 0 p.unsent && not p.next_is_chained then action_next plan p w else action_sent plan p w
 
 -- the next action on a connection that is ready: the beginning's until its eighth null procedure is answered, then the
 -- commands'

@@ -1,8 +1,9 @@
 -- Each command once, this project's own: the records of a run, and after them the commands that wait, are the commands that had
 -- their turn, sent or not, cycle by cycle and in order, each once. An act is one call of the link, with what came of it.
 use Rattle.std.specs.Prelude.{◌≡◌, ◌⊎◌, ◌<◌, ℕ, zero, suc, ◌+◌, List, [], ◌∷◌, ◌++◌, take, map, Option, Some, None}
+use Rattle.gc_catalogue.specs.declared.asked.Asked.{Asked}
 use Rattle.gc_client.specs.declared.pending.Pending.{Pending}
-use Rattle.gc_client.specs.OneForOne.{Asked, of_pending}
+use Rattle.gc_client.specs.OneForOne.{Wanted, of_pending}
 use Rattle.gc_texts.specs.declared.tasks.Task.{Task}
 use Rattle.gc_station.specs.declared.plan.Plan.{Plan}
 use Rattle.gc_station.specs.declared.cause.Cause.{Cause}
@@ -14,25 +15,25 @@ use Rattle.gc_station.specs.Records.{Record}
 use Rattle.gc_station.specs.Runs.{stood}
 use Rattle.gc_station.specs.Model.{Model, action_at, cycles_begun, place_next}
 use Rattle.gc_station.specs.Scopes.{Scope}
-use Rattle.gc_texts.specs.declared.commands.Command.{Command}
+use Rattle.gc_texts.specs.declared.wish.Wish.{Wish}
 
 -- a request of a run: of which cycle and place it is, whom it is for, and what it asks for
 pub record Request : Type 0 where
   pub cycle : ℕ
   pub place : ℕ
-  pub asked : Asked
+  pub asked : Wanted Asked
 
 -- the requests of one cycle, of which the first has this place
-abbrev pub requests : ℕ → ℕ → List Asked → List Request
+abbrev pub requests : ℕ → ℕ → List (Wanted Asked) → List Request
 requests cycle place [] = []
 requests cycle place (a ∷ others) = record { cycle = cycle; place = place; asked = a } ∷ requests cycle (place + 1) others
 
 -- what a command asks, and whom
-abbrev pub of_command : Command → Asked
+abbrev pub of_command : Wish → Wanted Asked
 of_command c = record { target = c.target; call = c.call }
 
 -- what the command of a task asks, and whom
-abbrev pub of_task : Task → Asked
+abbrev pub of_task : Task → Wanted Asked
 of_task task = of_command task.command
 
 -- all commands of the first `n` cycles, which are counted from 1
@@ -51,11 +52,11 @@ abbrev pub of_record : Record → Request
 of_record r = record { cycle = r.cycle; place = r.place; asked = of_command r.command }
 
 -- the request of a command that waits
-abbrev pub of_waiting : Mark → Pending → Request
+abbrev pub of_waiting : Mark → Pending Asked → Request
 of_waiting mark p = record { cycle = mark.cycle; place = mark.place; asked = of_pending p }
 
 -- the requests of commands among those that wait, by their marks
-abbrev pub still_waiting : List (Option Mark) → List Pending → List Request
+abbrev pub still_waiting : List (Option Mark) → List (Pending Asked) → List Request
 still_waiting [] pendings = []
 still_waiting (mark ∷ marks) [] = []
 still_waiting (None ∷ marks) (p ∷ others) = still_waiting marks others

@@ -3,7 +3,7 @@
 -- wrote it down as lost a line came with the id of a request that was put after it, or the station begins anew, because seven wait
 -- that are all given up, or the run stopped. An act is one call of the link, with what came of it.
 use Rattle.std.specs.Prelude.{◌≡◌, ◌⊎◌, ℕ, ◌≤◌, List, [], ◌∷◌, ◌++◌, length, Some}
-use Rattle.gc_catalogue.specs.declared.call.Call.{Call}
+use Rattle.gc_catalogue.specs.declared.asked.Asked.{Asked}
 use Rattle.gc_client.specs.Ids.{Waits}
 use Rattle.gc_client.specs.Rule.{deadlines, heard}
 use Rattle.gc_client.specs.declared.window.TheConstants.{WINDOW}
@@ -81,7 +81,7 @@ pub record IsOvertaken (plan : Plan) (commands : List Task) (scope : Scope) (bef
   pub next : List Act
   pub order : between ≡ first ++ other ∷ next
   pub asks : IsAsking (action_at plan (stood plan commands scope (before ++ request ∷ first)))
-  pub call : Call
+  pub call : Asked
   pub put : Puts (request_text (stood plan commands scope (before ++ request ∷ first)).client call) other
   pub waits : Waits (stood plan commands scope (before ++ request ∷ between)).client (stood plan commands scope (before ++ request ∷ first)).client.next
   pub piece : List ℕ

@@ -26,6 +26,7 @@ pub mod Pace
 pub mod Parts
 pub mod Begun
 pub mod Links
+pub mod Behind
 pub mod Codes
 pub mod Counting
 pub mod Room

@@ -4,9 +4,9 @@ use Rattle.std.specs.Prelude.{ℕ, suc, Bool, true, false, List, [], ◌∷◌, 
 use Rattle.gc_catalogue.specs.declared.answer.Answer.{Answer}
 use Rattle.gc_catalogue.specs.declared.answer.Reading.{Reading}
 use Rattle.gc_catalogue.specs.declared.answer.Reading.TheVariants as reading
-use Rattle.gc_catalogue.specs.declared.call.Call.{Call}
+use Rattle.gc_catalogue.specs.declared.asked.Asked.{Asked}
 use Rattle.gc_client.specs.Rule.{Settlement, Outcome, Answered, Late, Lost}
-use Rattle.gc_texts.specs.declared.commands.Command.{Command}
+use Rattle.gc_texts.specs.declared.wish.Wish.{Wish}
 use Rattle.gc_texts.specs.Codes.{are_accepted}
 use Rattle.gc_texts.specs.Endings.{End}
 use Rattle.gc_texts.specs.Nears.{is_elsewhere}
@@ -58,17 +58,17 @@ answer_as expected (reading.Refused code) zeroed line = refused_as (are_accepted
 answer_as expected (reading.ComFault code) zeroed line = end.Answered quality.Refused None line
 
 -- how a command ended whose request had this outcome, where replies say what `reads` gives, and this is expected of the answer
-abbrev pub end_of : (Call → List ℕ → Reading) → Expected → Call → Outcome → End
+abbrev pub end_of : (Asked → List ℕ → Reading) → Expected → Asked → Outcome → End
 end_of reads expected call (Answered line) = answer_as expected (reads call line) (reads call (as_zero line)) line
 end_of reads expected call Late = end.Late
 end_of reads expected call Lost = end.Lost
 
 -- the command that was settled
-abbrev pub command_of : Settlement → Command
+abbrev pub command_of : Settlement Asked → Wish
 command_of settlement = record { target = settlement.target; call = settlement.call }
 
 -- the record of a command with this mark that was settled at this moment
-abbrev pub record_of : (Call → List ℕ → Reading) → ℕ → Mark → Settlement → Record
+abbrev pub record_of : (Asked → List ℕ → Reading) → ℕ → Mark → Settlement Asked → Record
 record_of reads utc mark settlement = record {
   sent = Some mark.sent;
   utc = utc;
@@ -81,7 +81,7 @@ record_of reads utc mark settlement = record {
 -- the records of these settlements, all made at the moment `utc`. The marks are those of all requests that waited, the oldest first: the
 -- first settlement is of the first mark, and so on, and marks without a settlement still wait. A null procedure has no mark, and no
 -- record. `reads` gives what a reply's line says of a call
-abbrev pub records_of : (Call → List ℕ → Reading) → ℕ → List (Option Mark) → List Settlement → List Record
+abbrev pub records_of : (Asked → List ℕ → Reading) → ℕ → List (Option Mark) → List (Settlement Asked) → List Record
 records_of reads utc [] settlements = []
 records_of reads utc (mark ∷ marks) [] = []
 records_of reads utc (None ∷ marks) (settlement ∷ others) = records_of reads utc marks others

@@ -1,14 +1,16 @@
 -- What a station is after the acts of its link, this project's own: the client's rule over what really happened, and how far the
 -- station is. Each act is the one that the station was to make next. An act is one call of the link, with what came of it.
-use Rattle.std.specs.Prelude.{◌≡◌, ℕ, ◌+◌, ◌-◌, ◌<◌, ◌||◌, Bool, true, false, List, [], ◌∷◌, ◌++◌, length, drop, Option, Some, None, if◌then◌else◌, nat_eq}
+use Rattle.std.specs.Prelude.{◌≡◌, ℕ, ◌+◌, ◌-◌, ◌<◌, ◌||◌, Bool, true, false, List, [], ◌∷◌, ◌++◌, length, drop, Option, Some, None, if◌then◌else◌, nat_eq, slice_get}
 use Rattle.std.specs.List.{filter_map}
 use Rattle.gc_lines.specs.Frames.{line_in, rest_behind}
 use Rattle.gc_lines.specs.Lines.{with_end}
 use Rattle.gc_lines.specs.Passing.{frames_behind}
 use Rattle.gc_catalogue.specs.declared.answer.Reading.{Reading}
-use Rattle.gc_catalogue.specs.declared.call.Call.{Call}
+use Rattle.gc_catalogue.specs.declared.asked.Asked.{Asked}
+use Rattle.gc_catalogue.specs.declared.asked.Asked.TheVariants.{Table}
 use Rattle.gc_catalogue.specs.declared.call.Call.TheVariants.{NullProc}
 use Rattle.gc_catalogue.specs.Texts.{request_line}
+use Rattle.gc_catalogue.specs.Asked.{asked_line, is_of_table}
 use Rattle.gc_client.specs.declared.window.TheConstants.{WINDOW}
 use Rattle.gc_client.specs.Rule.{ById, Settlement, Settled, Sending, fresh, sends, hears, heard, expires, restarts, deadlines}
 use Rattle.gc_texts.specs.Codes.{no_codes}
@@ -30,7 +32,7 @@ use Rattle.gc_links.specs.Acts.{Act, Told, Untold, Put, Cut, Gave, Silent, Ended
 use Rattle.gc_station.specs.Deciding.{later, action_of}
 pub use Rattle.gc_station.specs.Lines.{is_ok, is_reply}
 use Rattle.gc_station.specs.Marks.{commands_in, records_of, last_well}
-use Rattle.gc_station.specs.Progressing.{at_start, turned, told, begun, skipped, skipped_at, failing, opened, again, cleared, asking, null_sent, renewed, sent, noted, lines_asked, gave, silent, reckoned_early, closed, loses_all}
+use Rattle.gc_station.specs.Progressing.{at_start, turned, told, begun, skipped, skipped_at, failing, opened, again, cleared, asking, null_sent, renewed, sent, caught_up, noted, lines_asked, gave, silent, reckoned_early, closed, loses_all}
 use Rattle.gc_station.specs.Records.{Record}
 use Rattle.gc_station.specs.Scopes.{Scope}
 use Rattle.gc_texts.specs.Endings.{Skipped, Missed}
@@ -40,10 +42,10 @@ use Rattle.gc_texts.specs.Endings.{Skipped, Missed}
 pub record Model : Type 0 where
   pub progress : Progress
   pub rest : List ℕ
-  pub client : ById
+  pub client : ById Asked
   pub marks : List (Option Mark)
   pub records : List Record
-  pub reads : Call → List ℕ → Reading
+  pub reads : Asked → List ℕ → Reading
 
 -- the model of a station that has done nothing
 abbrev pub opening : Plan → Scope → Model
@@ -87,8 +89,8 @@ abbrev pub requests_out : Plan → List Task → Progress → ℕ
 requests_out plan commands p = if nat_eq p.left plan.cycles then 0 else place_next commands p
 
 -- the bytes of a client's next request, for this call: its line with CR LF
-abbrev pub request_text : ById → Call → List ℕ
-request_text client call = with_end (request_line (Some client.next) call)
+abbrev pub request_text : ById Asked → Asked → List ℕ
+request_text client call = with_end (asked_line (Some client.next) call)
 
 -- the bytes of the null procedure that goes out while the station begins, where these ids aren't answered: it has the first of them. No
 -- bytes where all are answered
@@ -97,7 +99,7 @@ null_text [] = []
 null_text (asked ∷ others) = with_end (request_line (Some asked) NullProc)
 
 -- the bytes of the request for the first of these commands; none where there is none
-abbrev pub first_text : ById → List Task → List ℕ
+abbrev pub first_text : ById Asked → List Task → List ℕ
 first_text client [] = []
 first_text client (task ∷ others) = request_text client task.command.call
 
@@ -148,7 +150,7 @@ Performs commands s Clear act = Puts (10 ∷ []) act
 Performs commands s Ask act = Puts (null_text s.progress.word) act
 Performs commands s Send act = Puts (first_text s.client (drop (place_next commands s.progress) commands)) act
 Performs commands s Skip act = ReadsClock act
-Performs commands s Flush act = Puts (request_text s.client NullProc) act
+Performs commands s Flush act = Puts (request_text s.client (Table NullProc)) act
 Performs commands s (Read until) act = IsReading act
 Performs commands s (Close cause) act = act ≡ Closed
 Performs commands s (Stop cause) act = ⊥
@@ -164,13 +166,13 @@ abbrev pub with_moment : Moment → Model → Model
 with_moment m s = record s { client = expires s.client m.elapsed }
 
 -- the client after a send; where the send was refused (`None`), the client as it was
-abbrev pub client_sent : ById → Option (Sending ById) → ById
+abbrev pub client_sent : ById Asked → Option (Sending (ById Asked)) → ById Asked
 client_sent client None = client
 client_sent client (Some x) = x.client
 
 -- the model once a request for this target, with this call and this mark, was sent; it waits for `wait` milliseconds from the
 -- moment told last
-abbrev pub asks : ℕ → ℕ → Call → Option Mark → Model → Model
+abbrev pub asks : ℕ → ℕ → Asked → Option Mark → Model → Model
 asks wait target call mark s = record s {
   client = client_sent s.client (sends WINDOW s.client target call (later s.progress.moment.elapsed wait));
   marks = s.marks ++ mark ∷ [];
@@ -178,7 +180,7 @@ asks wait target call mark s = record s {
 
 -- the model once a null procedure of the station's own was sent
 abbrev pub asks_null : Plan → Model → Model
-asks_null plan s = asks plan.deadline 0 NullProc None s
+asks_null plan s = asks plan.deadline 0 (Table NullProc) None s
 
 -- the model once the first of these commands was sent, with this mark
 abbrev pub asks_first : Mark → List Task → Model → Model
@@ -190,7 +192,7 @@ abbrev pub asks_next : Plan → List Task → Model → Model
 asks_next plan commands s = asks_first (mark_next plan commands s.progress) (drop (place_next commands s.progress) commands) s
 
 -- a model with another client in place of its own
-abbrev pub with_client : ById → Model → Model
+abbrev pub with_client : ById Asked → Model → Model
 with_client client s = record s { client = client }
 
 -- the record of the first of these commands, which isn't sent, at a moment: it is skipped, or its cycle is missed
@@ -209,19 +211,33 @@ abbrev pub with_records : List Record → Model → Model
 with_records records s = record s { records = s.records ++ records }
 
 -- the model once these settlements of the oldest requests that wait are written down, by their marks, which are taken out
-abbrev pub with_settled : List Settlement → Model → Model
+abbrev pub with_settled : List (Settlement Asked) → Model → Model
 with_settled settlements s = record s {
   records = s.records ++ records_of s.reads s.progress.moment.utc s.marks settlements;
   marks = drop (length settlements) s.marks;
 }
 
 -- the model after what a client settled: with the records of these settlements, and the client as it then is
-abbrev pub settles : Settled ById → Model → Model
+abbrev pub settles : Settled Asked (ById Asked) → Model → Model
 settles x s = with_client x.client (with_settled x.settlements s)
+
+-- whether a settlement, if there is one, is of a call of the table
+abbrev pub is_tables : Option (Settlement Asked) → Bool
+is_tables None = false
+is_tables (Some x) = is_of_table x.call
+
+-- whether the last of these settlements is of a call of the table; false where there is none
+abbrev pub ends_with_table : List (Settlement Asked) → Bool
+ends_with_table settlements = is_tables (slice_get settlements (length settlements - 1))
+
+-- the model once a line settled requests: with the records of these settlements, and how many requests are behind the last call of the table
+-- that a reply ended
+abbrev pub line_settles : Settled Asked (ById Asked) → Model → Model
+line_settles x s = with_progress (caught_up (ends_with_table x.settlements) (length x.client.waiting)) (settles x s)
 
 -- the model after a line that came
 abbrev pub line_came : Model → List ℕ → Model
-line_came s line = with_progress (noted (is_reply line)) (settles (hears s.client line (heard line)) s)
+line_came s line = with_progress (noted (is_reply line)) (line_settles (hears s.client line (heard line)) s)
 
 -- the model after lines that came, in order
 abbrev pub lines_came : Model → List (List ℕ) → Model

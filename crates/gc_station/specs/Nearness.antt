@@ -6,7 +6,7 @@ use Rattle.std.specs.List.{AllByRecursion}
 use Rattle.gc_catalogue.specs.declared.answer.Answer.{Answer}
 use Rattle.gc_catalogue.specs.declared.answer.Reading.{Reading}
 use Rattle.gc_catalogue.specs.declared.answer.Reading.TheVariants.{Value, Refused}
-use Rattle.gc_catalogue.specs.declared.call.Call.{Call}
+use Rattle.gc_catalogue.specs.declared.asked.Asked.{Asked}
 use Rattle.gc_values.specs.Directions.{IsNear}
 use Rattle.gc_values.specs.declared.direction.Direction.{Direction}
 use Rattle.gc_texts.specs.Codes.{are_accepted}
@@ -32,14 +32,14 @@ IsAtItsTarget commands r =
 
 -- this line says this answer of the call: it has both codes 0; or it has an accepted return code, and says the answer once 0
 -- stands in place of that code
-abbrev pub HasAnswer : (Call → List ℕ → Reading) → Codes → Call → List ℕ → Answer → Type 0
+abbrev pub HasAnswer : (Asked → List ℕ → Reading) → Codes → Asked → List ℕ → Answer → Type 0
 HasAnswer reads accepted call line answer =
     (reads call line ≡ Value answer)
     ⊎ ((code : ℕ) × (reads call line ≡ Refused code) × (are_accepted accepted code ≡ true) × (reads call (as_zero line) ≡ Value answer))
 
 -- if a record ended as elsewhere, its line says an answer (`HasAnswer`), the text says where the command's target stands, and
 -- the answer's direction isn't near that place
-abbrev pub IsTrulyElsewhere : (Call → List ℕ → Reading) → List Task → Record → Type 0
+abbrev pub IsTrulyElsewhere : (Asked → List ℕ → Reading) → List Task → Record → Type 0
 IsTrulyElsewhere reads commands r =
     (task : Task) (line : List ℕ) → slice_get commands r.place ≡ Some task → r.end ≡ Elsewhere line
     → (answer : Answer) × (near : Near) × (d : Direction) × HasAnswer reads task.accepted r.command.call line answer × (task.near ≡ Some near) × (direction_of answer ≡ Some d)

@@ -2,9 +2,10 @@
 -- begins, then the client's steps, and which command each request is that goes out. An act is one call of the link, with what came
 -- of it.
 use Rattle.std.specs.Prelude.{◌≡◌, ℕ, ◌&&◌, Bool, true, false, if◌then◌else◌, List, [], ◌∷◌, ◌++◌, drop, map, Option, Some, None, slice_get, unwrap_or}
-use Rattle.gc_catalogue.specs.declared.call.Call.{Call}
+use Rattle.gc_catalogue.specs.declared.asked.Asked.{Asked}
+use Rattle.gc_catalogue.specs.declared.asked.Asked.TheVariants.{Table}
 use Rattle.gc_catalogue.specs.declared.call.Call.TheVariants.{NullProc}
-use Rattle.gc_client.specs.OneForOne.{Asked, Step, Send, Hear, Expire}
+use Rattle.gc_client.specs.OneForOne.{Wanted, Step, Send, Hear, Expire}
 use Rattle.gc_texts.specs.declared.near.Expected.{Expected}
 use Rattle.gc_texts.specs.declared.tasks.Task.{Task}
 use Rattle.gc_texts.specs.Endings.{End, Answered, Unreadable, Elsewhere, Late, Lost, Skipped, Missed}
@@ -28,7 +29,7 @@ pub data Turn : Type 0 where
 -- order, which command of which cycle it is; a null procedure of the station's own is none
 pub record Part : Type 0 where
   pub turns : List Turn
-  pub steps : List Step
+  pub steps : List (Step Asked)
   pub marks : List (Option Mark)
 
 -- the part of these turns of a beginning
@@ -36,7 +37,7 @@ abbrev pub only_turns : List Turn → Part
 only_turns turns = record { turns = turns; steps = []; marks = [] }
 
 -- the part of these steps, which send nothing
-abbrev pub only : List Step → Part
+abbrev pub only : List (Step Asked) → Part
 only steps = record { turns = []; steps = steps; marks = [] }
 
 -- the part in which nothing happens
@@ -49,7 +50,7 @@ joined p q = record { turns = p.turns ++ q.turns; steps = p.steps ++ q.steps; ma
 
 -- the part of a request that goes out: for this target, with this call, this deadline, and this mark (`None` for a null
 -- procedure)
-abbrev pub asking : ℕ → Call → ℕ → Option Mark → Part
+abbrev pub asking : ℕ → Asked → ℕ → Option Mark → Part
 asking target call deadline mark = record { turns = []; steps = Send target call deadline ∷ []; marks = mark ∷ [] }
 
 -- the part of the first of these commands, whose request goes out at the moment `now` with this mark; nothing where there is no
@@ -61,14 +62,14 @@ asking_first now mark (task ∷ others) = asking task.command.target task.comman
 -- the part of an action that puts bytes, all of them or some: the request that settles those before it, or the next command;
 -- a line feed is no request
 abbrev pub putting : Plan → List Task → Model → Action → Part
-putting plan commands s action.Flush = asking 0 NullProc (later s.progress.moment.elapsed plan.deadline) None
+putting plan commands s action.Flush = asking 0 (Table NullProc) (later s.progress.moment.elapsed plan.deadline) None
 putting plan commands s action.Send =
     asking_first s.progress.moment.elapsed (mark_next plan commands s.progress) (drop (place_next commands s.progress) commands)
 putting plan commands s _ = nothing
 
 -- the client's steps for a piece after these bytes since the last line feed: it hears the piece line by line; or, where the piece is
 -- dropped, nothing, as if the lines were lost on the way
-abbrev pub hearing : Bool → List ℕ → List ℕ → List Step
+abbrev pub hearing : Bool → List ℕ → List ℕ → List (Step Asked)
 hearing true rest piece = map Hear (lines_behind rest piece)
 hearing false rest piece = []
 
@@ -113,12 +114,12 @@ parts_of plan commands s (act ∷ acts) =
     in_front (acting plan commands s (action_at plan s) act) (ends_part plan commands s act) (parts_of plan commands (after plan commands s act) acts)
 
 -- a request with this mark is for the target and the call of `a`: those of the mark's command, or a null procedure where there is no mark
-abbrev pub IsOf : List Task → Option Mark → Asked → Type 0
-IsOf commands None a = a ≡ record { target = 0; call = NullProc }
+abbrev pub IsOf : List Task → Option Mark → Wanted Asked → Type 0
+IsOf commands None a = a ≡ record { target = 0; call = Table NullProc }
 IsOf commands (Some mark) a = (task : Task) × (slice_get commands mark.place ≡ Some task) × (a ≡ of_task task)
 
 -- requests with these marks ask this, one for one
-abbrev pub AreOf : List Task → List (Option Mark) → List Asked → Type 0
+abbrev pub AreOf : List Task → List (Option Mark) → List (Wanted Asked) → Type 0
 AreOf commands [] [] = Unit {0}
 AreOf commands (mark ∷ marks) (a ∷ others) = IsOf commands mark a × AreOf commands marks others
 AreOf commands _ _ = ⊥

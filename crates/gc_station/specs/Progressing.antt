@@ -1,9 +1,10 @@
 -- What each act does to how far a station is, this project's own. That is its progress: the phase that it is in, the ids of the
 -- null procedures that aren't answered (`word`), the moment told last, and how many cycles, commands of the cycle, tries and
 -- turns are left. An act is one call of the link, with what came of it.
-use Rattle.std.specs.Prelude.{ℕ, ◌-◌, ◌&&◌, ◌||◌, Bool, true, false, not, if◌then◌else◌, nat_lt, nat_le, nat_eq, min, max, List, [], ◌∷◌, Option}
+use Rattle.std.specs.Prelude.{ℕ, ◌+◌, ◌-◌, ◌&&◌, ◌||◌, Bool, true, false, not, if◌then◌else◌, nat_lt, nat_le, nat_eq, min, max, List, [], ◌∷◌, Option}
 use Rattle.gc_client.specs.Beginning.{the_word, is_answered, left_by}
 use Rattle.gc_client.specs.Rule.{heard}
+use Rattle.gc_client.specs.declared.window.TheConstants.{WINDOW}
 use Rattle.gc_links.specs.declared.link.Moment.{Moment}
 use Rattle.gc_station.specs.declared.plan.Plan.{Plan}
 use Rattle.gc_station.specs.declared.cause.Cause.{Cause}
@@ -40,6 +41,7 @@ at_start plan turns = record {
   tries = plan.retries;
   pause = 0;
   turns = turns;
+  behind = 0;
 }
 
 -- the progress after a turn
@@ -130,18 +132,23 @@ again plan commands why p = record p {
 abbrev pub cleared : Progress → Progress
 cleared p = record p { phase = if has_begun p then phase.Draining else phase.Ready; again = 0; asked = false; stale = true }
 
+-- one more than a number, but at most the number of requests that can wait
+abbrev pub one_more : ℕ → ℕ
+one_more n = if nat_lt n WINDOW then n + 1 else n
+
 -- the progress after a request: the time after which the line is dead begins with the first one after a reply line
 abbrev pub asking : Progress → Progress
-asking p = record p { alive = if p.asked then p.alive else p.moment.elapsed; asked = true; stale = true }
+asking p = record p { alive = if p.asked then p.alive else p.moment.elapsed; asked = true; stale = true; behind = one_more p.behind }
 
--- the progress after the null procedure of the first id that isn't answered: it goes out again at its deadline
+-- the progress after the null procedure of the first id that isn't answered: it goes out again at its deadline. No command goes
+-- out before it is answered
 abbrev pub null_sent : Plan → Progress → Progress
-null_sent plan p = let q = asking p in record q { again = later p.moment.elapsed plan.deadline }
+null_sent plan p = let q = asking p in record q { again = later p.moment.elapsed plan.deadline; behind = 0 }
 
 -- the progress of a station that begins anew at this moment: no null procedure is answered, and no chain goes on. Where nothing
 -- goes out before the next cycle is due, the time after which the line is dead begins with the first null procedure
 abbrev pub renewed : Plan → Moment → Progress → Progress
-renewed plan m p = let q = told m p in record q { word = the_word; again = 0; asked = p.asked && goes_on plan q; chain_unbroken = false }
+renewed plan m p = let q = told m p in record q { word = the_word; again = 0; asked = p.asked && goes_on plan q; chain_unbroken = false; behind = 0 }
 
 -- the progress after the next command. `next_is_chained`: the one after it goes out only once this one was answered well
 abbrev pub sent : Bool → Progress → Progress
@@ -150,6 +157,11 @@ sent next_is_chained p = let q = asking p in record q { unsent = p.unsent - 1; n
 -- the progress after a line that was heard: a reply line shows that the line is alive
 abbrev pub noted : Bool → Progress → Progress
 noted is_reply p = record p { alive = if is_reply then p.moment.elapsed else p.alive; asked = if is_reply then false else p.asked }
+
+-- the progress once a line settled requests, of which `waiting` wait still: where the last of them, which the line answers, is a
+-- call of the table (`of_table`), as many requests are behind that call as wait
+abbrev pub caught_up : Bool → ℕ → Progress → Progress
+caught_up of_table waiting p = record p { behind = if of_table then waiting else p.behind }
 
 -- the progress once a line with this id, or with none, was heard while the station begins: where the line answers the first
 -- null procedure that is left, the next null procedure goes out at once

@@ -5,7 +5,7 @@ use Rattle.std.specs.List.{AllByRecursion}
 use Rattle.gc_catalogue.specs.declared.answer.Answer.{Answer}
 use Rattle.gc_catalogue.specs.declared.answer.Reading.{Reading}
 use Rattle.gc_catalogue.specs.declared.answer.Reading.TheVariants as reading
-use Rattle.gc_catalogue.specs.declared.call.Call.{Call}
+use Rattle.gc_catalogue.specs.declared.asked.Asked.{Asked}
 use Rattle.gc_texts.specs.Codes.{are_accepted, no_codes}
 use Rattle.gc_texts.specs.Endings.{Answered}
 use Rattle.gc_texts.specs.Qualities.{is_good}
@@ -39,7 +39,7 @@ IsRefusal accepted (reading.Unreadable fault) = ⊥
 -- as its values (`said`). `Fine`: the line says an answer, and the record has it. `Warning`: the line says a refusal with an
 -- accepted code; the record has the answer, if any, that the line would say with return code 0. `Refused`: the line says any
 -- other refusal or a fault of communication, and the record has no answer
-abbrev pub IsOfQuality : (Call → List ℕ → Reading) → Codes → Call → Quality → Option Answer → List ℕ → Type 0
+abbrev pub IsOfQuality : (Asked → List ℕ → Reading) → Codes → Asked → Quality → Option Answer → List ℕ → Type 0
 IsOfQuality reads accepted call Fine said line = (answer : Answer) × (said ≡ Some answer) × (reads call line ≡ reading.Value answer)
 IsOfQuality reads accepted call Warning said line =
     (code : ℕ) × (reads call line ≡ reading.Refused code) × (are_accepted accepted code ≡ true) × (said ≡ answer_in (reads call (as_zero line)))
@@ -50,7 +50,7 @@ abbrev pub accepted_at : List Task → ℕ → Codes
 accepted_at commands place = (expected_first (drop place commands)).accepted
 
 -- a record that is answered has the quality of its line, by the codes that are accepted of its command
-abbrev pub IsAsListed : (Call → List ℕ → Reading) → List Task → Record → Type 0
+abbrev pub IsAsListed : (Asked → List ℕ → Reading) → List Task → Record → Type 0
 IsAsListed reads commands r =
     (quality : Quality) (said : Option Answer) (line : List ℕ) → r.end ≡ Answered quality said line
     → IsOfQuality reads (accepted_at commands r.place) r.command.call quality said line
@@ -63,5 +63,5 @@ QualitiesAreAsListed =
 -- where no code is accepted, the line of an answer of a good quality has both codes 0, and values that read
 abbrev pub GoodIsAnAnswer : Type 0
 GoodIsAnAnswer =
-    (reads : Call → List ℕ → Reading) (call : Call) (quality : Quality) (said : Option Answer) (line : List ℕ) → IsOfQuality reads no_codes call quality said line
+    (reads : Asked → List ℕ → Reading) (call : Asked) (quality : Quality) (said : Option Answer) (line : List ℕ) → IsOfQuality reads no_codes call quality said line
     → is_good quality ≡ true → (answer : Answer) × (said ≡ Some answer) × (reads call line ≡ reading.Value answer)

@@ -3,11 +3,11 @@ use Rattle.std.specs.Prelude.{◌≡◌, ℕ, ◌<◌, List, ◌∷◌, ◌++◌
 use Rattle.std.specs.List.{flat_map}
 use Rattle.std.specs.Io.KnownBytes.{Appends}
 use Rattle.gc_texts.specs.declared.stamp.Stamp.{Stamp}
-use Rattle.gc_texts.specs.declared.commands.Command.{Command}
+use Rattle.gc_texts.specs.declared.wish.Wish.{Wish}
 use Rattle.gc_texts.specs.declared.ending.Ending.{Ending}
 use Rattle.gc_texts.specs.Endings.{End, ending_seen}
 use Rattle.gc_catalogue.specs.declared.answer.Reading.{Reading}
-use Rattle.gc_catalogue.specs.declared.call.Call.{Call}
+use Rattle.gc_catalogue.specs.declared.asked.Asked.{Asked}
 use Rattle.gc_station.specs.Scopes.{AreReadings}
 
 -- how a command ended: the moment told last before its request went out, if it did (`sent`); the moment of its end (`utc`),
@@ -17,11 +17,11 @@ pub record Record : Type 0 where
   pub utc : ℕ
   pub cycle : ℕ
   pub place : ℕ
-  pub command : Command
+  pub command : Wish
   pub end : End
 
 -- a record as contracts see it: a command and its ending by their bytes
-abbrev pub record_seen : Stamp → Command → Ending → Record
+abbrev pub record_seen : Stamp → Wish → Ending → Record
 record_seen stamp command ending = record { sent = stamp.sent; utc = stamp.utc; cycle = stamp.cycle; place = stamp.place; command = command; end = ending_seen ending }
 
 -- a text was written whole, or where the write failed (`Err`) a first part of it, which isn't all
@@ -51,7 +51,7 @@ WritesAll text before all old new (Err _) = WritesPart text before all old new
 
 -- for each function `reads` that gives replies' readings: a book that had taken the texts of the records `before` wrote those of `news`
 -- after them; or it failed, and wrote a part of these
-abbrev pub WritesNews : {X E : Type 0} → (Record → List ℕ) → (old new : Option (List ℕ)) → (news : (Call → List ℕ → Reading) → List Record) → Result X E → Type 0
+abbrev pub WritesNews : {X E : Type 0} → (Record → List ℕ) → (old new : Option (List ℕ)) → (news : (Asked → List ℕ → Reading) → List Record) → Result X E → Type 0
 WritesNews text old new news result =
-    (reads : Call → List ℕ → Reading) (start : Option (List ℕ)) (before : List Record)
+    (reads : Asked → List ℕ → Reading) (start : Option (List ℕ)) (before : List Record)
     → AreReadings reads → Appends start old (texts_of text before) → WritesAll text before (before ++ news reads) start new result

@@ -2,26 +2,27 @@
 -- each reply says of its call.
 use Rattle.std.specs.Prelude.{◌≡◌, ℕ, List}
 use Rattle.gc_catalogue.specs.declared.answer.Reading.{Reading}
-use Rattle.gc_catalogue.specs.declared.call.Call.{Call}
-use Rattle.gc_client.specs.Settlements.{ReadsAs}
+use Rattle.gc_catalogue.specs.declared.asked.Asked.{Asked}
+use Rattle.gc_catalogue.specs.Asked.{IsAskedReading}
+use Rattle.gc_client.specs.Settlements.{ReadsBy}
 
 -- how many acts a run makes at most, and what each reply says of its call
 pub record Scope : Type 0 where
   pub turns : ℕ
-  pub reads : Call → List ℕ → Reading
+  pub reads : Asked → List ℕ → Reading
 
 -- this function gives each line's reading for a call, wherever there is one
-abbrev pub AreReadings : (Call → List ℕ → Reading) → Type 0
-AreReadings reads = (call : Call) (line : List ℕ) (reading : Reading) → ReadsAs call line reading → reads call line ≡ reading
+abbrev pub AreReadings : (Asked → List ℕ → Reading) → Type 0
+AreReadings reads = (call : Asked) (line : List ℕ) (reading : Reading) → ReadsBy IsAskedReading call line reading → reads call line ≡ reading
 
 -- a line has at most one reading for a call
 abbrev pub OneReadingForALine : Type 0
-OneReadingForALine = (call : Call) (line : List ℕ) (x y : Reading) → ReadsAs call line x → ReadsAs call line y → x ≡ y
+OneReadingForALine = (call : Asked) (line : List ℕ) (x y : Reading) → ReadsBy IsAskedReading call line x → ReadsBy IsAskedReading call line y → x ≡ y
 
 -- some function gives each line's reading for a call, wherever there is one
 abbrev pub SomeReadings : Type 0
-SomeReadings = (reads : Call → List ℕ → Reading) × AreReadings reads
+SomeReadings = (reads : Asked → List ℕ → Reading) × AreReadings reads
 
 -- the claim `Holds` is true of every function that gives each reply's reading for its call, and there is such a function
-abbrev pub ForReadings : ((Call → List ℕ → Reading) → Type 0) → Type 0
-ForReadings Holds = ((reads : Call → List ℕ → Reading) → AreReadings reads → Holds reads) × ((reads : Call → List ℕ → Reading) × AreReadings reads × Holds reads)
+abbrev pub ForReadings : ((Asked → List ℕ → Reading) → Type 0) → Type 0
+ForReadings Holds = ((reads : Asked → List ℕ → Reading) → AreReadings reads → Holds reads) × ((reads : Asked → List ℕ → Reading) × AreReadings reads × Holds reads)

@@ -7,7 +7,7 @@ ghost use Rattle.gc_lines.specs.Ports.{FailsWith};
 
 use gc_lines::PortFailed;
 use gc_links::Moment;
-use gc_texts::{Command, Ending, Stamp};
+use gc_texts::{Ending, Stamp, Wish};
 
 /// The health of the link before an act, for whoever watches the station.
 #[derive(Clone, Copy, Debug, PartialEq, Eq)]
@@ -46,12 +46,7 @@ pub trait Book {
     ghost overruns: { Self → Option (List ℕ) } = { λ _. None };
 
     /// Writes a record. `Err`: the book took a first part of the record's bytes, not all of them, and has failed.
-    fn write(
-        &mut self,
-        stamp: Stamp,
-        command: &Command,
-        ending: Ending<'_>,
-    ) -> Result<(), PortFailed>
+    fn write(&mut self, stamp: Stamp, command: &Wish, ending: Ending<'_>) -> Result<(), PortFailed>
         ensures writes { Writes (taken self.old) (taken self.new) (text self.old (record_seen stamp command.now ending.entry)) result }
         ensures fails { FailsWith result (failed self.old) (failed self.new) }
         ensures untold { overruns self.new ≡ overruns self.old }

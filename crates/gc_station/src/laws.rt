@@ -14,6 +14,7 @@ ghost use Rattle.gc_station.specs.declared.progress.Action.TheVariants.{Send, Sk
 ghost use Rattle.gc_station.specs.declared.plan.Plan.{Plan};
 ghost use Rattle.gc_links.specs.Acts.{Act, Closed};
 ghost use Rattle.gc_station.specs.Answers.{IsTrueRecord};
+ghost use Rattle.gc_station.specs.Behind.{CommandsGoOutBehindTheTable, TheTableIsNeverHeldUp};
 ghost use Rattle.gc_station.specs.Beginnings.{NoneBeforeTheLastAnswer, BeginsSo, IsClearedAndQuiet};
 ghost use Rattle.gc_station.specs.Closing.{IsReasoned, ClosesForACause, StopsForACause};
 ghost use Rattle.gc_station.specs.Deciding.{patience_of};
@@ -260,4 +261,17 @@ pub fn unsent_ones_are_so_for_a_cause()
 /// tries or the pause.
 pub fn tries_and_pauses_are_counted()
     ensures { TriesAndPausesAreCounted }
+{}
+
+/// Wherever a command goes out, one of the seven requests before it is a call of the table that a reply ended, answered or late; or
+/// fewer than seven went out since the beginning, whose last null procedure was answered. So an instrument that keeps its reply to
+/// the last call of the table, and looks at the id first, keeps none with the id of the command.
+pub fn commands_go_out_behind_the_table()
+    ensures { CommandsGoOutBehindTheTable }
+{}
+
+/// A text without procedures of one's own is never held up: where all commands are calls of the table, one that may go out does so
+/// as soon as there is room.
+pub fn the_table_is_never_held_up()
+    ensures { TheTableIsNeverHeldUp }
 {}

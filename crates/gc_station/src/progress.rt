@@ -16,14 +16,17 @@
 //! | | the line is dead | `Close(Dead)` | closes the connection | as below |
 //! | | the null procedure of the first id that isn't answered is to go out, for the first time or again at its deadline | `Ask` | sends it | `Ready` |
 //! | | else | `Read(Limit)` | hears what comes | `Ready`; the station has begun once the eighth is answered |
-//! | `Ready`: the station has begun | a command is unsent, and not `next_is_chained` | with room `Send`, else as where the station waits | sends the next command | `Ready` |
+//! | `Ready`: the station has begun | a command is unsent, and not `next_is_chained` | as where the next command may go out | | |
 //! | | commands wait, and all that waits is given up | with room `Flush`, else as where the station waits | sends a null procedure after them | `Ready` |
 //! | | commands wait, and something isn't given up | as where the station waits | | |
-//! | | no command waits, one is unsent, and may go | with room `Send`, else as where the station waits | sends the next command | `Ready` |
+//! | | no command waits, one is unsent, and may go | as where the next command may go out | | |
 //! | | no command waits, one is unsent, and may not go | `Skip` | reads the clock, and writes the command down | `Ready` |
 //! | | no command waits or is unsent, and no cycle is left | `Close(Done)` | closes the connection | `Over(Done)` |
 //! | | no command waits or is unsent, and the next cycle is due | `Begin` | reads the clock, and begins the cycle | `Ready` |
 //! | | no command waits or is unsent, and the next cycle isn't due | `Read(Due)` | hears what comes | `Ready` |
+//! | the next command may go out | one of the seven requests before it is a call of the table that a reply ended | with room `Send`, else as where the station waits | sends the next command | `Ready` |
+//! | | else, where all that waits is given up, or nothing waits | with room `Flush`, else as where the station waits | sends a null procedure before it | `Ready` |
+//! | | else | as where the station waits | | |
 //! | the station waits | the line is dead | `Close(Dead)` | closes the connection | as below |
 //! | | all that wait are given up | `Renew` | reads the clock, and begins anew: all that wait are lost | the same |
 //! | | else | `Read(Limit)` | hears what comes | the same |
@@ -33,7 +36,7 @@
 //! Where a call of the link fails, or a write is cut, `Closing` for that cause follows, and without a connection `Over`.
 
 ghost use Rattle.std.specs.Prelude.{◌≡◌};
-ghost use Rattle.gc_station.specs.Deciding.{width_of, is_up, is_past, is_quiet, has_begun, patience_of, is_dead, is_due, goes_on, is_finished, has_room, may_go, action_of, action_on, action_ready, action_begun, action_beginning, action_room, action_sent, action_settled, action_done, action_waiting};
+ghost use Rattle.gc_station.specs.Deciding.{width_of, is_up, is_past, is_quiet, has_begun, patience_of, is_dead, is_due, goes_on, is_finished, has_room, may_go, action_of, action_on, action_ready, action_begun, action_beginning, action_next, action_room, action_sent, action_settled, action_done, action_waiting};
 ghost use Rattle.gc_station.specs.Progressing.{at_start};
 ghost use Rattle.gc_station.specs.Model.{is_heard};
 
@@ -81,7 +84,8 @@ pub(crate) enum Action {
     Send,
     /// To read the clock, and to write the next command down without sending it.
     Skip,
-    /// To send a null procedure after requests that are all given up: its reply settles them.
+    /// To send a null procedure after requests that are all given up: its reply settles them. Or before a command, where none of
+    /// the seven requests before that is a call of the table that a reply ended.
     Flush,
     /// To read.
     Read(Until),
@@ -159,6 +163,9 @@ pub(crate) struct Progress {
     pub pause: u64,
     /// How many turns are left.
     pub turns: u64,
+    /// How many requests went out behind the last call of the table that a reply ended, answered or late, and behind the
+    /// beginning. Seven where they are more.
+    pub behind: usize,
 }
 
 // How many requests that aren't given up may be under way: the plan's width, brought into 1 to 7.
@@ -232,6 +239,7 @@ impl Progress {
             tries: plan.retries,
             pause: 0,
             turns: max_turns,
+            behind: 0,
         }
     }
 
@@ -355,13 +363,28 @@ impl Progress {
         }
     }
 
-    // The next action once the station has begun: to send the next command, if there is one that needn't wait for the answer of
-    // the command before it, and there is room; else as `action_sent` or `action_room` says.
+    // The next action where the next command may go out: it does, if there is room, where one of the seven requests before it is
+    // a call of the table that a reply ended. Else a null procedure goes out first, once no request is under way that isn't given
+    // up: an instrument that keeps the reply to its last call of the table may still send that for the id that is next.
+    fn action_next(&self, plan: &Plan, waiting: Waiting) -> Action
+        ensures { result ≡ action_next plan.now self.now waiting }
+    {
+        if self.behind < WINDOW {
+            self.action_room(plan, waiting, Action::Send)
+        } else if waiting.current == 0 {
+            self.action_room(plan, waiting, Action::Flush)
+        } else {
+            self.action_waiting(plan, waiting)
+        }
+    }
+
+    // The next action once the station has begun: that of `action_next`, if there is a command that needn't wait for the answer
+    // of the command before it; else that of `action_sent`.
     fn action_begun(&self, plan: &Plan, waiting: Waiting) -> Action
         ensures { result ≡ action_begun plan.now self.now waiting }
     {
         if self.unsent > 0 && !self.next_is_chained {
-            self.action_room(plan, waiting, Action::Send)
+            self.action_next(plan, waiting)
         } else {
             self.action_sent(plan, waiting)
         }
@@ -389,7 +412,7 @@ impl Progress {
         if self.unsent == 0 {
             self.action_done(plan)
         } else if self.may_go(waiting) {
-            self.action_room(plan, waiting, Action::Send)
+            self.action_next(plan, waiting)
         } else {
             Action::Skip
         }

@@ -1,17 +1,18 @@
 //! What each act does to how far a station is.
 
 ghost use Rattle.std.specs.Prelude.{◌≡◌, ◌≤◌, ℕ, List, length};
+ghost use Rattle.gc_catalogue.specs.declared.asked.Asked.{Asked};
 ghost use Rattle.gc_client.specs.Hearing.{HearsInto};
 ghost use Rattle.gc_client.specs.Rule.{ById};
 ghost use Rattle.gc_client.specs.declared.settlement.Settlement.{Settlement};
 ghost use Rattle.gc_station.specs.Deciding.{later};
-ghost use Rattle.gc_station.specs.Progressing.{turned, told, beginning, is_missing, due_of, begun, skipped, skipped_at, failing, opened, is_finished, is_idle, is_spared, phase_again, pause_again, again, cleared, asking, null_sent, renewed, line_asked, sent, noted, early_behind, gave, pause_ended, drained, quieted, time_passed, silent, reckoned_early, ended_for, closed, is_over, loses_all};
+ghost use Rattle.gc_station.specs.Progressing.{turned, told, beginning, is_missing, due_of, begun, skipped, skipped_at, failing, opened, is_finished, is_idle, is_spared, phase_again, pause_again, again, cleared, asking, null_sent, renewed, line_asked, sent, caught_up, noted, early_behind, gave, pause_ended, drained, quieted, time_passed, silent, reckoned_early, ended_for, closed, is_over, loses_all};
 ghost use Rattle.gc_station.specs.Lines.{is_reply};
 
 use crate::cause::Cause;
 use crate::plan::Plan;
 use crate::progress::{Phase, Progress, Until, Waiting};
-use gc_client::{Beginning, Hearing};
+use gc_client::{Beginning, Hearing, WINDOW};
 use gc_lines::read_reply;
 use gc_links::Moment;
 
@@ -45,7 +46,7 @@ fn reads(line: &[u8]) -> bool
 
 // Whether the line that the client heard was a reply.
 pub(crate) fn is_reply(hearing: Hearing) -> bool
-    ensures { (old new : ById) (line : List ℕ) (settlements : List Settlement) → HearsInto old line hearing settlements new → result ≡ is_reply line }
+    ensures { (old new : ById Asked) (line : List ℕ) (settlements : List (Settlement Asked)) → HearsInto old line hearing settlements new → result ≡ is_reply line }
 {
     match hearing {
         Hearing::Settled => true,
@@ -231,7 +232,8 @@ impl Progress {
         self.stale = true;
     }
 
-    // Notes that a request went out. The time after which the line is dead begins with the first request after a reply line.
+    // Notes that a request went out. The time after which the line is dead begins with the first request after a reply line. It
+    // is counted as behind the last call of the table that a reply ended.
     pub(crate) fn ask(&mut self)
         ensures { self.new ≡ asking self.old }
     {
@@ -240,14 +242,19 @@ impl Progress {
         }
         self.asked = true;
         self.stale = true;
+        if self.behind < WINDOW {
+            self.behind += 1;
+        }
     }
 
-    // Notes that the null procedure of the first id that isn't answered went out: it goes out again at its deadline.
+    // Notes that the null procedure of the first id that isn't answered went out: it goes out again at its deadline. No command
+    // goes out before it is answered, so nothing is behind it then.
     pub(crate) fn ask_null(&mut self, plan: &Plan)
         ensures { self.new ≡ null_sent plan.now self.old }
     {
         self.ask();
         self.again = later(self.moment.elapsed, plan.deadline);
+        self.behind = 0;
     }
 
     // Notes that the station begins anew at this moment. Where nothing goes out before the next cycle is due, the time after
@@ -260,6 +267,7 @@ impl Progress {
         self.again = 0;
         self.asked = self.asked && self.goes_on(plan);
         self.chain_unbroken = false;
+        self.behind = 0;
     }
 
     // Hears a line while the station begins. Where the line answers the first null procedure that is left, the next one goes out
@@ -283,6 +291,16 @@ impl Progress {
         self.unsent = self.unsent.saturating_sub(1);
         self.next_is_chained = next_is_chained;
         self.chain_unbroken = true;
+    }
+
+    // Notes that a line settled requests, and that `waiting` wait still. Where the one that it answers is a call of the table
+    // (`of_table`), as many are behind that call as wait.
+    pub(crate) fn catch_up(&mut self, of_table: bool, waiting: usize)
+        ensures { self.new ≡ caught_up of_table waiting self.old }
+    {
+        if of_table {
+            self.behind = waiting;
+        }
     }
 
     // Notes that a line was heard: a reply line shows that the line is alive.

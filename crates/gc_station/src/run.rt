@@ -2,7 +2,7 @@
 
 ghost use Rattle.std.specs.Prelude.{◌≡◌, true, ℕ, List, OnOk};
 ghost use Rattle.gc_catalogue.specs.declared.answer.Reading.{Reading};
-ghost use Rattle.gc_catalogue.specs.declared.call.Call.{Call};
+ghost use Rattle.gc_catalogue.specs.declared.asked.Asked.{Asked};
 ghost use Rattle.gc_lines.specs.Ports.{FailsWith};
 ghost use Rattle.gc_station.specs.Keeping.{KeepsUp, closing, closing_at};
 ghost use Rattle.gc_station.specs.Runs.{EndsAs, Ran, FailsAtOutput, LastsBut};
@@ -29,9 +29,9 @@ pub(crate) fn run<L: Link, B: Book>(
     max_turns: u64,
     kept: &mut Kept,
 ) -> Result<(Cause, Tally), PortFailed>
-    ensures ran { (reads : Call → List ℕ → Reading) → AreReadings reads
+    ensures ran { (reads : Asked → List ℕ → Reading) → AreReadings reads
         → EndsAs plan.now commands.now (record { turns = max_turns; reads = reads }) (B.text book.old) (L.acts link.old) (L.acts link.new) (B.taken book.old) (B.taken book.new) result }
-    ensures keeps { (reads : Call → List ℕ → Reading) → AreReadings reads
+    ensures keeps { (reads : Asked → List ℕ → Reading) → AreReadings reads
         → KeepsUp plan.now commands.now (record { turns = max_turns; reads = reads }) (B.text book.old) (L.acts link.old) (L.acts link.new) (B.taken book.old) kept.old.turns kept.new.turns (closing result) }
     ensures is_durable { OnOk result (B.is_durable book.new ≡ true) }
     ensures fails { FailsWith result (B.failed book.old) (B.failed book.new) }
@@ -71,6 +71,10 @@ pub(crate) fn run<L: Link, B: Book>(
 /// up the others: its own reply settles it as late, and the reply to a later request as lost. Where no command may go out before
 /// those that wait are settled, and all that wait are given up, a null procedure goes out after them. Its reply settles them; it
 /// is in no record. A command is never sent again in its cycle.
+///
+/// A command goes out only where one of the seven requests before it is a call of the table that a reply ended, or the last null
+/// procedure of the beginning. Else a null procedure goes out first, once no request is under way that isn't given up. Commands
+/// that are all calls of the table are never held up by that.
 ///
 /// A connection that failed, ended or is dead is closed. The requests that wait go on waiting on the next connection, and the ids
 /// go on. Before each new attempt to connect the station pauses: for the quiet time, at each further failure twice as long, up to

@@ -4,8 +4,9 @@ ghost use Rattle.std.specs.Prelude.{◌≡◌, ℕ, ◌<◌, ◌≤◌, ◌++◌
 ghost use Rattle.std.specs.Io.KnownBytes.{Appends};
 ghost use Rattle.gc_lines.specs.Ports.{FailsWith};
 ghost use Rattle.gc_catalogue.specs.declared.answer.Reading.{Reading};
-ghost use Rattle.gc_catalogue.specs.declared.call.Call.{Call};
-ghost use Rattle.gc_client.specs.Settlements.{settlement_seen, IsWellRead};
+ghost use Rattle.gc_catalogue.specs.declared.asked.Asked.{Asked};
+ghost use Rattle.gc_catalogue.specs.Asked.{IsAskedReading};
+ghost use Rattle.gc_client.specs.Settlements.{settlement_seen, IsReadBy};
 ghost use Rattle.gc_station.specs.Deciding.{action_of};
 ghost use Rattle.gc_links.specs.Acts.{Told};
 ghost use Rattle.gc_station.specs.Marks.{commands_in, records_of, last_well};
@@ -28,7 +29,8 @@ use crate::progress::{Action, Progress, Waiting};
 use crate::tally::Tally;
 use crate::writing::write_settlements;
 use arrayvec::ArrayVec;
-use gc_client::{Client, Settlement, Slots, WINDOW};
+use gc_catalogue::Asked;
+use gc_client::{Client, Settlement, SlotsOf, WINDOW};
 use gc_lines::{Assembler, PortFailed};
 use gc_links::{Link, Moment};
 use gc_texts::{Codes, Ending, Expected, Stamp, Task};
@@ -46,7 +48,7 @@ fn is_chained(commands: &[Task], place: usize) -> bool
 /// What a station keeps from one act to the next.
 #[derive(Drop)]
 pub(crate) struct Station {
-    pub(crate) client: Client<Slots>,
+    pub(crate) client: Client<SlotsOf<Asked>>,
     // One for each request that waits, in order: which command it is, or none for a null procedure.
     pub(crate) marks: ArrayVec<Option<Mark>, WINDOW>,
     pub(crate) assembler: Assembler,
@@ -55,16 +57,16 @@ pub(crate) struct Station {
     // Whether the command that was written down last was answered well.
     pub(crate) well: bool,
     // The settlements of the last line or restart, which `write` writes down.
-    pub(crate) settled: ArrayVec<Settlement, WINDOW>,
+    pub(crate) settled: ArrayVec<Settlement<Asked>, WINDOW>,
 }
 
 impl Station {
     // A station that has done nothing.
     pub(crate) fn new(plan: &Plan, max_turns: u64) -> Station
-        ensures { (reads : Call → List ℕ → Reading) → Refines result (opening plan.now (record { turns = max_turns; reads = reads })) }
+        ensures { (reads : Asked → List ℕ → Reading) → Refines result (opening plan.now (record { turns = max_turns; reads = reads })) }
     {
         Station {
-            client: Client::new(Slots::new()),
+            client: Client::new(SlotsOf::new()),
             marks: ArrayVec::new(),
             assembler: Assembler::new(),
             progress: Progress::at_start(plan, max_turns),
@@ -291,16 +293,16 @@ impl Station {
 
     // Writes the records of `settled`, and takes out the marks of the requests that were settled, the oldest first.
     fn write<B: Book>(&mut self, book: &mut B) -> Result<(), PortFailed>
-        requires { All (λ s. IsWellRead s.call s.outcome) self.old.settled.items }
+        requires { All (λ s. IsReadBy IsAskedReading s.call s.outcome) self.old.settled.items }
         ensures wrote { WritesNews (B.text book.old) (B.taken book.old) (B.taken book.new) (λ reads. records_of reads self.old.progress.moment.utc self.old.marks.items (map settlement_seen self.old.settled.items)) result }
         ensures after { OnOk result (self.new ≡ record self.old {
           marks = record { items = drop (length self.old.settled.items) self.old.marks.items };
           tally = self.new.tally;
           well = self.new.well;
         }) }
-        ensures tally { OnOk result ((reads : Call → List ℕ → Reading) → AreReadings reads
+        ensures tally { OnOk result ((reads : Asked → List ℕ → Reading) → AreReadings reads
             → self.new.tally ≡ tallied self.old.tally (records_of reads self.old.progress.moment.utc self.old.marks.items (map settlement_seen self.old.settled.items))) }
-        ensures well { OnOk result ((reads : Call → List ℕ → Reading) → AreReadings reads
+        ensures well { OnOk result ((reads : Asked → List ℕ → Reading) → AreReadings reads
             → self.new.well ≡ last_well self.old.well (records_of reads self.old.progress.moment.utc self.old.marks.items (map settlement_seen self.old.settled.items))) }
         ensures fails { FailsWith result (B.failed book.old) (B.failed book.new) }
         ensures form { B.text book.new ≡ B.text book.old }

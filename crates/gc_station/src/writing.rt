@@ -5,9 +5,11 @@ ghost use Rattle.std.specs.Io.KnownBytes.{Appends};
 ghost use Rattle.gc_lines.specs.Ports.{FailsWith};
 ghost use Rattle.gc_client.specs.Rule;
 ghost use Rattle.gc_catalogue.specs.declared.answer.Reading.{Reading};
-ghost use Rattle.gc_catalogue.specs.declared.call.Call.{Call};
-ghost use Rattle.gc_client.specs.Settlements.{settlement_seen, outcome_seen, IsWellRead};
+ghost use Rattle.gc_catalogue.specs.declared.asked.Asked.{Asked};
+ghost use Rattle.gc_catalogue.specs.Asked.{IsAskedReading};
+ghost use Rattle.gc_client.specs.Settlements.{settlement_seen, outcome_seen, IsReadBy};
 ghost use Rattle.gc_station.specs.Marks.{records_of, value_as, refused_as, end_of, last_well, is_well};
+ghost use Rattle.gc_station.specs.Model.{ends_with_table};
 ghost use Rattle.gc_station.specs.Zeros.{IsZeroOf};
 ghost use Rattle.gc_station.specs.Scopes.{AreReadings};
 ghost use Rattle.gc_texts.specs.Codes.{are_accepted};
@@ -20,15 +22,15 @@ use crate::book::Book;
 use crate::mark::Mark;
 use crate::tally::Tally;
 use arrayvec::ArrayVec;
-use gc_catalogue::{Answer, Call, Reading};
+use gc_catalogue::{Answer, Asked, Reading};
 use gc_client::{Outcome, Settlement, WINDOW};
 use gc_lines::{Line, PortFailed};
-use gc_texts::{Command, Ending, Expected, Near, Quality, Stamp, is_elsewhere, reading_as_zero};
+use gc_texts::{Ending, Expected, Near, Quality, Stamp, Wish, is_elsewhere, reading_as_zero};
 
 // Takes out the mark of the oldest request that waits. `None`: that request is a null procedure, or none waits.
 fn take_mark(marks: &mut ArrayVec<Option<Mark>, WINDOW>) -> Option<Mark>
     ensures goes { marks.new.items ≡ drop 1 marks.old.items }
-    ensures records { (reads : Call → List ℕ → Reading) (utc : ℕ) (settlement : Rule.Settlement)
+    ensures records { (reads : Asked → List ℕ → Reading) (utc : ℕ) (settlement : Rule.Settlement Asked)
         → records_of reads utc marks.old.items (settlement ∷ []) ≡ records_of reads utc (result ∷ []) (settlement ∷ []) }
 {
     match marks.pop_at(0) {
@@ -78,7 +80,7 @@ fn refused_ending<'a>(
 
 // What the line of a reply with a return code other than 0 would say with return code 0. For any other outcome: a refusal,
 // which nothing reads.
-fn zero_of(call: &Call, outcome: &Outcome) -> Reading
+fn zero_of(call: &Asked, outcome: &Outcome) -> Reading
     ensures { IsZeroOf call.now outcome.now result }
 {
     match outcome {
@@ -90,7 +92,7 @@ fn zero_of(call: &Call, outcome: &Outcome) -> Reading
 // The ending of a command whose request had this outcome, where this is expected of its answer, and its line would say `zero`
 // with return code 0.
 fn ending_of<'a>(expected: &Expected, zero: &'a Reading, outcome: &'a Outcome) -> Ending<'a>
-    ensures { (reads : Call → List ℕ → Reading) (call : Call) → AreReadings reads → IsWellRead call outcome.now → IsZeroOf call outcome.now zero.now
+    ensures { (reads : Asked → List ℕ → Reading) (call : Asked) → AreReadings reads → IsReadBy IsAskedReading call outcome.now → IsZeroOf call outcome.now zero.now
         → ending_seen result ≡ end_of reads expected.now call (outcome_seen outcome.now) }
 {
     match outcome {
@@ -128,13 +130,13 @@ fn write_one<B: Book>(
     well: &mut bool,
     utc: u64,
     mark: Option<Mark>,
-    settlement: &Settlement,
+    settlement: &Settlement<Asked>,
 ) -> Result<(), PortFailed>
-    requires { IsWellRead settlement.now.call settlement.now.outcome }
+    requires { IsReadBy IsAskedReading settlement.now.call settlement.now.outcome }
     ensures wrote { WritesNews (B.text book.old) (B.taken book.old) (B.taken book.new) (λ reads. records_of reads utc (mark ∷ []) (settlement_seen settlement.now ∷ [])) result }
-    ensures tally { OnOk result ((reads : Call → List ℕ → Reading) → AreReadings reads
+    ensures tally { OnOk result ((reads : Asked → List ℕ → Reading) → AreReadings reads
         → tally.new ≡ tallied tally.old (records_of reads utc (mark ∷ []) (settlement_seen settlement.now ∷ []))) }
-    ensures well { OnOk result ((reads : Call → List ℕ → Reading) → AreReadings reads
+    ensures well { OnOk result ((reads : Asked → List ℕ → Reading) → AreReadings reads
         → well.new ≡ last_well well.old (records_of reads utc (mark ∷ []) (settlement_seen settlement.now ∷ []))) }
     ensures fails { FailsWith result (B.failed book.old) (B.failed book.new) }
     ensures form { B.text book.new ≡ B.text book.old }
@@ -148,7 +150,7 @@ fn write_one<B: Book>(
         cycle: mark.cycle,
         place: mark.place,
     };
-    let command = Command {
+    let command = Wish {
         target: settlement.target,
         call: settlement.call,
     };
@@ -162,6 +164,16 @@ fn write_one<B: Book>(
     Ok(())
 }
 
+// Whether the last of these settlements is of a call of the table. `false`: there is none.
+pub(crate) fn ends_with_table(settlements: &[Settlement<Asked>]) -> bool
+    ensures { result ≡ ends_with_table (map settlement_seen settlements.now) }
+{
+    match settlements.last() {
+        Some(settlement) => settlement.call.is_of_table(),
+        None => false,
+    }
+}
+
 // Writes and counts the records of these settlements, which are those of the oldest requests that wait, and takes out the marks
 // of these requests. `well` becomes whether the command written last was answered well, and stays as it is where none was
 // written. `Err`: the book failed at a record, and no record after it was written.
@@ -171,13 +183,13 @@ pub(crate) fn write_settlements<B: Book>(
     well: &mut bool,
     marks: &mut ArrayVec<Option<Mark>, WINDOW>,
     utc: u64,
-    settlements: &[Settlement],
+    settlements: &[Settlement<Asked>],
 ) -> Result<(), PortFailed>
-    requires { All (λ s. IsWellRead s.call s.outcome) settlements.now }
+    requires { All (λ s. IsReadBy IsAskedReading s.call s.outcome) settlements.now }
     ensures wrote { WritesNews (B.text book.old) (B.taken book.old) (B.taken book.new) (λ reads. records_of reads utc marks.old.items (map settlement_seen settlements.now)) result }
-    ensures tally { OnOk result ((reads : Call → List ℕ → Reading) → AreReadings reads
+    ensures tally { OnOk result ((reads : Asked → List ℕ → Reading) → AreReadings reads
         → tally.new ≡ tallied tally.old (records_of reads utc marks.old.items (map settlement_seen settlements.now))) }
-    ensures well { OnOk result ((reads : Call → List ℕ → Reading) → AreReadings reads
+    ensures well { OnOk result ((reads : Asked → List ℕ → Reading) → AreReadings reads
         → well.new ≡ last_well well.old (records_of reads utc marks.old.items (map settlement_seen settlements.now))) }
     ensures marks { OnOk result (marks.new.items ≡ drop (length settlements.now) marks.old.items) }
     ensures fails { FailsWith result (B.failed book.old) (B.failed book.new) }

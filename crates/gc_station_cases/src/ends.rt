@@ -4,7 +4,7 @@ use arrayvec::ArrayVec;
 use gc_lines::PortFailed;
 use gc_links::Moment;
 use gc_station::{Book, LinkHealth};
-use gc_texts::{Command, Ending, Quality, Stamp};
+use gc_texts::{Ending, Quality, Stamp, Wish};
 
 /// A book that keeps a word for each record: the last digits of its cycle and its place, a letter for its outcome, and behind the
 /// letter the values of a reply. A case may have it fail at one write, or at each sync after the first few.
@@ -68,7 +68,7 @@ impl Book for Ends {
     fn write(
         &mut self,
         stamp: Stamp,
-        command: &Command,
+        command: &Wish,
         ending: Ending<'_>,
     ) -> Result<(), PortFailed> {
         self.writes = self.writes.saturating_add(1);

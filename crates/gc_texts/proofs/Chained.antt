@@ -10,7 +10,7 @@ use Rattle.gc_texts.specs.Chained.{commands_in, SaysNoDeadline, IsDeadlineBehind
 use Rattle.gc_texts.specs.Nears.{near_of}
 use Rattle.gc_texts.specs.Tasks.{opening, behind, goes_on, task_at, tasks_of, placed}
 use Rattle.gc_texts.specs.declared.codes.Codes.{Codes}
-use Rattle.gc_texts.specs.declared.commands.Command.{Command}
+use Rattle.gc_texts.specs.declared.wish.Wish.{Wish}
 use Rattle.gc_texts.specs.declared.near.Near.{Near}
 use Rattle.gc_texts.specs.declared.task_line.TaskLine.{TaskLine}
 use Rattle.gc_texts.specs.declared.task_line.TaskLine.TheVariants as says
@@ -210,7 +210,7 @@ row_goes : (row : Option ℕ) (target : ℕ) → row ≡ Some target → goes_on
 row_goes row target e = ap (λ r. goes_on r target) e ∙ eq-eqb target target refl
 
 -- the task that is made of a command goes out as the lines in front of it say
-goes_out : (deadline : ℕ) (chained : Bool) (front : List TaskLine) (command : Command) (mode : Mode) (near : Option Near) → mode ≡ behind_all (opening deadline chained) front
+goes_out : (deadline : ℕ) (chained : Bool) (front : List TaskLine) (command : Wish) (mode : Mode) (near : Option Near) → mode ≡ behind_all (opening deadline chained) front
     → GoesOut deadline chained front command (record { command = command; deadline = mode.deadline; chained = mode.chained && goes_on mode.row command.target; near = near; accepted = mode.accepted })
 goes_out deadline chained front command mode near is =
     let h : Says deadline chained front mode = subst (λ m. Says deadline chained front m) (sym is) (says_all deadline chained [] (opening deadline chained) front (says_opening deadline chained)) in

@@ -6,6 +6,9 @@ mod TextLines
 mod LinePlaces
 pub mod OneReading
 mod CommandForms
+mod RawForms
+mod RawTroubles
+mod WishForms
 mod CodeForms
 mod TaskForms
 mod TaskReading

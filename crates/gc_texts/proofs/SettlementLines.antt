@@ -1,6 +1,7 @@
 -- The lines of settlements, one more behind those before it.
 use Rattle.std.proofs.Common.{◌≡◌, ◌+◌, ◌<◌, ℕ, List, [], ◌∷◌, ◌++◌, take, drop, map, get_or, length, refl, sym, ap, ◌∙◌, arith, append_assoc, append-nil}
 use Rattle.std.proofs.lemmas.List.{length-map, take_more, drop_more, length-take, take-append-drop}
+use Rattle.gc_catalogue.specs.declared.call.Call.{Call}
 use Rattle.gc_client.specs.declared.settlement.Settlement.{Settlement}
 use Rattle.gc_client.specs.Rule
 use Rattle.gc_client.specs.Settlements.{settlement_seen}
@@ -15,7 +16,7 @@ at_place xs i x below is = (
 )
 
 -- the lines of settlements, and of one more, are those of the settlements, and that of the last at its place
-pub lines_one : (from : ℕ) (before : List Rule.Settlement) (s : Rule.Settlement) → lines_from from (before ++ s ∷ []) ≡ lines_from from before ++ settlement_line (from + length before) s
+pub lines_one : (from : ℕ) (before : List (Rule.Settlement Call)) (s : Rule.Settlement Call) → lines_from from (before ++ s ∷ []) ≡ lines_from from before ++ settlement_line (from + length before) s
 lines_one from [] s = append-nil (settlement_line from s) ∙ ap (λ place. settlement_line place s) (omega arith)
 lines_one from (x ∷ before) s =
     let later : List ℕ = lines_from (from + 1) before in
@@ -25,13 +26,13 @@ lines_one from (x ∷ before) s =
 
 -- the values that stand for settlements and one more (`settlement_seen`) are those of the settlements, and then that of the
 -- last
-pub map_one : (before : List Settlement) (s : Settlement) → map settlement_seen (before ++ s ∷ []) ≡ map settlement_seen before ++ settlement_seen s ∷ []
+pub map_one : (before : List (Settlement Call)) (s : Settlement Call) → map settlement_seen (before ++ s ∷ []) ≡ map settlement_seen before ++ settlement_seen s ∷ []
 map_one [] s = refl
 map_one (x ∷ before) s = ap (λ l. settlement_seen x ∷ l) (map_one before s)
 
 -- where the lines of the first i settlements were appended, and then that of the next, the lines of the first i + 1 were
 pub lines_more :
-    (ss : List Settlement) (i : ℕ) (s : Settlement) (old mid new : List ℕ) → i < length ss → s ≡ get_or ss i s →
+    (ss : List (Settlement Call)) (i : ℕ) (s : Settlement Call) (old mid new : List ℕ) → i < length ss → s ≡ get_or ss i s →
     mid ≡ old ++ settlement_lines (map settlement_seen (take i ss)) → new ≡ mid ++ settlement_line i (settlement_seen s) →
     new ≡ old ++ settlement_lines (map settlement_seen (take (i + 1) ss))
 lines_more ss i s old mid new below is so one =

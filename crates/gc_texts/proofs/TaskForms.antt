@@ -1,6 +1,8 @@
 -- Which lines have the forms of a station's text.
 use Rattle.std.proofs.Common.{◌≡◌, ◌≤◌, ◌==◌, inl, inr, ℕ, List, [], ◌∷◌, ◌++◌, get_or, true, false, Option, Some, None, MatchOption, arith, refl, ap, subst, sym, ◌∙◌, codes, cond, ne_eqb, if◌then◌else◌}
 use Rattle.std.proofs.lemmas.List.{append_cancel_left}
+use Rattle.gc_catalogue.specs.declared.asked.Asked.{Asked}
+use Rattle.gc_catalogue.specs.declared.asked.Asked.TheVariants.{Table, Raw}
 use Rattle.gc_values.specs.Digits.{AreDigits}
 use Rattle.gc_values.proofs.DecimalLaws.{spells_unique}
 use Rattle.gc_texts.specs.Cuts.{Cuts, before, behind}
@@ -8,13 +10,15 @@ use Rattle.gc_texts.specs.Names.{is_name}
 use Rattle.gc_texts.specs.Procedures.{IsNumber}
 use Rattle.gc_texts.specs.Nears.{AreWords, IsNearText}
 use Rattle.gc_texts.specs.TaskLines.{IsDeadline, IsNaming, IsStanding, IsTaskLine}
+use Rattle.gc_texts.specs.Wishes.{AsksFor}
 use Rattle.gc_texts.specs.declared.name.Name.{Name}
 use Rattle.gc_texts.specs.declared.near.Near.{Near}
 use Rattle.gc_texts.specs.declared.task_line.TaskLine.{TaskLine}
 use Rattle.gc_texts.specs.declared.task_line.TaskLine.TheVariants as says
 use Rattle.gc_texts.proofs.Cutting.{cut_found, one_front, digits_lack_spaces}
 use Rattle.gc_texts.proofs.CodeForms.{one_accepting}
-use Rattle.gc_texts.proofs.CommandForms.{one_command}
+use Rattle.gc_texts.proofs.RawForms.{first_digit}
+use Rattle.gc_texts.proofs.WishForms.{one_wish}
 use Rattle.gc_texts.proofs.Procedures.{one_number}
 
 -- the digits of a deadline's line are what stands behind `deadline `
@@ -86,9 +90,14 @@ digits_kind : (ds rest : List ℕ) → AreDigits ds → first_kind (get_or (ds +
 digits_kind [] rest digits = refl
 digits_kind (d ∷ ds) rest digits = digit_kind d digits.0.1
 
+-- a line that asks a target for something is of the kind of a command
+asks_kind : (line : List ℕ) (target : ℕ) (asked : Asked) → AsksFor line target asked → kind_in line ≡ 0
+asks_kind line target (Table call) is = ap kind_in is.line_is ∙ digits_kind is.target_text is.procedure is.target_is.names.digits
+asks_kind line target (Raw raw) is = digit_kind (get_or line 0 0) (first_digit line is.target_is.names.digits is.target_is.names.some)
+
 -- the first byte of a line shows the kind of what the line says
 kind_is : (line : List ℕ) (said : TaskLine) → IsTaskLine line said → kind_in line ≡ kind said
-kind_is line (says.Command command) is = ap kind_in is.line_is ∙ digits_kind is.target_text is.procedure is.target_is.names.digits
+kind_is line (says.Command wish) is = asks_kind line wish.target wish.call is
 kind_is line (says.Deadline deadline) is = ap kind_in is.line_is
 kind_is line says.Chained is = ap kind_in is
 kind_is line says.Unchained is = ap kind_in is
@@ -149,7 +158,7 @@ never_both line name near x y =
 
 -- where a line says `a` and says `b`, and both are of one kind, they are the same
 same_said : (line : List ℕ) (a b : TaskLine) → IsTaskLine line a → IsTaskLine line b → kind a ≡ kind b → a ≡ b
-same_said line (says.Command c) (says.Command d) x y h = ap says.Command (one_command line c d x y)
+same_said line (says.Command v) (says.Command w) x y h = ap says.Command (one_wish line v w x y)
 same_said line (says.Deadline m) (says.Deadline n) x y h = ap says.Deadline (one_deadline line m n x y)
 same_said line says.Chained says.Chained x y h = refl
 same_said line says.Unchained says.Unchained x y h = refl

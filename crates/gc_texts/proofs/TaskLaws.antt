@@ -10,6 +10,7 @@ use Rattle.gc_texts.specs.Laws.{OneTaskList, CommandsAreTasks, CommandsArePlain,
 use Rattle.gc_texts.specs.LineForms.{is_kept, text_lines, AreItems}
 use Rattle.gc_texts.specs.TaskLines.{IsTaskLine}
 use Rattle.gc_texts.specs.Tasks.{opening, behind, goes_on, tasks_of, names_of, nears_of, placed, MayFollow}
+use Rattle.gc_texts.specs.Wishes.{wish_of}
 use Rattle.gc_texts.specs.declared.commands.Command.{Command}
 use Rattle.gc_texts.specs.declared.name.Name.{Name}
 use Rattle.gc_texts.specs.declared.near.Near.{Near}
@@ -32,7 +33,7 @@ one_task_list text deadline chained xs ys ms ns ps qs h k =
 
 -- commands, as what the lines of a station's text say
 abbrev asks : List Command → List TaskLine
-asks commands = map says.Command commands
+asks commands = map (λ command. says.Command (wish_of command)) commands
 
 -- lines of commands have the forms of a station's text
 asked_forms : (lines : List (List ℕ)) (commands : List Command) → AreItems IsCommand lines commands → AreItems IsTaskLine lines (asks commands)
@@ -68,9 +69,9 @@ unplaced mode (says.Standing n ∷ later) = unplaced mode later
 unplaced mode (says.Accepting cs ∷ later) = unplaced (behind mode (says.Accepting cs)) later
 
 -- the tasks of lines of commands have these commands, in order
-asked_tasks : (mode : Mode) (commands : List Command) → map (λ task. task.command) (tasks_of mode (asks commands)) ≡ commands
+asked_tasks : (mode : Mode) (commands : List Command) → map (λ task. task.command) (tasks_of mode (asks commands)) ≡ map wish_of commands
 asked_tasks mode [] = refl
-asked_tasks mode (c ∷ cs) = ap (λ l. c ∷ l) (asked_tasks (behind mode (says.Command c)) cs)
+asked_tasks mode (c ∷ cs) = ap (λ l. wish_of c ∷ l) (asked_tasks (behind mode (says.Command (wish_of c))) cs)
 
 -- the law: each command text is a station's text
 pub commands_are_tasks : CommandsAreTasks
@@ -88,7 +89,7 @@ commands_are_tasks text commands deadline chained are = (
 
 -- the task of a command that isn't chained, with this deadline and without a place
 abbrev plain : ℕ → Command → Task
-plain deadline command = record { command = command; deadline = deadline; chained = false; near = None; accepted = no_codes }
+plain deadline command = record { command = wish_of command; deadline = deadline; chained = false; near = None; accepted = no_codes }
 
 -- where commands aren't chained, each gives a task that isn't chained either, with the deadline `deadline`
 plain_tasks : (deadline : ℕ) (row : Option ℕ) (commands : List Command)

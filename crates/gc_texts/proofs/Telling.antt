@@ -4,18 +4,19 @@ use Rattle.std.specs.Io.KnownBytes.{Appends}
 use Rattle.std.proofs.lemmas.List.{length-map, length-take, map-append}
 use Rattle.gc_lines.specs.Ports.{TakesFront}
 use Rattle.gc_lines.proofs.Known.{Appends-append, Appends-is}
+use Rattle.gc_catalogue.specs.declared.call.Call.{Call}
 use Rattle.gc_client.specs.declared.settlement.Settlement.{Settlement}
 use Rattle.gc_client.specs.Settlements.{settlement_seen}
 use Rattle.gc_texts.specs.Settlements.{settlement_line, lines_from, ToldPart}
 use Rattle.gc_texts.proofs.SettlementLines.{lines_one, map_one, at_place}
 
 -- there are i settlements in front of the one at place i
-front_is : (ss : List Settlement) (i : ℕ) → i < length ss → length (map settlement_seen (take i ss)) ≡ i
+front_is : (ss : List (Settlement Call)) (i : ℕ) → i < length ss → length (map settlement_seen (take i ss)) ≡ i
 front_is ss i below = length-map (take i ss) settlement_seen ∙ omega (arith, length-take i ss, below)
 
 -- where a sink took the lines of the first i settlements, numbered from `place` on, and then the line of the next one (s), it
 -- took the lines of the first i + 1. It has taken `old` at first, `mid` in between and `new` at the end
-pub lines_next : (place : ℕ) (ss : List Settlement) (i : ℕ) (s : Settlement) (old mid new : Option (List ℕ)) (line : List ℕ) → i < length ss
+pub lines_next : (place : ℕ) (ss : List (Settlement Call)) (i : ℕ) (s : Settlement Call) (old mid new : Option (List ℕ)) (line : List ℕ) → i < length ss
     → s ≡ get_or ss i s → line ≡ settlement_line (place + i) (settlement_seen s)
     → Appends old mid (lines_from place (map settlement_seen (take i ss))) → Appends mid new line → Appends old new (lines_from place (map settlement_seen (take (i + 1) ss)))
 lines_next place ss i s old mid new line below is text so more =
@@ -27,7 +28,7 @@ lines_next place ss i s old mid new line below is text so more =
 
 -- where a sink took the lines of the first i settlements, numbered from `place` on, and then only the first n bytes of the next
 -- line, it took a part of all lines (`ToldPart`)
-pub lines_part : (place : ℕ) (ss : List Settlement) (i n : ℕ) (s : Settlement) (old mid new : Option (List ℕ)) (line : List ℕ) → i < length ss
+pub lines_part : (place : ℕ) (ss : List (Settlement Call)) (i n : ℕ) (s : Settlement Call) (old mid new : Option (List ℕ)) (line : List ℕ) → i < length ss
     → s ≡ get_or ss i s → line ≡ settlement_line (place + i) (settlement_seen s)
     → Appends old mid (lines_from place (map settlement_seen (take i ss))) → TakesFront mid new n line → ToldPart place (map settlement_seen ss) old new
 lines_part place ss i n s old mid new line below is text so part =

@@ -6,9 +6,9 @@ use Rattle.gc_lines.specs.Replies.{ReplyFields, IsReply, reply_text}
 use Rattle.gc_lines.proofs.Replies.{reply_found, reply_again}
 use Rattle.gc_lines.proofs.Written.{reply_back}
 use Rattle.gc_catalogue.specs.declared.answer.Reading.{Reading}
-use Rattle.gc_catalogue.specs.declared.call.Call.{Call}
-use Rattle.gc_catalogue.specs.Readings.{IsReading}
-use Rattle.gc_client.specs.Settlements.{ReadsAs}
+use Rattle.gc_catalogue.specs.declared.asked.Asked.{Asked}
+use Rattle.gc_catalogue.specs.Asked.{IsAskedReading}
+use Rattle.gc_client.specs.Settlements.{ReadsBy}
 use Rattle.gc_texts.specs.Zeroed.{zeroed, as_zero}
 
 -- the fields of a reply, with return code 0 in place of theirs, are within the ranges of a reply's fields
@@ -26,6 +26,7 @@ zero_is_reply line r is =
     subst (λ (l : List ℕ). IsReply l (record r { rc = 0 })) (sym (zero_text line r is))
     (reply_found (reply_text (record r { rc = 0 })) (record r { rc = 0 }) (reply_back (record r { rc = 0 }) (zero_in_range line r is)))
 
--- where a reply's fields with return code 0 mean `reading` for the call, the line with return code 0 reads as that
-pub zero_reads : (call : Call) (line : List ℕ) (r : ReplyFields) (reading : Reading) → IsReply line r → IsReading call (record r { rc = 0 }) reading → ReadsAs call (as_zero line) reading
-zero_reads call line r reading is says = record { reply = record r { rc = 0 }; is_reply = zero_is_reply line r is; is_reading = says }
+-- where a reply's fields with return code 0 mean `reading` for what was asked, the line with return code 0 reads as that
+pub zero_reads : (asked : Asked) (line : List ℕ) (r : ReplyFields) (reading : Reading) → IsReply line r → IsAskedReading asked (record r { rc = 0 }) reading
+    → ReadsBy IsAskedReading asked (as_zero line) reading
+zero_reads asked line r reading is says = record { reply = record r { rc = 0 }; is_reply = zero_is_reply line r is; is_reading = says }

@@ -6,7 +6,7 @@ use Rattle.gc_texts.specs.Codes.{no_codes}
 use Rattle.gc_texts.specs.Nears.{near_of}
 use Rattle.gc_texts.specs.Tasks.{IsTasks}
 use Rattle.gc_texts.specs.declared.codes.Codes.{Codes}
-use Rattle.gc_texts.specs.declared.commands.Command.{Command}
+use Rattle.gc_texts.specs.declared.wish.Wish.{Wish}
 use Rattle.gc_texts.specs.declared.name.Name.{Name}
 use Rattle.gc_texts.specs.declared.near.Near.{Near}
 use Rattle.gc_texts.specs.declared.task_line.TaskLine.{TaskLine}
@@ -69,12 +69,12 @@ KeepsChains _ = ⊥
 -- the last command of these lines is for this target, and behind it stand deadlines, names, places and codes alone
 abbrev pub EndsWithTarget : List TaskLine → ℕ → Type 0
 EndsWithTarget lines target =
-    (before : List TaskLine) × (command : Command) × (between : List TaskLine) × (lines ≡ before ++ says.Command command ∷ between) × AllByRecursion KeepsChains between × (command.target ≡ target)
+    (before : List TaskLine) × (command : Wish) × (between : List TaskLine) × (lines ≡ before ++ says.Command command ∷ between) × AllByRecursion KeepsChains between × (command.target ≡ target)
 
 -- the task of a command that stands behind the lines `front`: it asks that command, with the deadline and the accepted codes that
 -- hold there, and is chained exactly where commands are chained there and the command before is for the same target, with no line
 -- of a mode between the two. `deadline` and `chained` hold where no line says otherwise
-pub record GoesOut (deadline : ℕ) (chained : Bool) (front : List TaskLine) (command : Command) (task : Task) : Type 0 where
+pub record GoesOut (deadline : ℕ) (chained : Bool) (front : List TaskLine) (command : Wish) (task : Task) : Type 0 where
   pub asks : task.command ≡ command
   pub deadline_is : IsDeadlineBehind deadline front task.deadline
   pub accepted_are : AreAcceptedBehind front task.accepted
@@ -85,7 +85,7 @@ pub record GoesOut (deadline : ℕ) (chained : Bool) (front : List TaskLine) (co
 abbrev pub CommandsGoOutSo : Type 0
 CommandsGoOutSo =
     (text : List ℕ) (deadline : ℕ) (chained : Bool) (tasks : List Task) (names : List Name) (nears : List Near) (is : IsTasks text deadline chained tasks names nears)
-    (front later : List TaskLine) (command : Command) → is.said ≡ front ++ says.Command command ∷ later
+    (front later : List TaskLine) (command : Wish) → is.said ≡ front ++ says.Command command ∷ later
     → (earlier : List Task) × (task : Task) × (others : List Task) × (tasks ≡ earlier ++ task ∷ others) × (length earlier ≡ commands_in front)
     × GoesOut deadline chained front command task × (task.near ≡ near_of command.target nears)
 

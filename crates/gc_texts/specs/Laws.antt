@@ -3,8 +3,11 @@ use Rattle.std.specs.Prelude.{◌≡◌, ◌<◌, ◌^◌, ℕ, Bool, true, fals
 use Rattle.gc_texts.specs.Codes.{no_codes}
 use Rattle.gc_texts.specs.Commands.{IsCommands}
 use Rattle.gc_texts.specs.Tasks.{IsTasks}
+use Rattle.gc_texts.specs.ProcedureNames.{name_of}
 use Rattle.gc_texts.specs.Troubles.{wanted}
+use Rattle.gc_texts.specs.Wishes.{wish_of}
 use Rattle.gc_catalogue.specs.Calls.{call_fields}
+use Rattle.gc_catalogue.specs.Names.{call_name}
 use Rattle.gc_catalogue.specs.declared.call.Call.{Call}
 use Rattle.gc_texts.specs.Logs.{log_text, IsPrintable, IsLogLine}
 use Rattle.gc_texts.specs.Stamps.{stamp_text}
@@ -28,14 +31,14 @@ OneTaskList =
 abbrev pub CommandsAreTasks : Type 0
 CommandsAreTasks =
     (text : List ℕ) (commands : List Command) (deadline : ℕ) (chained : Bool) → IsCommands text commands →
-    (tasks : List Task) × IsTasks text deadline chained tasks [] [] × (map (λ task. task.command) tasks ≡ commands)
+    (tasks : List Task) × IsTasks text deadline chained tasks [] [] × (map (λ task. task.command) tasks ≡ map wish_of commands)
 
 -- a command text, read as a station's text without chains, gives one task for each command, in order: with the caller's
 -- deadline, not chained, and without a place
 abbrev pub CommandsArePlain : Type 0
 CommandsArePlain =
     (text : List ℕ) (commands : List Command) (deadline : ℕ) → IsCommands text commands →
-    IsTasks text deadline false (map (λ command. record { command = command; deadline = deadline; chained = false; near = None; accepted = no_codes }) commands) [] []
+    IsTasks text deadline false (map (λ command. record { command = wish_of command; deadline = deadline; chained = false; near = None; accepted = no_codes }) commands) [] []
 
 -- each chained task stands behind one for the same target; the task in front of these, where there is one, is for the target `before`
 abbrev pub AreRows : Option ℕ → List Task → Type 0
@@ -49,6 +52,10 @@ ChainsAreRows = (text : List ℕ) (deadline : ℕ) (chained : Bool) (tasks : Lis
 -- `wanted`, the number of parameters that is printed of a procedure, is the catalogue's number of its parameters
 abbrev pub WantedIsTheCatalogues : Type 0
 WantedIsTheCatalogues = (call : Call) → wanted (call_fields call).number ≡ length (call_fields call).values
+
+-- the name that is printed of a procedure's number is the catalogue's
+abbrev pub NamesAreTheCatalogues : Type 0
+NamesAreTheCatalogues = (call : Call) → name_of (call_fields call).number ≡ call_name call
 
 -- a log line reads back: what is written of a moment, a mark and bytes is a log line of these (`written`), and no text is a log
 -- line of two moments, marks or lists of bytes (`once`)

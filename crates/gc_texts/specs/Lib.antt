@@ -1,7 +1,9 @@
 pub mod Cuts
 pub mod LineForms
+pub mod Words
 pub mod Procedures
 pub mod Commands
+pub mod Wishes
 pub mod Names
 pub mod Nears
 pub mod Codes
@@ -16,6 +18,7 @@ pub mod Faults
 pub mod FaultNumbers
 pub mod Stamps
 pub mod Endings
+pub mod ProcedureNames
 pub mod Troubles
 pub mod Logs
 pub mod Laws

@@ -6,6 +6,8 @@ use Rattle.gc_catalogue.specs.Answers.{IsAnswerOf}
 use Rattle.gc_catalogue.specs.Calls.{call_fields}
 use Rattle.gc_catalogue.specs.declared.answer.Answer.{Answer}
 use Rattle.gc_catalogue.specs.declared.answer.Answer.TheVariants.{Angles, Measured, MeasuredMode}
+use Rattle.gc_catalogue.specs.declared.asked.Asked.{Asked}
+use Rattle.gc_catalogue.specs.declared.asked.Asked.TheVariants.{Table, Raw}
 use Rattle.gc_catalogue.specs.declared.call.Call.{Call}
 use Rattle.gc_catalogue.specs.declared.call.Call.TheVariants.{GetAngle, SimpleMea, QuickDist, MeasDistance}
 use Rattle.gc_values.specs.Directions.{is_near, is_place, is_tolerance}
@@ -57,6 +59,11 @@ asks_direction (SimpleMea wait mode) = true
 asks_direction QuickDist = true
 asks_direction (MeasDistance mode) = true
 asks_direction _ = false
+
+-- whether the answers of what is asked have a direction; those of a raw request have none
+abbrev pub seeks_direction : Asked → Bool
+seeks_direction (Table call) = asks_direction call
+seeks_direction (Raw raw) = false
 
 -- whether there is a direction, and it isn't near the place where the target stands
 abbrev pub is_away : Near → Option Direction → Bool

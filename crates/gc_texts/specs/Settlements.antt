@@ -2,6 +2,7 @@
 use Rattle.std.specs.Prelude.{◌≡◌, ℕ, ◌+◌, ◌<◌, Bool, true, List, [], ◌∷◌, ◌++◌, length, take, Option, Result, Ok, Err, codes}
 use Rattle.std.specs.Fmt.{decimal}
 use Rattle.std.specs.Io.KnownBytes.{Appends}
+use Rattle.gc_catalogue.specs.declared.call.Call.{Call}
 use Rattle.gc_client.specs.Rule.{Settlement, Outcome, Answered, Late, Lost}
 use Rattle.gc_texts.specs.declared.fault.RunFault.{RunFault}
 use Rattle.gc_texts.specs.declared.fault.RunFault.TheVariants.{Output}
@@ -13,31 +14,31 @@ outcome_text Late = codes " late"
 outcome_text Lost = codes " lost"
 
 -- the line of a settlement: its place, its target, and how it ended
-abbrev pub settlement_line : ℕ → Settlement → List ℕ
+abbrev pub settlement_line : ℕ → Settlement Call → List ℕ
 settlement_line place s = decimal place ++ codes " " ++ decimal s.target ++ outcome_text s.outcome ++ codes "\n"
 
 -- the lines of settlements, from this place on
-abbrev pub lines_from : ℕ → List Settlement → List ℕ
+abbrev pub lines_from : ℕ → List (Settlement Call) → List ℕ
 lines_from place [] = []
 lines_from place (s ∷ later) = settlement_line place s ++ lines_from (place + 1) later
 
 -- the lines of settlements, from place 0 on
-abbrev pub settlement_lines : List Settlement → List ℕ
+abbrev pub settlement_lines : List (Settlement Call) → List ℕ
 settlement_lines settlements = lines_from 0 settlements
 
 -- a sink took a part of the lines of these settlements, the first of them at this place: the whole lines of the earlier ones, and less than
 -- the line of the next one
-pub record ToldPart (place : ℕ) (settled : List Settlement) (old new : Option (List ℕ)) : Type 0 where
-  pub earlier : List Settlement
-  pub next : Settlement
-  pub later : List Settlement
+pub record ToldPart (place : ℕ) (settled : List (Settlement Call)) (old new : Option (List ℕ)) : Type 0 where
+  pub earlier : List (Settlement Call)
+  pub next : Settlement Call
+  pub later : List (Settlement Call)
   pub order : settled ≡ earlier ++ next ∷ later
   pub part : ℕ
   pub not_all : part < length (settlement_line (place + length earlier) next)
   pub took : Appends old new (lines_from place earlier ++ take part (settlement_line (place + length earlier) next))
 
 -- the lines of these settlements, from this place on, were written: all, or a part of them where the sink failed
-abbrev pub Told : ℕ → List Settlement → Option (List ℕ) → Option (List ℕ) → Bool → Bool → Result (Unit {0}) RunFault → Type 0
+abbrev pub Told : ℕ → List (Settlement Call) → Option (List ℕ) → Option (List ℕ) → Bool → Bool → Result (Unit {0}) RunFault → Type 0
 Told place settled old new old_failed new_failed (Ok _) = Appends old new (lines_from place settled) × (new_failed ≡ old_failed)
 Told place settled old new old_failed new_failed (Err Output) = ToldPart place settled old new × (new_failed ≡ true)
 Told place settled old new old_failed new_failed (Err _) = ⊥

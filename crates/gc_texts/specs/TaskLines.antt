@@ -1,7 +1,7 @@
 -- The lines of a station's text, and what each says: this project's own.
 use Rattle.std.specs.Prelude.{◌≡◌, ◌⊎◌, ℕ, ◌≤◌, true, List, ◌∷◌, ◌++◌, codes}
 use Rattle.gc_texts.specs.Codes.{IsFilled, no_codes}
-use Rattle.gc_texts.specs.Commands.{IsCommand}
+use Rattle.gc_texts.specs.Wishes.{IsWish}
 use Rattle.gc_texts.specs.Names.{is_name}
 use Rattle.gc_texts.specs.Nears.{IsNearText}
 use Rattle.gc_texts.specs.Procedures.{IsNumber}
@@ -44,7 +44,7 @@ IsAccepting line accepted = ((line ≡ codes "accept") × (accepted ≡ no_codes
 -- what a line says: a command, a deadline, that commands are chained or that they aren't, a name, where a target stands, or which return
 -- codes are accepted
 abbrev pub IsTaskLine : List ℕ → TaskLine → Type 0
-IsTaskLine line (says.Command command) = IsCommand line command
+IsTaskLine line (says.Command wish) = IsWish line wish
 IsTaskLine line (says.Deadline deadline) = IsDeadline line deadline
 IsTaskLine line says.Chained = line ≡ codes "chained"
 IsTaskLine line says.Unchained = line ≡ codes "unchained"

@@ -2,12 +2,17 @@
 use Rattle.std.specs.Prelude.{◌≡◌, ℕ, ◌==◌, ◌||◌, ◌⊎◌, List, ◌++◌, length, if◌then◌else◌, codes}
 use Rattle.std.specs.Fmt.{decimal}
 use Rattle.gc_catalogue.specs.Calls.{IsCall, IsRefusal}
+use Rattle.gc_catalogue.specs.Raws.{IsRawCall, IsRawRefusal}
 use Rattle.gc_catalogue.specs.declared.call.Call.{Call}
 use Rattle.gc_catalogue.specs.declared.fault.CallFault.TheVariants.{Unknown, Parameters}
+use Rattle.gc_catalogue.specs.declared.raw.RawFault.{RawFault}
+use Rattle.gc_catalogue.specs.declared.raw.RawFault.TheVariants.{InTable, TooLong}
 use Rattle.gc_values.specs.declared.fault.ValueFault.{ValueFault}
 use Rattle.gc_values.specs.declared.fault.ValueFault.TheVariants.{Count, TooMany}
 use Rattle.gc_texts.specs.Procedures.{IsNumber}
-use Rattle.gc_texts.specs.Cuts.{before, behind}
+use Rattle.gc_texts.specs.Cuts.{behind}
+use Rattle.gc_texts.specs.ProcedureNames.{name_of}
+use Rattle.gc_texts.specs.Words.{first_word, second_word, third_word, behind_two, behind_three}
 use Rattle.gc_texts.specs.declared.trouble.Trouble.{Trouble}
 use Rattle.gc_texts.specs.declared.trouble.Trouble.TheVariants as trouble
 
@@ -40,31 +45,46 @@ IsCallTrouble rpc params (trouble.Wants n count) = IsListTrouble rpc params (tro
 IsCallTrouble rpc params trouble.Parameters = IsListTrouble rpc params trouble.Parameters
 IsCallTrouble rpc params _ = ⊥
 
+-- what is told of a procedure's number and its parameters behind the word `raw`, where they may not be asked for so: that the number is in
+-- the table, that the line would be too long, or that the parameters are at fault
+abbrev pub raw_trouble : ℕ → RawFault → Trouble
+raw_trouble rpc InTable = trouble.RawInTable rpc
+raw_trouble rpc TooLong = trouble.RawTooLong
+raw_trouble rpc _ = trouble.RawParameters
+
+-- a procedure's number and its parameters may not be asked for behind the word `raw`, and `t` is what is told of the reason; or they may, and
+-- nothing is at fault in them
+abbrev pub IsRawTrouble : ℕ → List ℕ → Trouble → Type 0
+IsRawTrouble rpc params t = ((fault : RawFault) × IsRawRefusal rpc params fault × (t ≡ raw_trouble rpc fault)) ⊎ (IsRawCall rpc params × (t ≡ trouble.NoForm))
+
 -- the text is no number up to this maximum
 abbrev pub NoNumber : List ℕ → ℕ → Type 0
 NoNumber text max = (n : ℕ) → IsNumber text n max → ⊥
 
--- the first word of a line
-abbrev pub first_word : List ℕ → List ℕ
-first_word line = before 32 line
-
--- the second word of a line
-abbrev pub second_word : List ℕ → List ℕ
-second_word line = before 32 (behind 32 line)
-
--- what stands behind the first two words of a line
-abbrev pub words_behind : List ℕ → List ℕ
-words_behind line = behind 32 (behind 32 line)
+-- behind the word `raw` stands a word that is no procedure's number; or a number that has this trouble with the parameters behind it
+abbrev pub IsRawWordsTrouble : List ℕ → List ℕ → Trouble → Type 0
+IsRawWordsTrouble word params t = ((t ≡ trouble.Number) × NoNumber word 65535) ⊎ ((rpc : ℕ) × IsNumber word rpc 65535 × IsRawTrouble rpc params t)
 
 -- the second word of a line is a procedure's number, and that number and the parameters behind it have this trouble
 pub record IsAsked (line : List ℕ) (t : Trouble) : Type 0 where
   pub rpc : ℕ
   pub number : IsNumber (second_word line) rpc 65535
-  pub is : IsCallTrouble rpc (words_behind line) t
+  pub is : IsCallTrouble rpc (behind_two line) t
+
+-- the second word of a line is `raw`
+abbrev pub IsRaw : List ℕ → Type 0
+IsRaw line = second_word line ≡ codes "raw"
+
+-- the third word of a line is a procedure's number behind the word `raw`, and that number and the parameters behind it have this trouble
+pub record IsAskedRaw (line : List ℕ) (t : Trouble) : Type 0 where
+  pub word : IsRaw line
+  pub rpc : ℕ
+  pub number : IsNumber (third_word line) rpc 65535
+  pub is : IsRawTrouble rpc (behind_three line) t
 
 -- in a line that is known to be faulty, this may be at fault; more than one trouble may fit a line. `Deadline`: the line begins with that
--- word, so its value is at fault. `NoForm`: the line has one word alone, or its number and its parameters make a call, so that neither of
--- these is at fault
+-- word, so its value is at fault. `NoForm`: the line has one word alone, or its number and its parameters make a call, or may be asked for
+-- behind the word `raw`, so that neither of these is at fault
 abbrev pub IsTrouble : List ℕ → Trouble → Type 0
 IsTrouble line trouble.Deadline = first_word line ≡ codes "deadline"
 IsTrouble line trouble.Name = (first_word line ≡ codes "name") × ((n : ℕ) × IsNumber (second_word line) n 4294967295)
@@ -73,9 +93,16 @@ IsTrouble line trouble.Accept = first_word line ≡ codes "accept"
 IsTrouble line trouble.Target =
     ((first_word line ≡ codes "name") × NoNumber (second_word line) 4294967295)
     ⊎ (((first_word line ≡ codes "near") × NoNumber (second_word line) 4294967295) ⊎ NoNumber (first_word line) 4294967295)
-IsTrouble line trouble.Number = NoNumber (second_word line) 65535
-IsTrouble line trouble.NoForm = (length (behind 32 line) ≡ 0) ⊎ IsAsked line trouble.NoForm
+IsTrouble line trouble.Number = (IsRaw line × NoNumber (third_word line) 65535) ⊎ ((IsRaw line → ⊥) × NoNumber (second_word line) 65535)
+IsTrouble line trouble.NoForm = (length (behind 32 line) ≡ 0) ⊎ (IsAsked line trouble.NoForm ⊎ IsAskedRaw line trouble.NoForm)
+IsTrouble line (trouble.RawInTable rpc) = IsAskedRaw line (trouble.RawInTable rpc)
+IsTrouble line trouble.RawParameters = IsAskedRaw line trouble.RawParameters
+IsTrouble line trouble.RawTooLong = IsAskedRaw line trouble.RawTooLong
 IsTrouble line t = IsAsked line t
+
+-- that the procedure with this number and name is in the table, so that the word `raw` is to be left out
+abbrev pub in_table_text : ℕ → List ℕ → List ℕ
+in_table_text rpc name = decimal rpc ++ codes " is " ++ name ++ codes ": leave out raw"
 
 -- a trouble as it is printed
 abbrev pub trouble_text : Trouble → List ℕ
@@ -88,6 +115,9 @@ trouble_text trouble.Deadline = codes "deadline"
 trouble_text trouble.Name = codes "name"
 trouble_text trouble.Near = codes "near"
 trouble_text trouble.Accept = codes "accept"
+trouble_text (trouble.RawInTable rpc) = in_table_text rpc (name_of rpc)
+trouble_text trouble.RawParameters = codes "more than 16 parameters, a double quote without its end, or a carriage return"
+trouble_text trouble.RawTooLong = codes "the request has more than 512 bytes"
 trouble_text trouble.NoForm = codes "no form"
 
 -- the line that the program writes of the trouble of a text's line with this number, counted from 1

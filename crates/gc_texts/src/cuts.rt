@@ -1,6 +1,6 @@
 //! Texts cut at a mark, which is a byte: lines at an LF, words at a space.
 
-ghost use Rattle.std.specs.Prelude.{◌≡◌, ◌≤◌, length};
+ghost use Rattle.std.specs.Prelude.{◌≡◌, ◌≤◌, ◌↔◌, length, IsTrue};
 ghost use Rattle.std.specs.Option.{option_copied};
 ghost use Rattle.gc_texts.specs.Cuts.{Cuts, before, behind};
 
@@ -33,4 +33,11 @@ pub fn behind(mark: u8, text: &[u8]) -> &[u8]
         Some(rest) => rest,
         None => b"",
     }
+}
+
+/// Whether the text is this word.
+pub(crate) fn is_word(word: &[u8], text: &[u8]) -> bool
+    ensures { IsTrue result ↔ (text.now ≡ word.now) }
+{
+    text == word
 }

@@ -4,7 +4,7 @@ ghost use Rattle.gc_texts.specs.FaultNumbers.{FaultsHaveTheirNumbers};
 ghost use Rattle.gc_texts.specs.Chained.{CommandsGoOutSo, PlacesHoldForAll};
 ghost use Rattle.gc_texts.specs.Moments.{StampsAreMoments};
 ghost use Rattle.gc_texts.specs.Nears.{DirectionsAreAskedFor};
-ghost use Rattle.gc_texts.specs.Laws.{OneCommandList, OneTaskList, CommandsAreTasks, CommandsArePlain, ChainsAreRows, WantedIsTheCatalogues, LogLinesReadBack, LogLinesArePrintable};
+ghost use Rattle.gc_texts.specs.Laws.{OneCommandList, OneTaskList, CommandsAreTasks, CommandsArePlain, ChainsAreRows, WantedIsTheCatalogues, NamesAreTheCatalogues, LogLinesReadBack, LogLinesArePrintable};
 
 /// A text gives one list of commands at most.
 pub fn commands_have_one_reading()
@@ -31,6 +31,11 @@ pub fn chains_are_rows()
 /// The number of parameters that is printed of a procedure, where a line has another number of them, is the catalogue's.
 pub fn wanted_is_the_catalogues()
     ensures { WantedIsTheCatalogues }
+{}
+
+/// The name that is printed of a procedure's number, where a line has that number behind the word `raw`, is the catalogue's.
+pub fn names_are_the_catalogues()
+    ensures { NamesAreTheCatalogues }
 {}
 
 /// What was written as a line of a log reads back as the same moment, mark and bytes, and as nothing else.

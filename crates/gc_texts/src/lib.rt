@@ -21,6 +21,7 @@ mod task_line;
 mod tasks;
 mod text;
 mod trouble;
+mod wish;
 mod zeroed;
 
 pub use codes::Codes;
@@ -42,4 +43,5 @@ pub use task_line::DEADLINE_MAX;
 pub use tasks::{Task, Tasks, read_tasks};
 pub use text::{TEXT_LIMIT, limits_texts, read_text};
 pub use trouble::{Trouble, trouble_of};
+pub use wish::Wish;
 pub use zeroed::reading_as_zero;

@@ -1,14 +1,14 @@
 //! Where a target stands, and whether an answer was measured there.
 
 ghost use Rattle.std.specs.Prelude.{◌≡◌, MatchOption};
-ghost use Rattle.gc_texts.specs.Nears.{IsDouble, AreWords, IsNearText, is_said, near_of, direction_of, asks_direction, is_elsewhere};
+ghost use Rattle.gc_texts.specs.Nears.{IsDouble, AreWords, IsNearText, is_said, near_of, direction_of, asks_direction, seeks_direction, is_elsewhere};
 ghost use Rattle.gc_texts.specs.declared.near.Near.{Near};
 ghost use Rattle.gc_values.specs.declared.decimal.Decimal.{Decimal};
 
 use crate::codes::Codes;
 use crate::cuts::{before, behind};
 use crate::procedure::{TARGET_MAX, number_of};
-use gc_catalogue::{Answer, Call};
+use gc_catalogue::{Answer, Asked, Call};
 use gc_values::{Decimal, Direction, is_tolerance};
 
 /// Where a target stands, as a text says it. Angles are in radians.
@@ -117,13 +117,23 @@ fn direction_of(answer: &Answer) -> Option<Direction>
 }
 
 /// Whether the answers of a call have a direction, that is, a horizontal and a vertical angle.
-pub(crate) fn asks_direction(call: &Call) -> bool
+fn asks_direction(call: &Call) -> bool
     ensures { result ≡ asks_direction call.now }
 {
     matches!(
         call,
         Call::GetAngle { .. } | Call::SimpleMea { .. } | Call::QuickDist | Call::MeasDistance { .. }
     )
+}
+
+/// Whether the answers of what is asked have a direction; those of a raw request have none.
+pub(crate) fn seeks_direction(asked: &Asked) -> bool
+    ensures { result ≡ seeks_direction asked.now }
+{
+    match asked {
+        Asked::Table(call) => asks_direction(call),
+        Asked::Raw(_) => false,
+    }
 }
 
 /// Whether an answer was measured elsewhere than its target stands, by its direction. It is `false` where nothing says where the

@@ -6,13 +6,17 @@ ghost use Rattle.gc_texts.specs.Settlements.{settlement_line, settlement_lines, 
 
 use crate::fault::RunFault;
 use arrayvec::ArrayVec;
+use gc_catalogue::Call;
 use gc_client::{Outcome, Settlement};
 use gc_lines::{Sink, append, write_whole};
 use itoa::Buffer;
 use std::alloc::AllocError;
 
 /// Appends the lines of settlements, the first of them at place 0. Where memory was refused, only the first lines were appended.
-pub fn append_settlements(text: &mut Vec<u8>, settlements: &[Settlement]) -> Result<(), AllocError>
+pub fn append_settlements(
+    text: &mut Vec<u8>,
+    settlements: &[Settlement<Call>],
+) -> Result<(), AllocError>
     ensures { OnOk result (text.new.items ≡ text.old.items ++ settlement_lines (map settlement_seen settlements.now)) }
 {
     let mut line = ArrayVec::new();
@@ -28,7 +32,7 @@ fn append_settlement(
     text: &mut Vec<u8>,
     line: &mut ArrayVec<u8, LINE_ROOM>,
     place: usize,
-    settlement: &Settlement,
+    settlement: &Settlement<Call>,
 ) -> Result<(), AllocError>
     ensures { OnOk result (text.new.items ≡ text.old.items ++ settlement_line place (settlement_seen settlement.now)) }
 {
@@ -41,7 +45,7 @@ fn append_settlement(
 pub fn write_settlements<K: Sink>(
     sink: &mut K,
     place: usize,
-    settlements: &[Settlement],
+    settlements: &[Settlement<Call>],
 ) -> Result<(), RunFault>
     requires { place + length settlements.now ≤ 2 ^ 64 }
     ensures { Told place (map settlement_seen settlements.now) (K.taken sink.old) (K.taken sink.new) (K.failed sink.old) (K.failed sink.new) result }
@@ -61,7 +65,7 @@ const LINE_ROOM: usize = 20 + 1 + 10 + 10 + 512 + 1;
 
 // Writes the line of the settlement at a place into `line`, in place of what is there. (Clearing a line costs as much as it
 // has bytes, so one is kept for all settlements.)
-fn write_line(line: &mut ArrayVec<u8, LINE_ROOM>, place: usize, settlement: &Settlement)
+fn write_line(line: &mut ArrayVec<u8, LINE_ROOM>, place: usize, settlement: &Settlement<Call>)
     ensures { line.new.items ≡ settlement_line place (settlement_seen settlement.now) }
 {
     let mut digits = Buffer::new();

@@ -1,6 +1,6 @@
 //! The reading of one line of a station's text.
 
-ghost use Rattle.std.specs.Prelude.{◌≡◌, ◌↔◌, ◌++◌, ℕ, List, IsTrue, MatchOption};
+ghost use Rattle.std.specs.Prelude.{◌≡◌, ◌++◌, ℕ, List, MatchOption};
 ghost use Rattle.gc_texts.specs.TaskLines.{IsDeadline, IsNaming, IsStanding, IsAccepting, IsTaskLine};
 ghost use Rattle.gc_texts.specs.declared.codes.Codes.{Codes};
 ghost use Rattle.gc_texts.specs.declared.name.Name.{Name};
@@ -8,11 +8,11 @@ ghost use Rattle.gc_texts.specs.declared.near.Near.{Near};
 ghost use Rattle.gc_texts.specs.declared.task_line.TaskLine.{TaskLine};
 
 use crate::codes::{Codes, read_codes};
-use crate::commands::{Command, read_command};
-use crate::cuts::cut_at;
+use crate::cuts::{cut_at, is_word};
 use crate::name::{Name, is_name, name_of_bytes};
 use crate::near::{Near, read_near};
 use crate::procedure::{TARGET_MAX, number_of};
+use crate::wish::{Wish, read_wish};
 
 /// The greatest deadline of a line, in milliseconds: a day.
 pub const DEADLINE_MAX: u64 = 86400000;
@@ -21,7 +21,7 @@ pub const DEADLINE_MAX: u64 = 86400000;
 #[derive(Drop)]
 pub(crate) enum TaskLine {
     // A command is to be asked.
-    Command(Command),
+    Command(Wish),
     // The deadline of the commands behind it, in milliseconds.
     Deadline(u64),
     // The commands behind it are chained.
@@ -41,13 +41,6 @@ fn behind<'a>(word: &[u8], line: &'a [u8]) -> Option<&'a [u8]>
     ensures { MatchOption result ((rest : List ℕ) → line.now ≡ word.now ++ rest → ⊥) (λ rest. line.now ≡ word.now ++ rest.now) }
 {
     line.strip_prefix(word)
-}
-
-// Whether the line is this word.
-pub(crate) fn is_word(word: &[u8], line: &[u8]) -> bool
-    ensures { IsTrue result ↔ (line.now ≡ word.now) }
-{
-    line == word
 }
 
 // Reads `deadline MS`: from 1 millisecond to a day. `None`: the line has no such form, or the number lies outside.
@@ -130,8 +123,8 @@ pub(crate) fn read_task_line(line: &[u8]) -> Option<TaskLine>
     if let Some(codes) = read_accepting(line) {
         return Some(TaskLine::Accepting(codes));
     }
-    match read_command(line) {
-        Some(command) => Some(TaskLine::Command(command)),
+    match read_wish(line) {
+        Some(wish) => Some(TaskLine::Command(wish)),
         None => None,
     }
 }

@@ -9,27 +9,27 @@ ghost use Rattle.std.specs.List.{list_any};
 ghost use Rattle.std.specs.Vec.{vec_capacity, vec_len};
 ghost use Rattle.gc_texts.specs.Codes.{no_codes};
 ghost use Rattle.gc_texts.specs.Names.{name_text};
-ghost use Rattle.gc_texts.specs.Nears.{asks_direction};
+ghost use Rattle.gc_texts.specs.Nears.{seeks_direction};
 ghost use Rattle.gc_texts.specs.Tasks.{opening, behind, goes_on, task_at, name_at, near_at, placed, may_stand, IsTasks, IsFirstFaultyTask, IsBehindATask, TaskFault};
 ghost use Rattle.gc_texts.specs.declared.fault.RunFault.{RunFault};
 ghost use Rattle.gc_texts.specs.declared.text.TheConstants.{TEXT_LIMIT};
 
 use crate::codes::Codes;
-use crate::commands::Command;
 use crate::cuts::cut_at;
 use crate::fault::RunFault;
 use crate::line_forms::{is_skipped, without_cr};
 use crate::name::{Name, is_named, name_text};
-use crate::near::{Near, asks_direction, is_said, near_of};
+use crate::near::{Near, is_said, near_of, seeks_direction};
 use crate::task_line::{TaskLine, read_task_line};
 use crate::text::TEXT_LIMIT;
+use crate::wish::Wish;
 use std::alloc::{AllocError, Global};
 
 /// A command of a station's cycle, and how it goes out.
 #[derive(Clone, Copy, Debug, PartialEq, Eq)]
 pub struct Task {
     /// What is asked, and whom.
-    pub command: Command,
+    pub command: Wish,
     /// How long its request waits before it is given up, in milliseconds.
     pub deadline: u64,
     /// Whether it goes out only once the command before it was answered well.
@@ -62,10 +62,10 @@ impl Tasks {
 
     /// Whether a command asks this target for its direction.
     pub fn asks_direction_of(&self, target: u32) -> bool
-        ensures { result ≡ list_any (λ task. (task.command.target == target) && asks_direction task.command.call) self.now.tasks.items }
+        ensures { result ≡ list_any (λ task. (task.command.target == target) && seeks_direction task.command.call) self.now.tasks.items }
     {
         self.tasks.iter().any(|task| task.command.target == target
-            && asks_direction(&task.command.call))
+            && seeks_direction(&task.command.call))
     }
 }
 

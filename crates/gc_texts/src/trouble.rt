@@ -2,12 +2,12 @@
 
 ghost use Rattle.std.specs.Prelude.{◌≡◌, ◌++◌, OnOk, codes};
 ghost use Rattle.std.specs.Io.KnownBytes.{Appends};
-ghost use Rattle.gc_texts.specs.Troubles.{wanted, list_trouble, IsCallTrouble, IsTrouble, trouble_text, trouble_line};
+ghost use Rattle.gc_texts.specs.Troubles.{wanted, list_trouble, raw_trouble, IsCallTrouble, IsRawTrouble, IsRawWordsTrouble, IsTrouble, in_table_text, trouble_text, trouble_line};
+ghost use Rattle.gc_texts.specs.ProcedureNames.{name_of};
 
-use crate::cuts::{before, behind};
+use crate::cuts::{before, behind, is_word};
 use crate::procedure::{TARGET_MAX, number_of};
-use crate::task_line::is_word;
-use gc_catalogue::{CallFault, decode_call};
+use gc_catalogue::{CallFault, RawFault, decode_call, procedure_name, raw_call};
 use gc_lines::Request;
 use gc_values::ValueFault;
 use std::io::{self, Write};
@@ -31,6 +31,12 @@ pub enum Trouble {
     Name,
     /// The place has no form or lies outside its range, its target has a place already, or 64 targets have places.
     Near,
+    /// The procedure with this number is in the table, so the word `raw` is to be left out.
+    RawInTable(u16),
+    /// The parameters behind `raw` and a number are more than 16, or have a double quote without its end, or a CR.
+    RawParameters,
+    /// The request behind `raw` would have more than 512 bytes.
+    RawTooLong,
     /// A word behind `accept` is no code from 1 to 65535, or there are more than 16.
     Accept,
     /// The line has the form of nothing.
@@ -60,8 +66,33 @@ impl Trouble {
             Trouble::Name => writeln!(messages, "name"),
             Trouble::Near => writeln!(messages, "near"),
             Trouble::Accept => writeln!(messages, "accept"),
+            Trouble::RawInTable(rpc) => tell_name(rpc, name_of(rpc), messages),
+            Trouble::RawParameters => {
+                writeln!(
+                    messages,
+                    "more than 16 parameters, a double quote without its end, or a carriage return"
+                )
+            }
+            Trouble::RawTooLong => writeln!(messages, "the request has more than 512 bytes"),
             Trouble::NoForm => writeln!(messages, "no form"),
         }
+    }
+}
+
+// Writes that the procedure with this number and this name is in the table, and a line feed.
+fn tell_name<E: Write>(rpc: u16, name: &str, messages: &mut E) -> io::Result<()>
+    ensures { OnOk result (Appends (E.contents messages.old) (E.contents messages.new) (in_table_text rpc name.now ++ codes "\n")) }
+{
+    writeln!(messages, "{rpc} is {name}: leave out raw")
+}
+
+// The name of the procedure of the table with this number; empty where there is none.
+fn name_of(rpc: u16) -> &'static str
+    ensures { result.now ≡ name_of rpc }
+{
+    match procedure_name(rpc) {
+        Some(name) => name,
+        None => "",
     }
 }
 
@@ -106,9 +137,63 @@ fn list_trouble(rpc: u16, fault: ValueFault) -> Trouble
     }
 }
 
+// What is told of a procedure's number and its parameters behind the word `raw`, which may not be asked for so.
+fn raw_trouble(rpc: u16, fault: RawFault) -> Trouble
+    ensures { result ≡ raw_trouble rpc fault }
+{
+    match fault {
+        RawFault::InTable => Trouble::RawInTable(rpc),
+        RawFault::TooLong => Trouble::RawTooLong,
+        _ => Trouble::RawParameters,
+    }
+}
+
+// What is at fault in a procedure's number and its parameters behind the word `raw`. `NoForm`: nothing.
+fn raw_call_trouble(rpc: u16, params: &[u8]) -> Trouble
+    ensures { IsRawTrouble rpc params.now result }
+{
+    match raw_call(rpc, params) {
+        Ok(_) => Trouble::NoForm,
+        Err(fault) => raw_trouble(rpc, fault),
+    }
+}
+
+// What is at fault behind the word `raw`: the procedure's number, or the parameters that stand behind it.
+fn raw_words_trouble(number: &[u8], params: &[u8]) -> Trouble
+    ensures { IsRawWordsTrouble number.now params.now result }
+{
+    match number_of(number, 65535) {
+        Some(rpc) => raw_call_trouble(rpc as u16, params),
+        None => Trouble::Number,
+    }
+}
+
+// Which field is at fault of a line that is taken for a command, or for one of any other procedure where its second word is `raw`.
+fn asking_trouble(line: &[u8]) -> Trouble
+    ensures { IsTrouble line.now result }
+{
+    let rest = behind(b' ', line);
+    if rest.is_empty() {
+        return Trouble::NoForm;
+    }
+    if number_of(before(b' ', line), TARGET_MAX).is_none() {
+        return Trouble::Target;
+    }
+    let word = before(b' ', rest);
+    let words = behind(b' ', rest);
+    if is_word(b"raw", word) {
+        return raw_words_trouble(before(b' ', words), behind(b' ', words));
+    }
+    match number_of(word, 65535) {
+        Some(rpc) => call_trouble(rpc as u16, words),
+        None => Trouble::Number,
+    }
+}
+
 /// Which field of a line is at fault, where the line is a faulty one of a station's text. A line that begins with `deadline`,
-/// `name`, `near` or `accept` is at fault in its target or in what it sets. Any other line is taken for a command, and its first
-/// field that doesn't read is at fault. Some lines that aren't faulty give `NoForm`, too: a command, `chained` and `unchained`.
+/// `name`, `near` or `accept` is at fault in its target or in what it sets. Any other line is taken for a command, or for one of any other
+/// procedure where its second word is `raw`, and its first field that doesn't read is at fault. Some lines that aren't faulty give
+/// `NoForm`, too: a command, `chained` and `unchained`.
 pub fn trouble_of(line: &[u8]) -> Trouble
     ensures { IsTrouble line.now result }
 {
@@ -132,14 +217,5 @@ pub fn trouble_of(line: &[u8]) -> Trouble
     if is_word(b"accept", first) {
         return Trouble::Accept;
     }
-    if rest.is_empty() {
-        return Trouble::NoForm;
-    }
-    if number_of(first, TARGET_MAX).is_none() {
-        return Trouble::Target;
-    }
-    match number_of(before(b' ', rest), 65535) {
-        Some(rpc) => call_trouble(rpc as u16, behind(b' ', rest)),
-        None => Trouble::Number,
-    }
+    asking_trouble(line)
 }

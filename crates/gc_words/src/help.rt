@@ -111,7 +111,9 @@ writes
 /// What the help of `station` ends with.
 pub const STATION: &str =
     "A command is a line `T RPC` or `T RPC PARAMS`, which asks target T for procedure RPC; empty lines and lines that
-begin with # are skipped. Other lines say how the commands behind them go out, what a target is called, and where it stands:
+begin with # are skipped. `T raw RPC PARAMS` asks for a procedure that isn't in the table, with its parameters exactly as they
+stand: at most 16, and the request at most 512 bytes. Other lines say how the commands behind them go out, what a target is
+called, and where it stands:
   deadline MS   1 to 86400000: how long each waits before it is given up
   chained       commands for one target that follow one another are a chain: each but the first waits for the one before it to
                 be answered well: with both codes 0 and values that read, or an accepted return code, and not elsewhere. Where
@@ -141,7 +143,7 @@ seven requests are given up, eight null procedures are answered, one after the o
 With --append FILE each command gets a row of the file as --csv writes it, behind the file's whole rows. What stands behind
 its last line feed, which a crash left, is cut off and told. A file that begins with something else than the names of its columns
 is refused, and stays. With --columns a row has a column for each quantity of its answer, too, as hz_rad or serial; with --json
-it is an object of JSON, and a file of those is known by its first one.
+it is an object of JSON, which has the answer's items as a list behind raw, and a file of those is known by its first one.
 
 At its start it tells on standard error how many commands it has, where, and what it waits for. While it measures it tells there,
 each at most once a minute, since when there is no connection, no answer, or no quiet on the line, that it is connected again

@@ -4,12 +4,12 @@ use Rattle.std.proofs.Common.{◌≡◌, ℕ, zero, suc, ◌+◌, ◌-◌, ◌%�
 use mathlib.Core.Path.{ap₂}
 use Rattle.std.proofs.lemmas.List.{drop-drop, drop-append-le, length_push, drop_all}
 use Rattle.std.proofs.lemmas.Bool.{ltb-true, ltb-false, lt-ltb, le-ltb}
-use Rattle.gc_catalogue.specs.declared.call.Call.{Call}
-use Rattle.gc_catalogue.specs.Texts.{request_line}
 use Rattle.gc_client.specs.declared.pending.Pending.{Pending}
 use Rattle.gc_client.specs.Rule.{Settled, ById, pending_of, expired, lost, settle, place, id_send, id_settled, hears}
 use Rattle.gc_client.specs.Rule.{Sending}
-use Rattle.gc_world.specs.World.{Request, Numbered, Ends, Step, Send, Up_deliver, Up_lose, Up_repeat, Down_deliver, Down_lose, Down_repeat, Expire, Restart_client, Restart_instrument, Nothing, Wire, World, without, doubled, idle, up_delivered, with_up, with_down, started, instrument_restarted, on_wire, requested, with_settled, down_delivered, client_restarted, happens, run}
+use Rattle.gc_world.specs.World as calls
+use Rattle.gc_world.specs.World.{call_line}
+use Rattle.gc_world.specs.Worlds.{Request, Numbered, Ends, Step, Send, Up_deliver, Up_lose, Up_repeat, Down_deliver, Down_lose, Down_repeat, Expire, Restart_client, Restart_instrument, Nothing, Wire, World, without, doubled, idle, up_delivered, with_up, with_down, started, instrument_restarted, on_wire, requested, with_settled, down_delivered, client_restarted, happens, run}
 use Rattle.gc_world.specs.Clients.{ByNumber, by_ids, ids_open, number_send, number_reply, by_numbers, numbers_open, run_by_ids, run_by_numbers}
 use Rattle.gc_world.specs.Exchange.{IsExchange}
 use Rattle.gc_world.specs.Order.{Each, Rising, numbers, under_way, IsOrderly}
@@ -17,37 +17,37 @@ use Rattle.gc_world.proofs.Ids.{place_within, place_before}
 use Rattle.gc_world.proofs.Sound.{IsComing, Sound, length_expired, all_sent, sound_step, sound_all, sound_open}
 
 -- the two clients are alike: they have the same next id, and the same requests wait
-pub record Alike (a : ById) (b : ByNumber) : Type 0 where
+pub record Alike {Q : Type 0} (a : ById Q) (b : ByNumber Q) : Type 0 where
   pub window : a.waiting ≡ drop b.count b.requests
   pub next : a.next ≡ (length b.requests - b.since) % 8
 
 -- two sends gave one id, and left clients that are alike
-pub record SameSending (a : Sending ById) (b : Sending ByNumber) : Type 0 where
+pub record SameSending {Q : Type 0} (a : Sending (ById Q)) (b : Sending (ByNumber Q)) : Type 0 where
   pub id : a.id ≡ b.id
   pub client : Alike a.client b.client
 
 -- two sends were both refused, or both gave one id and clients that are alike
-abbrev SameSend : Option (Sending ById) → Option (Sending ByNumber) → Type 0
+abbrev SameSend : {Q : Type 0} → Option (Sending (ById Q)) → Option (Sending (ByNumber Q)) → Type 0
 SameSend None None = Unit {0}
 SameSend (Some x) (Some y) = SameSending x y
 SameSend None (Some y) = ⊥
 SameSend (Some x) None = ⊥
 
 -- both clients make the same settlements, and are alike afterwards
-pub record SameSettled (a : Settled ById) (b : Settled ByNumber) : Type 0 where
+pub record SameSettled {Q : Type 0} (a : Settled Q (ById Q)) (b : Settled Q (ByNumber Q)) : Type 0 where
   pub settlements : a.settlements ≡ b.settlements
   pub client : Alike a.client b.client
 
 -- clients that are alike have equally many waiting requests
-waiting_count : (a : ById) (b : ByNumber) → Alike a b → length a.waiting ≡ length b.requests - b.count
+waiting_count : {Q : Type 0} (a : ById Q) (b : ByNumber Q) → Alike a b → length a.waiting ≡ length b.requests - b.count
 waiting_count a b h = ap length h.window ∙ length-drop b.count b.requests
 
 -- clients that are alike both refuse a send, or both send it with the same id and are alike afterwards
-same_send : (a : ById) (b : ByNumber) (target : ℕ) (call : Call) (deadline : ℕ) (full : Bool) → b.since ≤ b.count → b.count ≤ length b.requests → Alike a b
+same_send : {Q : Type 0} (a : ById Q) (b : ByNumber Q) (target : ℕ) (call : Q) (deadline : ℕ) (full : Bool) → b.since ≤ b.count → b.count ≤ length b.requests → Alike a b
     → SameSend (id_send a target call deadline full) (number_send b target call deadline full)
-same_send a b target call deadline true h1 h2 h = tt
-same_send a b target call deadline false h1 h2 h =
-    let p : Pending = pending_of target call deadline in
+same_send {Q} a b target call deadline true h1 h2 h = tt
+same_send {Q} a b target call deadline false h1 h2 h =
+    let p : Pending Q = pending_of target call deadline in
     record {
       id = h.next;
       client = record {
@@ -58,19 +58,19 @@ same_send a b target call deadline false h1 h2 h =
 
 -- in a list of requests: expiring all but the first k, and then dropping the first k, gives the same as dropping the first k and
 -- then expiring the rest
-drop_expired : (now k : ℕ) (ps : List Pending) → map (expired now) (drop k ps) ≡ drop k (take k ps ++ map (expired now) (drop k ps))
+drop_expired : {Q : Type 0} (now k : ℕ) (ps : List (Pending Q)) → map (expired now) (drop k ps) ≡ drop k (take k ps ++ map (expired now) (drop k ps))
 drop_expired now zero ps = refl
 drop_expired now (suc k) [] = refl
 drop_expired now (suc k) (p ∷ ps) = drop_expired now k ps
 
-module _ {State : Type 0} (width : ℕ) (narrow : width ≤ 7) (ends : Ends State) (Good : State → Type 0) where
+module _ {Q State : Type 0} (width : ℕ) (narrow : width ≤ 7) (ends : Ends Q State) (Good : State → Type 0) where
   -- the two worlds have the same wire, and clients that are alike
-  pub record Agree (a : World ById State) (b : World ByNumber State) : Type 0 where
+  pub record Agree (a : World Q (ById Q) State) (b : World Q (ByNumber Q) State) : Type 0 where
     pub wire : a.wire ≡ b.wire
     pub client : Alike a.client b.client
 
   -- a reply under way settles the same for both clients, whether its request is settled already (`old`) or not
-  same_reply : (a : ById) (b : ByNumber) (x : Numbered (List ℕ)) (old : Bool) → ltb x.number b.count ≡ old → b.since ≤ b.count → b.count ≤ length b.requests
+  same_reply : (a : ById Q) (b : ByNumber Q) (x : Numbered (List ℕ)) (old : Bool) → ltb x.number b.count ≡ old → b.since ≤ b.count → b.count ≤ length b.requests
       → length b.requests ≤ b.count + width → b.count ≤ x.number + 1 → IsComing width ends Good b.since (length b.requests) x → Alike a b
       → SameSettled (hears a x.line (Some ((x.number - b.since) % 8))) (number_reply b x old)
   same_reply a b x true t h1 h2 h3 h4 coming h =
@@ -102,40 +102,40 @@ module _ {State : Type 0} (width : ℕ) (narrow : width ≤ 7) (ends : Ends Stat
       }))
 
   -- worlds that agree still agree after both clients refused a send, or sent it with the same id
-  same_requested : (a : World ById State) (b : World ByNumber State) (target : ℕ) (call : Call) (o : Option (Sending ById)) (o' : Option (Sending ByNumber))
-      → SameSend o o' → Agree a b → Agree (requested a target call o) (requested b target call o')
-  same_requested a b target call None None s h = record { wire = ap (λ (w : Wire State). record w { refused = w.refused + 1 }) h.wire; client = h.client }
-  same_requested a b target call (Some x) (Some y) s h =
+  same_requested : (written : ℕ → Q → List ℕ) (a : World Q (ById Q) State) (b : World Q (ByNumber Q) State) (target : ℕ) (call : Q) (o : Option (Sending (ById Q))) (o' : Option (Sending (ByNumber Q)))
+      → SameSend o o' → Agree a b → Agree (requested written a target call o) (requested written b target call o')
+  same_requested written a b target call None None s h = record { wire = ap (λ (w : Wire Q State). record w { refused = w.refused + 1 }) h.wire; client = h.client }
+  same_requested written a b target call (Some x) (Some y) s h =
       record {
         wire =
-            ap₂ (λ (w : Wire State) (id : ℕ). record w {
-              sent = w.sent ++ record { target = target; call = call; line = request_line (Some id) call } ∷ [];
+            ap₂ (λ (w : Wire Q State) (id : ℕ). record w {
+              sent = w.sent ++ record { target = target; call = call; line = written id call } ∷ [];
               up = w.up ++ record { number = length w.sent; line = record { id = id; call = call } } ∷ [];
             }) h.wire s.id;
         client = s.client;
       }
-  same_requested a b target call None (Some y) s h = absurd s
-  same_requested a b target call (Some x) None s h = absurd s
+  same_requested written a b target call None (Some y) s h = absurd s
+  same_requested written a b target call (Some x) None s h = absurd s
 
   -- where two wires are equal, and both clients settled the same and are alike, the two worlds agree
-  same_booked : (v w : Wire State) (x : Settled ById) (y : Settled ByNumber) → v ≡ w → SameSettled x y → Agree (with_settled v x) (with_settled w y)
+  same_booked : (v w : Wire Q State) (x : Settled Q (ById Q)) (y : Settled Q (ByNumber Q)) → v ≡ w → SameSettled x y → Agree (with_settled v x) (with_settled w y)
   same_booked v w x y e s =
-      record { wire = ap₂ (λ (u : Wire State) (l : List _). record u { settled = u.settled ++ l }) e s.settlements; client = s.client }
+      record { wire = ap₂ (λ (u : Wire Q State) (l : List _). record u { settled = u.settled ++ l }) e s.settlements; client = s.client }
 
   -- delivering the reply in front keeps worlds in agreement
-  agree_down : (a : World ById State) (b : World ByNumber State) (q : List (Numbered (List ℕ))) → b.wire.down ≡ q → Sound width ends Good b → Agree a b
+  agree_down : (a : World Q (ById Q) State) (b : World Q (ByNumber Q) State) (q : List (Numbered (List ℕ))) → b.wire.down ≡ q → Sound width ends Good b → Agree a b
       → Agree (down_delivered (by_ids width ends) a q) (down_delivered (by_numbers width) b q)
   agree_down a b [] e s h = record { wire = ap idle h.wire; client = h.client }
   agree_down a b (x ∷ rest) e s h =
       let c = b.client in
       let coming = (subst (λ q. Each (IsComing width ends Good c.since (length c.requests)) q) e s.coming).0 in
       let order = (subst (λ q. Rising c.count (numbers q ++ numbers b.wire.up)) e s.order).0 in
-      same_booked _ _ _ _ (ap (λ (w : Wire State). record w { down = rest }) h.wire)
+      same_booked _ _ _ _ (ap (λ (w : Wire Q State). record w { down = rest }) h.wire)
       (subst (λ o. SameSettled (hears a.client x.line o) (number_reply c x (ltb x.number c.count))) (sym coming.id)
       (same_reply a.client c x (ltb x.number c.count) refl s.begun s.within s.few order coming h.client))
 
   -- a moment keeps clients alike
-  agree_expire : (now : ℕ) (a : ById) (b : ByNumber) → Alike a b → Alike ((by_ids width ends).expire a now) ((by_numbers width).expire b now)
+  agree_expire : (now : ℕ) (a : ById Q) (b : ByNumber Q) → Alike a b → Alike ((by_ids width ends).expire a now) ((by_numbers width).expire b now)
   agree_expire now a b h =
       record {
         window = ap (λ ps. map (expired now) ps) h.window ∙ drop_expired now b.count b.requests;
@@ -143,7 +143,7 @@ module _ {State : Type 0} (width : ℕ) (narrow : width ≤ 7) (ends : Ends Stat
       }
 
   -- a restart settles the same for both clients
-  agree_lost : (a : ById) (b : ByNumber) → Alike a b → SameSettled ((by_ids width ends).restart a) ((by_numbers width).restart b)
+  agree_lost : (a : ById Q) (b : ByNumber Q) → Alike a b → SameSettled ((by_ids width ends).restart a) ((by_numbers width).restart b)
   agree_lost a b h =
       record {
         settlements = ap (λ ps. map lost ps) h.window;
@@ -151,50 +151,51 @@ module _ {State : Type 0} (width : ℕ) (narrow : width ≤ 7) (ends : Ends Stat
       }
 
   -- a restart of the client keeps worlds in agreement
-  agree_restart_client : (a : World ById State) (b : World ByNumber State) (up : List (Numbered Request)) (down : List (Numbered (List ℕ))) → Agree a b
+  agree_restart_client : (a : World Q (ById Q) State) (b : World Q (ByNumber Q) State) (up : List (Numbered (Request Q))) (down : List (Numbered (List ℕ))) → Agree a b
       → Agree (client_restarted ends (by_ids width ends) a up down) (client_restarted ends (by_numbers width) b up down)
   agree_restart_client a b [] [] h = same_booked _ _ _ _ (ap (λ w. started ends w ends.joint) h.wire) (agree_lost a.client b.client h.client)
   agree_restart_client a b [] (y ∷ down) h = record { wire = ap idle h.wire; client = h.client }
   agree_restart_client a b (x ∷ up) down h = record { wire = ap idle h.wire; client = h.client }
 
   -- a step that leaves the client alone keeps worlds in agreement
-  agree_wire : (f : Wire State → Wire State) (a : World ById State) (b : World ByNumber State) → Agree a b → Agree (on_wire a (f a.wire)) (on_wire b (f b.wire))
+  agree_wire : (f : Wire Q State → Wire Q State) (a : World Q (ById Q) State) (b : World Q (ByNumber Q) State) → Agree a b → Agree (on_wire a (f a.wire)) (on_wire b (f b.wire))
   agree_wire f a b h = record { wire = ap f h.wire; client = h.client }
 
   -- each step keeps worlds in agreement
-  pub agrees : (a : World ById State) (b : World ByNumber State) (e : Step) → Sound width ends Good b → Agree a b → Agree (happens ends (by_ids width ends) a e) (happens ends (by_numbers width) b e)
-  agrees a b (Send target call deadline) s h =
-      same_requested a b target call _ _
+  pub agrees : (written : ℕ → Q → List ℕ) (a : World Q (ById Q) State) (b : World Q (ByNumber Q) State) (e : Step Q) → Sound width ends Good b → Agree a b
+      → Agree (happens written ends (by_ids width ends) a e) (happens written ends (by_numbers width) b e)
+  agrees written a b (Send target call deadline) s h =
+      same_requested written a b target call _ _
       (subst (λ n. SameSend (id_send a.client target call deadline (eqb n width))
       (number_send b.client target call deadline (eqb (length b.client.requests - b.client.count) width))) (sym (waiting_count a.client b.client h.client))
       (same_send a.client b.client target call deadline (eqb (length b.client.requests - b.client.count) width) s.begun s.within h.client)) h
-  agrees a b Up_deliver s h = agree_wire (λ w. up_delivered ends w w.up) a b h
-  agrees a b (Up_lose k) s h = agree_wire (λ w. with_up w (without k w.up) (ltb k (length w.up))) a b h
-  agrees a b (Up_repeat k) s h = agree_wire (λ w. with_up w (doubled k w.up) (ltb k (length w.up))) a b h
-  agrees a b Down_deliver s h =
-      subst (λ q. Agree (down_delivered (by_ids width ends) a q) (down_delivered (by_numbers width) b b.wire.down)) (sym (ap (λ (w : Wire State). w.down) h.wire))
+  agrees written a b Up_deliver s h = agree_wire (λ w. up_delivered ends w w.up) a b h
+  agrees written a b (Up_lose k) s h = agree_wire (λ w. with_up w (without k w.up) (ltb k (length w.up))) a b h
+  agrees written a b (Up_repeat k) s h = agree_wire (λ w. with_up w (doubled k w.up) (ltb k (length w.up))) a b h
+  agrees written a b Down_deliver s h =
+      subst (λ q. Agree (down_delivered (by_ids width ends) a q) (down_delivered (by_numbers width) b b.wire.down)) (sym (ap (λ (w : Wire Q State). w.down) h.wire))
       (agree_down a b b.wire.down refl s h)
-  agrees a b (Down_lose k) s h = agree_wire (λ w. with_down w (without k w.down) (ltb k (length w.down))) a b h
-  agrees a b (Down_repeat k) s h = agree_wire (λ w. with_down w (doubled k w.down) (ltb k (length w.down))) a b h
-  agrees a b (Expire now) s h = record { wire = h.wire; client = agree_expire now a.client b.client h.client }
-  agrees a b Restart_client s h =
-      subst (λ (w : Wire State). Agree (client_restarted ends (by_ids width ends) a w.up w.down) (client_restarted ends (by_numbers width) b b.wire.up b.wire.down)) (sym h.wire)
+  agrees written a b (Down_lose k) s h = agree_wire (λ w. with_down w (without k w.down) (ltb k (length w.down))) a b h
+  agrees written a b (Down_repeat k) s h = agree_wire (λ w. with_down w (doubled k w.down) (ltb k (length w.down))) a b h
+  agrees written a b (Expire now) s h = record { wire = h.wire; client = agree_expire now a.client b.client h.client }
+  agrees written a b Restart_client s h =
+      subst (λ (w : Wire Q State). Agree (client_restarted ends (by_ids width ends) a w.up w.down) (client_restarted ends (by_numbers width) b b.wire.up b.wire.down)) (sym h.wire)
       (agree_restart_client a b b.wire.up b.wire.down h)
-  agrees a b Restart_instrument s h = agree_wire (λ w. instrument_restarted ends w w.up w.down) a b h
-  agrees a b Nothing s h = agree_wire idle a b h
+  agrees written a b Restart_instrument s h = agree_wire (λ w. instrument_restarted ends w w.up w.down) a b h
+  agrees written a b Nothing s h = agree_wire idle a b h
 
   -- a run keeps worlds in agreement
-  pub agrees_all : IsExchange ends Good → (es : List Step) (a : World ById State) (b : World ByNumber State) → Sound width ends Good b → Agree a b
-      → Agree (run ends (by_ids width ends) es a) (run ends (by_numbers width) es b)
-  agrees_all ex [] a b s h = h
-  agrees_all ex (e ∷ es) a b s h = agrees_all ex es _ _ (sound_step width ends Good ex b e s) (agrees a b e s h)
+  pub agrees_all : (written : ℕ → Q → List ℕ) → IsExchange ends Good → (es : List (Step Q)) (a : World Q (ById Q) State) (b : World Q (ByNumber Q) State) → Sound width ends Good b → Agree a b
+      → Agree (run written ends (by_ids width ends) es a) (run written ends (by_numbers width) es b)
+  agrees_all written ex [] a b s h = h
+  agrees_all written ex (e ∷ es) a b s h = agrees_all written ex es _ _ (sound_step width ends Good written ex b e s) (agrees written a b e s h)
 
   -- the worlds before the first event agree
   agree_open : (state : State) → Agree (ids_open state) (numbers_open state)
   agree_open state = record { wire = refl; client = record { window = refl; next = omega arith } }
 
   -- the line of a sound world keeps its order
-  orderly : (w : World ByNumber State) → Sound width ends Good w → IsOrderly width w.wire
+  orderly : (w : World Q (ByNumber Q) State) → Sound width ends Good w → IsOrderly width w.wire
   orderly w s =
       record {
         settled = omega (arith, s.booked, s.counted, s.within);
@@ -203,18 +204,20 @@ module _ {State : Type 0} (width : ℕ) (narrow : width ≤ 7) (ends : Ends Stat
         sent = subst (λ n. Each (λ m. m < n) (under_way w.wire)) s.counted (all_sent width ends Good w.client.since (length w.client.requests) w.wire.down w.wire.up s.coming s.going);
       }
 
+module _ {State : Type 0} (width : ℕ) (narrow : width ≤ 7) (ends : calls.Ends State) (Good : State → Type 0) where
   -- the two runs end in worlds that agree
-  pub agree_at : IsExchange ends Good → (es : List Step) (state : State) → Good state → Agree (run_by_ids width ends es state) (run_by_numbers width ends es state)
-  agree_at ex es state g = agrees_all ex es (ids_open state) (numbers_open state) (sound_open width ends Good state g) (agree_open state)
+  pub agree_at : IsExchange ends Good → (es : List calls.Step) (state : State) → Good state → Agree width narrow ends Good (run_by_ids width ends es state) (run_by_numbers width ends es state)
+  agree_at ex es state g =
+      agrees_all width narrow ends Good call_line ex es (ids_open state) (numbers_open state) (sound_open width ends Good state g) (agree_open width narrow ends Good state)
 
   -- the run by numbers ends in a sound world
-  pub sound_at : IsExchange ends Good → (es : List Step) (state : State) → Good state → Sound width ends Good (run_by_numbers width ends es state)
-  sound_at ex es state g = sound_all width ends Good ex es (numbers_open state) (sound_open width ends Good state g)
+  pub sound_at : IsExchange ends Good → (es : List calls.Step) (state : State) → Good state → Sound width ends Good (run_by_numbers width ends es state)
+  sound_at ex es state g = sound_all width ends Good call_line ex es (numbers_open state) (sound_open width ends Good state g)
 
   -- the two runs end with the same wire
-  pub same_wire : IsExchange ends Good → (es : List Step) (state : State) → Good state → (run_by_ids width ends es state).wire ≡ (run_by_numbers width ends es state).wire
+  pub same_wire : IsExchange ends Good → (es : List calls.Step) (state : State) → Good state → (run_by_ids width ends es state).wire ≡ (run_by_numbers width ends es state).wire
   same_wire ex es state g = (agree_at ex es state g).wire
 
   -- the run by ids ends with a line that kept its order
-  pub orderly_at : IsExchange ends Good → (es : List Step) (state : State) → Good state → IsOrderly width (run_by_ids width ends es state).wire
-  orderly_at ex es state g = subst (λ w. IsOrderly width w) (sym (same_wire ex es state g)) (orderly _ (sound_at ex es state g))
+  pub orderly_at : IsExchange ends Good → (es : List calls.Step) (state : State) → Good state → IsOrderly width (run_by_ids width ends es state).wire
+  orderly_at ex es state g = subst (λ w. IsOrderly width w) (sym (same_wire ex es state g)) (orderly width narrow ends Good _ (sound_at ex es state g))

@@ -6,8 +6,8 @@ use Rattle.std.proofs.lemmas.Bool.{ltb-false}
 use Rattle.gc_client.specs.declared.pending.Pending.{Pending}
 use Rattle.gc_client.specs.Rule.{Outcome, Answered, Late, Lost, Settlement, lost, met, settle}
 use Rattle.gc_instrument.specs.Replying.{Handed}
-use Rattle.gc_world.specs.World.{Request, Numbered, Ends, Step, World, Wire, replied, started, with_settled}
-use Rattle.gc_world.specs.Clients.{ByNumber, number_reply, by_numbers, numbers_open, run_by_numbers}
+use Rattle.gc_world.specs.Worlds.{Request, Numbered, Ends, Step, World, Wire, replied, started, with_settled, run}
+use Rattle.gc_world.specs.Clients.{ByNumber, number_reply, by_numbers, numbers_open}
 use Rattle.gc_world.specs.Exchange.{IsExchange}
 use Rattle.gc_world.specs.Order.{Each}
 use Rattle.gc_world.proofs.Rows.{each_append, each_more, each_without, each_doubled}
@@ -43,7 +43,7 @@ IsMade made n Late = Unit {0}
 IsMade made n Lost = Unit {0}
 
 -- each answer of these settlements, of which the first is number n, was made for its request
-abbrev pub AllMade : List (Numbered (List ℕ)) → ℕ → List Settlement → Type 0
+abbrev pub AllMade : {Q : Type 0} → List (Numbered (List ℕ)) → ℕ → List (Settlement Q) → Type 0
 AllMade made n [] = Unit {0}
 AllMade made n (s ∷ ss) = IsMade made n s.outcome × AllMade made (n + 1) ss
 
@@ -54,29 +54,30 @@ made_more made more n Late h = tt
 made_more made more n Lost h = tt
 
 -- answers that were made for their requests stay so when more replies are made
-all_made_more : (made more : List (Numbered (List ℕ))) (n : ℕ) (ss : List Settlement) → AllMade made n ss → AllMade (made ++ more) n ss
+all_made_more : {Q : Type 0} (made more : List (Numbered (List ℕ))) (n : ℕ) (ss : List (Settlement Q)) → AllMade made n ss → AllMade (made ++ more) n ss
 all_made_more made more n [] h = tt
 all_made_more made more n (s ∷ ss) h = (made_more made more n s.outcome h.0, all_made_more made more (n + 1) ss h.1)
 
 -- where the answers of two lists of settlements were made for their requests, those of both lists in a row were
-all_made_append : (made : List (Numbered (List ℕ))) (n m : ℕ) (ss ts : List Settlement) → n + length ss ≡ m → AllMade made n ss → AllMade made m ts → AllMade made n (ss ++ ts)
+all_made_append : {Q : Type 0} (made : List (Numbered (List ℕ))) (n m : ℕ) (ss ts : List (Settlement Q)) → n + length ss ≡ m → AllMade made n ss → AllMade made m ts → AllMade made n (ss ++ ts)
 all_made_append made n m [] ts e h g = let e' : m ≡ n = omega arith in subst (λ k. AllMade made k ts) e' g
 all_made_append made n m (s ∷ ss) ts e h g = (h.0, all_made_append made (n + 1) m ss ts (omega arith) h.1 g)
 
 -- among settlements as lost there is no answer, so each answer among them was made for its request
-all_made_lost : (made : List (Numbered (List ℕ))) (n : ℕ) (ps : List Pending) → AllMade made n (map lost ps)
+all_made_lost : {Q : Type 0} (made : List (Numbered (List ℕ))) (n : ℕ) (ps : List (Pending Q)) → AllMade made n (map lost ps)
 all_made_lost made n [] = tt
 all_made_lost made n (p ∷ ps) = (tt, all_made_lost made (n + 1) ps)
 
 -- a reply that was made for request n settles that request with an answer that was made for it, or as late
-made_met : (made : List (Numbered (List ℕ))) (n : ℕ) (line : List ℕ) (p : Pending) (given_up : Bool) → p.given_up ≡ given_up
+made_met : {Q : Type 0} (made : List (Numbered (List ℕ))) (n : ℕ) (line : List ℕ) (p : Pending Q) (given_up : Bool) → p.given_up ≡ given_up
     → Has (record { number = n; line = line }) made → IsMade made n (met p line).outcome
 made_met made n line p true e h = subst (λ b. IsMade made n (met (record p { given_up = b }) line).outcome) (sym e) tt
 made_met made n line p false e h = subst (λ b. IsMade made n (met (record p { given_up = b }) line).outcome) (sym e) h
 
 -- where a reply made for request m settles the requests from n through m, each answer among these settlements was made for its
 -- request
-all_made_settle : (made : List (Numbered (List ℕ))) (n m k : ℕ) (line : List ℕ) (ps : List Pending) → n + k ≡ m → Has (record { number = m; line = line }) made → AllMade made n (settle k line ps)
+all_made_settle : {Q : Type 0} (made : List (Numbered (List ℕ))) (n m k : ℕ) (line : List ℕ) (ps : List (Pending Q)) → n + k ≡ m → Has (record { number = m; line = line }) made
+    → AllMade made n (settle k line ps)
 all_made_settle made n m k line [] e h = tt
 all_made_settle made n m zero line (p ∷ ps) e h =
     let e' : m ≡ n = omega arith in
@@ -84,18 +85,19 @@ all_made_settle made n m zero line (p ∷ ps) e h =
 all_made_settle made n m (suc k) line (p ∷ ps) e h = (tt, all_made_settle made (n + 1) m k line ps (omega arith) h)
 
 -- each reply under way and each answer that was booked was made for its request
-pub record IsBacked (made down : List (Numbered (List ℕ))) (settled : List Settlement) : Type 0 where
+pub record IsBacked {Q : Type 0} (made down : List (Numbered (List ℕ))) (settled : List (Settlement Q)) : Type 0 where
   pub under_way : Each (λ x. Has x made) down
   pub booked : AllMade made 0 settled
 
-module _ {State : Type 0} (width : ℕ) (ends : Ends State) (Good : State → Type 0) where
+module _ {Q State : Type 0} (width : ℕ) (ends : Ends Q State) (Good : State → Type 0) where
   -- the line keeps its order, and each reply under way and each answer was made for its request
-  pub record Backed (w : World ByNumber State) : Type 0 where
+  pub record Backed (w : World Q (ByNumber Q) State) : Type 0 where
     pub sound : Sound width ends Good w
     pub backed : IsBacked w.wire.made w.wire.down w.wire.settled
 
   -- an instrument's reply keeps the replies and answers backed
-  backed_answer : (w : Wire State) (n : ℕ) (rest : List (Numbered Request)) (hd : Handed State) → IsBacked w.made w.down w.settled → (let v = replied w n rest hd in IsBacked v.made v.down v.settled)
+  backed_answer : (w : Wire Q State) (n : ℕ) (rest : List (Numbered (Request Q))) (hd : Handed State) → IsBacked w.made w.down w.settled
+      → (let v = replied w n rest hd in IsBacked v.made v.down v.settled)
   backed_answer w n rest hd h =
       let x : Numbered (List ℕ) = record { number = n; line = hd.reply } in
       record {
@@ -107,7 +109,7 @@ module _ {State : Type 0} (width : ℕ) (ends : Ends State) (Good : State → Ty
       }
 
   -- delivering a reply, whether its request is settled already (`old`) or not, keeps the replies and answers backed
-  backed_reply : (w : World ByNumber State) (x : Numbered (List ℕ)) (rest : List (Numbered (List ℕ))) (old : Bool) → ltb x.number w.client.count ≡ old
+  backed_reply : (w : World Q (ByNumber Q) State) (x : Numbered (List ℕ)) (rest : List (Numbered (List ℕ))) (old : Bool) → ltb x.number w.client.count ≡ old
       → w.wire.down ≡ x ∷ rest → length w.wire.settled ≡ w.client.count → IsBacked w.wire.made w.wire.down w.wire.settled
       → IsBacked w.wire.made rest (w.wire.settled ++ (number_reply w.client x old).settlements)
   backed_reply w x rest true t e s h =
@@ -124,7 +126,7 @@ module _ {State : Type 0} (width : ℕ) (ends : Ends State) (Good : State → Ty
       }
 
   -- a restart of the client keeps the replies and answers backed
-  backed_restart : (w : World ByNumber State) (b : Bool) → length w.wire.settled ≡ w.client.count → IsBacked w.wire.made w.wire.down w.wire.settled
+  backed_restart : (w : World Q (ByNumber Q) State) (b : Bool) → length w.wire.settled ≡ w.client.count → IsBacked w.wire.made w.wire.down w.wire.settled
       → (let v = (with_settled (started ends w.wire b) ((by_numbers width).restart w.client)).wire in IsBacked v.made v.down v.settled)
   backed_restart w false s h =
       record {
@@ -140,9 +142,9 @@ module _ {State : Type 0} (width : ℕ) (ends : Ends State) (Good : State → Ty
       }
 
   -- each step keeps a world backed
-  keeps_backed : IsExchange ends Good → IsStable ends (by_numbers width) Backed
-  keeps_backed ex =
-      let k = keeps width ends Good ex in
+  keeps_backed : (written : ℕ → Q → List ℕ) → IsExchange ends Good → IsStable written ends (by_numbers width) Backed
+  keeps_backed written ex =
+      let k = keeps width ends Good written ex in
       record {
         idles = λ w h. record { sound = k.idles w h.sound; backed = h.backed };
         refuses = λ w h. record { sound = k.refuses w h.sound; backed = h.backed };
@@ -159,6 +161,6 @@ module _ {State : Type 0} (width : ℕ) (ends : Ends State) (Good : State → Ty
       }
 
   -- the run by numbers ends in a backed world
-  pub backed_at : IsExchange ends Good → (es : List Step) (state : State) → Good state → Backed (run_by_numbers width ends es state)
-  backed_at ex es state g = stable_all ends (by_numbers width) Backed (keeps_backed ex) es (numbers_open state)
+  pub backed_at : (written : ℕ → Q → List ℕ) → IsExchange ends Good → (es : List (Step Q)) (state : State) → Good state → Backed (run written ends (by_numbers width) es (numbers_open state))
+  backed_at written ex es state g = stable_all written ends (by_numbers width) Backed (keeps_backed written ex) es (numbers_open state)
       (record { sound = sound_open width ends Good state g; backed = record { under_way = tt; booked = tt } })

@@ -3,11 +3,11 @@
 -- executions had been before.
 use Rattle.std.proofs.Common.{◌≡◌, ℕ, zero, suc, ◌+◌, ◌-◌, ◌<◌, Bool, true, false, inl, inr, List, [], ◌∷◌, length, Option, Some, refl, sym, ◌∙◌, ap, subst, arith, eqb}
 use Rattle.std.specs.Prelude.{slice_get}
-use Rattle.gc_catalogue.specs.declared.call.Call.{Call}
 use Rattle.gc_catalogue.specs.Texts.{request_line}
 use Rattle.gc_client.specs.Rule.{Settlement}
 use Rattle.gc_client.specs.Rule.{Sending}
 use Rattle.gc_world.specs.World.{Sent, Numbered, Ends, Wire}
+use Rattle.gc_world.specs.Worlds
 use Rattle.gc_world.specs.Clients.{ByNumber, number_send, by_numbers}
 use Rattle.gc_world.specs.Exchange.{IsExchange}
 use Rattle.gc_world.specs.Order.{Each}
@@ -25,12 +25,12 @@ each_has P (y ∷ xs) x h (inl e) = subst P e h.0
 each_has P (y ∷ xs) x h (inr e) = each_has P xs x h.1 e
 
 -- every request is written with an id of one digit below 8
-pub digits : (width : ℕ) (c : ByNumber) (target : ℕ) (call : Call) (deadline : ℕ) (x : Sending ByNumber) → (by_numbers width).send c target call deadline ≡ Some x → x.id < 8
-digits width c target call deadline x e = digit (eqb (length c.requests - c.count) width) e
+pub digits : {Q : Type 0} (width : ℕ) (c : ByNumber Q) (target : ℕ) (call : Q) (deadline : ℕ) (x : Sending (ByNumber Q)) → (by_numbers width).send c target call deadline ≡ Some x → x.id < 8
+digits {Q} width c target call deadline x e = digit (eqb (length c.requests - c.count) width) e
   where
     digit : (full : Bool) → number_send c target call deadline full ≡ Some x → x.id < 8
     digit true e = absurd (none_is_not x e)
-    digit false e = subst (λ (y : Sending ByNumber). y.id < 8) (some_is _ x e) (omega arith)
+    digit false e = subst (λ (y : Sending (ByNumber Q)). y.id < 8) (some_is _ x e) (omega arith)
 
 module _ {State : Type 0} (ends : Ends State) where
   -- the state before execution k of a replay, counted from 0
@@ -171,15 +171,38 @@ module _ {State : Type 0} (ends : Ends State) where
           climbs = climbs;
         }
 
-module _ {State : Type 0} (ends : Ends State) (Good : State → Type 0) (ex : IsExchange ends Good) where
-  -- the entry is a reply to the call of the request whose number it has
-  pub record IsAnswerAt (sent : List Sent) (m : Numbered (List ℕ)) : Type 0 where
-    pub request : Sent
+module _ {Q State : Type 0} (ends : Worlds.Ends Q State) (Good : State → Type 0) (ex : IsExchange ends Good) where
+  -- the entry is a reply to what the request whose number it has asks for
+  pub record IsAnswerAt (sent : List (Worlds.Sent Q)) (m : Numbered (List ℕ)) : Type 0 where
+    pub request : Worlds.Sent Q
     pub found : slice_get sent m.number ≡ Some request
     pub reply : IsReplyTo ends Good request.call m.line
 
+  -- where the answers of settlements, the first of which is number n, were made for their requests, the one at place m was made
+  -- for request n + m
+  made_get : (made : List (Numbered (List ℕ))) (n : ℕ) (ss : List (Settlement Q)) (m : ℕ) (s : Settlement Q) → AllMade made n ss → slice_get ss m ≡ Some s → IsMade made (n + m) s.outcome
+  made_get made n [] m s h e = absurd (none_is_not s e)
+  made_get made n (x ∷ ss) zero s h e =
+      let i : n ≡ n + 0 = omega arith in
+      subst (λ k. IsMade made k s.outcome) i (subst (λ (y : Settlement Q). IsMade made n y.outcome) (some_is x s e) h.0)
+  made_get made n (x ∷ ss) (suc m) s h e =
+      let i : n + 1 + m ≡ n + suc m = omega arith in
+      subst (λ k. IsMade made k s.outcome) i (made_get made (n + 1) ss m s h.1 e)
+
+  -- where settlements stand one for one, each answer was made for its request, and each reply made is one to its request's
+  -- call, an answer at place m is booked for request m
+  pub booked : (sent : List (Worlds.Sent Q)) (made : List (Numbered (List ℕ))) (settled : List (Settlement Q)) → IsOneForOne sent settled → AllMade made 0 settled
+      → Each (IsAnswerAt sent) made → (m : ℕ) (s : Settlement Q) → slice_get settled m ≡ Some s → IsBooked ends Good made m s
+  booked sent made settled one all at m s e bytes answered =
+      let i : 0 + m ≡ m = omega arith in
+      let has : Has (record { number = m; line = bytes }) made = subst (λ o. IsMade made m o) answered (subst (λ k. IsMade made k s.outcome) i (made_get made 0 settled m s all e)) in
+      let a = each_has (IsAnswerAt sent) made (record { number = m; line = bytes }) at has in
+      let same = (one.same m s a.request e a.found).1 in
+      (has_at _ made has, subst (λ c. IsReplyTo ends Good c bytes) (sym same) a.reply)
+
+module _ {State : Type 0} (ends : Ends State) (Good : State → Type 0) (ex : IsExchange ends Good) where
   -- the reply of an execution is a reply to the call of the request whose number it has
-  answer_at : (sent : List Sent) (s : State) (n : ℕ) (m : Numbered (List ℕ)) (t : State) → Good s → IsReply ends sent s n m t → IsAnswerAt sent m
+  answer_at : (sent : List Sent) (s : State) (n : ℕ) (m : Numbered (List ℕ)) (t : State) → Good s → IsReply ends sent s n m t → IsAnswerAt ends Good ex sent m
   answer_at sent s n m t good h =
       record {
         request = h.request;
@@ -194,7 +217,7 @@ module _ {State : Type 0} (ends : Ends State) (Good : State → Type 0) (ex : Is
 
   -- each reply of a replay is a reply to the call of the request whose number it has
   pub answers_at : (sent : List Sent) (starts : List ℕ) (j : ℕ) (s : State) (ns : List ℕ) (ms : List (Numbered (List ℕ))) (t : State) → Good s
-      → Replays ends sent starts j s ns ms t → Each (IsAnswerAt sent) ms
+      → Replays ends sent starts j s ns ms t → Each (IsAnswerAt ends Good ex sent) ms
   answers_at sent starts j s [] [] t good h = tt
   answers_at sent starts j s (n ∷ ns) (m ∷ ms) t good h = (
     answer_at sent s n m h.0 good h.1,
@@ -203,25 +226,3 @@ module _ {State : Type 0} (ends : Ends State) (Good : State → Type 0) (ex : Is
   )
   answers_at sent starts j s [] (m ∷ ms) t good h = absurd h
   answers_at sent starts j s (n ∷ ns) [] t good h = absurd h
-
-  -- where the answers of settlements, the first of which is number n, were made for their requests, the one at place m was made
-  -- for request n + m
-  made_get : (made : List (Numbered (List ℕ))) (n : ℕ) (ss : List Settlement) (m : ℕ) (s : Settlement) → AllMade made n ss → slice_get ss m ≡ Some s → IsMade made (n + m) s.outcome
-  made_get made n [] m s h e = absurd (none_is_not s e)
-  made_get made n (x ∷ ss) zero s h e =
-      let i : n ≡ n + 0 = omega arith in
-      subst (λ k. IsMade made k s.outcome) i (subst (λ (y : Settlement). IsMade made n y.outcome) (some_is x s e) h.0)
-  made_get made n (x ∷ ss) (suc m) s h e =
-      let i : n + 1 + m ≡ n + suc m = omega arith in
-      subst (λ k. IsMade made k s.outcome) i (made_get made (n + 1) ss m s h.1 e)
-
-  -- where settlements stand one for one, each answer was made for its request, and each reply made is one to its request's
-  -- call, an answer at place m is booked for request m
-  pub booked : (sent : List Sent) (made : List (Numbered (List ℕ))) (settled : List Settlement) → IsOneForOne sent settled → AllMade made 0 settled
-      → Each (IsAnswerAt sent) made → (m : ℕ) (s : Settlement) → slice_get settled m ≡ Some s → IsBooked ends Good made m s
-  booked sent made settled one all at m s e bytes answered =
-      let i : 0 + m ≡ m = omega arith in
-      let has : Has (record { number = m; line = bytes }) made = subst (λ o. IsMade made m o) answered (subst (λ k. IsMade made k s.outcome) i (made_get made 0 settled m s all e)) in
-      let a = each_has (IsAnswerAt sent) made (record { number = m; line = bytes }) at has in
-      let same = (one.same m s a.request e a.found).1 in
-      (has_at _ made has, subst (λ c. IsReplyTo ends Good c bytes) (sym same) a.reply)

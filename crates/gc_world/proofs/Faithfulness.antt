@@ -1,6 +1,7 @@
 -- The report of a list of events is faithful. Two runs are *level* where they take the same steps, and as many bytes have gone
 -- of each front line.
 use Rattle.std.proofs.Common.{ℕ, List, length, refl, ◌≤◌, subst}
+use Rattle.gc_catalogue.specs.declared.call.Call.{Call}
 use Rattle.gc_client.specs.Rule.{ById, Windowed}
 use Rattle.gc_instrument.specs.State.{State, IsFittingState, restarted}
 use Rattle.gc_world.specs.declared.event.Event.{Event}
@@ -22,11 +23,12 @@ module _ (width : ℕ) (narrow : width ≤ 7) (opening : State) (events : List E
   level = level_at width narrow ends KeptFits reads (restarted opening) tt events
 
   -- a report of the run by ids is faithful
-  pub faithful : (r : Report) (up down : List ℕ) (client : Windowed) → IsFittingState (restarted opening) → AreOf width r up down client (played width opening events) → Faithful width opening events r
+  pub faithful : (r : Report) (up down : List ℕ) (client : Windowed Call) → IsFittingState (restarted opening) → AreOf width r up down client (played width opening events)
+      → Faithful width opening events r
   faithful r up down client good shows =
       let es = level.steps in
       let w = (run_by_ids width ends es (restarted opening)).wire in
-      let h : IsReport r w = subst (λ (v : World ById State). IsReport r v.wire) level.ids shows.reports in
+      let h : IsReport r w = subst (λ (v : World (ById Call) State). IsReport r v.wire) level.ids shows.reports in
       let one = one_for_one r w h (one_for_one_at width ends es (restarted opening)) in
       record {
         one_for_one = one;
@@ -39,17 +41,17 @@ module _ (width : ℕ) (narrow : width ≤ 7) (opening : State) (events : List E
       }
 
   -- by a report of the run by ids each request acted once
-  pub once : (r : Report) (up down : List ℕ) (client : Windowed) → IsFittingState (restarted opening) → AreOf width r up down client (played width opening events) → ActsOnce opening r
+  pub once : (r : Report) (up down : List ℕ) (client : Windowed Call) → IsFittingState (restarted opening) → AreOf width r up down client (played width opening events) → ActsOnce opening r
   once r up down client good shows =
       let es = level.steps in
       let w = (run_by_ids width ends es (restarted opening)).wire in
-      let h : IsReport r w = subst (λ (v : World ById State). IsReport r v.wire) level.ids shows.reports in
+      let h : IsReport r w = subst (λ (v : World (ById Call) State). IsReport r v.wire) level.ids shows.reports in
       acts_once r w h opening (execution_at width narrow ends IsFittingState exchange kept_of keeper refl es opening good)
 
   -- no list of a report of the run by ids is longer than the list of events
-  pub no_longer_than : (r : Report) (up down : List ℕ) (client : Windowed) → AreOf width r up down client (played width opening events) → IsNoLongerThan (length events) r
+  pub no_longer_than : (r : Report) (up down : List ℕ) (client : Windowed Call) → AreOf width r up down client (played width opening events) → IsNoLongerThan (length events) r
   no_longer_than r up down client shows =
       let es = level.steps in
       let w = (run_by_ids width ends es (restarted opening)).wire in
-      let h : IsReport r w = subst (λ (v : World ById State). IsReport r v.wire) level.ids shows.reports in
+      let h : IsReport r w = subst (λ (v : World (ById Call) State). IsReport r v.wire) level.ids shows.reports in
       no_longer r (played width opening events).wire shows.reports (length events) (played_within width opening events) (one_for_one r w h (one_for_one_at width ends es (restarted opening)))

@@ -10,7 +10,7 @@ use Rattle.gc_catalogue.specs.declared.call.Call.{Call}
 use Rattle.gc_client.specs.declared.pending.Pending.{Pending}
 use Rattle.gc_client.specs.declared.window.TheConstants.{WINDOW}
 use Rattle.gc_client.specs.Rule.{ById, Settlement, Outcome, Answered, Late, Lost, pending_of, lost, met, settle}
-use Rattle.gc_client.specs.OneForOne.{Asked, of_settled, of_pending}
+use Rattle.gc_client.specs.OneForOne.{Wanted, of_settled, of_pending}
 use Rattle.gc_instrument.specs.State.{State, restarted}
 use Rattle.gc_world.specs.declared.event.Event.{Event}
 use Rattle.gc_world.specs.declared.event.Event.TheVariants.{DownDeliver, DownBytes}
@@ -20,7 +20,7 @@ use Rattle.gc_world.specs.FirstReply.{IsDelivery, IsSentBefore, IsInTime, IsTooL
 use Rattle.gc_world.specs.Streams.{Streams, untouched, flows}
 use Rattle.gc_world.specs.Laws.{left_by_ids}
 use Rattle.gc_world.specs.Clients.{ends}
-use Rattle.gc_world.specs.World.{Sent, Numbered, Wire, World, Send, Down_deliver, requested, down_delivered, happens, run}
+use Rattle.gc_world.specs.World.{Sent, Numbered, Wire, World, Send, Down_deliver, requested, down_delivered, happens, run, call_line}
 use Rattle.gc_world.proofs.Agree.{Agree, agree_at, sound_at}
 use Rattle.gc_world.proofs.Flow.{taken, flow_run, flow_append, AreLevel, level_at, level_wire}
 use Rattle.gc_world.proofs.Delivering.{delivery_is}
@@ -47,46 +47,46 @@ matched : {A B C : Type 0} (f : A → C) (g : B → C) (xs : List A) (ys : List 
 matched f g xs ys n x e h = get_seen g ys n (f x) (ap (λ l. slice_get l n) (sym e) ∙ get_map f xs n x h)
 
 -- settling through place k settles the first k requests as lost, and the one at place k by the line
-settle_at : (k : ℕ) (line : List ℕ) (ps : List Pending) (p : Pending) → slice_get ps k ≡ Some p → settle k line ps ≡ map lost (take k ps) ++ met p line ∷ []
+settle_at : (k : ℕ) (line : List ℕ) (ps : List (Pending Call)) (p : Pending Call) → slice_get ps k ≡ Some p → settle k line ps ≡ map lost (take k ps) ++ met p line ∷ []
 settle_at k line [] p h = absurd (none_is_not p h)
 settle_at zero line (q ∷ ps) p h = ap (λ r. met r line ∷ []) (some_is q p h)
 settle_at (suc k) line (q ∷ ps) p h = ap (λ l. lost q ∷ l) (settle_at k line ps p h)
 
 -- the settlement, with this outcome, of a request with this target and this call
-abbrev ended_as : Outcome → Asked → Settlement
+abbrev ended_as : Outcome → Wanted Call → Settlement Call
 ended_as outcome a = record { target = a.target; call = a.call; outcome = outcome }
 
 -- where requests that wait and requests that were sent have the same targets and calls, their settlements as lost are the same
-lost_alike : (ps : List Pending) (rs : List Sent) → map of_pending ps ≡ map of_sent rs → map lost ps ≡ map (ended Lost) rs
+lost_alike : (ps : List (Pending Call)) (rs : List Sent) → map of_pending ps ≡ map of_sent rs → map lost ps ≡ map (ended Lost) rs
 lost_alike [] [] e = refl
 lost_alike [] (r ∷ rs) e = cc
 lost_alike (p ∷ ps) [] e = cc
 lost_alike (p ∷ ps) (r ∷ rs) e =
     let front : of_pending p ≡ of_sent r = cc in
     let tail : map of_pending ps ≡ map of_sent rs = cc in
-    ap₂ (λ (a : Asked) (l : List Settlement). ended_as Lost a ∷ l) front (lost_alike ps rs tail)
+    ap₂ (λ (a : Wanted Call) (l : List (Settlement Call)). ended_as Lost a ∷ l) front (lost_alike ps rs tail)
 
 -- where the settled requests, followed by those that wait, are the requests that were sent, those that wait are the ones sent
 -- after the settled ones
-waiting_alike : (settled : List Settlement) (waiting : List Pending) (sent : List Sent) → map of_settled settled ++ map of_pending waiting ≡ map of_sent sent
+waiting_alike : (settled : List (Settlement Call)) (waiting : List (Pending Call)) (sent : List Sent) → map of_settled settled ++ map of_pending waiting ≡ map of_sent sent
     → map of_pending waiting ≡ map of_sent (drop (length settled) sent)
 waiting_alike settled waiting sent e =
     sym (drop-append_seam (map of_settled settled) (map of_pending waiting)) ∙ ap (drop (length (map of_settled settled))) e ∙ ap (λ k. drop k (map of_sent sent)) (length-map settled of_settled)
     ∙ drop-map of_sent (length settled) sent
 
 -- the outcome that a reply line gives a request that waits: late where it was given up, else the answer
-abbrev outcome_of : Pending → List ℕ → Outcome
+abbrev outcome_of : Pending Call → List ℕ → Outcome
 outcome_of p line = cond p.given_up Late (Answered line)
 
 -- a reply with this line to request n, which the client has as p, settles the requests before n as lost and then n itself, which
 -- is one that was sent
-pub record IsGained (settled : List Settlement) (waiting : List Pending) (sent : List Sent) (n : ℕ) (line : List ℕ) (p : Pending) : Type 0 where
+pub record IsGained (settled : List (Settlement Call)) (waiting : List (Pending Call)) (sent : List Sent) (n : ℕ) (line : List ℕ) (p : Pending Call) : Type 0 where
   pub request : Sent
   pub found : slice_get sent n ≡ Some request
   pub gained : settle (n - length settled) line waiting ≡ map (ended Lost) (between (length settled) n sent) ++ ended (outcome_of p line) request ∷ []
 
 -- `IsGained` holds where the settlements and those that wait are the requests that were sent, and p waits as request n
-gained : (settled : List Settlement) (waiting : List Pending) (sent : List Sent) (n : ℕ) (line : List ℕ) (p : Pending)
+gained : (settled : List (Settlement Call)) (waiting : List (Pending Call)) (sent : List Sent) (n : ℕ) (line : List ℕ) (p : Pending Call)
     → map of_settled settled ++ map of_pending waiting ≡ map of_sent sent → length settled ≤ n → slice_get waiting (n - length settled) ≡ Some p
     → IsGained settled waiting sent n line p
 gained settled waiting sent n line p whole le h =
@@ -100,14 +100,14 @@ gained settled waiting sent n line p whole le h =
       found = sym (slice_drop m sent n le) ∙ some.1;
       gained =
           settle_at k line waiting p h
-          ∙ ap₂ (λ (l : List Settlement) (a : Asked). l ++ ended_as (outcome_of p line) a ∷ []) (lost_alike (take k waiting) (take k (drop m sent)) first) (sym some.2);
+          ∙ ap₂ (λ (l : List (Settlement Call)) (a : Wanted Call). l ++ ended_as (outcome_of p line) a ∷ []) (lost_alike (take k waiting) (take k (drop m sent)) first) (sym some.2);
     }
 
 -- The run by numbers.
 
 module _ (width : ℕ) where
   -- delivering a reply to a request that isn't settled settles it and those before it
-  delivered : (w : World ByNumber State) (x : Numbered (List ℕ)) (rest : List (Numbered (List ℕ))) → w.wire.down ≡ x ∷ rest → w.client.count ≤ x.number
+  delivered : (w : World (ByNumber Call) State) (x : Numbered (List ℕ)) (rest : List (Numbered (List ℕ))) → w.wire.down ≡ x ∷ rest → w.client.count ≤ x.number
       → (happens ends (by_numbers width) w Down_deliver).wire.settled ≡ w.wire.settled ++ settle (x.number - w.client.count) x.line
       (drop w.client.count w.client.requests)
   delivered w x rest e le =
@@ -115,14 +115,14 @@ module _ (width : ℕ) where
       ∙ ap (λ old. w.wire.settled ++ (number_reply w.client x old).settlements) (le-ltb x.number w.client.count le)
 
   -- delivering a reply to a request that is settled settles nothing
-  delivered_again : (w : World ByNumber State) (x : Numbered (List ℕ)) (rest : List (Numbered (List ℕ))) → w.wire.down ≡ x ∷ rest → x.number < w.client.count
+  delivered_again : (w : World (ByNumber Call) State) (x : Numbered (List ℕ)) (rest : List (Numbered (List ℕ))) → w.wire.down ≡ x ∷ rest → x.number < w.client.count
       → (happens ends (by_numbers width) w Down_deliver).wire.settled ≡ w.wire.settled
   delivered_again w x rest e lt =
       ap (λ q. (down_delivered (by_numbers width) w q).wire.settled) e
       ∙ ap (λ old. w.wire.settled ++ (number_reply w.client x old).settlements) (lt-ltb x.number w.client.count lt) ∙ append-nil w.wire.settled
 
   -- a send that isn't refused puts its request at the end of the client's list: its place is how many requests were sent before
-  sent_entry : (w : World ByNumber State) (target : ℕ) (call : Call) (deadline : ℕ) (full : Bool) → length w.client.requests ≡ length w.wire.sent
+  sent_entry : (w : World (ByNumber Call) State) (target : ℕ) (call : Call) (deadline : ℕ) (full : Bool) → length w.client.requests ≡ length w.wire.sent
       → length (requested w target call (number_send w.client target call deadline full)).wire.sent ≡ length w.wire.sent + 1
       → slice_get (requested w target call (number_send w.client target call deadline full)).client.requests (length w.wire.sent) ≡ Some
       (pending_of target call deadline)
@@ -132,11 +132,11 @@ module _ (width : ℕ) where
 
 module _ (width : ℕ) (narrow : width ≤ WINDOW) (opening : State) where
   -- the streams that the run by ids of these events leaves
-  abbrev seen_by : List Event → Streams ById State
+  abbrev seen_by : List Event → Streams (ById Call) State
   seen_by events = streams_by_ids width ends events (restarted opening)
 
   -- the streams that the run by numbers of these events leaves
-  abbrev counted_by : List Event → Streams ByNumber State
+  abbrev counted_by : List Event → Streams (ByNumber Call) State
   counted_by events = streams_by_numbers width ends events (restarted opening)
 
   -- the two runs of these events are level
@@ -156,12 +156,12 @@ module _ (width : ℕ) (narrow : width ≤ WINDOW) (opening : State) where
   counted_more events e = flow_append ends (by_numbers width) events (e ∷ []) (untouched (numbers_open (restarted opening)))
 
   -- the streams after the earlier events and then the send of a request, in the run by numbers
-  abbrev behind : (earlier : List Event) (target : ℕ) (call : Call) (deadline : ℕ) → Streams ByNumber State
+  abbrev behind : (earlier : List Event) (target : ℕ) (call : Call) (deadline : ℕ) → Streams (ByNumber Call) State
   behind earlier target call deadline = flows ends (by_numbers width) (counted_by earlier) (event.Send target call deadline)
 
   -- the request that this send made, as the client that is told the numbers has it after these later events, while it isn't
   -- settled
-  abbrev mark_of : (earlier : List Event) (target : ℕ) (call : Call) (deadline : ℕ) (later : List Event) → Pending
+  abbrev mark_of : (earlier : List Event) (target : ℕ) (call : Call) (deadline : ℕ) (later : List Event) → Pending Call
   mark_of earlier target call deadline later = marked_all ends (by_numbers width) later (behind earlier target call deadline) (pending_of target call deadline)
 
   -- while request n isn't settled, the client that is told the numbers has it at place n as `mark_of` says
@@ -176,19 +176,19 @@ module _ (width : ℕ) (narrow : width ≤ WINDOW) (opening : State) where
       let steps = taken ends (by_numbers width) later b in
       let here : length v.wire.sent ≡ n = ap (λ (u : Wire State). length u.sent) (sym (wire_in s.earlier)) ∙ s.number in
       let more : length w.wire.sent ≡ length v.wire.sent + 1 =
-      ap (λ (u : Streams ByNumber State). length u.world.wire.sent) (sym (counted_more s.earlier e)) ∙ ap (λ (u : Wire State). length u.sent) (sym (wire_in (s.earlier ++ e ∷ [])))
+      ap (λ (u : Streams (ByNumber Call) State). length u.world.wire.sent) (sym (counted_more s.earlier e)) ∙ ap (λ (u : Wire State). length u.sent) (sym (wire_in (s.earlier ++ e ∷ [])))
       ∙ s.taken ∙ ap (λ m. m + 1) (sym here) in
       let full = eqb (length v.client.requests - v.client.count) width in
       let at : slice_get w.client.requests n ≡ Some (pending_of s.target s.call deadline) =
       ap (slice_get w.client.requests) (sym here) ∙ sent_entry width v s.target s.call deadline full (sound_in s.earlier).counted more in
       let whole : (counted_by events).world ≡ run ends (by_numbers width) steps w =
       ap (λ es. (counted_by es).world) s.order
-      ∙ ap (λ (u : Streams ByNumber State). u.world) (flow_append ends (by_numbers width) s.earlier (e ∷ later) (untouched (numbers_open (restarted opening))))
+      ∙ ap (λ (u : Streams (ByNumber Call) State). u.world) (flow_append ends (by_numbers width) s.earlier (e ∷ later) (untouched (numbers_open (restarted opening))))
       ∙ flow_run ends (by_numbers width) later b in
       let unsettled : (counted_by events).world.client.count ≤ n = omega (arith, (sound_in events).booked, ap (λ (u : Wire State). length u.settled) (wire_in events), le) in
-      subst (λ (u : World ByNumber State). slice_get u.client.requests n ≡ Some (mark_of s.earlier s.target s.call deadline later)) (sym whole)
+      subst (λ (u : World (ByNumber Call) State). slice_get u.client.requests n ≡ Some (mark_of s.earlier s.target s.call deadline later)) (sym whole)
       (entry_all width ends KeptFits reads steps w n (pending_of s.target s.call deadline)
-      (sound_step width ends KeptFits reads v (Send s.target s.call deadline) (sound_in s.earlier)) at (subst (λ (u : World ByNumber State). u.client.count ≤ n) whole unsettled))
+      (sound_step width ends KeptFits call_line reads v (Send s.target s.call deadline) (sound_in s.earlier)) at (subst (λ (u : World (ByNumber Call) State). u.client.count ≤ n) whole unsettled))
 
   -- an event that delivers the front reply leaves in the run by ids the settlements that the step `Down_deliver` leaves in the
   -- run by numbers
@@ -197,15 +197,15 @@ module _ (width : ℕ) (narrow : width ≤ WINDOW) (opening : State) where
       (happens ends (by_numbers width) (counted_by events).world Down_deliver).wire.settled
   delivered_by events delivery is x rest front =
       let one : left_by_ids width opening (events ++ delivery ∷ []) ≡ left_by_ids width opening (events ++ DownDeliver ∷ []) =
-      ap (λ (v : Streams ById State). v.world.wire)
+      ap (λ (v : Streams (ById Call) State). v.world.wire)
       (flow_append ends (by_ids width ends) events (delivery ∷ []) (untouched (ids_open (restarted opening)))
       ∙ delivery_is ends (by_ids width ends) (seen_by events) delivery is
       ∙ sym (flow_append ends (by_ids width ends) events (DownDeliver ∷ []) (untouched (ids_open (restarted opening))))) in
-      ap (λ (u : Wire State). u.settled) (one ∙ wire_in (events ++ DownDeliver ∷ [])) ∙ ap (λ (u : Streams ByNumber State). u.world.wire.settled) (counted_more events DownDeliver)
+      ap (λ (u : Wire State). u.settled) (one ∙ wire_in (events ++ DownDeliver ∷ [])) ∙ ap (λ (u : Streams (ByNumber Call) State). u.world.wire.settled) (counted_more events DownDeliver)
 
   -- where the client that is told the numbers has p as request n, the delivery of the reply settles the request: as late where
   -- p was given up, else as answered
-  settled_at : (events : List Event) (n : ℕ) (line : List ℕ) (p : Pending) → slice_get (counted_by events).world.client.requests n ≡ Some p
+  settled_at : (events : List Event) (n : ℕ) (line : List ℕ) (p : Pending Call) → slice_get (counted_by events).world.client.requests n ≡ Some p
       → DeliverySettles width opening events n line (outcome_of p line)
   settled_at events n line p h delivery is next =
       let l = level events in
@@ -213,25 +213,25 @@ module _ (width : ℕ) (narrow : width ≤ WINDOW) (opening : State) where
       let same : (seen_by events).world ≡ a = l.ids in
       let b = (counted_by events).world in
       let agree = subst (Agree width narrow ends KeptFits a) (sym l.numbers) (agree_at width narrow ends KeptFits reads l.steps (restarted opening) tt) in
-      let front : a.wire.down ≡ record { number = n; line = line } ∷ next.behind = ap (λ (u : World ById State). u.wire.down) (sym same) ∙ next.front in
-      let unsettled : length a.wire.settled ≤ n = subst (λ (u : World ById State). length u.wire.settled ≤ n) same next.unsettled in
+      let front : a.wire.down ≡ record { number = n; line = line } ∷ next.behind = ap (λ (u : World (ById Call) State). u.wire.down) (sym same) ∙ next.front in
+      let unsettled : length a.wire.settled ≤ n = subst (λ (u : World (ById Call) State). length u.wire.settled ≤ n) same next.unsettled in
       let count : b.client.count ≡ length a.wire.settled = sym (sound_in events).booked ∙ ap (λ (u : Wire State). length u.settled) (sym agree.wire) in
       let window = agree.client.window in
       let place : slice_get a.client.waiting (n - length a.wire.settled) ≡ Some p =
       ap (λ m. slice_get a.client.waiting (n - m)) (sym count) ∙ ap (λ ps. slice_get ps (n - b.client.count)) window
       ∙ slice_drop b.client.count b.client.requests n (omega (arith, count, unsettled)) ∙ h in
-      let gain = gained a.wire.settled a.client.waiting a.wire.sent n line p (whole_at width ends l.steps (restarted opening)) unsettled place in
+      let gain = gained a.wire.settled a.client.waiting a.wire.sent n line p (whole_at width ends call_line l.steps (restarted opening)) unsettled place in
       let x : Numbered (List ℕ) = record { number = n; line = line } in
       let down : b.wire.down ≡ x ∷ next.behind = ap (λ (u : Wire State). u.down) (sym agree.wire) ∙ front in
       let after : (left_by_ids width opening (events ++ delivery ∷ [])).settled ≡ b.wire.settled ++ settle (n - b.client.count) line (drop b.client.count b.client.requests) =
       delivered_by events delivery is x next.behind next.front
       ∙ delivered width b x next.behind down (omega (arith, count, unsettled)) in
-      subst (λ (u : World ById State). IsSettledAs u.wire (left_by_ids width opening (events ++ delivery ∷ [])) n (outcome_of p line)) (sym same)
+      subst (λ (u : World (ById Call) State). IsSettledAs u.wire (left_by_ids width opening (events ++ delivery ∷ [])) n (outcome_of p line)) (sym same)
       (record {
         request = gain.request;
         found = gain.found;
         settled =
-            after ∙ ap₂ (λ (u : Wire State) (ps : List Pending). u.settled ++ settle (n - b.client.count) line ps) (sym agree.wire) (sym window)
+            after ∙ ap₂ (λ (u : Wire State) (ps : List (Pending Call)). u.settled ++ settle (n - b.client.count) line ps) (sym agree.wire) (sym window)
             ∙ ap (λ m. a.wire.settled ++ settle (n - m) line a.client.waiting) count ∙ ap (λ l. a.wire.settled ++ l) gain.gained
             ∙ sym (append_assoc a.wire.settled (map (ended Lost) (between (length a.wire.settled) n a.wire.sent)) (ended (outcome_of p line) gain.request ∷ []));
       })

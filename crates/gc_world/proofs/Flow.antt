@@ -1,6 +1,7 @@
 -- What holds of the steps of a run holds of its events: each event is some steps.
 use Rattle.std.proofs.Common.{◌≡◌, ℕ, ◌≤◌, List, [], ◌∷◌, ◌++◌, refl, sym, ◌∙◌, ap, subst}
 use mathlib.Core.Path.{ap₂}
+use Rattle.gc_catalogue.specs.declared.call.Call.{Call}
 use Rattle.gc_client.specs.Rule.{ById}
 use Rattle.gc_world.specs.declared.event.Event.{Event}
 use Rattle.gc_world.specs.Clients.{ByNumber, by_ids, by_numbers, ids_open, numbers_open, run_by_ids, run_by_numbers, streams_by_ids, streams_by_numbers}
@@ -34,7 +35,7 @@ module _ {Client State : Type 0} (ends : Ends State) (rule : Rule Client) where
 
 module _ {State : Type 0} (width : ℕ) (narrow : width ≤ 7) (ends : Ends State) (Good : State → Type 0) (ex : IsExchange ends Good) (state : State) (good : Good state) where
   -- the two streams come of the same steps, by ids and by numbers, and as much has gone of each front line
-  pub record AreLevel (a : Streams ById State) (b : Streams ByNumber State) : Type 0 where
+  pub record AreLevel (a : Streams (ById Call) State) (b : Streams (ByNumber Call) State) : Type 0 where
     pub steps : List Step
     pub ids : a.world ≡ run_by_ids width ends steps state
     pub numbers : b.world ≡ run_by_numbers width ends steps state
@@ -42,19 +43,19 @@ module _ {State : Type 0} (width : ℕ) (narrow : width ≤ 7) (ends : Ends Stat
     pub down_gone : a.down_gone ≡ b.down_gone
 
   -- level streams have the same wire
-  pub level_wire : (a : Streams ById State) (b : Streams ByNumber State) → AreLevel a b → a.world.wire ≡ b.world.wire
+  pub level_wire : (a : Streams (ById Call) State) (b : Streams (ByNumber Call) State) → AreLevel a b → a.world.wire ≡ b.world.wire
   level_wire a b h =
-      ap (λ (w : World ById State). w.wire) h.ids ∙ same_wire width narrow ends Good ex h.steps state good
-      ∙ sym (ap (λ (w : World ByNumber State). w.wire) h.numbers)
+      ap (λ (w : World (ById Call) State). w.wire) h.ids ∙ same_wire width narrow ends Good ex h.steps state good
+      ∙ sym (ap (λ (w : World (ByNumber Call) State). w.wire) h.numbers)
 
   -- on level streams an event makes the same steps, and as many bytes have gone of each front line afterwards
-  same_course : (a : Streams ById State) (b : Streams ByNumber State) (e : Event) → AreLevel a b → course_on a e ≡ course_on b e
+  same_course : (a : Streams (ById Call) State) (b : Streams (ByNumber Call) State) (e : Event) → AreLevel a b → course_on a e ≡ course_on b e
   same_course a b e h =
       ap (λ (w : Wire State). course (up_lines w) (down_lines w) a.up_gone a.down_gone e) (level_wire a b h)
       ∙ ap₂ (λ n m. course (up_lines b.world.wire) (down_lines b.world.wire) n m e) h.up_gone h.down_gone
 
   -- each event keeps streams level
-  level : (a : Streams ById State) (b : Streams ByNumber State) (e : Event) → AreLevel a b → AreLevel (flows ends (by_ids width ends) a e) (flows ends (by_numbers width) b e)
+  level : (a : Streams (ById Call) State) (b : Streams (ByNumber Call) State) (e : Event) → AreLevel a b → AreLevel (flows ends (by_ids width ends) a e) (flows ends (by_numbers width) b e)
   level a b e h =
       let c = course_on b e in
       subst (λ (d : Course). AreLevel (record { world = run ends (by_ids width ends) d.steps a.world; up_gone = d.up_gone; down_gone = d.down_gone })
@@ -68,7 +69,7 @@ module _ {State : Type 0} (width : ℕ) (narrow : width ≤ 7) (ends : Ends Stat
       })
 
   -- events keep streams level
-  levels : (es : List Event) (a : Streams ById State) (b : Streams ByNumber State) → AreLevel a b → AreLevel (flow ends (by_ids width ends) es a) (flow ends (by_numbers width) es b)
+  levels : (es : List Event) (a : Streams (ById Call) State) (b : Streams (ByNumber Call) State) → AreLevel a b → AreLevel (flow ends (by_ids width ends) es a) (flow ends (by_numbers width) es b)
   levels [] a b h = h
   levels (e ∷ es) a b h = levels es (flows ends (by_ids width ends) a e) (flows ends (by_numbers width) b e) (level a b e h)
 

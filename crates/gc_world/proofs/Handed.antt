@@ -6,6 +6,7 @@ use mathlib.Core.Path.{ap₂}
 use Rattle.std.specs.Prelude.{replicate, IsTrue, ◌↔◌}
 use Rattle.std.proofs.lemmas.Bool.{cases_lt, le-ltb}
 use Rattle.gc_lines.specs.Lines.{with_end}
+use Rattle.gc_catalogue.specs.declared.call.Call.{Call}
 use Rattle.gc_client.specs.Rule.{ById, fits, heard, hears, place_in, id_settled}
 use Rattle.gc_instrument.specs.State.{State}
 use Rattle.gc_world.specs.declared.direction.Direction.{Direction}
@@ -36,12 +37,12 @@ none_under_way gone [] part e = (refl, part)
 none_under_way gone (line ∷ lines) part e = absurd (omega (arith, part, e))
 
 -- a line that no request waits for leaves the client as it is
-stray_same : (c : ById) (line : List ℕ) (o : Option ℕ) → fits c o ≡ false → (hears c line o).client ≡ c
+stray_same : (c : ById Call) (line : List ℕ) (o : Option ℕ) → fits c o ≡ false → (hears c line o).client ≡ c
 stray_same c line None e = refl
 stray_same c line (Some id) e = ap (λ b. (id_settled c line (place_in c id) b).client) e
 
 -- One turn of that loop: n bytes of the direction d are to go over on the streams v, and `used` of them complete the front line.
-module _ (width : ℕ) (d : Direction) (v : Streams ById State) where
+module _ (width : ℕ) (d : Direction) (v : Streams (ById Call) State) where
   -- the front line takes `used` of the n bytes: the cut at all n bytes is the cut of the lines behind that line at the n - used
   -- others, and one line more
   record IsNext (n used : ℕ) : Type 0 where
@@ -67,7 +68,7 @@ module _ (width : ℕ) (d : Direction) (v : Streams ById State) where
       }
 
   -- the streams after the delivery of the front line
-  abbrev after : Streams ById State
+  abbrev after : Streams (ById Call) State
   after = reaches d v (does width v.world (deliver d)) 0
 
   -- handing over n bytes is delivering the front line, and then handing over the n - used others
@@ -86,7 +87,7 @@ module _ (width : ℕ) (d : Direction) (v : Streams ById State) where
   next_idle : (n used : ℕ) → IsNext n used → (goes_on width v (delivery d)).world.wire.idle ≡ v.world.wire.idle
   next_idle n used h =
       let some : length (texts d v.world.wire) ≡ suc (length h.behind) = ap length h.front in
-      ap (λ (x : Streams ById State). x.world.wire.idle) (delivered ends (by_ids width ends) d v) ∙ not_idle ends (by_ids width ends) d v.world (omega (arith, some))
+      ap (λ (x : Streams (ById Call) State). x.world.wire.idle) (delivered ends (by_ids width ends) d v) ∙ not_idle ends (by_ids width ends) d v.world (omega (arith, some))
 
   -- where no byte is under way, handing over bytes changes nothing
   ended : (n : ℕ) → IsPart (gone d v) (lines d v.world.wire) → remaining (gone d v) (lines d v.world.wire) ≡ 0 → handed width d v n ≡ v
@@ -95,7 +96,7 @@ module _ (width : ℕ) (d : Direction) (v : Streams ById State) where
       ap (λ q. to ends (by_ids width ends) d v (cut q (gone d v + n))) none.0 ∙ ap (reaches d v v.world) (sym none.1) ∙ reaches_same d v
 
 -- A delivery that takes no memory: upward there is none, and downward it is one of a stray.
-module _ (width : ℕ) (v : Streams ById State) where
+module _ (width : ℕ) (v : Streams (ById Call) State) where
   -- bytes upward that take no memory complete no line
   next_takes : (n used : ℕ) → IsNext width Up v n used → TakesNone width v (bytes Up n) → ⊥
   next_takes n used h z =
@@ -121,24 +122,24 @@ module _ (width : ℕ) (v : Streams ById State) where
 
 -- where the bytes of an event take no memory, neither does the delivery of the front line nor do the other bytes, in either
 -- direction
-spared : (width : ℕ) (d : Direction) (v : Streams ById State) (n used : ℕ) → IsNext width d v n used → TakesNone width v (bytes d n)
+spared : (width : ℕ) (d : Direction) (v : Streams (ById Call) State) (n used : ℕ) → IsNext width d v n used → TakesNone width v (bytes d n)
     → TakesNone width v (delivery d) × TakesNone width (goes_on width v (delivery d)) (bytes d (n - used))
 spared width Up v n used h t = absurd (next_takes width v n used h t)
 spared width Down v n used h t = next_strays width v n used h v.world.wire.down refl t
 
 -- the streams once some of n bytes were handed over: handing over those left leads where handing over all n leads
-pub record IsReached (width : ℕ) (d : Direction) (s : Seen) (v : Streams ById State) (n left : ℕ) : Type 0 where
-  pub now : Streams ById State
+pub record IsReached (width : ℕ) (d : Direction) (s : Seen) (v : Streams (ById Call) State) (n left : ℕ) : Type 0 where
+  pub now : Streams (ById Call) State
   pub shows : AreStreamsOf width s now
   pub same : handed width d now left ≡ handed width d v n
   pub spare : TakesNone width v (bytes d n) → TakesNone width now (bytes d left)
   pub idle : now.world.wire.idle ≡ v.world.wire.idle
 
 -- `IsReached` holds before any byte was handed over
-pub reached : (width : ℕ) (d : Direction) (s : Seen) (v : Streams ById State) (n : ℕ) → AreStreamsOf width s v → IsReached width d s v n n
+pub reached : (width : ℕ) (d : Direction) (s : Seen) (v : Streams (ById Call) State) (n : ℕ) → AreStreamsOf width s v → IsReached width d s v n n
 reached width d s v n h = record { now = v; shows = h; same = refl; spare = λ t. t; idle = refl }
 
-module _ (width : ℕ) (d : Direction) (s : Seen) (v : Streams ById State) (n left : ℕ) (h : IsReached width d s v n left) where
+module _ (width : ℕ) (d : Direction) (s : Seen) (v : Streams (ById Call) State) (n left : ℕ) (h : IsReached width d s v n left) where
   -- `IsReached` holds also once one more line was delivered
   pub reaches_next : (t : Seen) (used : ℕ) → used ≡ remaining (gone d h.now) (lines d h.now.world.wire) → 0 < used → used ≤ left
       → AreStreamsOf width t (goes_on width h.now (delivery d)) → IsReached width d t v n (left - used)
@@ -181,7 +182,7 @@ runs_out b (suc r) l iff e le = absurd (is_not b (iff.1 (omega arith, least (suc
         by_either (inr le1) = le1
 
 -- an event of n bytes leads to the streams that `handed` gives, where n isn't 0 and bytes are under way
-pub under_way : (width : ℕ) (d : Direction) (v : Streams ById State) (n r : ℕ) → r ≡ remaining (gone d v) (lines d v.world.wire) → (n ≡ 0 → ⊥) → (r ≡ 0 → ⊥)
+pub under_way : (width : ℕ) (d : Direction) (v : Streams (ById Call) State) (n r : ℕ) → r ≡ remaining (gone d v) (lines d v.world.wire) → (n ≡ 0 → ⊥) → (r ≡ 0 → ⊥)
     → goes_on width v (bytes d n) ≡ handed width d v n
 under_way width d v n r e not none = bytes_pass ends (by_ids width ends) d v n ∙ by_cases n (lines d v.world.wire) not (λ z. none (e ∙ z))
   where

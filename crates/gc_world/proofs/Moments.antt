@@ -2,6 +2,7 @@
 use Rattle.std.proofs.Common.{◌≡◌, ℕ, zero, suc, ◌+◌, ◌<◌, ◌≤◌, ◌||◌, Bool, true, false, cond, List, [], ◌∷◌, ◌++◌, ◌⊎◌, inl, inr, Contains, refl, sym, ◌∙◌, ap, subst, arith, leb}
 use Rattle.std.specs.Prelude.{replicate}
 use Rattle.std.proofs.lemmas.Bool.{le-leb, lt-leb, leb-true, leb-false}
+use Rattle.gc_catalogue.specs.declared.call.Call.{Call}
 use Rattle.gc_client.specs.declared.pending.Pending.{Pending}
 use Rattle.gc_world.specs.declared.event.Event.{Event}
 use Rattle.gc_world.specs.declared.event.Event.TheVariants.{Send, UpDeliver, UpBytes, UpLose, UpRepeat, DownDeliver, DownBytes, DownLose, DownRepeat, Expire, RestartClient, RestartInstrument}
@@ -13,14 +14,14 @@ use Rattle.gc_world.proofs.Marks.{touched, touched_all}
 
 -- an event makes q of a request p that waits: the deadline stays; q is given up if p was, or if the event is a moment at or
 -- past the deadline; and else it isn't
-pub record IsTouched (e : Event) (p q : Pending) : Type 0 where
+pub record IsTouched (e : Event) (p q : Pending Call) : Type 0 where
   pub deadline : q.deadline ≡ p.deadline
   pub stays : p.given_up ≡ true → q.given_up ≡ true
   pub early : p.given_up ≡ false → ((now : ℕ) → e ≡ Expire now → now < p.deadline) → q.given_up ≡ false
   pub reached : (now : ℕ) → e ≡ Expire now → p.deadline ≤ now → q.given_up ≡ true
 
 -- an event that is no moment leaves a request as it is
-tells_none : (e : Event) (p : Pending) → ((now : ℕ) → e ≡ Expire now → ⊥) → IsTouched e p p
+tells_none : (e : Event) (p : Pending Call) → ((now : ℕ) → e ≡ Expire now → ⊥) → IsTouched e p p
 tells_none e p none = record { deadline = refl; stays = λ g. g; early = λ g h. g; reached = λ now is le. absurd (none now is) }
 
 -- equal `Expire` events have the same moment
@@ -39,40 +40,40 @@ or_false false = refl
 
 -- a step leaves every request that waits as it is
 abbrev IsQuiet : Step → Type 0
-IsQuiet step = (p : Pending) → touched step p ≡ p
+IsQuiet step = (p : Pending Call) → touched step p ≡ p
 
 -- a quiet step leaves requests as they are, and so does doing nothing in its place (b true)
-quiet_line : (k gone : ℕ) (step : Step) (p : Pending) (b : Bool) → IsQuiet step → touched_all (cond b World.Nothing step ∷ []) p ≡ p
+quiet_line : (k gone : ℕ) (step : Step) (p : Pending Call) (b : Bool) → IsQuiet step → touched_all (cond b World.Nothing step ∷ []) p ≡ p
 quiet_line k gone step p true q = refl
 quiet_line k gone step p false q = q p
 
 -- a quiet step made k times leaves requests as they are
-quiet_all : (step : Step) (k : ℕ) (p : Pending) → IsQuiet step → touched_all (replicate k step) p ≡ p
+quiet_all : (step : Step) (k : ℕ) (p : Pending Call) → IsQuiet step → touched_all (replicate k step) p ≡ p
 quiet_all step zero p q = refl
 quiet_all step (suc k) p q = ap (touched_all (replicate k step)) (q p) ∙ quiet_all step k p q
 
 -- the bytes of an event whose step is quiet leave requests as they are
-quiet_passed : (step : Step) (lines : List (List ℕ)) (gone k : ℕ) (p : Pending) → IsQuiet step → touched_all (passed step lines gone k) p ≡ p
+quiet_passed : (step : Step) (lines : List (List ℕ)) (gone k : ℕ) (p : Pending Call) → IsQuiet step → touched_all (passed step lines gone k) p ≡ p
 quiet_passed step [] gone k p q = refl
 quiet_passed step (line ∷ lines) gone zero p q = refl
 quiet_passed step (line ∷ lines) gone (suc k) p q = quiet_all step (cut (line ∷ lines) (gone + suc k)).lines p q
 
 -- what steps and then others make of a request is what all of them make
-touched_append : (xs ys : List Step) (p : Pending) → touched_all (xs ++ ys) p ≡ touched_all ys (touched_all xs p)
+touched_append : (xs ys : List Step) (p : Pending Call) → touched_all (xs ++ ys) p ≡ touched_all ys (touched_all xs p)
 touched_append [] ys p = refl
 touched_append (x ∷ xs) ys p = touched_append xs ys (touched x p)
 
 -- where q equals p, `IsTouched e p p` gives `IsTouched e p q`
-still : (e : Event) (p q : Pending) → q ≡ p → IsTouched e p p → IsTouched e p q
+still : (e : Event) (p q : Pending Call) → q ≡ p → IsTouched e p p → IsTouched e p q
 still e p q is h = subst (λ x. IsTouched e p x) (sym is) h
 
 module _ {Client State : Type 0} (ends : Ends State) (rule : Rule Client) where
   -- what an event on these streams leaves of a request that waits
-  abbrev pub marked : Streams Client State → Event → Pending → Pending
+  abbrev pub marked : Streams Client State → Event → Pending Call → Pending Call
   marked v e p = touched_all (course_on v e).steps p
 
   -- each event touches a request as `IsTouched` says
-  touch : (v : Streams Client State) (e : Event) (p : Pending) → IsTouched e p (marked v e p)
+  touch : (v : Streams Client State) (e : Event) (p : Pending Call) → IsTouched e p (marked v e p)
   touch v (Expire now) p =
       record {
         deadline = refl;
@@ -112,40 +113,40 @@ module _ {A : Type 0} where
 
 module _ {Client State : Type 0} (ends : Ends State) (rule : Rule Client) where
   -- what these events leave of a request that waits
-  abbrev pub marked_all : List Event → Streams Client State → Pending → Pending
+  abbrev pub marked_all : List Event → Streams Client State → Pending Call → Pending Call
   marked_all es v p = touched_all (taken ends rule es v) p
 
   -- what one event and then others leave of a request is what the others leave of what the first one left
-  marked_more : (e : Event) (es : List Event) (v : Streams Client State) (p : Pending) → marked_all (e ∷ es) v p ≡ marked_all es (flows ends rule v e) (marked ends rule v e p)
+  marked_more : (e : Event) (es : List Event) (v : Streams Client State) (p : Pending Call) → marked_all (e ∷ es) v p ≡ marked_all es (flows ends rule v e) (marked ends rule v e p)
   marked_more e es v p = touched_append (course_on v e).steps (taken ends rule es (flows ends rule v e)) p
 
   -- a request that was given up stays so
-  stays_marked : (es : List Event) (v : Streams Client State) (p : Pending) → p.given_up ≡ true → (marked_all es v p).given_up ≡ true
+  stays_marked : (es : List Event) (v : Streams Client State) (p : Pending Call) → p.given_up ≡ true → (marked_all es v p).given_up ≡ true
   stays_marked [] v p g = g
-  stays_marked (e ∷ es) v p g = ap (λ (q : Pending). q.given_up) (marked_more e es v p) ∙ stays_marked es (flows ends rule v e) (marked ends rule v e p) ((touch ends rule v e p).stays g)
+  stays_marked (e ∷ es) v p g = ap (λ (q : Pending Call). q.given_up) (marked_more e es v p) ∙ stays_marked es (flows ends rule v e) (marked ends rule v e p) ((touch ends rule v e p).stays g)
 
   -- where no moment among the events reached its deadline, a request isn't given up
-  pub in_time : (es : List Event) (v : Streams Client State) (p : Pending) → p.given_up ≡ false → ((now : ℕ) → Contains es (Expire now) → now < p.deadline) → (marked_all es v p).given_up ≡ false
+  pub in_time : (es : List Event) (v : Streams Client State) (p : Pending Call) → p.given_up ≡ false → ((now : ℕ) → Contains es (Expire now) → now < p.deadline) → (marked_all es v p).given_up ≡ false
   in_time [] v p g h = g
   in_time (e ∷ es) v p g h =
       let t = touch ends rule v e p in
-      ap (λ (q : Pending). q.given_up) (marked_more e es v p)
+      ap (λ (q : Pending Call). q.given_up) (marked_more e es v p)
       ∙ in_time es (flows ends rule v e) (marked ends rule v e p) (t.early g (λ now is. h now (at_head e (Expire now) es is)))
       (λ now has. subst (λ d. now < d) (sym t.deadline) (h now (at_tail e (Expire now) es has)))
 
   -- the step of the induction in `too_late`: where a moment at or past the request's deadline is the event e, or among the events
   -- es, the request is given up; for es this is the premise
-  late_by : (e : Event) (es : List Event) (v : Streams Client State) (p : Pending) (now : ℕ) → p.deadline ≤ now
+  late_by : (e : Event) (es : List Event) (v : Streams Client State) (p : Pending Call) (now : ℕ) → p.deadline ≤ now
       → (Contains es (Expire now) → (marked_all es (flows ends rule v e) (marked ends rule v e p)).given_up ≡ true)
       → (e ≡ Expire now) ⊎ Contains es (Expire now) → (marked_all es (flows ends rule v e) (marked ends rule v e p)).given_up ≡ true
   late_by e es v p now le rest (inl is) = stays_marked es (flows ends rule v e) (marked ends rule v e p) ((touch ends rule v e p).reached now is le)
   late_by e es v p now le rest (inr has) = rest has
 
   -- where a moment among the events reached its deadline, a request is given up
-  pub too_late : (es : List Event) (v : Streams Client State) (p : Pending) (now : ℕ) → Contains es (Expire now) → p.deadline ≤ now → (marked_all es v p).given_up ≡ true
+  pub too_late : (es : List Event) (v : Streams Client State) (p : Pending Call) (now : ℕ) → Contains es (Expire now) → p.deadline ≤ now → (marked_all es v p).given_up ≡ true
   too_late [] v p now has le = absurd (none_in (Expire now) has)
   too_late (e ∷ es) v p now has le =
-      ap (λ (q : Pending). q.given_up) (marked_more e es v p)
+      ap (λ (q : Pending Call). q.given_up) (marked_more e es v p)
       ∙ late_by e es v p now le
       (λ more. too_late es (flows ends rule v e) (marked ends rule v e p) now more (subst (λ d. d ≤ now) (sym (touch ends rule v e p).deadline) le))
       (head_or_tail e (Expire now) es has)

@@ -13,7 +13,7 @@ use Rattle.gc_world.specs.Clients.{ByNumber, number_send, number_reply, by_numbe
 use Rattle.gc_world.specs.Exchange.{IsExchange, IsKeeper}
 use Rattle.gc_world.specs.Order.{Each, Rising, IsRecent, numbers}
 use Rattle.gc_world.specs.Record.{Increasing}
-use Rattle.gc_world.specs.World.{Request, Sent, Numbered, Ends, Step, World, Wire, without, doubled, replied, started, requested, with_settled, run}
+use Rattle.gc_world.specs.World.{Request, Sent, Numbered, Ends, Step, World, Wire, without, doubled, replied, started, requested, with_settled, run, call_line}
 use Rattle.gc_world.proofs.Booked.{Has, has_more, has_push}
 use Rattle.gc_world.proofs.Options.{some_is}
 use Rattle.gc_world.proofs.Places.{get_push}
@@ -161,11 +161,11 @@ module _ {State : Type 0} (width : ℕ) (narrow : width ≤ 7) (ends : Ends Stat
     pub each : Each (λ m. Has m w.made) replies
     pub begins : Each (λ x. x < length w.executed + 1) w.starts
     pub held : Held (kept w.state) top replies
-    pub lines : Each (IsOf w.sent) w.up
+    pub lines : Each (IsOf call_line w.sent) w.up
 
   -- each request was executed once: the executed numbers increase, they and those of the replies under way are below `top`, and
   -- `Above`, `IsLast` and `IsTold` hold of the wire with this `top`
-  pub record IsOnce (c : ByNumber) (w : Wire State) : Type 0 where
+  pub record IsOnce (c : ByNumber Call) (w : Wire State) : Type 0 where
     pub top : ℕ
     pub climbs : Increasing 0 w.executed
     pub below : Each (λ n. n < top) w.executed
@@ -176,7 +176,7 @@ module _ {State : Type 0} (width : ℕ) (narrow : width ≤ 7) (ends : Ends Stat
     pub told : IsTold w top
 
   -- the line keeps its order, and each request is executed once
-  pub record Once (w : World ByNumber State) : Type 0 where
+  pub record Once (w : World (ByNumber Call) State) : Type 0 where
     pub sound : Sound width ends Good w
     pub once : IsOnce w.client w.wire
 
@@ -185,7 +185,7 @@ module _ {State : Type 0} (width : ℕ) (narrow : width ≤ 7) (ends : Ends Stat
       → ends.handed w.state x.line.id x.line.call ≡ hd → kept_line (kept w.state) (Some x.line.id) ≡ None → IsTold w top → hd.executed ≡ true
       → IsTold (replied w x.number rest (record hd { executed = true })) (x.number + 1)
   told_new w x rest top q hd is none h exe =
-      let of = subst (λ l. Each (IsOf w.sent) l) q h.lines in
+      let of = subst (λ l. Each (IsOf call_line w.sent) l) q h.lines in
       let y : Numbered (List ℕ) = record { number = x.number; line = hd.reply } in
       let same_call = of.0.call in
       let m : x.number ≡ x.number + 1 - 1 = omega arith in
@@ -216,7 +216,7 @@ module _ {State : Type 0} (width : ℕ) (narrow : width ≤ 7) (ends : Ends Stat
       }
 
   -- `IsOnce` holds also once the front request, whose id isn't the kept one, was executed
-  once_new : (w : World ByNumber State) (x : Numbered Request) (rest : List (Numbered Request)) (hd : Handed State) → w.wire.up ≡ x ∷ rest
+  once_new : (w : World (ByNumber Call) State) (x : Numbered Request) (rest : List (Numbered Request)) (hd : Handed State) → w.wire.up ≡ x ∷ rest
       → ends.handed w.wire.state x.line.id x.line.call ≡ hd → kept_line (kept w.wire.state) (Some x.line.id) ≡ None → hd.executed ≡ true
       → Sound width ends Good w → IsOnce w.client w.wire → IsOnce w.client (replied w.wire x.number rest (record hd { executed = true }))
   once_new w x rest hd q is none exe s h =
@@ -241,7 +241,7 @@ module _ {State : Type 0} (width : ℕ) (narrow : width ≤ 7) (ends : Ends Stat
       }
 
   -- `IsOnce` holds also once the front request, whose id is the kept one, got the kept line again
-  once_again : (w : World ByNumber State) (x : Numbered Request) (rest : List (Numbered Request)) (line : List ℕ) → w.wire.up ≡ x ∷ rest
+  once_again : (w : World (ByNumber Call) State) (x : Numbered Request) (rest : List (Numbered Request)) (line : List ℕ) → w.wire.up ≡ x ∷ rest
       → kept_line (kept w.wire.state) (Some x.line.id) ≡ Some line → Sound width ends Good w → IsOnce w.client w.wire
       → IsOnce w.client (replied w.wire x.number rest (record { state = w.wire.state; reply = line; executed = false }))
   once_again w x rest line q is s h =
@@ -267,12 +267,12 @@ module _ {State : Type 0} (width : ℕ) (narrow : width ≤ 7) (ends : Ends Stat
           each = each_more (λ m. Has m w.wire.made) (λ m. Has m (w.wire.made ++ y ∷ [])) (λ m p. has_more m w.wire.made _ p) r.replies r.each;
           begins = r.begins;
           held = r.held;
-          lines = (subst (λ l. Each (IsOf w.wire.sent) l) q r.lines).1;
+          lines = (subst (λ l. Each (IsOf call_line w.wire.sent) l) q r.lines).1;
         };
       }
 
   -- `IsOnce` holds also once the front request was handed to the instrument
-  once_handed : (w : World ByNumber State) (x : Numbered Request) (rest : List (Numbered Request)) (hd : Handed State) (b : Bool) (o : Option (List ℕ))
+  once_handed : (w : World (ByNumber Call) State) (x : Numbered Request) (rest : List (Numbered Request)) (hd : Handed State) (b : Bool) (o : Option (List ℕ))
       → hd.executed ≡ b → w.wire.up ≡ x ∷ rest → ends.handed w.wire.state x.line.id x.line.call ≡ hd → kept_line (kept w.wire.state) (Some x.line.id) ≡ o
       → Sound width ends Good w → IsOnce w.client w.wire → IsOnce w.client (replied w.wire x.number rest hd)
   once_handed w x rest hd b (Some line) e q is o s h =
@@ -282,7 +282,7 @@ module _ {State : Type 0} (width : ℕ) (narrow : width ≤ 7) (ends : Ends Stat
       subst (λ v. IsOnce w.client (replied w.wire x.number rest (record hd { executed = v }))) (sym exe) (once_new w x rest hd q is o exe s h)
 
   -- `IsOnce` holds also once a client sent one more request, and its counts `since` and `count` are as before
-  once_sent : (w : World ByNumber State) (target : ℕ) (call : Call) (deadline : ℕ) (x : Sending ByNumber) → x.id < 8
+  once_sent : (w : World (ByNumber Call) State) (target : ℕ) (call : Call) (deadline : ℕ) (x : Sending (ByNumber Call)) → x.id < 8
       → length x.client.requests ≡ length w.client.requests + 1 → x.client.since ≡ w.client.since → x.client.count ≡ w.client.count → Sound width ends Good w
       → IsOnce w.client w.wire → IsOnce x.client (requested w target call (Some x)).wire
   once_sent w target call deadline x digit grows since count s h =
@@ -307,19 +307,19 @@ module _ {State : Type 0} (width : ℕ) (narrow : width ≤ 7) (ends : Ends Stat
           begins = t.begins;
           held = t.held;
           lines =
-              each_append _ w.wire.up _ (each_more _ _ (of_more w.wire.sent (r ∷ [])) w.wire.up t.lines)
+              each_append _ w.wire.up _ (each_more _ _ (of_more call_line w.wire.sent (r ∷ [])) w.wire.up t.lines)
               (record { request = r; found = get_push w.wire.sent r; small = digit; call = refl; text = refl }, tt);
         };
       }
 
   -- `IsOnce` holds also once the client that is told the numbers sent a request
-  once_send : (w : World ByNumber State) (target : ℕ) (call : Call) (deadline : ℕ) (full : Bool) (x : Sending ByNumber)
+  once_send : (w : World (ByNumber Call) State) (target : ℕ) (call : Call) (deadline : ℕ) (full : Bool) (x : Sending (ByNumber Call))
       → number_send w.client target call deadline full ≡ Some x → Sound width ends Good w → IsOnce w.client w.wire
       → IsOnce x.client (requested w target call (Some x)).wire
   once_send w target call deadline true x e s h = cc
   once_send w target call deadline false x e s h =
       let c = w.client in
-      let y : Sending ByNumber = record {
+      let y : Sending (ByNumber Call) = record {
         id = (length c.requests - c.since) % 8;
         client =
             record { count = c.count; requests = c.requests ++ pending_of target call deadline ∷ []; since = c.since };
@@ -328,12 +328,13 @@ module _ {State : Type 0} (width : ℕ) (narrow : width ≤ 7) (ends : Ends Stat
       (once_sent w target call deadline y (omega arith) (length_push c.requests (pending_of target call deadline)) refl refl s h)
 
   -- `IsTold` holds also with other queues, where each upward request is the one that was sent with its number
-  told_up : (w : Wire State) (top : ℕ) (up : List (Numbered Request)) (down : List (Numbered (List ℕ))) → Each (IsOf w.sent) up → IsTold w top → IsTold (record w { up = up; down = down }) top
+  told_up : (w : Wire State) (top : ℕ) (up : List (Numbered Request)) (down : List (Numbered (List ℕ))) → Each (IsOf call_line w.sent) up → IsTold w top
+      → IsTold (record w { up = up; down = down }) top
   told_up w top up down u t = record { replies = t.replies; replays = t.replays; among = t.among; each = t.each; begins = t.begins; held = t.held; lines = u }
 
   -- `IsOnce` holds also with other queues, of which its clauses hold
-  once_queues : (c : ByNumber) (w : Wire State) (up : List (Numbered Request)) (down : List (Numbered (List ℕ))) (h : IsOnce c w)
-      → Each (λ x. x.number < h.top) down → Above (kept w.state) c.since c.count h.top up → Each (IsOf w.sent) up → IsOnce c (record w { up = up; down = down })
+  once_queues : (c : ByNumber Call) (w : Wire State) (up : List (Numbered Request)) (down : List (Numbered (List ℕ))) (h : IsOnce c w)
+      → Each (λ x. x.number < h.top) down → Above (kept w.state) c.since c.count h.top up → Each (IsOf call_line w.sent) up → IsOnce c (record w { up = up; down = down })
   once_queues c w up down h d u l = record { top = h.top; last = h.last; climbs = h.climbs; below = h.below; sent = h.sent; made = d; above = u; told = told_up w h.top up down l h.told }
 
   -- `IsTold` holds also with other settlements, replies under way and counts
@@ -341,7 +342,7 @@ module _ {State : Type 0} (width : ℕ) (narrow : width ≤ 7) (ends : Ends Stat
   told_else w top settled down refused idle t = record { replies = t.replies; replays = t.replays; among = t.among; each = t.each; begins = t.begins; held = t.held; lines = t.lines }
 
   -- `IsOnce` holds also with other settlements and counts
-  once_else : (c : ByNumber) (w : Wire State) (settled : _) (refused idle : ℕ) → IsOnce c w → IsOnce c (record w { settled = settled; refused = refused; idle = idle })
+  once_else : (c : ByNumber Call) (w : Wire State) (settled : _) (refused idle : ℕ) → IsOnce c w → IsOnce c (record w { settled = settled; refused = refused; idle = idle })
   once_else c w settled refused idle h = record {
     top = h.top;
     last = h.last;
@@ -355,7 +356,7 @@ module _ {State : Type 0} (width : ℕ) (narrow : width ≤ 7) (ends : Ends Stat
   }
 
   -- `IsOnce` holds also once the front reply was delivered
-  once_reply : (w : World ByNumber State) (x : Numbered (List ℕ)) (rest : List (Numbered (List ℕ))) (old : Bool) → w.wire.down ≡ x ∷ rest
+  once_reply : (w : World (ByNumber Call) State) (x : Numbered (List ℕ)) (rest : List (Numbered (List ℕ))) (old : Bool) → w.wire.down ≡ x ∷ rest
       → IsOnce w.client w.wire → IsOnce (number_reply w.client x old).client (with_settled (record w.wire { down = rest }) (number_reply w.client x old)).wire
   once_reply w x rest true e h =
       let m = subst (λ q. Each (λ y. y.number < h.top) q) e h.made in
@@ -376,7 +377,7 @@ module _ {State : Type 0} (width : ℕ) (narrow : width ≤ 7) (ends : Ends Stat
       }
 
   -- `IsOnce` holds also once the instrument restarted while no request was under way, which makes it forget what it kept
-  once_forgotten : (c : ByNumber) (w : Wire State) (count since : ℕ) → w.up ≡ [] → IsOnce c w → IsOnce (record c { count = count; since = since }) (started ends w true)
+  once_forgotten : (c : ByNumber Call) (w : Wire State) (count since : ℕ) → w.up ≡ [] → IsOnce c w → IsOnce (record c { count = count; since = since }) (started ends w true)
   once_forgotten c w count since e h =
       let t = h.told in
       record {
@@ -399,7 +400,7 @@ module _ {State : Type 0} (width : ℕ) (narrow : width ≤ 7) (ends : Ends Stat
       }
 
   -- `IsOnce` holds also once the client got a moment
-  once_expired : (w : World ByNumber State) (now : ℕ) → IsOnce w.client w.wire → IsOnce ((by_numbers width).expire w.client now) w.wire
+  once_expired : (w : World (ByNumber Call) State) (now : ℕ) → IsOnce w.client w.wire → IsOnce ((by_numbers width).expire w.client now) w.wire
   once_expired w now h = record {
     top = h.top;
     last = h.last;
@@ -413,7 +414,7 @@ module _ {State : Type 0} (width : ℕ) (narrow : width ≤ 7) (ends : Ends Stat
   }
 
   -- `IsOnce` holds also once the client was restarted, and the instrument with it, while no request was under way
-  once_restarted : (w : World ByNumber State) → ends.joint ≡ true → w.wire.up ≡ [] → IsOnce w.client w.wire
+  once_restarted : (w : World (ByNumber Call) State) → ends.joint ≡ true → w.wire.up ≡ [] → IsOnce w.client w.wire
       → IsOnce ((by_numbers width).restart w.client).client (with_settled (started ends w.wire ends.joint) ((by_numbers width).restart w.client)).wire
   once_restarted w joint e h =
       let total = length w.client.requests in
@@ -422,9 +423,9 @@ module _ {State : Type 0} (width : ℕ) (narrow : width ≤ 7) (ends : Ends Stat
       (once_else (record w.client { count = total; since = total }) v _ v.refused v.idle (once_forgotten w.client w.wire total total e h))
 
   -- each elementary change keeps `Once`
-  keeps_once : ends.joint ≡ true → IsStable ends (by_numbers width) Once
+  keeps_once : ends.joint ≡ true → IsStable call_line ends (by_numbers width) Once
   keeps_once joint =
-      let k = keeps width ends Good ex in
+      let k = keeps width ends Good call_line ex in
       record {
         idles = λ w h. record { sound = k.idles w h.sound; once = once_else w.client w.wire w.wire.settled w.wire.refused (w.wire.idle + 1) h.once };
         refuses = λ w h. record { sound = k.refuses w h.sound; once = once_else w.client w.wire w.wire.settled (w.wire.refused + 1) w.wire.idle h.once };
@@ -469,7 +470,7 @@ module _ {State : Type 0} (width : ℕ) (narrow : width ≤ 7) (ends : Ends Stat
   -- the run by numbers ends in a world of which `Once` holds
   pub once_at : ends.joint ≡ true → Good (ends.restarted opening) → (es : List Step) → Once (run ends (by_numbers width) es (numbers_open (ends.restarted opening)))
   once_at joint good es =
-      stable_all ends (by_numbers width) Once (keeps_once joint) es (numbers_open (ends.restarted opening)) (record {
+      stable_all call_line ends (by_numbers width) Once (keeps_once joint) es (numbers_open (ends.restarted opening)) (record {
         sound = sound_open width ends Good (ends.restarted opening) good;
         once = record {
           top = 0;
@@ -484,5 +485,5 @@ module _ {State : Type 0} (width : ℕ) (narrow : width ≤ 7) (ends : Ends Stat
       })
 
   -- while a reply is kept, each request under way upward has the number executed last or one of the `width` above it
-  pub recent : (w : World ByNumber State) → Once w → IsRecent width (kept w.wire.state) w.wire.executed (numbers w.wire.up)
+  pub recent : (w : World (ByNumber Call) State) → Once w → IsRecent width (kept w.wire.state) w.wire.executed (numbers w.wire.up)
   recent w h = recent_of width w.client.since w.client.count h.once.top (length w.client.requests) (kept w.wire.state) w.wire.executed w.wire.up h.once.above h.once.last h.sound.few h.sound.going

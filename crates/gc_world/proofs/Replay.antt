@@ -3,7 +3,8 @@ use Rattle.std.proofs.Common.{◌≡◌, ℕ, ◌+◌, ◌<◌, ◌||◌, Bool, 
 use Rattle.std.specs.Prelude.{slice_get}
 use Rattle.std.proofs.lemmas.Bool.{ne_eqb, eq-eqb}
 use Rattle.gc_catalogue.specs.Texts.{request_line}
-use Rattle.gc_world.specs.World.{Request, Sent, Numbered, Ends}
+use Rattle.gc_world.specs.World.{Sent, Numbered, Ends}
+use Rattle.gc_world.specs.Worlds
 use Rattle.gc_world.specs.Order.{Each}
 use Rattle.gc_world.specs.Faithful.{has_number, begun}
 use Rattle.gc_world.proofs.Places.{get_more}
@@ -120,13 +121,13 @@ module _ {State : Type 0} (ends : Ends State) where
   replays_started twice sent starts opening [] (m ∷ ms) t h = absurd h
 
 -- a request under way is the one that was sent with its number
-pub record IsOf (sent : List Sent) (x : Numbered Request) : Type 0 where
-  pub request : Sent
+pub record IsOf {Q : Type 0} (written : ℕ → Q → List ℕ) (sent : List (Worlds.Sent Q)) (x : Numbered (Worlds.Request Q)) : Type 0 where
+  pub request : Worlds.Sent Q
   pub found : slice_get sent x.number ≡ Some request
   pub small : x.line.id < 8
   pub call : request.call ≡ x.line.call
-  pub text : request.line ≡ request_line (Some x.line.id) x.line.call
+  pub text : request.line ≡ written x.line.id x.line.call
 
 -- a request under way stays the one that was sent with its number when more are sent
-pub of_more : (sent more : List Sent) (x : Numbered Request) → IsOf sent x → IsOf (sent ++ more) x
-of_more sent more x h = record { request = h.request; found = get_more sent more x.number h.request h.found; small = h.small; call = h.call; text = h.text }
+pub of_more : {Q : Type 0} (written : ℕ → Q → List ℕ) (sent more : List (Worlds.Sent Q)) (x : Numbered (Worlds.Request Q)) → IsOf written sent x → IsOf written (sent ++ more) x
+of_more written sent more x h = record { request = h.request; found = get_more sent more x.number h.request h.found; small = h.small; call = h.call; text = h.text }

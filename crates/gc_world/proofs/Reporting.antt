@@ -64,7 +64,7 @@ module _ (r : Report) (w : Wire State) (h : IsReport r w) where
   settled_length = sym (length-map r.settled settlement_seen) ∙ ap length h.settled.seen
 
   -- the settlement at a place of the report is the run's at that place
-  settled_at : (m : ℕ) (s : Settlement) → slice_get r.settled m ≡ Some s → slice_get w.settled m ≡ Some (settlement_seen s)
+  settled_at : (m : ℕ) (s : Settlement Call) → slice_get r.settled m ≡ Some s → slice_get w.settled m ≡ Some (settlement_seen s)
   settled_at m s e = ap (λ l. slice_get l m) (sym h.settled.seen) ∙ get_map settlement_seen r.settled m s e
 
   -- where the run is one for one, the report is
@@ -81,8 +81,8 @@ module _ (r : Report) (w : Wire State) (h : IsReport r w) where
       → ReadsAs call bytes reading → IsValueOrRefusal reading) (fits : Each (λ (q : Sent). IsFitting q.call) r.sent) where
     -- where the run's answers are booked, settlement m of the report, with the outcome o, is booked for request m if it is an
     -- answer
-    booked_at : (one : OneForOne r) → ((m : ℕ) (s : Rule.Settlement) → slice_get w.settled m ≡ Some s → IsBooked ends Good w.made m s)
-        → (m : ℕ) (s : Settlement) (o : Outcome) → s.outcome ≡ o → slice_get r.settled m ≡ Some s → IsWellRead s.call o → IsBookedAnswer r m s.call o
+    booked_at : (one : OneForOne r) → ((m : ℕ) (s : Rule.Settlement Call) → slice_get w.settled m ≡ Some s → IsBooked ends Good w.made m s)
+        → (m : ℕ) (s : Settlement Call) (o : Outcome) → s.outcome ≡ o → slice_get r.settled m ≡ Some s → IsWellRead s.call o → IsBookedAnswer r m s.call o
     booked_at one booked m s Late o e read = tt
     booked_at one booked m s Lost o e read = tt
     booked_at one booked m s (Answered reading line) o e read =
@@ -102,8 +102,8 @@ module _ (r : Report) (w : Wire State) (h : IsReport r w) where
         }
 
     -- where the run's answers are booked, those of the report are
-    pub books_answers : OneForOne r → ((m : ℕ) (s : Rule.Settlement) → slice_get w.settled m ≡ Some s → IsBooked ends Good w.made m s) → BooksAnswers r
-    books_answers one booked m s e = booked_at one booked m s s.outcome refl e (all_get (λ (x : Settlement). IsWellRead x.call x.outcome) r.settled m s h.settled.read e)
+    pub books_answers : OneForOne r → ((m : ℕ) (s : Rule.Settlement Call) → slice_get w.settled m ≡ Some s → IsBooked ends Good w.made m s) → BooksAnswers r
+    books_answers one booked m s e = booked_at one booked m s s.outcome refl e (all_get (λ (x : Settlement Call). IsWellRead x.call x.outcome) r.settled m s h.settled.read e)
 
   module _ (opening : State) (x : IsExecution ends opening w) where
     -- the state before each execution, as the run has it

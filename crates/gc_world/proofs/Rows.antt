@@ -2,7 +2,7 @@
 use Rattle.std.proofs.Common.{◌≡◌, ℕ, zero, suc, ◌+◌, ◌<◌, ◌≤◌, List, [], ◌∷◌, ◌++◌, length, refl, ◌∙◌, ap, arith}
 use Rattle.gc_client.specs.declared.pending.Pending.{Pending}
 use Rattle.gc_client.specs.Rule.{settle}
-use Rattle.gc_world.specs.World.{without, doubled, Numbered}
+use Rattle.gc_world.specs.Worlds.{without, doubled, Numbered}
 use Rattle.gc_world.specs.Order.{Each, Rising, numbers}
 
 module _ {A : Type 0} where
@@ -80,7 +80,7 @@ module _ {Line : Type 0} where
   rising_push low n line (m ∷ ns) xs le below h = (h.0, rising_push (m + 1) n line ns xs (omega (arith, below.0)) below.1 h.1)
 
 -- settling through place k settles k + 1 requests
-pub length-settle : (k : ℕ) (line : List ℕ) (ps : List Pending) → k < length ps → length (settle k line ps) ≡ k + 1
+pub length-settle : {Q : Type 0} (k : ℕ) (line : List ℕ) (ps : List (Pending Q)) → k < length ps → length (settle k line ps) ≡ k + 1
 length-settle k line [] h = omega arith
 length-settle zero line (p ∷ ps) h = refl
 length-settle (suc k) line (p ∷ ps) h = ap suc (length-settle k line ps (omega arith)) ∙ omega arith

@@ -3,8 +3,9 @@ use Rattle.std.proofs.Common.{◌≡◌, ℕ, ◌≤◌, List, Option, Some, tru
 use Rattle.gc_instrument.specs.State.{KeptReply}
 use Rattle.gc_world.specs.Order.{Each, IsRecent, numbers}
 use Rattle.std.specs.Prelude.{slice_get}
+use Rattle.gc_catalogue.specs.declared.call.Call.{Call}
 use Rattle.gc_client.specs.Rule.{Settlement}
-use Rattle.gc_world.specs.World.{Ends, Step, Wire, World}
+use Rattle.gc_world.specs.World.{Ends, Step, Wire, World, call_line}
 use Rattle.gc_world.specs.Clients.{ByNumber, run_by_ids, run_by_numbers}
 use Rattle.gc_world.specs.Exchange.{IsExchange, IsKeeper}
 use Rattle.gc_world.specs.Record.{IsOneForOne, IsBooked, IsExecution}
@@ -20,13 +21,13 @@ module _ {State : Type 0} (width : ℕ) (ends : Ends State) (es : List Step) whe
   pub one_for_one_at : (state : State) → IsOneForOne (run_by_ids width ends es state).wire.sent (run_by_ids width ends es state).wire.settled
   one_for_one_at state =
       let w = run_by_ids width ends es state in
-      one_for_one w.wire.settled w.client.waiting w.wire.sent (whole_at width ends es state)
+      one_for_one w.wire.settled w.client.waiting w.wire.sent (whole_at width ends call_line es state)
 
 module _ {State : Type 0} (width : ℕ) (narrow : width ≤ 7) (ends : Ends State) (Good : State → Type 0) (ex : IsExchange ends Good)
     (kept : State → Option KeptReply) (keeper : IsKeeper ends kept) (joint : ends.joint ≡ true) (es : List Step) (opening : State)
     (good : Good (ends.restarted opening)) where
   -- the world that the run by numbers leaves
-  abbrev by_number : World ByNumber State
+  abbrev by_number : World (ByNumber Call) State
   by_number = run_by_numbers width ends es (ends.restarted opening)
 
   -- the wire that the run by ids leaves
@@ -54,7 +55,7 @@ module _ {State : Type 0} (width : ℕ) (narrow : width ≤ 7) (ends : Ends Stat
 
   -- each answer of the run by ids was made for its request
   all_made : AllMade wire.made 0 wire.settled
-  all_made = subst (λ (w : Wire State). AllMade w.made 0 w.settled) (sym same) (backed_at width ends Good ex es (ends.restarted opening) good).backed.booked
+  all_made = subst (λ (w : Wire State). AllMade w.made 0 w.settled) (sym same) (backed_at width ends Good call_line ex es (ends.restarted opening) good).backed.booked
 
   -- each reply of the run by ids is one to the call of its request
   answered : Each (IsAnswerAt ends Good ex wire.sent) wire.made
@@ -67,5 +68,5 @@ module _ {State : Type 0} (width : ℕ) (narrow : width ≤ 7) (ends : Ends Stat
       (answers_at ends Good ex w.sent w.starts 0 (ends.restarted opening) w.executed t.replies w.state good t.replays) has) w.made t.among)
 
   -- an answer that the run by ids booked for request m was made for it, and replies to its call
-  pub booked_at : (m : ℕ) (s : Settlement) → slice_get wire.settled m ≡ Some s → IsBooked ends Good wire.made m s
+  pub booked_at : (m : ℕ) (s : Settlement Call) → slice_get wire.settled m ≡ Some s → IsBooked ends Good wire.made m s
   booked_at m s e = booked ends Good ex wire.sent wire.made wire.settled (one_for_one_at width ends es (ends.restarted opening)) all_made answered m s e

@@ -123,7 +123,7 @@ module _ (width : ℕ) (opening : State) (n : ℕ) where
 
   -- what the run by ids of one more event leaves
   left_more : (events : List Event) (e : Event) → left_by_ids width opening (events ++ e ∷ []) ≡ (flows ends (by_ids width ends) (streams_by_ids width ends events (restarted opening)) e).world.wire
-  left_more events e = ap (λ (v : Streams ById State). v.world.wire) (flow_append ends (by_ids width ends) events (e ∷ []) (untouched (ids_open (restarted opening))))
+  left_more events e = ap (λ (v : Streams (ById Call) State). v.world.wire) (flow_append ends (by_ids width ends) events (e ∷ []) (untouched (ids_open (restarted opening))))
 
   -- the events have the send of request n, before some later ones
   abbrev pub IsSentIn : List Event → Type 0
@@ -189,24 +189,24 @@ one_or_other width opening events n lt =
 
 -- The send of a request stands once in the list.
 
-module _ (rule : Rule ById) (n : ℕ) where
+module _ (rule : Rule (ById Call)) (n : ℕ) where
   -- the streams after these events, by ids
-  abbrev runs : List Event → Streams ById State → Streams ById State
+  abbrev runs : List Event → Streams (ById Call) State → Streams (ById Call) State
   runs es v = flow ends rule es v
 
   -- an event leaves no fewer requests sent
-  no_fewer : (w : Streams ById State) (e : Event) → SendsOne ends rule w e → length w.world.wire.sent ≤ length (flows ends rule w e).world.wire.sent
+  no_fewer : (w : Streams (ById Call) State) (e : Event) → SendsOne ends rule w e → length w.world.wire.sent ≤ length (flows ends rule w e).world.wire.sent
   no_fewer w e (inl same) = omega (arith, same)
   no_fewer w e (inr (send, more)) = omega (arith, more)
 
   -- events leave no fewer requests sent
-  sent_grows : (es : List Event) (w : Streams ById State) → length w.world.wire.sent ≤ length (runs es w).world.wire.sent
+  sent_grows : (es : List Event) (w : Streams (ById Call) State) → length w.world.wire.sent ≤ length (runs es w).world.wire.sent
   sent_grows [] w = omega arith
   sent_grows (e ∷ es) w = omega (arith, no_fewer w e (sends_one ends rule w e), sent_grows es (flows ends rule w e))
 
   -- the send of request n stands at one place of a list of events: where two splits of the list, at the events a and b, each
   -- have n requests sent before that event and n + 1 after it, what follows is the same
-  one_split : (xs ys : List Event) (a b : Event) (later rest : List Event) (w : Streams ById State) → xs ++ a ∷ later ≡ ys ++ b ∷ rest
+  one_split : (xs ys : List Event) (a b : Event) (later rest : List Event) (w : Streams (ById Call) State) → xs ++ a ∷ later ≡ ys ++ b ∷ rest
       → length (runs xs w).world.wire.sent ≡ n → length (runs ys w).world.wire.sent ≡ n → length (runs (xs ++ a ∷ []) w).world.wire.sent ≡ n + 1
       → length (runs (ys ++ b ∷ []) w).world.wire.sent ≡ n + 1 → a ∷ later ≡ b ∷ rest
   one_split [] [] a b later rest w e hx hy tx ty = e

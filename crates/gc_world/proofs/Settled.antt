@@ -2,41 +2,40 @@
 use Rattle.std.proofs.Common.{◌≡◌, ℕ, zero, suc, ◌+◌, Bool, true, false, List, [], ◌∷◌, ◌++◌, length, map, Some, refl, sym, ◌∙◌, ap, subst, ◌%◌, arith, append_assoc, length-append, eqb}
 use Rattle.std.specs.Prelude.{slice_get}
 use Rattle.std.proofs.lemmas.List.{map-append, append-nil, length-map}
-use Rattle.gc_catalogue.specs.declared.call.Call.{Call}
 use Rattle.gc_client.specs.declared.pending.Pending.{Pending}
 use Rattle.gc_client.specs.Rule.{Settlement, Settled, ById, pending_of, id_send}
 use Rattle.gc_client.specs.Rule.{Sending}
-use Rattle.gc_client.specs.OneForOne.{Asked, of_settled, of_pending}
+use Rattle.gc_client.specs.OneForOne.{Wanted, of_settled, of_pending}
 use Rattle.gc_client.proofs.OneForOne.{lost_parts, expired_parts, heard_parts}
-use Rattle.gc_world.specs.World.{Sent, Ends, Step, Wire, World, started, requested, with_settled, run}
+use Rattle.gc_world.specs.Worlds.{Sent, Ends, Step, Wire, World, started, requested, with_settled, run}
 use Rattle.gc_world.specs.Clients.{by_ids, ids_open}
 use Rattle.gc_world.specs.Record.{IsOneForOne}
 use Rattle.gc_world.proofs.Stable.{IsStable, stable_all}
 use Rattle.gc_world.proofs.Options.{some_is, none_is_not}
 
 -- the target and the call of a request that was sent
-abbrev pub of_sent : Sent → Asked
+abbrev pub of_sent : {Q : Type 0} → Sent Q → Wanted Q
 of_sent r = record { target = r.target; call = r.call }
 
-module _ {State : Type 0} (width : ℕ) (ends : Ends State) where
+module _ {Q State : Type 0} (width : ℕ) (ends : Ends Q State) where
   -- a world is whole: the settled requests, and behind them those that wait, are those that were sent, in order
-  abbrev pub Whole : World ById State → Type 0
+  abbrev pub Whole : World Q (ById Q) State → Type 0
   Whole w = map of_settled w.wire.settled ++ map of_pending w.client.waiting ≡ map of_sent w.wire.sent
 
   -- a send keeps a world whole
-  whole_sent : (w : World ById State) (target : ℕ) (call : Call) (deadline : ℕ) (full : Bool) (x : Sending ById)
-      → id_send w.client target call deadline full ≡ Some x → Whole w → Whole (requested w target call (Some x))
-  whole_sent w target call deadline true x e h = absurd (none_is_not x e)
-  whole_sent w target call deadline false x e h =
-      let y : Sending ById = record { id = w.client.next; client = record { next = (w.client.next + 1) % 8; waiting = w.client.waiting ++ pending_of target call deadline ∷ [] } } in
-      let done : Whole (requested w target call (Some y)) = simp map-append
+  whole_sent : (written : ℕ → Q → List ℕ) (w : World Q (ById Q) State) (target : ℕ) (call : Q) (deadline : ℕ) (full : Bool) (x : Sending (ById Q))
+      → id_send w.client target call deadline full ≡ Some x → Whole w → Whole (requested written w target call (Some x))
+  whole_sent written w target call deadline true x e h = absurd (none_is_not x e)
+  whole_sent written w target call deadline false x e h =
+      let y : Sending (ById Q) = record { id = w.client.next; client = record { next = (w.client.next + 1) % 8; waiting = w.client.waiting ++ pending_of target call deadline ∷ [] } } in
+      let done : Whole (requested written w target call (Some y)) = simp map-append
       (sym (append_assoc (map of_settled w.wire.settled) (map of_pending w.client.waiting) _)
       ∙ ap (λ l. l ++ record { target = target; call = call } ∷ []) h) in
-      subst (λ z. Whole (requested w target call (Some z))) (some_is y x e) done
+      subst (λ z. Whole (requested written w target call (Some z))) (some_is y x e) done
 
   -- a settling keeps a world whole, where the requests settled, and behind them those that then wait, are those that waited
   -- before
-  whole_booked : (w : World ById State) (wire : Wire State) (x : Settled ById) → wire.settled ≡ w.wire.settled → wire.sent ≡ w.wire.sent
+  whole_booked : (w : World Q (ById Q) State) (wire : Wire Q State) (x : Settled Q (ById Q)) → wire.settled ≡ w.wire.settled → wire.sent ≡ w.wire.sent
       → map of_settled x.settlements ++ map of_pending x.client.waiting ≡ map of_pending w.client.waiting → Whole w → Whole (with_settled wire x)
   whole_booked w wire x e1 e2 p h =
       pieces ∙ ap (λ l. map of_settled wire.settled ++ l) p ∙ ap (λ l. map of_settled l ++ map of_pending w.client.waiting) e1 ∙ h ∙ ap (λ l. map of_sent l) (sym e2)
@@ -45,17 +44,17 @@ module _ {State : Type 0} (width : ℕ) (ends : Ends State) where
       pieces = simp (map-append, append_assoc)
 
   -- a restart of the client keeps a world whole
-  whole_restarted : (w : World ById State) (b : Bool) → Whole w → Whole (with_settled (started ends w.wire b) ((by_ids width ends).restart w.client))
+  whole_restarted : (w : World Q (ById Q) State) (b : Bool) → Whole w → Whole (with_settled (started ends w.wire b) ((by_ids width ends).restart w.client))
   whole_restarted w false h = whole_booked w w.wire ((by_ids width ends).restart w.client) refl refl (append-nil _ ∙ lost_parts w.client.waiting) h
   whole_restarted w true h = whole_booked w (started ends w.wire true) ((by_ids width ends).restart w.client) refl refl (append-nil _ ∙ lost_parts w.client.waiting) h
 
   -- each step keeps a world whole
-  keeps_whole : IsStable ends (by_ids width ends) Whole
-  keeps_whole =
+  keeps_whole : (written : ℕ → Q → List ℕ) → IsStable written ends (by_ids width ends) Whole
+  keeps_whole written =
       record {
         idles = λ w h. h;
         refuses = λ w h. h;
-        sends = λ w target call deadline x e h. whole_sent w target call deadline (eqb (length w.client.waiting) width) x e h;
+        sends = λ w target call deadline x e h. whole_sent written w target call deadline (eqb (length w.client.waiting) width) x e h;
         answers = λ w x rest q h. h;
         loses_up = λ w k h. h;
         repeats_up = λ w k h. h;
@@ -68,12 +67,12 @@ module _ {State : Type 0} (width : ℕ) (ends : Ends State) where
       }
 
   -- every run by ids ends in a whole world
-  pub whole_at : (es : List Step) (state : State) → Whole (run ends (by_ids width ends) es (ids_open state))
-  whole_at es state = stable_all ends (by_ids width ends) Whole keeps_whole es (ids_open state) refl
+  pub whole_at : (written : ℕ → Q → List ℕ) (es : List (Step Q)) (state : State) → Whole (run written ends (by_ids width ends) es (ids_open state))
+  whole_at written es state = stable_all written ends (by_ids width ends) Whole (keeps_whole written) es (ids_open state) refl
 
 -- where the settled requests, with `rest` behind them, are those that were sent, settlement m has the target and the call of
 -- request m
-same_at : (settled : List Settlement) (rest : List Asked) (sent : List Sent) (m : ℕ) (s : Settlement) (r : Sent)
+same_at : {Q : Type 0} (settled : List (Settlement Q)) (rest : List (Wanted Q)) (sent : List (Sent Q)) (m : ℕ) (s : Settlement Q) (r : Sent Q)
     → map of_settled settled ++ rest ≡ map of_sent sent → slice_get settled m ≡ Some s → slice_get sent m ≡ Some r → of_settled s ≡ of_sent r
 same_at [] rest sent m s r e g h = absurd (none_is_not s g)
 same_at (x ∷ xs) rest [] m s r e g h = absurd (none_is_not r h)
@@ -85,11 +84,12 @@ same_at (x ∷ xs) rest (y ∷ ys) (suc m) s r e g h =
     same_at xs rest ys m s r tail g h
 
 -- where what is settled and what waits are the requests that were sent, settlements stand one for one
-pub one_for_one : (settled : List Settlement) (waiting : List Pending) (sent : List Sent) → map of_settled settled ++ map of_pending waiting ≡ map of_sent sent → IsOneForOne sent settled
-one_for_one settled waiting sent e =
+pub one_for_one : {Q : Type 0} (settled : List (Settlement Q)) (waiting : List (Pending Q)) (sent : List (Sent Q)) → map of_settled settled ++ map of_pending waiting ≡ map of_sent sent
+    → IsOneForOne sent settled
+one_for_one {Q} settled waiting sent e =
     record {
       count = omega (arith, length-append (map of_settled settled) (map of_pending waiting), length-map settled of_settled, length-map sent of_sent, ap length e);
       same = λ m s r g h.
           let a = same_at settled (map of_pending waiting) sent m s r e g h in
-          (ap (λ (x : Asked). x.target) a, ap (λ (x : Asked). x.call) a);
+          (ap (λ (x : Wanted Q). x.target) a, ap (λ (x : Wanted Q). x.call) a);
     }

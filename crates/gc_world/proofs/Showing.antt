@@ -96,30 +96,30 @@ reports_queues r w up down h =
     record { sent = h.sent; executed = h.executed; made = h.made; settled = h.settled; starts = h.starts; instrument = h.instrument; refused = h.refused; idle = h.idle }
 
 -- where the settlements xs are us of the client's rule, and ys are vs of it, xs followed by ys are us followed by vs
-are_more : (xs ys : List Settlement) (us vs : List Rule.Settlement) → AreSettlements xs us → AreSettlements ys vs → AreSettlements (xs ++ ys) (us ++ vs)
+are_more : (xs ys : List (Settlement Call)) (us vs : List (Rule.Settlement Call)) → AreSettlements xs us → AreSettlements ys vs → AreSettlements (xs ++ ys) (us ++ vs)
 are_more xs ys us vs h g =
     record {
-      seen = map-append settlement_seen xs ys ∙ ap₂ (λ (a b : List Rule.Settlement). a ++ b) h.seen g.seen;
-      read = All-append (λ (s : Settlement). IsWellRead s.call s.outcome) xs ys h.read g.read;
+      seen = map-append settlement_seen xs ys ∙ ap₂ (λ (a b : List (Rule.Settlement Call)). a ++ b) h.seen g.seen;
+      read = All-append (λ (s : Settlement Call). IsWellRead s.call s.outcome) xs ys h.read g.read;
     }
 
 -- settling doesn't change the next id
-settled_next : (c : ById) (line : List ℕ) (k : ℕ) (b : Bool) → (id_settled c line k b).client.next ≡ c.next
+settled_next : (c : ById Call) (line : List ℕ) (k : ℕ) (b : Bool) → (id_settled c line k b).client.next ≡ c.next
 settled_next c line k false = refl
 settled_next c line k true = refl
 
 -- a line doesn't change the next id
-hears_next : (c : ById) (line : List ℕ) (o : Option ℕ) → (hears c line o).client.next ≡ c.next
+hears_next : (c : ById Call) (line : List ℕ) (o : Option ℕ) → (hears c line o).client.next ≡ c.next
 hears_next c line None = refl
 hears_next c line (Some id) = settled_next c line (place_in c id) (ltb (place_in c id) (length c.waiting))
 
 -- a send leaves a next id that is a digit below 8
-sends_next : (width : ℕ) (c : ById) (target : ℕ) (call : Call) (deadline : ℕ) (x : Sending ById) → sends width c target call deadline ≡ Some x → x.client.next < IDS
+sends_next : (width : ℕ) (c : ById Call) (target : ℕ) (call : Call) (deadline : ℕ) (x : Sending (ById Call)) → sends width c target call deadline ≡ Some x → x.client.next < IDS
 sends_next width c target call deadline x e = by_room (eqb (length c.waiting) width) e
   where
     by_room : (full : Bool) → id_send c target call deadline full ≡ Some x → x.client.next < IDS
     by_room true e = absurd (none_is_not x e)
-    by_room false e = subst (λ (y : Sending ById). y.client.next < IDS) (some_is _ x e) (omega arith)
+    by_room false e = subst (λ (y : Sending (ById Call)). y.client.next < IDS) (some_is _ x e) (omega arith)
 
 -- one more reply leaves the others at their places
 made_more : (made : List Made) (entry : Made) (p : ℕ) (x : Numbered (List ℕ)) → slice_get (map made_seen made) p ≡ Some x → slice_get (map made_seen (made ++ entry ∷ [])) p ≡ Some x
@@ -150,7 +150,7 @@ named_push made entry places xs h =
     ∙ sym (map-append Some xs (made_seen entry ∷ []))
 
 -- where a line settles nothing (o isn't `Settled`), appending its settlements `more` leaves the settlements as they are
-pub none_settled : (old new : ById) (line : List ℕ) (o : Hearing) (more settled : List Settlement) → HearsInto old line o more new → (o ≡ Settled → ⊥) → settled ≡ settled ++ more
+pub none_settled : (old new : ById Call) (line : List ℕ) (o : Hearing) (more settled : List (Settlement Call)) → HearsInto old line o more new → (o ≡ Settled → ⊥) → settled ≡ settled ++ more
 none_settled old new line Settled more settled h not = absurd (not refl)
 none_settled old new line Stray more settled h not = sym (ap (λ l. settled ++ l) h.2 ∙ append-nil settled)
 none_settled old new line (Unread fault) more settled h not = sym (ap (λ l. settled ++ l) h.1 ∙ append-nil settled)
@@ -160,7 +160,7 @@ pub map_none : {A B : Type 0} (f : A → B) (xs : List A) → map f xs ≡ [] �
 map_none f [] e = refl
 map_none f (x ∷ xs) e = cc
 
-module _ (width : ℕ) (r : Report) (up down : List ℕ) (c : Windowed) (w : World ById State) (h : AreOf width r up down c w) where
+module _ (width : ℕ) (r : Report) (up down : List ℕ) (c : Windowed Call) (w : World (ById Call) State) (h : AreOf width r up down c w) where
   -- an event that is not possible is only counted, in the report as in the world
   pub shows_idle : AreOf width (counted false r) up down c (on_wire w (idle w.wire))
   shows_idle =
@@ -256,16 +256,16 @@ module _ (width : ℕ) (r : Report) (up down : List ℕ) (c : Windowed) (w : Wor
   down_line p rest m e found = let f = down_front p rest e in some_is (made_seen m) f.0 (sym (get_map made_seen r.made p m found) ∙ f.3)
 
   -- once the client sent a request, and its number was put at the back of the upward queue, the world after that step is shown
-  pub shows_send : (entry : Sent) (deadline : ℕ) (client : Windowed) (sent : List Sent) (up' : List ℕ)
+  pub shows_send : (entry : Sent) (deadline : ℕ) (client : Windowed Call) (sent : List Sent) (up' : List ℕ)
       → sends c.width c.ids entry.target entry.call deadline ≡ Some (record { id = c.ids.next; client = client.ids }) → client.width ≡ c.width
       → entry.line.items ≡ request_line (Some c.ids.next) entry.call → IsFitting entry.call → sent ≡ r.sent ++ entry ∷ [] → up' ≡ up ++ length r.sent ∷ []
       → AreOf width (record r { sent = sent }) up' down client (does width w (Send entry.target entry.call deadline))
   shows_send entry deadline client sent up' sends_is wide line fits sent_is up_is =
-      let x : Sending ById = record { id = c.ids.next; client = client.ids } in
-      let ruled : sends width w.client entry.target entry.call deadline ≡ Some x = ap (λ (k : Windowed). sends k.width k.ids entry.target entry.call deadline) (sym h.client_is) ∙ sends_is in
+      let x : Sending (ById Call) = record { id = c.ids.next; client = client.ids } in
+      let ruled : sends width w.client entry.target entry.call deadline ≡ Some x = ap (λ (k : Windowed Call). sends k.width k.ids entry.target entry.call deadline) (sym h.client_is) ∙ sends_is in
       let total : length r.sent ≡ length w.wire.sent = sym (length-map r.sent sent_seen) ∙ ap length h.reports.sent in
       let number : slice_get (r.sent ++ entry ∷ []) (length w.wire.sent) ≡ Some entry = subst (λ n. slice_get (r.sent ++ entry ∷ []) n ≡ Some entry) total (get_push r.sent entry) in
-      let digit : c.ids.next < IDS = subst (λ (k : Windowed). k.ids.next < IDS) (sym h.client_is) h.next in
+      let digit : c.ids.next < IDS = subst (λ (k : Windowed Call). k.ids.next < IDS) (sym h.client_is) h.next in
       subst (λ l. AreOf width (record r { sent = l }) up' down client (does width w (Send entry.target entry.call deadline))) (sym sent_is)
       (subst (λ o. AreOf width (record r { sent = r.sent ++ entry ∷ [] }) up' down client (requested w entry.target entry.call o)) (sym ruled) (record {
         reports = record {
@@ -280,7 +280,7 @@ module _ (width : ℕ) (r : Report) (up down : List ℕ) (c : Windowed) (w : Wor
         };
         up_is = up_is ∙ ap₂ (λ (l : List ℕ) n. l ++ n ∷ []) h.up_is total ∙ sym (map-append (λ (y : Numbered Request). y.number) w.wire.up _);
         down_is = h.down_is;
-        client_is = ap (λ n. record { width = n; ids = client.ids }) (wide ∙ ap (λ (k : Windowed). k.width) h.client_is);
+        client_is = ap (λ n. record { width = n; ids = client.ids }) (wide ∙ ap (λ (k : Windowed Call). k.width) h.client_is);
         next = sends_next c.width c.ids entry.target entry.call deadline x sends_is;
         requests =
             each_append _ w.wire.up _ (each_more _ _ (λ y s. record {
@@ -349,7 +349,7 @@ module _ (width : ℕ) (r : Report) (up down : List ℕ) (c : Windowed) (w : Wor
       none_is_not _ (sym told ∙ did.line)
 
   -- once the front reply was handed to the client, and what it settles noted, the world after that step is shown
-  pub shows_down_deliver : (p : ℕ) (rest : List ℕ) (m : Made) (bytes : List ℕ) (more settled : List Settlement) (client : Windowed) → down ≡ p ∷ rest
+  pub shows_down_deliver : (p : ℕ) (rest : List ℕ) (m : Made) (bytes : List ℕ) (more settled : List (Settlement Call)) (client : Windowed Call) → down ≡ p ∷ rest
       → slice_get r.made p ≡ Some m → bytes ≡ m.line.items → AreSettlements more (hears c.ids bytes (heard bytes)).settlements
       → client ≡ record c { ids = (hears c.ids bytes (heard bytes)).client } → settled ≡ r.settled ++ more
       → AreOf width (record r { settled = settled }) up rest client (does width w Down_deliver)
@@ -357,8 +357,8 @@ module _ (width : ℕ) (r : Report) (up down : List ℕ) (c : Windowed) (w : Wor
       let f = down_front p rest e in
       let x = f.0 in
       let line : bytes ≡ x.line = same_bytes ∙ ap (λ (y : Numbered (List ℕ)). y.line) (down_line p rest m e found) in
-      let same : hears c.ids bytes (heard bytes) ≡ hears w.client x.line (heard x.line) = ap₂ (λ (k : Windowed) l. hears k.ids l (heard l)) h.client_is line in
-      let are : AreSettlements more (hears w.client x.line (heard x.line)).settlements = subst (λ (s : Rule.Settled ById). AreSettlements more s.settlements) same more_are in
+      let same : hears c.ids bytes (heard bytes) ≡ hears w.client x.line (heard x.line) = ap₂ (λ (k : Windowed Call) l. hears k.ids l (heard l)) h.client_is line in
+      let are : AreSettlements more (hears w.client x.line (heard x.line)).settlements = subst (λ (s : Rule.Settled Call (ById Call)). AreSettlements more s.settlements) same more_are in
       subst (λ q. AreOf width (record r { settled = settled }) up rest client (down_delivered (by_ids width ends) w q)) (sym f.2) (record {
         reports = record {
           sent = h.reports.sent;
@@ -373,19 +373,19 @@ module _ (width : ℕ) (r : Report) (up down : List ℕ) (c : Windowed) (w : Wor
         };
         up_is = h.up_is;
         down_is = f.4;
-        client_is = client_is ∙ ap₂ (λ n (s : Rule.Settled ById). let d : Windowed = record { width = n; ids = s.client } in d) (ap (λ (k : Windowed). k.width) h.client_is) same;
+        client_is = client_is ∙ ap₂ (λ n (s : Rule.Settled Call (ById Call)). let d : Windowed Call = record { width = n; ids = s.client } in d) (ap (λ (k : Windowed Call). k.width) h.client_is) same;
         next = subst (λ n. n < IDS) (sym (hears_next w.client x.line (heard x.line))) h.next;
         requests = h.requests;
         calls = h.calls;
       })
 
   -- once the client was restarted, and the instrument with it, while no line is under way, the world after that step is shown
-  pub shows_restart_client : (more settled : List Settlement) (client : Windowed) (starts : List ℕ) (state : State) → up ≡ [] → down ≡ []
+  pub shows_restart_client : (more settled : List (Settlement Call)) (client : Windowed Call) (starts : List ℕ) (state : State) → up ≡ [] → down ≡ []
       → AreSettlements more (restarts c.ids).settlements → client ≡ record c { ids = (restarts c.ids).client } → settled ≡ r.settled ++ more
       → starts ≡ r.starts ++ length r.executed ∷ [] → state ≡ restarted r.instrument
       → AreOf width (record r { settled = settled; starts = starts; instrument = state }) up down client (does width w Restart_client)
   shows_restart_client more settled client starts state eu ed more_are client_is settled_is starts_is state_is =
-      let are : AreSettlements more (restarts w.client).settlements = subst (λ (k : Windowed). AreSettlements more (restarts k.ids).settlements) h.client_is more_are in
+      let are : AreSettlements more (restarts w.client).settlements = subst (λ (k : Windowed Call). AreSettlements more (restarts k.ids).settlements) h.client_is more_are in
       subst (λ u. AreOf width (record r { settled = settled; starts = starts; instrument = state }) up down client (client_restarted ends (by_ids width ends) w u w.wire.down)) (sym (no_up eu))
       (subst (λ d. AreOf width (record r { settled = settled; starts = starts; instrument = state }) up down client (client_restarted ends (by_ids width ends) w [] d)) (sym (no_down ed)) (record {
         reports = record {
@@ -401,7 +401,7 @@ module _ (width : ℕ) (r : Report) (up down : List ℕ) (c : Windowed) (w : Wor
         };
         up_is = h.up_is;
         down_is = h.down_is;
-        client_is = client_is ∙ ap (λ (k : Windowed). record k { ids = (restarts k.ids).client }) h.client_is;
+        client_is = client_is ∙ ap (λ (k : Windowed Call). record k { ids = (restarts k.ids).client }) h.client_is;
         next = omega arith;
         requests = h.requests;
         calls = h.calls;

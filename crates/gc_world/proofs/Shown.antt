@@ -9,6 +9,7 @@ use Rattle.gc_lines.specs.Assembler.{StandsFor}
 use Rattle.gc_lines.specs.Lines.{IsPlain, with_end}
 use Rattle.gc_catalogue.specs.Calls.{IsFitting}
 use Rattle.gc_catalogue.specs.Texts.{request_line}
+use Rattle.gc_catalogue.specs.declared.call.Call.{Call}
 use Rattle.gc_client.specs.declared.settlement.Settlement.{Settlement}
 use Rattle.gc_client.specs.Rule.{ById, Windowed, Sending, heard, hears, sends, restarts}
 use Rattle.gc_client.specs.Settlements.{AreSettlements}
@@ -63,7 +64,7 @@ up_of_down w ds true = refl
 up_of_down w ds false = refl
 
 -- a restart of the client leaves the queues
-of_restart : (width : ℕ) (w : World ById State) (us : List (Numbered Request)) (ds : List (Numbered (List ℕ)))
+of_restart : (width : ℕ) (w : World (ById Call) State) (us : List (Numbered Request)) (ds : List (Numbered (List ℕ)))
     → ((client_restarted ends (by_ids width ends) w us ds).wire.up ≡ w.wire.up) × ((client_restarted ends (by_ids width ends) w us ds).wire.down ≡ w.wire.down)
 of_restart width w [] [] = (refl, refl)
 of_restart width w [] (d ∷ ds) = (refl, refl)
@@ -99,12 +100,12 @@ from_start : (s : Side) (texts : List (List ℕ)) → s.gone ≡ 0 → StandsFor
 from_start s texts none stands plain = subst (λ g. IsFlow s.assembler g texts) (sym none) (flow_start s.assembler texts stands plain)
 
 -- setting the count of gone bytes that is there already changes only the world
-unmoved : (d : Direction) (v : Streams ById State) (w : World ById State) → reaches d v w (gone d v) ≡ record { world = w; up_gone = v.up_gone; down_gone = v.down_gone }
+unmoved : (d : Direction) (v : Streams (ById Call) State) (w : World (ById Call) State) → reaches d v w (gone d v) ≡ record { world = w; up_gone = v.up_gone; down_gone = v.down_gone }
 unmoved Up v w = refl
 unmoved Down v w = refl
 
 -- an event of 0 bytes, or of bytes while none are under way, is only counted
-idle_bytes : (width : ℕ) (d : Direction) (v : Streams ById State) (q : List (List ℕ)) (n : ℕ) {r : ℕ} → r ≡ remaining (gone d v) q → (n ≡ 0) ⊎ (r ≡ 0)
+idle_bytes : (width : ℕ) (d : Direction) (v : Streams (ById Call) State) (q : List (List ℕ)) (n : ℕ) {r : ℕ} → r ≡ remaining (gone d v) q → (n ≡ 0) ⊎ (r ≡ 0)
     → IsPart (gone d v) q → passing ends (by_ids width ends) d v q n ≡ record
     { world = on_wire v.world (idle v.world.wire); up_gone = v.up_gone; down_gone = v.down_gone }
 idle_bytes width d v [] n e none part = unmoved d v (on_wire v.world (idle v.world.wire))
@@ -121,7 +122,7 @@ counted_is : (b : Bool) (r : Report) → counted b r ≡ counts b r
 counted_is true r = refl
 counted_is false r = refl
 
-module _ (width : ℕ) (s : Seen) (v : Streams ById State) (h : AreStreamsOf width s v) where
+module _ (width : ℕ) (s : Seen) (v : Streams (ById Call) State) (h : AreStreamsOf width s v) where
   -- what has gone of a side's front line is what has gone in its direction
   pub gone_is : (d : Direction) → (pick d s.up s.down).gone ≡ gone d v
   gone_is Up = h.up_is
@@ -159,7 +160,7 @@ module _ (width : ℕ) (s : Seen) (v : Streams ById State) (h : AreStreamsOf wid
       (m.0, m.1)
 
   -- where both queues stay, and report and client show a new world, the stage shows the streams of that world, with as much gone
-  kept : (r' : Report) (c' : Windowed) (w : World ById State) → AreOf width r' s.up.queue s.down.queue c' w
+  kept : (r' : Report) (c' : Windowed Call) (w : World (ById Call) State) → AreOf width r' s.up.queue s.down.queue c' w
       → (w.wire.up ≡ v.world.wire.up) × (w.wire.down ≡ v.world.wire.down)
       → AreStreamsOf width (record s { report = r'; client = c' }) (record { world = w; up_gone = v.up_gone; down_gone = v.down_gone })
   kept r' c' w lines same =
@@ -210,7 +211,7 @@ module _ (width : ℕ) (s : Seen) (v : Streams ById State) (h : AreStreamsOf wid
       }
 
   -- the streams after a step at which no byte goes over
-  abbrev behind : Step → Streams ById State
+  abbrev behind : Step → Streams (ById Call) State
   behind step = record { world = does width v.world step; up_gone = v.up_gone; down_gone = v.down_gone }
 
   -- a loss or a repeat of line k, possible only before its first byte has gone, shows the streams after that step. `old` is
@@ -267,7 +268,7 @@ module _ (width : ℕ) (s : Seen) (v : Streams ById State) (h : AreStreamsOf wid
   -- A send.
 
   -- once a request was sent, the streams after that event are shown
-  pub streams_send : (entry : Sent) (deadline : ℕ) (client : Windowed) (sent : List Sent) (queue : List ℕ)
+  pub streams_send : (entry : Sent) (deadline : ℕ) (client : Windowed Call) (sent : List Sent) (queue : List ℕ)
       → sends s.client.width s.client.ids entry.target entry.call deadline ≡ Some (record { id = s.client.ids.next; client = client.ids })
       → client.width ≡ s.client.width → entry.line.items ≡ request_line (Some s.client.ids.next) entry.call → IsPlain entry.line.items → IsFitting entry.call
       → sent ≡ s.report.sent ++ entry ∷ [] → queue ≡ s.up.queue ++ length s.report.sent ∷ []
@@ -275,27 +276,27 @@ module _ (width : ℕ) (s : Seen) (v : Streams ById State) (h : AreStreamsOf wid
       (goes_on width v (event.Send entry.target entry.call deadline))
   streams_send entry deadline client sent queue sends_is wide line plain fits sent_is queue_is =
       let c = s.client in
-      let x : Sending ById = record { id = c.ids.next; client = client.ids } in
+      let x : Sending (ById Call) = record { id = c.ids.next; client = client.ids } in
       let request : Numbered Request = record { number = length v.world.wire.sent; line = record { id = c.ids.next; call = entry.call } } in
       let ruled : sends width v.world.client entry.target entry.call deadline ≡ Some x =
-      ap (λ (k : Windowed). sends k.width k.ids entry.target entry.call deadline) (sym h.lines.client_is) ∙ sends_is in
+      ap (λ (k : Windowed Call). sends k.width k.ids entry.target entry.call deadline) (sym h.lines.client_is) ∙ sends_is in
       let whole : does width v.world (Send entry.target entry.call deadline) ≡ requested v.world entry.target entry.call (Some x) = ap (requested v.world entry.target entry.call) ruled in
       record {
         lines = shows_send width s.report s.up.queue s.down.queue c v.world h.lines entry deadline client sent queue sends_is wide line fits sent_is queue_is;
         up_is = h.up_is;
         down_is = h.down_is;
         up_flow =
-            subst (λ (w : World ById State). IsFlow s.up.assembler s.up.gone (up_texts w.wire)) (sym whole)
+            subst (λ (w : World (ById Call) State). IsFlow s.up.assembler s.up.gone (up_texts w.wire)) (sym whole)
             (subst (IsFlow s.up.assembler s.up.gone) (sym (map-append (λ x. bytes_of x.line) v.world.wire.up (request ∷ [])))
             (flow_push s.up.assembler s.up.gone (up_texts v.world.wire) (bytes_of request.line) (subst IsPlain line plain) h.up_flow));
-        down_flow = subst (λ (w : World ById State). IsFlow s.down.assembler s.down.gone (down_texts w.wire)) (sym whole) h.down_flow;
+        down_flow = subst (λ (w : World (ById Call) State). IsFlow s.down.assembler s.down.gone (down_texts w.wire)) (sym whole) h.down_flow;
       }
 
   -- Restarts.
 
   -- once the client was restarted, and the instrument with it, while no line is under way, the streams after that event are
   -- shown
-  pub streams_restart_client : (more settled : List Settlement) (client : Windowed) (starts : List ℕ) (state : State) → s.up.queue ≡ [] → s.down.queue ≡ []
+  pub streams_restart_client : (more settled : List (Settlement Call)) (client : Windowed Call) (starts : List ℕ) (state : State) → s.up.queue ≡ [] → s.down.queue ≡ []
       → AreSettlements more (restarts s.client.ids).settlements → client ≡ record s.client { ids = (restarts s.client.ids).client }
       → settled ≡ s.report.settled ++ more → starts ≡ s.report.starts ++ length s.report.executed ∷ [] → state ≡ restarted s.report.instrument
       → AreStreamsOf width (record s { report = record s.report { settled = settled; starts = starts; instrument = state }; client = client })
@@ -344,16 +345,16 @@ module _ (width : ℕ) (s : Seen) (v : Streams ById State) (h : AreStreamsOf wid
         up_is = none;
         down_is = h.down_is;
         up_flow =
-            subst (λ (w : World ById State). IsFlow side.assembler side.gone (up_texts w.wire)) (sym whole)
+            subst (λ (w : World (ById Call) State). IsFlow side.assembler side.gone (up_texts w.wire)) (sym whole)
             (from_start side (map (λ y. bytes_of y.line) f.1) none stands (subst (λ q. IsFlow s.up.assembler s.up.gone (map (λ y. bytes_of y.line) q)) f.2 h.up_flow).plain.1);
         down_flow =
-            subst (λ (w : World ById State). IsFlow s.down.assembler s.down.gone (down_texts w.wire)) (sym whole)
+            subst (λ (w : World (ById Call) State). IsFlow s.down.assembler s.down.gone (down_texts w.wire)) (sym whole)
             (subst (IsFlow s.down.assembler s.down.gone) (sym (map-append
             (λ y. y.line) v.world.wire.down (m ∷ []))) (flow_push s.down.assembler s.down.gone (down_texts v.world.wire) reply plain h.down_flow));
       }
 
   -- once the front reply was delivered, and what it settles noted, the streams after that event are shown
-  pub streams_down_deliver : (p : ℕ) (side : Side) (m : Made) (line : List ℕ) (more settled : List Settlement) (client : Windowed)
+  pub streams_down_deliver : (p : ℕ) (side : Side) (m : Made) (line : List ℕ) (more settled : List (Settlement Call)) (client : Windowed Call)
       → s.down.queue ≡ p ∷ side.queue → slice_get s.report.made p ≡ Some m → line ≡ m.line.items
       → AreSettlements more (hears s.client.ids line (heard line)).settlements
       → client ≡ record s.client { ids = (hears s.client.ids line (heard line)).client } → settled ≡ s.report.settled ++ more → StandsFor side.assembler []
@@ -366,9 +367,9 @@ module _ (width : ℕ) (s : Seen) (v : Streams ById State) (h : AreStreamsOf wid
         lines = shows_down_deliver width s.report s.up.queue s.down.queue s.client v.world h.lines p side.queue m line more settled client e found is more_are client_is settled_is;
         up_is = h.up_is;
         down_is = none;
-        up_flow = subst (λ (w : World ById State). IsFlow s.up.assembler s.up.gone (up_texts w.wire)) (sym whole) h.up_flow;
+        up_flow = subst (λ (w : World (ById Call) State). IsFlow s.up.assembler s.up.gone (up_texts w.wire)) (sym whole) h.up_flow;
         down_flow =
-            subst (λ (w : World ById State). IsFlow side.assembler side.gone (down_texts w.wire)) (sym whole)
+            subst (λ (w : World (ById Call) State). IsFlow side.assembler side.gone (down_texts w.wire)) (sym whole)
             (from_start side (map (λ y. y.line) f.1) none stands (subst (λ q. IsFlow s.down.assembler s.down.gone (map (λ y. y.line) q)) f.2 h.down_flow).plain.1);
       }
 

@@ -3,12 +3,10 @@
 use Rattle.std.proofs.Common.{◌≡◌, ℕ, zero, suc, ◌+◌, ◌-◌, ◌%◌, ◌<◌, ◌≤◌, Bool, true, false, List, [], ◌∷◌, ◌++◌, length, map, take, drop, Some, refl, sym, ◌∙◌, ap, subst, arith, length-append, length-drop, ltb, eqb}
 use Rattle.std.proofs.lemmas.List.{length-map}
 use Rattle.std.proofs.lemmas.Bool.{ltb-false, eqb-false}
-use Rattle.gc_catalogue.specs.declared.call.Call.{Call}
-use Rattle.gc_catalogue.specs.Texts.{request_line}
 use Rattle.gc_client.specs.declared.pending.Pending.{Pending}
 use Rattle.gc_client.specs.Rule.{pending_of, expired, lost}
 use Rattle.gc_client.specs.Rule.{Sending}
-use Rattle.gc_world.specs.World.{Request, Numbered, Ends, Step, World, without, doubled, replied, started, on_wire, requested, with_settled, happens, run}
+use Rattle.gc_world.specs.Worlds.{Request, Numbered, Ends, Step, World, without, doubled, replied, started, on_wire, requested, with_settled, happens, run}
 use Rattle.gc_world.specs.Clients.{ByNumber, number_send, number_reply, by_numbers, numbers_open}
 use Rattle.gc_world.specs.Exchange.{IsExchange}
 use Rattle.gc_world.specs.Order.{Each, Rising, numbers}
@@ -17,18 +15,18 @@ use Rattle.gc_world.proofs.Stable.{IsStable, stable, stable_all}
 use Rattle.gc_world.proofs.Options.{some_is}
 
 -- expiring all but the first k of a list of requests leaves as many requests as before
-pub length_expired : (now k : ℕ) (ps : List Pending) → length (take k ps ++ map (expired now) (drop k ps)) ≡ length ps
+pub length_expired : {Q : Type 0} (now k : ℕ) (ps : List (Pending Q)) → length (take k ps ++ map (expired now) (drop k ps)) ≡ length ps
 length_expired now zero ps = length-map ps (expired now)
 length_expired now (suc k) [] = refl
 length_expired now (suc k) (p ∷ ps) = ap suc (length_expired now k ps)
 
 -- a request under way: it was sent since the client's last start, and its id is that of its number
-pub record IsGoing (since total : ℕ) (x : Numbered Request) : Type 0 where
+pub record IsGoing {Q : Type 0} (since total : ℕ) (x : Numbered (Request Q)) : Type 0 where
   pub recent : since ≤ x.number
   pub sent : x.number < total
   pub id : x.line.id ≡ (x.number - since) % 8
 
-module _ {State : Type 0} (width : ℕ) (ends : Ends State) (Good : State → Type 0) where
+module _ {Q State : Type 0} (width : ℕ) (ends : Ends Q State) (Good : State → Type 0) where
   -- a reply under way: its request was sent since the client's last start, and it is heard with the id of its number
   pub record IsComing (since total : ℕ) (x : Numbered (List ℕ)) : Type 0 where
     pub recent : since ≤ x.number
@@ -38,7 +36,7 @@ module _ {State : Type 0} (width : ℕ) (ends : Ends State) (Good : State → Ty
   -- the invariant. The client has as many requests as were sent, and counts as settled as many as there are settlements. No
   -- more had been sent at its last start than are settled, no more are settled than were sent, and at most `width` aren't
   -- settled. The numbers under way never fall, and each line under way belongs to a request sent since the last start
-  pub record IsSound (c : ByNumber) (sent settled : ℕ) (down : List (Numbered (List ℕ))) (up : List (Numbered Request)) (state : State) : Type 0 where
+  pub record IsSound (c : ByNumber Q) (sent settled : ℕ) (down : List (Numbered (List ℕ))) (up : List (Numbered (Request Q))) (state : State) : Type 0 where
     pub good : Good state
     pub counted : length c.requests ≡ sent
     pub booked : settled ≡ c.count
@@ -50,11 +48,11 @@ module _ {State : Type 0} (width : ℕ) (ends : Ends State) (Good : State → Ty
     pub coming : Each (IsComing c.since (length c.requests)) down
 
   -- `IsSound` of a world
-  abbrev pub Sound : World ByNumber State → Type 0
+  abbrev pub Sound : World Q (ByNumber Q) State → Type 0
   Sound w = IsSound w.client (length w.wire.sent) (length w.wire.settled) w.wire.down w.wire.up w.wire.state
 
   -- `IsGoing` still holds of a request when more were sent
-  going_more : (since total total' : ℕ) → total ≤ total' → (x : Numbered Request) → IsGoing since total x → IsGoing since total' x
+  going_more : (since total total' : ℕ) → total ≤ total' → (x : Numbered (Request Q)) → IsGoing since total x → IsGoing since total' x
   going_more since total total' le x h = record { recent = h.recent; sent = omega (arith, h.sent); id = h.id }
 
   -- `IsComing` still holds of a reply when more requests were sent
@@ -62,7 +60,7 @@ module _ {State : Type 0} (width : ℕ) (ends : Ends State) (Good : State → Ty
   coming_more since total total' le x h = record { recent = h.recent; sent = omega (arith, h.sent); id = h.id }
 
   -- the numbers under way are those of requests that were sent
-  pub all_sent : (since total : ℕ) (down : List (Numbered (List ℕ))) (up : List (Numbered Request)) → Each (IsComing since total) down
+  pub all_sent : (since total : ℕ) (down : List (Numbered (List ℕ))) (up : List (Numbered (Request Q))) → Each (IsComing since total) down
       → Each (IsGoing since total) up → Each (λ n. n < total) (numbers down ++ numbers up)
   all_sent since total down up cs gs =
       each_append (λ n. n < total) (numbers down) (numbers up)
@@ -70,18 +68,18 @@ module _ {State : Type 0} (width : ℕ) (ends : Ends State) (Good : State → Ty
       (each_number (λ n. n < total) up (each_more (IsGoing since total) (λ x. x.number < total) (λ x h. h.sent) up gs))
 
   -- a send keeps a world sound
-  sound_sent : (w : World ByNumber State) (target : ℕ) (call : Call) (deadline : ℕ) (full : Bool) (x : Sending ByNumber)
+  sound_sent : (written : ℕ → Q → List ℕ) (w : World Q (ByNumber Q) State) (target : ℕ) (call : Q) (deadline : ℕ) (full : Bool) (x : Sending (ByNumber Q))
       → eqb (length w.client.requests - w.client.count) width ≡ full → number_send w.client target call deadline full ≡ Some x → Sound w
-      → Sound (requested w target call (Some x))
-  sound_sent w target call deadline true x e s h = cc
-  sound_sent w target call deadline false x e s h =
+      → Sound (requested written w target call (Some x))
+  sound_sent written w target call deadline true x e s h = cc
+  sound_sent written w target call deadline false x e s h =
       let c = w.client in
       let total = length c.requests in
       let ne : (total - c.count ≡ width) → ⊥ = eqb-false _ _ e in
-      let y : Sending ByNumber = record { id = (total - c.since) % 8; client = record { count = c.count; requests = c.requests ++ pending_of target call deadline ∷ []; since = c.since } } in
-      let sent1 : length (w.wire.sent ++ record { target = target; call = call; line = request_line (Some y.id) call } ∷ []) ≡ length w.wire.sent + 1 = length-append w.wire.sent _ in
+      let y : Sending (ByNumber Q) = record { id = (total - c.since) % 8; client = record { count = c.count; requests = c.requests ++ pending_of target call deadline ∷ []; since = c.since } } in
+      let sent1 : length (w.wire.sent ++ record { target = target; call = call; line = written y.id call } ∷ []) ≡ length w.wire.sent + 1 = length-append w.wire.sent _ in
       let requests1 : length (c.requests ++ pending_of target call deadline ∷ []) ≡ total + 1 = length-append c.requests _ in
-      let done : Sound (requested w target call (Some y)) = record {
+      let done : Sound (requested written w target call (Some y)) = record {
         good = h.good;
         counted = requests1 ∙ ap (λ n. n + 1) h.counted ∙ sym sent1;
         booked = h.booked;
@@ -102,10 +100,10 @@ module _ {State : Type 0} (width : ℕ) (ends : Ends State) (Good : State → Ty
             );
         coming = each_more _ _ (coming_more c.since total _ (omega (arith, requests1))) w.wire.down h.coming;
       } in
-      subst (λ z. Sound (requested w target call (Some z))) (some_is _ x s) done
+      subst (λ z. Sound (requested written w target call (Some z))) (some_is _ x s) done
 
   -- an instrument's reply keeps a world sound
-  sound_answer : IsExchange ends Good → (w : World ByNumber State) (x : Numbered Request) (rest : List (Numbered Request)) → w.wire.up ≡ x ∷ rest → Sound w
+  sound_answer : IsExchange ends Good → (w : World Q (ByNumber Q) State) (x : Numbered (Request Q)) (rest : List (Numbered (Request Q))) → w.wire.up ≡ x ∷ rest → Sound w
       → Sound (on_wire w (replied w.wire x.number rest (ends.handed w.wire.state x.line.id x.line.call)))
   sound_answer ex w x rest e h =
       let c = w.client in
@@ -126,14 +124,14 @@ module _ {State : Type 0} (width : ℕ) (ends : Ends State) (Good : State → Ty
       }
 
   -- other queues, whose numbers never fall and are of requests and replies under way, keep a world sound
-  sound_queues : (w : World ByNumber State) (down : List (Numbered (List ℕ))) (up : List (Numbered Request))
+  sound_queues : (w : World Q (ByNumber Q) State) (down : List (Numbered (List ℕ))) (up : List (Numbered (Request Q)))
       → Rising w.client.count (numbers down ++ numbers up) → Each (IsGoing w.client.since (length w.client.requests)) up
       → Each (IsComing w.client.since (length w.client.requests)) down → Sound w → Sound (on_wire w (record w.wire { down = down; up = up }))
   sound_queues w down up order going coming h =
       record { good = h.good; counted = h.counted; booked = h.booked; begun = h.begun; within = h.within; few = h.few; order = order; going = going; coming = coming }
 
   -- delivering a reply keeps a world sound
-  sound_reply : (w : World ByNumber State) (x : Numbered (List ℕ)) (rest : List (Numbered (List ℕ))) (old : Bool) → w.wire.down ≡ x ∷ rest
+  sound_reply : (w : World Q (ByNumber Q) State) (x : Numbered (List ℕ)) (rest : List (Numbered (List ℕ))) (old : Bool) → w.wire.down ≡ x ∷ rest
       → ltb x.number w.client.count ≡ old → Sound w → Sound (with_settled (record w.wire { down = rest }) (number_reply w.client x old))
   sound_reply w x rest true e t h =
       let c = w.client in
@@ -170,7 +168,7 @@ module _ {State : Type 0} (width : ℕ) (ends : Ends State) (Good : State → Ty
       }
 
   -- a moment keeps a world sound
-  sound_expired : (w : World ByNumber State) (now : ℕ) → Sound w → Sound (record { wire = w.wire; client = (by_numbers width).expire w.client now })
+  sound_expired : (w : World Q (ByNumber Q) State) (now : ℕ) → Sound w → Sound (record { wire = w.wire; client = (by_numbers width).expire w.client now })
   sound_expired w now h =
       let c = w.client in
       let same = length_expired now c.count c.requests in
@@ -187,7 +185,7 @@ module _ {State : Type 0} (width : ℕ) (ends : Ends State) (Good : State → Ty
       }
 
   -- a start of the instrument keeps a world sound
-  sound_started : IsExchange ends Good → (w : World ByNumber State) (b : Bool) → Sound w → Sound (on_wire w (started ends w.wire b))
+  sound_started : IsExchange ends Good → (w : World Q (ByNumber Q) State) (b : Bool) → Sound w → Sound (on_wire w (started ends w.wire b))
   sound_started ex w false h = h
   sound_started ex w true h =
       record {
@@ -204,7 +202,7 @@ module _ {State : Type 0} (width : ℕ) (ends : Ends State) (Good : State → Ty
       }
 
   -- settling all that wait while no line is under way keeps a world sound
-  sound_lost : (w : World ByNumber State) → w.wire.up ≡ [] → w.wire.down ≡ [] → Sound w → Sound (with_settled w.wire ((by_numbers width).restart w.client))
+  sound_lost : (w : World Q (ByNumber Q) State) → w.wire.up ≡ [] → w.wire.down ≡ [] → Sound w → Sound (with_settled w.wire ((by_numbers width).restart w.client))
   sound_lost w eu ed h =
       let c = w.client in
       let total = length c.requests in
@@ -222,18 +220,18 @@ module _ {State : Type 0} (width : ℕ) (ends : Ends State) (Good : State → Ty
       }
 
   -- a restart of the client while no line is under way keeps a world sound
-  sound_restarted : IsExchange ends Good → (w : World ByNumber State) (b : Bool) → w.wire.up ≡ [] → w.wire.down ≡ [] → Sound w
+  sound_restarted : IsExchange ends Good → (w : World Q (ByNumber Q) State) (b : Bool) → w.wire.up ≡ [] → w.wire.down ≡ [] → Sound w
       → Sound (with_settled (started ends w.wire b) ((by_numbers width).restart w.client))
   sound_restarted ex w false eu ed h = sound_lost w eu ed h
   sound_restarted ex w true eu ed h = sound_lost (on_wire w (started ends w.wire true)) eu ed (sound_started ex w true h)
 
   -- each elementary change keeps a world sound
-  pub keeps : IsExchange ends Good → IsStable ends (by_numbers width) Sound
-  keeps ex =
+  pub keeps : (written : ℕ → Q → List ℕ) → IsExchange ends Good → IsStable written ends (by_numbers width) Sound
+  keeps written ex =
       record {
         idles = λ w h. h;
         refuses = λ w h. h;
-        sends = λ w target call deadline x e h. sound_sent w target call deadline (eqb (length w.client.requests - w.client.count) width) x refl e h;
+        sends = λ w target call deadline x e h. sound_sent written w target call deadline (eqb (length w.client.requests - w.client.count) width) x refl e h;
         answers = λ w x rest q h. sound_answer ex w x rest q h;
         loses_up = λ w k h. sound_queues w w.wire.down (without k w.wire.up) (rising_without_behind w.client.count k (numbers w.wire.down) w.wire.up h.order)
             (each_without _ k w.wire.up h.going) h.coming h;
@@ -250,12 +248,12 @@ module _ {State : Type 0} (width : ℕ) (ends : Ends State) (Good : State → Ty
       }
 
   -- each step keeps a world sound
-  pub sound_step : IsExchange ends Good → (w : World ByNumber State) (e : Step) → Sound w → Sound (happens ends (by_numbers width) w e)
-  sound_step ex w e h = stable ends (by_numbers width) Sound (keeps ex) w e h
+  pub sound_step : (written : ℕ → Q → List ℕ) → IsExchange ends Good → (w : World Q (ByNumber Q) State) (e : Step Q) → Sound w → Sound (happens written ends (by_numbers width) w e)
+  sound_step written ex w e h = stable written ends (by_numbers width) Sound (keeps written ex) w e h
 
   -- a run keeps a world sound
-  pub sound_all : IsExchange ends Good → (es : List Step) (w : World ByNumber State) → Sound w → Sound (run ends (by_numbers width) es w)
-  sound_all ex es w h = stable_all ends (by_numbers width) Sound (keeps ex) es w h
+  pub sound_all : (written : ℕ → Q → List ℕ) → IsExchange ends Good → (es : List (Step Q)) (w : World Q (ByNumber Q) State) → Sound w → Sound (run written ends (by_numbers width) es w)
+  sound_all written ex es w h = stable_all written ends (by_numbers width) Sound (keeps written ex) es w h
 
   -- the world before the first event is sound
   pub sound_open : (state : State) → Good state → Sound (numbers_open state)

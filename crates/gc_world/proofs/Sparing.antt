@@ -3,6 +3,7 @@
 use Rattle.std.proofs.Common.{◌≡◌, ℕ, ◌≤◌, true, false, List, [], ◌∷◌, length, Some, inl, inr, sym, ◌∙◌, ap, subst, arith}
 use mathlib.Core.Path.{ap₂}
 use Rattle.std.specs.Prelude.{slice_get}
+use Rattle.gc_catalogue.specs.declared.call.Call.{Call}
 use Rattle.gc_client.specs.Rule.{ById, Windowed, fits, heard}
 use Rattle.gc_instrument.specs.State.{State}
 use Rattle.gc_world.specs.declared.report.Made.{Made}
@@ -18,10 +19,10 @@ use Rattle.gc_world.proofs.Showing.{same_up, same_down, no_up, no_down, down_fro
 pub not_both : false ≡ true → ⊥
 not_both e = cc
 
-module _ (width : ℕ) (r : Report) (up down : List ℕ) (c : Windowed) (w : World ById State) (h : AreOf width r up down c w) where
+module _ (width : ℕ) (r : Report) (up down : List ℕ) (c : Windowed Call) (w : World (ById Call) State) (h : AreOf width r up down c w) where
   -- where the world's client has as many requests waiting as its width, the stage's has
   pub full : length w.client.waiting ≡ width → length c.ids.waiting ≡ c.width
-  full t = ap (λ (x : Windowed). length x.ids.waiting) h.client_is ∙ t ∙ sym (ap (λ (x : Windowed). x.width) h.client_is)
+  full t = ap (λ (x : Windowed Call). length x.ids.waiting) h.client_is ∙ t ∙ sym (ap (λ (x : Windowed Call). x.width) h.client_is)
 
   -- where the world's upward queue is empty, the stage's is
   pub none_up : w.wire.up ≡ [] → up ≡ []
@@ -58,5 +59,5 @@ module _ (width : ℕ) (r : Report) (up down : List ℕ) (c : Windowed) (w : Wor
       → IsStray w.client w.wire.down → fits c.ids (heard bytes) ≡ false
   stray p rest m bytes e found same t =
       let f = down_front width r up down c w h p rest e in
-      ap₂ (λ (k : Windowed) (l : List ℕ). fits k.ids (heard l)) h.client_is
+      ap₂ (λ (k : Windowed Call) (l : List ℕ). fits k.ids (heard l)) h.client_is
       (same ∙ ap (λ (x : Numbered (List ℕ)). x.line) (down_line width r up down c w h p rest m e found)) ∙ subst (λ q. IsStray w.client q) f.2 t

@@ -2,6 +2,7 @@
 use Rattle.std.proofs.Common.{◌≡◌, ℕ, ◌+◌, ◌<◌, ◌≤◌, List, [], ◌∷◌, ◌++◌, length, take, get_or, sym, ◌∙◌, ap, subst, arith, length-take}
 use Rattle.std.proofs.lemmas.List.{take_all, take_more}
 use Rattle.gc_lines.specs.Assembler.{Kept}
+use Rattle.gc_catalogue.specs.declared.call.Call.{Call}
 use Rattle.gc_client.specs.Rule.{ById, Windowed}
 use Rattle.gc_instrument.specs.State.{State}
 use Rattle.gc_world.specs.declared.event.Event.{Event}
@@ -29,7 +30,8 @@ played_within width opening events =
     { sent = omega arith; executed = omega arith; made = omega arith; starts = omega arith; refused = omega arith; idle = omega arith }))
 
 -- a report with other assemblers has the same lists and counts, so it is still that of the world
-with_kept : (width : ℕ) (r : Report) (up down : List ℕ) (c : Windowed) (w : World ById State) (a b : Kept) → AreOf width r up down c w → AreOf width (record r { up = a; down = b }) up down c w
+with_kept : (width : ℕ) (r : Report) (up down : List ℕ) (c : Windowed Call) (w : World (ById Call) State) (a b : Kept) → AreOf width r up down c w
+    → AreOf width (record r { up = a; down = b }) up down c w
 with_kept width r up down c w a b h =
     let g = h.reports in
     record {

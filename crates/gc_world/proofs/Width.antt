@@ -1,6 +1,7 @@
 -- With a width of eight, the repeat of the first reply has the id of the ninth request.
 use Rattle.std.proofs.Common.{◌≡◌, ◌≢◌, ℕ, List, [], ◌∷◌, ◌++◌, length, Option, Some, refl, sym, ◌∙◌, ap, lit<, arith}
 use Rattle.gc_catalogue.specs.declared.call.Call.TheVariants.{NullProc}
+use Rattle.gc_catalogue.specs.declared.call.Call.{Call}
 use Rattle.gc_client.specs.Rule.{ById, hears}
 use Rattle.gc_instrument.specs.State.{State, restarted}
 use Rattle.gc_world.specs.Clients.{by_ids, ids_open, by_numbers, numbers_open}
@@ -34,19 +35,19 @@ module _ {State : Type 0} (ends : Ends State) (Good : State → Type 0) (ex : Is
   zero_heard = ex.reads s 0 NullProc good (lit< tt)
 
   -- the world in which the first reply stands twice in the downward queue
-  abbrev twice : World ById State
+  abbrev twice : World (ById Call) State
   twice = run ends (by_ids 8 ends) opening_steps (ids_open s)
 
   -- the world after the first reply was heard once, with this id
-  abbrev once_heard : Option ℕ → World ById State
+  abbrev once_heard : Option ℕ → World (ById Call) State
   once_heard o = with_settled (record twice.wire { down = record { number = 0; line = line } ∷ [] }) (hears twice.client line o)
 
   -- the world after eight other requests were sent
-  abbrev full : World ById State
+  abbrev full : World (ById Call) State
   full = run ends (by_ids 8 ends) sends (once_heard (Some 0))
 
   -- the world after the first reply was heard again, with this id
-  abbrev heard_again : Option ℕ → World ById State
+  abbrev heard_again : Option ℕ → World (ById Call) State
   heard_again o = with_settled (record full.wire { down = [] }) (hears full.client line o)
 
   -- by ids the repeat settles all nine requests

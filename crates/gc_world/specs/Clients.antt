@@ -9,12 +9,13 @@ use Rattle.gc_instrument.specs.Replying.{handed}
 use Rattle.gc_instrument.specs.State.{State, restarted}
 use Rattle.gc_world.specs.declared.event.Event.{Event}
 use Rattle.gc_world.specs.Streams.{Streams, untouched, flow}
-use Rattle.gc_world.specs.World.{Numbered, Ends, Rule, World, Step, opened, run}
+use Rattle.gc_world.specs.World.{Numbered, Ends, World, Step, opened, run}
+use Rattle.gc_world.specs.Worlds
 
 -- By ids.
 
 -- the client's rule, for a window of this width; the number of a reply is not looked at
-abbrev pub by_ids : {State : Type 0} → ℕ → Ends State → Rule ById
+abbrev pub by_ids : {Q State : Type 0} → ℕ → Worlds.Ends Q State → Worlds.Rule Q (ById Q)
 by_ids width ends =
     record {
       send = λ c target call deadline. sends width c target call deadline;
@@ -27,14 +28,14 @@ by_ids width ends =
 
 -- the client that is told the numbers: `count` requests are settled, `requests` are all that were sent, settled or not, and
 -- `since` of them had been sent at the client's last start
-pub record ByNumber : Type 0 where
+pub record ByNumber (Q : Type 0) : Type 0 where
   pub count : ℕ
-  pub requests : List Pending
+  pub requests : List (Pending Q)
   pub since : ℕ
 
 -- a send: refused where the flag says that the window is full. Else the request's id is the count of the sends since the last
 -- start, modulo the number of ids
-abbrev pub number_send : ByNumber → ℕ → Call → ℕ → Bool → Option (Sending ByNumber)
+abbrev pub number_send : {Q : Type 0} → ByNumber Q → ℕ → Q → ℕ → Bool → Option (Sending (ByNumber Q))
 number_send c target call deadline true = None
 number_send c target call deadline false =
     Some (record {
@@ -44,7 +45,7 @@ number_send c target call deadline false =
 
 -- a reply: where its request is settled already (the flag) nothing happens. Else the requests before it that aren't settled are
 -- lost, and its own is settled by this line
-abbrev pub number_reply : ByNumber → Numbered (List ℕ) → Bool → Settled ByNumber
+abbrev pub number_reply : {Q : Type 0} → ByNumber Q → Numbered (List ℕ) → Bool → Settled Q (ByNumber Q)
 number_reply c x true = record { settlements = []; client = c }
 number_reply c x false =
     record {
@@ -54,7 +55,7 @@ number_reply c x false =
 
 -- what the client would do if every reply carried its request's number: no id is read in a reply; sends are refused at the
 -- same width, and get the same ids
-abbrev pub by_numbers : ℕ → Rule ByNumber
+abbrev pub by_numbers : {Q : Type 0} → ℕ → Worlds.Rule Q (ByNumber Q)
 by_numbers width =
     record {
       send = λ c target call deadline. number_send c target call deadline (nat_eq (length c.requests - c.count) width);
@@ -65,29 +66,30 @@ by_numbers width =
 
 -- The runs.
 
-module _ {State : Type 0} where
+module _ {Q State : Type 0} where
   -- the world before the first event, with the client that knows ids
-  abbrev pub ids_open : State → World ById State
+  abbrev pub ids_open : State → Worlds.World Q (ById Q) State
   ids_open state = record { wire = opened state; client = fresh }
 
   -- the world before the first event, with the client that is told the numbers
-  abbrev pub numbers_open : State → World ByNumber State
+  abbrev pub numbers_open : State → Worlds.World Q (ByNumber Q) State
   numbers_open state = record { wire = opened state; client = record { count = 0; requests = []; since = 0 } }
 
+module _ {State : Type 0} where
   -- the run by ids: every step, in order, with the client that knows ids
-  abbrev pub run_by_ids : ℕ → Ends State → List Step → State → World ById State
+  abbrev pub run_by_ids : ℕ → Ends State → List Step → State → World (ById Call) State
   run_by_ids width ends steps state = run ends (by_ids width ends) steps (ids_open state)
 
   -- the run by numbers: every step, in order, with the client that is told the numbers
-  abbrev pub run_by_numbers : ℕ → Ends State → List Step → State → World ByNumber State
+  abbrev pub run_by_numbers : ℕ → Ends State → List Step → State → World (ByNumber Call) State
   run_by_numbers width ends steps state = run ends (by_numbers width) steps (numbers_open state)
 
   -- the run by ids of events, with what has gone of the front lines: a reply is delivered with its last byte
-  abbrev pub streams_by_ids : ℕ → Ends State → List Event → State → Streams ById State
+  abbrev pub streams_by_ids : ℕ → Ends State → List Event → State → Streams (ById Call) State
   streams_by_ids width ends events state = flow ends (by_ids width ends) events (untouched (ids_open state))
 
   -- the run by numbers of events, with what has gone of the front lines: a reply is delivered with its last byte
-  abbrev pub streams_by_numbers : ℕ → Ends State → List Event → State → Streams ByNumber State
+  abbrev pub streams_by_numbers : ℕ → Ends State → List Event → State → Streams (ByNumber Call) State
   streams_by_numbers width ends events state = flow ends (by_numbers width) events (untouched (numbers_open state))
 
 -- the two ends: the simulated instrument, and a client that reads replies by their grammar
@@ -95,13 +97,13 @@ abbrev pub ends : Ends State
 ends = record { handed = handed; restarted = restarted; heard = heard; joint = true }
 
 -- the streams that the run by ids of these events leaves, from the restarted opening state, with a window of this width
-abbrev pub streamed : ℕ → State → List Event → Streams ById State
+abbrev pub streamed : ℕ → State → List Event → Streams (ById Call) State
 streamed width opening events = streams_by_ids width ends events (restarted opening)
 
 -- the world that the run by ids of these events leaves, from the restarted opening state, with a window of this width
-abbrev pub played : ℕ → State → List Event → World ById State
+abbrev pub played : ℕ → State → List Event → World (ById Call) State
 played width opening events = (streamed width opening events).world
 
 -- the world that the run by numbers of these events leaves, from the restarted opening state, with a window of this width
-abbrev pub played_by_numbers : ℕ → State → List Event → World ByNumber State
+abbrev pub played_by_numbers : ℕ → State → List Event → World (ByNumber Call) State
 played_by_numbers width opening events = (streams_by_numbers width ends events (restarted opening)).world

@@ -2,23 +2,22 @@
 use Rattle.std.specs.Prelude.{◌≡◌, ℕ, ◌<◌, List, true, false, Option, Some, None}
 use Rattle.gc_instrument.specs.Replying.{kept_line}
 use Rattle.gc_instrument.specs.State.{KeptReply}
-use Rattle.gc_catalogue.specs.declared.call.Call.{Call}
 use Rattle.gc_client.specs.declared.window.TheConstants.{IDS}
-use Rattle.gc_world.specs.World.{Ends}
+use Rattle.gc_world.specs.Worlds.{Ends}
 
 -- in a good state the reply to a request reads as one with the request's id; replying and restarting lead to good states
-pub record IsExchange {State : Type 0} (ends : Ends State) (Good : State → Type 0) : Type 0 where
-  pub reads : (state : State) (id : ℕ) (call : Call) → Good state → id < IDS → ends.heard (ends.handed state id call).reply ≡ Some id
-  pub stays_good : (state : State) (id : ℕ) (call : Call) → Good state → id < IDS → Good (ends.handed state id call).state
+pub record IsExchange {Q State : Type 0} (ends : Ends Q State) (Good : State → Type 0) : Type 0 where
+  pub reads : (state : State) (id : ℕ) (call : Q) → Good state → id < IDS → ends.heard (ends.handed state id call).reply ≡ Some id
+  pub stays_good : (state : State) (id : ℕ) (call : Q) → Good state → id < IDS → Good (ends.handed state id call).state
   pub restart_good : (state : State) → Good state → Good (ends.restarted state)
 
 -- the instrument keeps its last reply, with the reply's id. A request with that id gets the kept line, and nothing changes; a request with
 -- another id is executed, and its reply is kept. Restarting twice is restarting once, and leaves nothing kept
-pub record IsKeeper {State : Type 0} (ends : Ends State) (kept : State → Option KeptReply) : Type 0 where
+pub record IsKeeper {Q State : Type 0} (ends : Ends Q State) (kept : State → Option KeptReply) : Type 0 where
   pub twice : (state : State) → ends.restarted (ends.restarted state) ≡ ends.restarted state
   pub forgets : (state : State) → kept (ends.restarted state) ≡ None
-  pub again : (state : State) (id : ℕ) (call : Call) (line : List ℕ) → kept_line (kept state) (Some id) ≡ Some line
+  pub again : (state : State) (id : ℕ) (call : Q) (line : List ℕ) → kept_line (kept state) (Some id) ≡ Some line
       → ends.handed state id call ≡ record { state = state; reply = line; executed = false }
-  pub executes : (state : State) (id : ℕ) (call : Call) → kept_line (kept state) (Some id) ≡ None → (ends.handed state id call).executed ≡ true
-  pub keeps : (state : State) (id : ℕ) (call : Call) → kept_line (kept state) (Some id) ≡ None
+  pub executes : (state : State) (id : ℕ) (call : Q) → kept_line (kept state) (Some id) ≡ None → (ends.handed state id call).executed ≡ true
+  pub keeps : (state : State) (id : ℕ) (call : Q) → kept_line (kept state) (Some id) ≡ None
       → kept (ends.handed state id call).state ≡ Some (record { id = id; line = (ends.handed state id call).reply })

@@ -25,7 +25,7 @@ use Rattle.gc_world.specs.World.{Wire}
 pub record OneForOne (r : Report) : Type 0 where
   pub count : length r.settled ≤ length r.sent
   pub same :
-      (m : ℕ) (settlement : Settlement) (request : Sent) → slice_get r.settled m ≡ Some settlement → slice_get r.sent m ≡ Some request →
+      (m : ℕ) (settlement : Settlement Call) (request : Sent) → slice_get r.settled m ≡ Some settlement → slice_get r.sent m ≡ Some request →
       (settlement.target ≡ request.target) × (settlement.call ≡ request.call)
 
 -- a reading is a value or a refusal, and neither a fault of the communication nor unreadable
@@ -56,7 +56,7 @@ IsBookedAnswer r m call Lost = ⊤
 -- request m, and the reading is the value or the refusal that the line has for the settlement's call
 abbrev pub BooksAnswers : Report → Type 0
 BooksAnswers r =
-    (m : ℕ) (settlement : Settlement) → slice_get r.settled m ≡ Some settlement → IsBookedAnswer r m settlement.call settlement.outcome
+    (m : ℕ) (settlement : Settlement Call) → slice_get r.settled m ≡ Some settlement → IsBookedAnswer r m settlement.call settlement.outcome
 
 -- whether a number is among these
 abbrev pub has_number : ℕ → List ℕ → Bool

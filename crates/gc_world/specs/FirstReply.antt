@@ -52,7 +52,7 @@ pub record IsNextFor (w : Wire State) (n : ℕ) (line : List ℕ) : Type 0 where
   pub unsettled : length w.settled ≤ n
 
 -- the settlement with this outcome of a request that was sent
-abbrev pub ended : Outcome → Sent → Settlement
+abbrev pub ended : Outcome → Sent → Settlement Call
 ended outcome r = record { target = r.target; call = r.call; outcome = outcome }
 
 -- the requests from number m through number n - 1
@@ -67,7 +67,7 @@ pub record IsSettledAs (before after : Wire State) (n : ℕ) (outcome : Outcome)
   pub settled : after.settled ≡ before.settled ++ map (ended Lost) (between (length before.settled) n before.sent) ++ ended outcome request ∷ []
 
 -- the event hands over the last byte of the line in front of the downward queue, and no byte behind it
-abbrev pub IsDelivery : Streams ById State → Event → Type 0
+abbrev pub IsDelivery : Streams (ById Call) State → Event → Type 0
 IsDelivery v e = (e ≡ DownDeliver) ⊎ ((n : ℕ) × (e ≡ DownBytes (n + 1)) × (remaining v.down_gone (down_lines v.world.wire) ≡ n + 1))
 
 -- after these events, if this line is the reply in front of the downward queue, and request n, to which it belongs, isn't

@@ -44,7 +44,7 @@ SettlesInOrder =
 -- an answer that is booked at place m is a line that was made on executing request m, for the call of that request
 abbrev pub BooksItsOwn : Type 0
 BooksItsOwn =
-    (width : ℕ) → width ≤ WINDOW → (opening : State) → IsFittingState (restarted opening) → (events : List Event) (m : ℕ) (s : Settlement) →
+    (width : ℕ) → width ≤ WINDOW → (opening : State) → IsFittingState (restarted opening) → (events : List Event) (m : ℕ) (s : Settlement Call) →
     slice_get (left_by_ids width opening events).settled m ≡ Some s → IsBooked ends IsFittingState (left_by_ids width opening events).made m s
 
 -- the line of an answer that is booked reads as a value or a refusal

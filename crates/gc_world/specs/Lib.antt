@@ -1,3 +1,4 @@
+pub mod Worlds
 pub mod World
 pub mod Streams
 pub mod Directions

@@ -1,5 +1,6 @@
 -- Which events take no memory, this project's own: those at which none of the report's lists and no queue grows.
 use Rattle.std.specs.Prelude.{◌≡◌, ◌⊎◌, ℕ, zero, suc, ◌+◌, ◌≤◌, true, false, List, [], ◌∷◌, length, take, Some, slice_get, ⊤}
+use Rattle.gc_catalogue.specs.declared.call.Call.{Call}
 use Rattle.gc_client.specs.Rule.{ById, fits, heard}
 use Rattle.gc_instrument.specs.State.{State}
 use Rattle.gc_world.specs.declared.event.Event.{Event}
@@ -13,12 +14,12 @@ abbrev pub IsBusy : {A B : Type 0} → List A → List B → Type 0
 IsBusy up down = ¬ ((up ≡ []) × (down ≡ []))
 
 -- no line is in the downward queue, or no request waits for the one in front
-abbrev pub IsStray : ById → List (Numbered (List ℕ)) → Type 0
+abbrev pub IsStray : ById Call → List (Numbered (List ℕ)) → Type 0
 IsStray client [] = ⊤
 IsStray client (x ∷ rest) = fits client (heard x.line) ≡ false
 
 -- no request waits for any of the first k lines
-abbrev pub AreStrays : ById → ℕ → List (Numbered (List ℕ)) → Type 0
+abbrev pub AreStrays : ById Call → ℕ → List (Numbered (List ℕ)) → Type 0
 AreStrays client zero down = ⊤
 AreStrays client (suc k) [] = ⊤
 AreStrays client (suc k) (x ∷ rest) = (fits client (heard x.line) ≡ false) × AreStrays client k rest
@@ -29,7 +30,7 @@ IsNoRepeat k gone queue = (is_begun k gone ≡ true) ⊎ (length queue ≤ k)
 
 -- on these streams, with a window of this width, the event is a refused send, a loss, an expiry, a delivery of strays, bytes that complete no line, or isn't
 -- possible
-abbrev pub TakesNone : ℕ → Streams ById State → Event → Type 0
+abbrev pub TakesNone : ℕ → Streams (ById Call) State → Event → Type 0
 TakesNone width v (Send target call deadline) = length v.world.client.waiting ≡ width
 TakesNone width v UpDeliver = v.world.wire.up ≡ []
 TakesNone width v (UpBytes n) = (cut (up_lines v.world.wire) (v.up_gone + n)).lines ≡ 0

@@ -2,7 +2,7 @@
 -- those sent, counted from 0, and a reply has its request's number. This project's own.
 use Rattle.std.specs.Prelude.{◌≡◌, ℕ, ◌+◌, ◌<◌, ◌≤◌, List, [], ◌∷◌, ◌++◌, length, map, Option, Some, None}
 use Rattle.gc_instrument.specs.State.{KeptReply}
-use Rattle.gc_world.specs.World.{Numbered, Wire}
+use Rattle.gc_world.specs.Worlds.{Numbered, Wire}
 
 -- each element of a list has this property
 abbrev pub Each : {A : Type 0} → (A → Type 0) → List A → Type 0
@@ -19,7 +19,7 @@ abbrev pub numbers : {Line : Type 0} → List (Numbered Line) → List ℕ
 numbers xs = map (λ x. x.number) xs
 
 -- the numbers under way, from the front of the downward queue to the back of the upward one
-abbrev pub under_way : {State : Type 0} → Wire State → List ℕ
+abbrev pub under_way : {Q State : Type 0} → Wire Q State → List ℕ
 under_way w = numbers w.down ++ numbers w.up
 
 -- while a reply is kept, some request was executed, and each of the numbers `up` is the one executed last or one of the `width`
@@ -29,7 +29,7 @@ IsRecent width None executed up = Unit {0}
 IsRecent width (Some k) executed up = (earlier : List ℕ) × (last : ℕ) × (executed ≡ earlier ++ last ∷ []) × Each (λ n. (last ≤ n) × (n ≤ last + width)) up
 
 -- the order of the line, where at most `width` requests are unsettled
-pub record IsOrderly {State : Type 0} (width : ℕ) (w : Wire State) : Type 0 where
+pub record IsOrderly {Q State : Type 0} (width : ℕ) (w : Wire Q State) : Type 0 where
   -- at most `width` requests are unsettled
   pub settled : length w.settled ≤ length w.sent
   pub few : length w.sent ≤ length w.settled + width

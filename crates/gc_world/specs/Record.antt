@@ -1,12 +1,12 @@
 -- What the laws of the runs say of a run's lists of requests, executions, replies and settlements: how they correspond. This
 -- project's own.
 use Rattle.std.specs.Prelude.{◌≡◌, ℕ, ◌+◌, ◌<◌, ◌≤◌, List, [], ◌∷◌, length, true, Some, slice_get}
-use Rattle.gc_catalogue.specs.declared.call.Call.{Call}
 use Rattle.gc_catalogue.specs.Texts.{request_line}
 use Rattle.gc_client.specs.declared.window.TheConstants.{IDS}
 use Rattle.gc_client.specs.Rule.{Settlement, Answered}
 use Rattle.gc_world.specs.Faithful.{has_number, begun}
 use Rattle.gc_world.specs.World.{Sent, Numbered, Ends, Wire}
+use Rattle.gc_world.specs.Worlds
 
 -- these numbers are at least low, and strictly increase
 abbrev pub Increasing : ℕ → List ℕ → Type 0
@@ -14,15 +14,15 @@ Increasing low [] = Unit {0}
 Increasing low (x ∷ xs) = (low ≤ x) × Increasing (x + 1) xs
 
 -- settlement m has the target and the call of request m, and there are no more settlements than requests
-pub record IsOneForOne (sent : List Sent) (settled : List Settlement) : Type 0 where
+pub record IsOneForOne {Q : Type 0} (sent : List (Worlds.Sent Q)) (settled : List (Settlement Q)) : Type 0 where
   pub count : length settled ≤ length sent
   pub same :
-      (m : ℕ) (s : Settlement) (r : Sent) → slice_get settled m ≡ Some s → slice_get sent m ≡ Some r →
+      (m : ℕ) (s : Settlement Q) (r : Worlds.Sent Q) → slice_get settled m ≡ Some s → slice_get sent m ≡ Some r →
       (s.target ≡ r.target) × (s.call ≡ r.call)
 
-module _ {State : Type 0} (ends : Ends State) where
+module _ {Q State : Type 0} (ends : Worlds.Ends Q State) where
   -- the instrument wrote these bytes when it executed this call in some good state
-  pub record IsReplyTo (Good : State → Type 0) (call : Call) (bytes : List ℕ) : Type 0 where
+  pub record IsReplyTo (Good : State → Type 0) (call : Q) (bytes : List ℕ) : Type 0 where
     pub state : State
     pub good : Good state
     pub id : ℕ
@@ -31,11 +31,12 @@ module _ {State : Type 0} (ends : Ends State) where
     pub reply : bytes ≡ (ends.handed state id call).reply
 
   -- where settlement m is answered, its line is among those that were made for request m, in answer to that very call
-  abbrev pub IsBooked : (State → Type 0) → List (Numbered (List ℕ)) → ℕ → Settlement → Type 0
+  abbrev pub IsBooked : (State → Type 0) → List (Numbered (List ℕ)) → ℕ → Settlement Q → Type 0
   IsBooked Good made m s =
       (bytes : List ℕ) → s.outcome ≡ Answered bytes →
       ((j : ℕ) × (slice_get made j ≡ Some (record { number = m; line = bytes }))) × IsReplyTo Good s.call bytes
 
+module _ {State : Type 0} (ends : Ends State) where
   -- execution j is that of request n. The request's line is that of its call with some id from 0 to 7; the call is executed in
   -- the state `before j`; and `before (j + 1)` is the state that comes of it, restarted where `starts` has the number j + 1
   pub record IsExecuted (w : Wire State) (before : ℕ → State) (j n : ℕ) : Type 0 where

@@ -3,6 +3,7 @@
 use Rattle.std.specs.Prelude.{◌≡◌, ℕ, ◌+◌, ◌<◌, List, Option, Some, map, replicate, slice_get}
 use Rattle.gc_catalogue.specs.Calls.{IsFitting}
 use Rattle.gc_catalogue.specs.Texts.{request_line}
+use Rattle.gc_catalogue.specs.declared.call.Call.{Call}
 use Rattle.gc_client.specs.declared.window.TheConstants.{IDS}
 use Rattle.gc_client.specs.Rule.{ById, Windowed}
 use Rattle.gc_instrument.specs.State.{State, restarted}
@@ -22,19 +23,19 @@ use Rattle.gc_world.specs.Streams.{Streams, up_texts, down_texts, untouched, cut
 use Rattle.gc_world.specs.World.{Request, Numbered, Step, World, happens, run}
 
 -- the streams before the first event: the instrument is restarted from this state, and nothing is under way
-abbrev pub begins : State → Streams ById State
+abbrev pub begins : State → Streams (ById Call) State
 begins opening = untouched (ids_open (restarted opening))
 
 -- the world after one step of the run by ids, with a window of this width
-abbrev pub does : ℕ → World ById State → Step → World ById State
+abbrev pub does : ℕ → World (ById Call) State → Step → World (ById Call) State
 does width w step = happens ends (by_ids width ends) w step
 
 -- the streams after one event of the run by ids, with a window of this width
-abbrev pub goes_on : ℕ → Streams ById State → Event → Streams ById State
+abbrev pub goes_on : ℕ → Streams (ById Call) State → Event → Streams (ById Call) State
 goes_on width v e = flows ends (by_ids width ends) v e
 
 -- the streams after the next n bytes of a direction
-abbrev pub handed : ℕ → Direction → Streams ById State → ℕ → Streams ById State
+abbrev pub handed : ℕ → Direction → Streams (ById Call) State → ℕ → Streams (ById Call) State
 handed width d v n =
     let c = cut (lines d v.world.wire) (gone d v + n) in
     reaches d v (run ends (by_ids width ends) (replicate c.lines (deliver d)) v.world) c.gone
@@ -58,7 +59,7 @@ named made places = map (slice_get (map made_seen made)) places
 
 -- the report, the queues and the client are those of this world, for a client with a window of this width: the queue upward
 -- has the numbers of the requests under way, and the queue downward names the replies
-pub record AreOf (width : ℕ) (report : Report) (up down : List ℕ) (client : Windowed) (w : World ById State) : Type 0 where
+pub record AreOf (width : ℕ) (report : Report) (up down : List ℕ) (client : Windowed Call) (w : World (ById Call) State) : Type 0 where
   pub reports : IsReport report w.wire
   pub up_is : up ≡ numbers w.wire.up
   pub down_is : named report.made down ≡ map Some w.wire.down
@@ -72,14 +73,14 @@ pub record Seen : Type 0 where
   pub report : Report
   pub up : Side
   pub down : Side
-  pub client : Windowed
+  pub client : Windowed Call
 
 -- the report, the two sides and the client of a stage
 abbrev pub seen : {W : Type 0} → Stage W → Seen
 seen s = record { report = s.report; up = s.up; down = s.down; client = s.client }
 
 -- the report, the two sides and the client are those of these streams
-pub record AreStreamsOf (width : ℕ) (s : Seen) (v : Streams ById State) : Type 0 where
+pub record AreStreamsOf (width : ℕ) (s : Seen) (v : Streams (ById Call) State) : Type 0 where
   pub lines : AreOf width s.report s.up.queue s.down.queue s.client v.world
   pub up_is : s.up.gone ≡ v.up_gone
   pub down_is : s.down.gone ≡ v.down_gone
@@ -87,13 +88,13 @@ pub record AreStreamsOf (width : ℕ) (s : Seen) (v : Streams ById State) : Type
   pub down_flow : IsFlow s.down.assembler s.down.gone (down_texts v.world.wire)
 
 -- a stage whose client's window is this wide shows these streams
-abbrev pub Shows : {W : Type 0} → ℕ → Stage W → Streams ById State → Type 0
+abbrev pub Shows : {W : Type 0} → ℕ → Stage W → Streams (ById Call) State → Type 0
 Shows width s v = AreStreamsOf width (seen s) v
 
 -- the stage shows some streams
 abbrev pub IsShown : {W : Type 0} → Stage W → Type 0
-IsShown s = (width : ℕ) × (v : Streams ById State) × Shows width s v
+IsShown s = (width : ℕ) × (v : Streams (ById Call) State) × Shows width s v
 
 -- whatever streams the stage s shows, the stage t, whose client's window is as wide, shows the streams after this event
 abbrev pub Follows : {W : Type 0} → Stage W → Event → Stage W → Type 0
-Follows s e t = (width : ℕ) (v : Streams ById State) → Shows width s v → Shows width t (goes_on width v e)
+Follows s e t = (width : ℕ) (v : Streams (ById Call) State) → Shows width s v → Shows width t (goes_on width v e)

@@ -1,200 +1,59 @@
--- The world, this project's own: a client and an instrument, the line between them, what may happen on it, and a run.
-use Rattle.std.specs.Prelude.{ℕ, zero, suc, ◌+◌, Bool, true, false, List, [], ◌∷◌, ◌++◌, length, Option, Some, None, if◌then◌else◌, nat_lt}
+-- The world, this project's own: a client and an instrument, the line between them, what may happen on it, and a run. A client of this world
+-- asks for calls of the table.
+use Rattle.std.specs.Prelude.{ℕ, List, Option, Some}
 use Rattle.gc_catalogue.specs.declared.call.Call.{Call}
 use Rattle.gc_catalogue.specs.Texts.{request_line}
-use Rattle.gc_client.specs.Rule.{Settlement, Settled, Sending}
-use Rattle.gc_instrument.specs.Replying.{Handed}
+use Rattle.gc_client.specs.Rule.{Sending}
+use Rattle.gc_world.specs.Worlds
+pub use Rattle.gc_world.specs.Worlds.{Numbered, Send, Up_deliver, Up_lose, Up_repeat, Down_deliver, Down_lose, Down_repeat, Expire, Restart_client, Restart_instrument, Nothing, opened, without, doubled, idle, replied, up_delivered, with_up, with_down, started, instrument_restarted, on_wire, with_settled, down_delivered, client_restarted}
 
 -- The line.
 
 -- a request that was sent: its target, its call, and the line that its client wrote; its number is its place in the list of these
-pub record Sent : Type 0 where
-  pub target : ℕ
-  pub call : Call
-  pub line : List ℕ
+abbrev pub Sent : Type 0
+Sent = Worlds.Sent Call
 
 -- a request under way: its line is the request line of this id and this call
-pub record Request : Type 0 where
-  pub id : ℕ
-  pub call : Call
-
--- a line with the number of the request that it belongs to
-pub record Numbered (Line : Type 0) : Type 0 where
-  pub number : ℕ
-  pub line : Line
+abbrev pub Request : Type 0
+Request = Worlds.Request Call
 
 -- all of the world but its client: the line, the instrument's state, and the lists and counts of what has happened
-pub record Wire (State : Type 0) : Type 0 where
-  -- the requests that were sent
-  pub sent : List Sent
-  -- the numbers of the requests that the instrument executed
-  pub executed : List ℕ
-  -- the replies that it made, each with the number of its request
-  pub made : List (Numbered (List ℕ))
-  -- what the client settled
-  pub settled : List Settlement
-  -- how many had been executed at each start of the instrument
-  pub starts : List ℕ
-  -- the requests under way to the instrument, and the replies under way to the client, the front of each queue first
-  pub up : List (Numbered Request)
-  pub down : List (Numbered (List ℕ))
-  pub state : State
-  -- how many sends were refused, and how many events were not possible
-  pub refused : ℕ
-  pub idle : ℕ
+abbrev pub Wire : Type 0 → Type 0
+Wire State = Worlds.Wire Call State
 
 -- a wire with its client
-pub record World (Client State : Type 0) : Type 0 where
-  pub wire : Wire State
-  pub client : Client
-
--- a wire on which nothing has happened
-abbrev pub opened : {State : Type 0} → State → Wire State
-opened state = record { sent = []; executed = []; made = []; settled = []; starts = []; up = []; down = []; state = state; refused = 0; idle = 0 }
+abbrev pub World : Type 0 → Type 0 → Type 0
+World Client State = Worlds.World Call Client State
 
 -- Its two ends.
 
 -- the two ends: what an instrument does, and what id a client reads in a line
-pub record Ends (State : Type 0) : Type 0 where
-  -- what the instrument does with the request line of this id and call
-  pub handed : State → ℕ → Call → Handed State
-  -- the state to which a restart takes the instrument from this one
-  pub restarted : State → State
-  -- the id that the client reads in a line, where the line is a reply with one
-  pub heard : List ℕ → Option ℕ
-  -- whether a restart of the client restarts the instrument too: for one that keeps its last reply by the client's ids
-  pub joint : Bool
+abbrev pub Ends : Type 0 → Type 0
+Ends State = Worlds.Ends Call State
 
 -- a client's rule: what each event does to it
-pub record Rule (Client : Type 0) : Type 0 where
-  -- a send to a target, with its deadline; none is a refusal
-  pub send : Client → ℕ → Call → ℕ → Option (Sending Client)
-  -- a reply line, with the number of the request that it belongs to
-  pub reply : Client → Numbered (List ℕ) → Settled Client
-  -- a moment
-  pub expire : Client → ℕ → Client
-  pub restart : Client → Settled Client
+abbrev pub Rule : Type 0 → Type 0
+Rule Client = Worlds.Rule Call Client
+
+-- the line that a client writes for a call with this id
+abbrev pub call_line : ℕ → Call → List ℕ
+call_line id call = request_line (Some id) call
 
 -- What may happen.
 
 -- a step of the world
-pub data Step : Type 0 where
-  Send : (target : ℕ) (call : Call) (deadline : ℕ) → Step
-  Up_deliver : Step
-  Up_lose : (which : ℕ) → Step
-  Up_repeat : (which : ℕ) → Step
-  Down_deliver : Step
-  Down_lose : (which : ℕ) → Step
-  Down_repeat : (which : ℕ) → Step
-  Expire : (now : ℕ) → Step
-  Restart_client : Step
-  Restart_instrument : Step
-  -- something that is not possible
-  Nothing : Step
-
--- the list without element k
-abbrev pub without : {A : Type 0} → ℕ → List A → List A
-without k [] = []
-without zero (x ∷ xs) = xs
-without (suc k) (x ∷ xs) = x ∷ without k xs
-
--- the list with element k twice, the second directly behind the first
-abbrev pub doubled : {A : Type 0} → ℕ → List A → List A
-doubled k [] = []
-doubled zero (x ∷ xs) = x ∷ x ∷ xs
-doubled (suc k) (x ∷ xs) = x ∷ doubled k xs
-
-module _ {State : Type 0} where
-  -- the wire after an event that is not possible, which is only counted
-  abbrev pub idle : Wire State → Wire State
-  idle w = record w { idle = w.idle + 1 }
-
-  -- the wire after the instrument got the front request, of number n, and did with it what `h` says; `rest` is the queue behind
-  -- it
-  abbrev pub replied : Wire State → ℕ → List (Numbered Request) → Handed State → Wire State
-  replied w n rest h =
-      record w {
-        up = rest;
-        executed = if h.executed then w.executed ++ n ∷ [] else w.executed;
-        made = w.made ++ record { number = n; line = h.reply } ∷ [];
-        down = w.down ++ record { number = n; line = h.reply } ∷ [];
-        state = h.state;
-      }
-
-  -- the wire after the front of the upward queue was handed to the instrument; where the queue is empty, the event is only counted
-  abbrev pub up_delivered : Ends State → Wire State → List (Numbered Request) → Wire State
-  up_delivered ends w [] = idle w
-  up_delivered ends w (x ∷ rest) = replied w x.number rest (ends.handed w.state x.line.id x.line.call)
-
-  -- the wire with this upward queue, where that is possible (true); else the event is only counted
-  abbrev pub with_up : Wire State → List (Numbered Request) → Bool → Wire State
-  with_up w up false = idle w
-  with_up w up true = record w { up = up }
-
-  -- the wire with this downward queue, where that is possible (true); else the event is only counted
-  abbrev pub with_down : Wire State → List (Numbered (List ℕ)) → Bool → Wire State
-  with_down w down false = idle w
-  with_down w down true = record w { down = down }
-
-  -- the wire after the instrument restarted (true), or as it was
-  abbrev pub started : Ends State → Wire State → Bool → Wire State
-  started ends w false = w
-  started ends w true = record w { starts = w.starts ++ length w.executed ∷ []; state = ends.restarted w.state }
-
-  -- the wire after a restart of the instrument, which is possible with no line under way; else the event is only counted
-  abbrev pub instrument_restarted : Ends State → Wire State → List (Numbered Request) → List (Numbered (List ℕ)) → Wire State
-  instrument_restarted ends w [] [] = started ends w true
-  instrument_restarted ends w _ _ = idle w
+abbrev pub Step : Type 0
+Step = Worlds.Step Call
 
 module _ {Client State : Type 0} where
-  -- the world with this wire in place of its own, and the client as it was
-  abbrev pub on_wire : World Client State → Wire State → World Client State
-  on_wire w wire = record { wire = wire; client = w.client }
-
   -- the world after a call of the client's send: the request is sent, and goes to the back of the upward queue, or a refusal is counted
   abbrev pub requested : World Client State → ℕ → Call → Option (Sending Client) → World Client State
-  requested w target call None = on_wire w (record w.wire { refused = w.wire.refused + 1 })
-  requested w target call (Some x) =
-      record {
-        wire =
-            record w.wire {
-              sent = w.wire.sent ++ record { target = target; call = call; line = request_line (Some x.id) call } ∷ [];
-              up = w.wire.up ++ record { number = length w.wire.sent; line = record { id = x.id; call = call } } ∷ [];
-            };
-        client = x.client;
-      }
-
-  -- the world of this wire once the client settled requests, as `x` says: their settlements are appended to the wire's, and the
-  -- client is the one that `x` leaves
-  abbrev pub with_settled : Wire State → Settled Client → World Client State
-  with_settled wire x = record { wire = record wire { settled = wire.settled ++ x.settlements }; client = x.client }
-
-  -- the world after the front of the downward queue was handed to the client; where the queue is empty, the event is only counted
-  abbrev pub down_delivered : Rule Client → World Client State → List (Numbered (List ℕ)) → World Client State
-  down_delivered rule w [] = on_wire w (idle w.wire)
-  down_delivered rule w (x ∷ rest) = with_settled (record w.wire { down = rest }) (rule.reply w.client x)
-
-  -- the world after a restart of the client, and of the instrument where `joint` says so, which is possible with no line under way; else
-  -- the event is only counted
-  abbrev pub client_restarted : Ends State → Rule Client → World Client State → List (Numbered Request) → List (Numbered (List ℕ)) → World Client State
-  client_restarted ends rule w [] [] = with_settled (started ends w.wire ends.joint) (rule.restart w.client)
-  client_restarted ends rule w _ _ = on_wire w (idle w.wire)
+  requested w target call sending = Worlds.requested call_line w target call sending
 
   -- the world after one step
   abbrev pub happens : Ends State → Rule Client → World Client State → Step → World Client State
-  happens ends rule w (Send target call deadline) = requested w target call (rule.send w.client target call deadline)
-  happens ends rule w Up_deliver = on_wire w (up_delivered ends w.wire w.wire.up)
-  happens ends rule w (Up_lose k) = on_wire w (with_up w.wire (without k w.wire.up) (nat_lt k (length w.wire.up)))
-  happens ends rule w (Up_repeat k) = on_wire w (with_up w.wire (doubled k w.wire.up) (nat_lt k (length w.wire.up)))
-  happens ends rule w Down_deliver = down_delivered rule w w.wire.down
-  happens ends rule w (Down_lose k) = on_wire w (with_down w.wire (without k w.wire.down) (nat_lt k (length w.wire.down)))
-  happens ends rule w (Down_repeat k) = on_wire w (with_down w.wire (doubled k w.wire.down) (nat_lt k (length w.wire.down)))
-  happens ends rule w (Expire now) = record { wire = w.wire; client = rule.expire w.client now }
-  happens ends rule w Restart_client = client_restarted ends rule w w.wire.up w.wire.down
-  happens ends rule w Restart_instrument = on_wire w (instrument_restarted ends w.wire w.wire.up w.wire.down)
-  happens ends rule w Nothing = on_wire w (idle w.wire)
+  happens ends rule w step = Worlds.happens call_line ends rule w step
 
   -- the world after all steps of a list, in order
   abbrev pub run : Ends State → Rule Client → List Step → World Client State → World Client State
-  run ends rule [] w = w
-  run ends rule (step ∷ steps) w = run ends rule steps (happens ends rule w step)
+  run ends rule steps w = Worlds.run call_line ends rule steps w

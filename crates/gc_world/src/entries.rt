@@ -139,10 +139,10 @@ impl Entries<Made> {
     }
 }
 
-impl Entries<Settlement> {
+impl Entries<Settlement<Call>> {
     /// Appends these settlements, in order. `Err`: memory was refused for one of them; those before it were appended.
     #[inline(always)]
-    pub(crate) fn append_all(&mut self, settlements: &[Settlement]) -> Result<(), AllocError>
+    pub(crate) fn append_all(&mut self, settlements: &[Settlement<Call>]) -> Result<(), AllocError>
         ensures { OnOk result (self.new ≡ self.old ++ settlements.now) }
     {
         for settlement in settlements {
@@ -152,7 +152,7 @@ impl Entries<Settlement> {
     }
 
     // Appends a settlement, whatever its outcome.
-    fn push_settled(&mut self, settlement: &Settlement) -> Result<(), AllocError>
+    fn push_settled(&mut self, settlement: &Settlement<Call>) -> Result<(), AllocError>
         ensures { OnOk result (self.new ≡ self.old ++ settlement.now ∷ []) }
     {
         match &settlement.outcome {

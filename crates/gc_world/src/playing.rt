@@ -11,6 +11,7 @@ ghost use Rattle.gc_world.specs.Reports.{IsReport, IsNoLongerThan};
 use crate::event::Event;
 use crate::report::Report;
 use crate::stage::Stage;
+use gc_catalogue::Call;
 use gc_client::{Client, WINDOW, Window};
 use gc_instrument::Instrument;
 use std::alloc::{AllocError, Global};
@@ -39,7 +40,7 @@ use std::alloc::{AllocError, Global};
 ///
 /// It fails only where memory for a growth was refused; then nothing is handed back. Where none of the events takes memory,
 /// it doesn't fail.
-pub fn play_width<W: Window>(
+pub fn play_width<W: Window<Asked = Call>>(
     alloc: Global,
     instrument: Instrument,
     window: W,
@@ -73,7 +74,7 @@ fn count_sends(events: &[Event]) -> usize {
 }
 
 /// Plays the events as `play_width` does, with a client that lets seven requests wait: the widest window there is.
-pub fn play<W: Window>(
+pub fn play<W: Window<Asked = Call>>(
     alloc: Global,
     instrument: Instrument,
     window: W,

@@ -1,7 +1,7 @@
 //! A queue of lines under way in one direction.
 
 ghost use Rattle.std.specs.Prelude.{◌≡◌, ℕ, List, ◌≤◌, ◌↔◌, [], ◌∷◌, ◌++◌, length, nat_lt, OnOk, IfOk, IsOk, IsTrue, MatchOption};
-ghost use Rattle.gc_world.specs.World.{without, doubled};
+ghost use Rattle.gc_world.specs.Worlds.{without, doubled};
 
 use std::alloc::{AllocError, Global};
 use std::collections::VecDeque;

@@ -40,7 +40,7 @@ pub struct Report {
     /// The replies that the instrument made, in order. Where a request came again, the kept reply stands here once more.
     pub made: Entries<Made>,
     /// The settlements, in order.
-    pub settled: Entries<Settlement>,
+    pub settled: Entries<Settlement<Call>>,
     /// For each restart of the instrument, how many requests it had executed until then.
     pub starts: Entries<usize>,
     /// The instrument, as the last event left it.

@@ -8,7 +8,7 @@ ghost use Rattle.gc_lines.specs.declared.frame.Frame.{Frame};
 ghost use Rattle.gc_world.specs.Memory.{IsNoRepeat};
 ghost use Rattle.gc_world.specs.Sides.{Carries, Changes, IsFlow, written};
 ghost use Rattle.gc_world.specs.Streams.{is_begun, remaining};
-ghost use Rattle.gc_world.specs.World.{without, doubled};
+ghost use Rattle.gc_world.specs.Worlds.{without, doubled};
 
 use crate::direction::Direction;
 use crate::feeding::{feed_rest, feed_some};

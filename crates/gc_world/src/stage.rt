@@ -1,6 +1,7 @@
 //! The stage: what the events so far leave, and what the next one does.
 
 ghost use Rattle.std.specs.Prelude.{◌≡◌, ◌↔◌, ◌+◌, ◌<◌, ◌≤◌, ◌^◌, ◌∷◌, ◌++◌, ℕ, [], OnOk, IsOk, IsTrue, length};
+ghost use Rattle.gc_catalogue.specs.declared.call.Call.{Call};
 ghost use Rattle.gc_client.specs.Rule.{ById};
 ghost use Rattle.gc_instrument.specs.State.{State, IsFittingState, restarted};
 ghost use Rattle.gc_world.specs.declared.event.Event.{Event};
@@ -23,7 +24,7 @@ use std::alloc::{AllocError, Global};
 
 /// What the events so far leave.
 #[derive(Drop)]
-pub struct Stage<W: Window> {
+pub struct Stage<W: Window<Asked = Call>> {
     /// The report so far. Its assemblers are those of the two sides only once all is played.
     pub report: Report,
     pub up: Side,
@@ -33,10 +34,10 @@ pub struct Stage<W: Window> {
     /// Two values that all events use, made once because they are large: `cut` is where a line is put together that goes over in
     /// pieces, and `settled` is what the last reply settled.
     pub cut: Line,
-    pub settled: ArrayVec<Settlement, WINDOW>,
+    pub settled: ArrayVec<Settlement<Call>, WINDOW>,
 }
 
-impl<W: Window> Stage<W> {
+impl<W: Window<Asked = Call>> Stage<W> {
     /// The stage before the first event: the instrument is restarted, and the client is new. The report has room for this many
     /// requests, where memory for it is granted.
     pub fn new(
@@ -79,7 +80,7 @@ impl<W: Window> Stage<W> {
         requires idle { self.old.report.idle_events + 1 < 2 ^ 64 }
         requires shown { IsShown self.old }
         ensures follows { OnOk result (Follows self.old event.now self.new) }
-        ensures spare { (width : ℕ) (v : Streams ById State) → Shows width self.old v → TakesNone width v event.now → IsOk result }
+        ensures spare { (width : ℕ) (v : Streams (ById Call) State) → Shows width self.old v → TakesNone width v event.now → IsOk result }
     {
         match *event {
             Event::Send(target, ref call, deadline) => self.send(target, call, deadline)?,
@@ -168,7 +169,7 @@ impl<W: Window> Stage<W> {
         requires idle { self.old.report.idle_events + 1 < 2 ^ 64 }
         requires shown { IsShown self.old }
         ensures follows { OnOk result (Follows self.old Event.DownDeliver self.new) }
-        ensures spare { (width : ℕ) (v : Streams ById State) → Shows width self.old v → TakesNone width v Event.DownDeliver → IsOk result }
+        ensures spare { (width : ℕ) (v : Streams (ById Call) State) → Shows width self.old v → TakesNone width v Event.DownDeliver → IsOk result }
     {
         let Some(place) = self.down.queue.take_front() else {
             self.report.idle_events += 1;
@@ -193,7 +194,7 @@ impl<W: Window> Stage<W> {
         requires idle { self.old.report.idle_events + 1 < 2 ^ 64 }
         requires shown { IsShown self.old }
         ensures follows { OnOk result (Follows self.old (bytes direction n) self.new) }
-        ensures spare { (width : ℕ) (v : Streams ById State) → Shows width self.old v → TakesNone width v (bytes direction n) → IsOk result }
+        ensures spare { (width : ℕ) (v : Streams (ById Call) State) → Shows width self.old v → TakesNone width v (bytes direction n) → IsOk result }
     {
         let mut left = n;
         let mut remaining = self.remaining(direction);
@@ -218,7 +219,7 @@ impl<W: Window> Stage<W> {
         requires idle { self.old.report.idle_events + 1 < 2 ^ 64 }
         requires shown { IsShown self.old }
         ensures follows { OnOk result (Follows self.old (delivery direction) self.new) }
-        ensures spare { (width : ℕ) (v : Streams ById State) → Shows width self.old v → TakesNone width v (delivery direction) → IsOk result }
+        ensures spare { (width : ℕ) (v : Streams (ById Call) State) → Shows width self.old v → TakesNone width v (delivery direction) → IsOk result }
     {
         match direction {
             Direction::Up => self.up_deliver(),
@@ -229,7 +230,7 @@ impl<W: Window> Stage<W> {
     // How many bytes of the front line of a direction are still to go: 0 where no line is under way.
     fn remaining(&self, direction: Direction) -> usize
         requires { IsShown self.now }
-        ensures { (width : ℕ) (v : Streams ById State) → Shows width self.now v → result ≡ remaining (gone direction v) (lines direction v.world.wire) }
+        ensures { (width : ℕ) (v : Streams (ById Call) State) → Shows width self.now v → result ≡ remaining (gone direction v) (lines direction v.world.wire) }
     {
         match direction {
             Direction::Up => self.up.remaining(Direction::Up, &self.report),
@@ -241,8 +242,8 @@ impl<W: Window> Stage<W> {
     // it.
     fn begin(&mut self, direction: Direction, n: usize)
         requires shown { IsShown self.old }
-        requires some { (width : ℕ) (v : Streams ById State) → Shows width self.old v → n < remaining (gone direction v) (lines direction v.world.wire) }
-        ensures { (width : ℕ) (v : Streams ById State) → Shows width self.old v → Shows width self.new (handed width direction v n) }
+        requires some { (width : ℕ) (v : Streams (ById Call) State) → Shows width self.old v → n < remaining (gone direction v) (lines direction v.world.wire) }
+        ensures { (width : ℕ) (v : Streams (ById Call) State) → Shows width self.old v → Shows width self.new (handed width direction v n) }
     {
         match direction {
             Direction::Up => self.up.begin(Direction::Up, &self.report, n, &mut self.cut),

@@ -6,7 +6,10 @@ use Rattle.std.proofs.Common.{◌≡◌, ℕ, List, [], ◌∷◌, ◌++◌, map
 use Rattle.std.proofs.lemmas.Bool.{le-ltb}
 use Rattle.std.proofs.lemmas.List.{append-nil}
 use Rattle.gc_lines.specs.Frames.{rest_behind}
+use Rattle.gc_catalogue.proofs.AskedRules.{one_asked}
 use Rattle.gc_catalogue.proofs.CallLaws.{one_call}
+use Rattle.gc_catalogue.specs.declared.asked.Asked.{Asked}
+use Rattle.gc_catalogue.specs.declared.asked.Asked.TheVariants.{Table, Raw}
 use Rattle.gc_client.specs.Beginning.{the_word, left_by}
 use Rattle.gc_client.specs.OneForOne.{Course, goes, course, begun, settled_on, IsOneForOne}
 use Rattle.gc_client.specs.OneForOne as one
@@ -17,33 +20,33 @@ use Rattle.geocom_c.specs.Following.{CallsReach, Stage, hearing, opened}
 use Rattle.geocom_c.specs.Rest.{lines_behind}
 use Rattle.geocom_c.specs.Steps.{Event, Came, Went, AreEvents, AreInTurn, IsOverEvents, asked_by, begins_by, goes_by, left_among, steps_among}
 use Rattle.geocom_c.specs.declared.following.Step.{Step}
-use Rattle.geocom_c.specs.declared.following.Step.TheVariants.{Send, Begin, Feed, Expire, Restart}
+use Rattle.geocom_c.specs.declared.following.Step.TheVariants.{Send, SendRaw, Begin, Feed, Expire, Restart}
 
 -- the events `front` lead from course x to course y, and from the ids `left` of the word that aren't answered to the ids
 -- `after`; `es` stands for any events after these
-record Leads (width : ℕ) (x y : Course) (left after : List ℕ) (front : List Event) : Type 0 where
+record Leads (width : ℕ) (x y : Course Asked) (left after : List ℕ) (front : List Event) : Type 0 where
   turns : (es : List Event) → AreInTurn after es → AreInTurn left (front ++ es)
   reached : (es : List Event) → course width x (steps_among (front ++ es)) ≡ course width y (steps_among es)
   behind : (es : List Event) → left_among left (front ++ es) ≡ left_among after es
 
 -- no events leave all as it was
-leads_none : (width : ℕ) (x : Course) (left : List ℕ) → Leads width x x left left []
+leads_none : (width : ℕ) (x : Course Asked) (left : List ℕ) → Leads width x x left left []
 leads_none width x left = record { turns = λ es h. h; reached = λ es. refl; behind = λ es. refl }
 
 -- lines that come to the beginning answer null procedures
-leads_came : (width : ℕ) (x : Course) (lines : List (List ℕ)) (left : List ℕ) → Leads width x x left (left_by_all left lines) (map Came lines)
+leads_came : (width : ℕ) (x : Course Asked) (lines : List (List ℕ)) (left : List ℕ) → Leads width x x left (left_by_all left lines) (map Came lines)
 leads_came width x [] left = leads_none width x left
 leads_came width x (line ∷ lines) left =
     let more = leads_came width x lines (left_by left (heard line)) in
     record { turns = more.turns; reached = more.reached; behind = more.behind }
 
 -- a null procedure that is asked for changes nothing
-leads_asked : (width : ℕ) (x : Course) (left : List ℕ) (o : Option (List ℕ)) → Leads width x x left left (asked_by o)
+leads_asked : (width : ℕ) (x : Course Asked) (left : List ℕ) (o : Option (List ℕ)) → Leads width x x left left (asked_by o)
 leads_asked width x left None = leads_none width x left
 leads_asked width x left (Some line) = record { turns = λ es h. h; reached = λ es. refl; behind = λ es. refl }
 
 -- where events lead from one state to another, and others from there to a third, all of them lead from the first to the third
-leads_both : (width : ℕ) (x y z : Course) (left between after : List ℕ) (front later : List Event) → Leads width x y left between front
+leads_both : (width : ℕ) (x y z : Course Asked) (left between after : List ℕ) (front later : List Event) → Leads width x y left between front
     → Leads width y z between after later → Leads width x z left after (front ++ later)
 leads_both width x y z left between after front later f g =
     record {
@@ -58,7 +61,7 @@ stays_begun [] = refl
 stays_begun (line ∷ lines) = stays_begun lines
 
 -- a begin leads to the ids that aren't answered after its bytes
-leads_begin : (width : ℕ) (x : Course) (left rest bytes : List ℕ) → Leads width x x left (left_behind left rest bytes) (begins_by left rest bytes)
+leads_begin : (width : ℕ) (x : Course Asked) (left rest bytes : List ℕ) → Leads width x x left (left_behind left rest bytes) (begins_by left rest bytes)
 leads_begin width x [] rest bytes = subst (λ l. Leads width x x [] l []) (sym (stays_begun (lines_behind rest bytes))) (leads_none width x [])
 leads_begin width x (asked ∷ later) rest bytes =
     let left = asked ∷ later in
@@ -68,70 +71,74 @@ leads_begin width x (asked ∷ later) rest bytes =
 
 -- A client that hasn't begun has nothing that waits, so a line, a moment or a restart is nothing to it.
 
+-- a new client
+abbrev new : ById Asked
+new = fresh
+
 -- no line settles anything of a new client
-none_fits : (id : ℕ) (line : List ℕ) → hears fresh line (Some id) ≡ record { settlements = []; client = fresh }
-none_fits id line = ap (id_settled fresh line (place_in fresh id)) (le-ltb (place_in fresh id) 0 (omega arith))
+none_fits : (id : ℕ) (line : List ℕ) → hears new line (Some id) ≡ record { settlements = []; client = new }
+none_fits id line = ap (id_settled new line (place_in new id)) (le-ltb (place_in new id) 0 (omega arith))
 
 -- no line, whatever id is heard in it, settles anything of a new client
-none_settled : (line : List ℕ) (o : Option ℕ) → hears fresh line o ≡ record { settlements = []; client = fresh }
+none_settled : (line : List ℕ) (o : Option ℕ) → hears new line o ≡ record { settlements = []; client = new }
 none_settled line None = refl
 none_settled line (Some id) = none_fits id line
 
 -- what settles nothing of a new client leaves its course as it was
-stays_idle : (x : Course) (s : Settled ById) → x.client ≡ fresh → s ≡ record { settlements = []; client = fresh } → settled_on x s ≡ x
+stays_idle : (x : Course Asked) (s : Settled Asked (ById Asked)) → x.client ≡ fresh → s ≡ record { settlements = []; client = fresh } → settled_on x s ≡ x
 stays_idle x s idle e =
     ap (settled_on x) e
-    ∙ ap (λ l. let y : Course = record { sent = x.sent; settlements = l; client = fresh } in y) (append-nil x.settlements)
-    ∙ ap (λ c. let y : Course = record { sent = x.sent; settlements = x.settlements; client = c } in y) (sym idle)
+    ∙ ap (λ l. let y : Course Asked = record { sent = x.sent; settlements = l; client = fresh } in y) (append-nil x.settlements)
+    ∙ ap (λ c. let y : Course Asked = record { sent = x.sent; settlements = x.settlements; client = c } in y) (sym idle)
 
 -- a new client stays as it was by a line
-idle_line : (width : ℕ) (x : Course) (line : List ℕ) → x.client ≡ fresh → goes width x (one.Hear line) ≡ x
+idle_line : (width : ℕ) (x : Course Asked) (line : List ℕ) → x.client ≡ fresh → goes width x (one.Hear line) ≡ x
 idle_line width x line idle = stays_idle x (hears x.client line (heard line)) idle (ap (λ c. hears c line (heard line)) idle ∙ none_settled line (heard line))
 
 -- a new client stays as it was by a restart
-idle_restart : (width : ℕ) (x : Course) → x.client ≡ fresh → goes width x one.Restart ≡ x
+idle_restart : (width : ℕ) (x : Course Asked) → x.client ≡ fresh → goes width x one.Restart ≡ x
 idle_restart width x idle = stays_idle x (restarts x.client) idle (ap restarts idle)
 
 -- a new client stays as it was by a moment
-idle_moment : (width : ℕ) (x : Course) (now : ℕ) → x.client ≡ fresh → goes width x (one.Expire now) ≡ x
-idle_moment width x now idle = ap (λ c. let y : Course = record { sent = x.sent; settlements = x.settlements; client = c } in y) (ap (λ c. expires c now) idle ∙ sym idle)
+idle_moment : (width : ℕ) (x : Course Asked) (now : ℕ) → x.client ≡ fresh → goes width x (one.Expire now) ≡ x
+idle_moment width x now idle = ap (λ c. let y : Course Asked = record { sent = x.sent; settlements = x.settlements; client = c } in y) (ap (λ c. expires c now) idle ∙ sym idle)
 
 -- a new client stays as it was by any lines
-idle_lines : (width : ℕ) (x : Course) (lines : List (List ℕ)) → x.client ≡ fresh → course width x (map one.Hear lines) ≡ x
+idle_lines : (width : ℕ) (x : Course Asked) (lines : List (List ℕ)) → x.client ≡ fresh → course width x (map one.Hear lines) ≡ x
 idle_lines width x [] idle = refl
 idle_lines width x (line ∷ lines) idle = ap (λ y. course width y (map one.Hear lines)) (idle_line width x line idle) ∙ idle_lines width x lines idle
 
 -- steps that leave a course as it was are no events
-leads_idle : (width : ℕ) (x y : Course) (left : List ℕ) → y ≡ x → Leads width x y left left []
-leads_idle width x y left same = subst (λ (z : Course). Leads width x z left left []) (sym same) (leads_none width x left)
+leads_idle : (width : ℕ) (x y : Course Asked) (left : List ℕ) → y ≡ x → Leads width x y left left []
+leads_idle width x y left same = subst (λ (z : Course Asked). Leads width x z left left []) (sym same) (leads_none width x left)
 
 -- a list with an element isn't empty
 never_left : (asked : ℕ) (later : List ℕ) → asked ∷ later ≡ [] → ⊥
 never_left asked later e = cc
 
 -- as long as some id is left, so that the client hasn't begun, it is a new one
-abbrev IsIdle : Course → List ℕ → Type 0
+abbrev IsIdle : Course Asked → List ℕ → Type 0
 IsIdle x left = (left ≡ [] → ⊥) → x.client ≡ fresh
 
 -- lines that a client hears once it has begun are steps of it
-leads_heard : (width : ℕ) (x : Course) (lines : List (List ℕ)) → Leads width x (course width x (map one.Hear lines)) [] [] (map Went (map one.Hear lines))
+leads_heard : (width : ℕ) (x : Course Asked) (lines : List (List ℕ)) → Leads width x (course width x (map one.Hear lines)) [] [] (map Went (map one.Hear lines))
 leads_heard width x [] = leads_none width x []
 leads_heard width x (line ∷ lines) =
     let more = leads_heard width (goes width x (one.Hear line)) lines in
     record { turns = λ es h. (refl, more.turns es h); reached = more.reached; behind = more.behind }
 
 -- bytes that are fed lead to what their lines make of the client
-leads_feed : (width : ℕ) (x : Course) (left : List ℕ) (lines : List (List ℕ)) → IsIdle x left → Leads width x (course width x (map one.Hear lines)) left left (goes_by left (map one.Hear lines))
+leads_feed : (width : ℕ) (x : Course Asked) (left : List ℕ) (lines : List (List ℕ)) → IsIdle x left → Leads width x (course width x (map one.Hear lines)) left left (goes_by left (map one.Hear lines))
 leads_feed width x [] lines idle = leads_heard width x lines
 leads_feed width x (asked ∷ later) lines idle = leads_idle width x _ (asked ∷ later) (idle_lines width x lines (idle (never_left asked later)))
 
 -- a moment leads to what it makes of the client
-leads_expire : (width : ℕ) (x : Course) (left : List ℕ) (now : ℕ) → IsIdle x left → Leads width x (goes width x (one.Expire now)) left left (goes_by left (one.Expire now ∷ []))
+leads_expire : (width : ℕ) (x : Course Asked) (left : List ℕ) (now : ℕ) → IsIdle x left → Leads width x (goes width x (one.Expire now)) left left (goes_by left (one.Expire now ∷ []))
 leads_expire width x [] now idle = record { turns = λ es h. (refl, h); reached = λ es. refl; behind = λ es. refl }
 leads_expire width x (asked ∷ later) now idle = leads_idle width x _ (asked ∷ later) (idle_moment width x now (idle (never_left asked later)))
 
 -- a restart leads to a client that begins anew
-leads_restart : (width : ℕ) (x : Course) (left : List ℕ) → IsIdle x left → Leads width x (goes width x one.Restart) left (anew left) (goes_by left (one.Restart ∷ []))
+leads_restart : (width : ℕ) (x : Course Asked) (left : List ℕ) → IsIdle x left → Leads width x (goes width x one.Restart) left (anew left) (goes_by left (one.Restart ∷ []))
 leads_restart width x [] idle = record { turns = λ es h. (refl, h); reached = λ es. refl; behind = λ es. refl }
 leads_restart width x (asked ∷ later) idle = leads_idle width x _ (asked ∷ later) (idle_restart width x (idle (never_left asked later)))
 
@@ -149,15 +156,27 @@ record Over (width : ℕ) (s : Stage) (calls : List Step) (t : Stage) : Type 0 w
 as_events : (width : ℕ) (s : Stage) (calls : List Step) (t : Stage) → IsIdle s.reached s.left → CallsReach width s calls t → Over width s calls t
 as_events width s [] t idle f = record { events = []; are = refl; turns = tt; reached = ap (λ (x : Stage). x.reached) f; left = ap (λ (x : Stage). x.left) f }
 as_events width s (Send target deadline procedure params ∷ calls) t idle (inl f) =
-    let more = as_events width (record s { reached = goes width s.reached (one.Send target f.0 deadline) }) calls t (λ no. absurd (no f.1)) f.3 in
+    let more = as_events width (record s { reached = goes width s.reached (one.Send target (Table f.0) deadline) }) calls t (λ no. absurd (no f.1)) f.3 in
     record {
-      events = Went (one.Send target f.0 deadline) ∷ more.events;
+      events = Went (one.Send target (Table f.0) deadline) ∷ more.events;
       are = inl (f.0, more.events, f.1, f.2, refl, more.are);
       turns = (f.1, subst (λ l. AreInTurn l more.events) f.1 more.turns);
       reached = more.reached;
       left = more.left ∙ ap (λ l. left_among l more.events) f.1;
     }
 as_events width s (Send target deadline procedure params ∷ calls) t idle (inr f) =
+    let more = as_events width s calls t idle f.1 in
+    record { events = more.events; are = inr (f.0, more.are); turns = more.turns; reached = more.reached; left = more.left }
+as_events width s (SendRaw target deadline procedure params ∷ calls) t idle (inl f) =
+    let more = as_events width (record s { reached = goes width s.reached (one.Send target (Raw f.0) deadline) }) calls t (λ no. absurd (no f.1)) f.3 in
+    record {
+      events = Went (one.Send target (Raw f.0) deadline) ∷ more.events;
+      are = inl (f.0, more.events, f.1, f.2, refl, more.are);
+      turns = (f.1, subst (λ l. AreInTurn l more.events) f.1 more.turns);
+      reached = more.reached;
+      left = more.left ∙ ap (λ l. left_among l more.events) f.1;
+    }
+as_events width s (SendRaw target deadline procedure params ∷ calls) t idle (inr f) =
     let more = as_events width s calls t idle f.1 in
     record { events = more.events; are = inr (f.0, more.are); turns = more.turns; reached = more.reached; left = more.left }
 as_events width s (Begin bytes ∷ calls) t idle f =
@@ -176,7 +195,7 @@ as_events width s (Feed bytes ∷ calls) t idle f =
     let lines = lines_behind s.rest bytes.now in
     let l = leads_feed width s.reached s.left lines idle in
     let more = as_events width (record s { reached = hearing width s.reached s.rest bytes.now; rest = rest_behind s.rest bytes.now }) calls t
-    (λ no. ap (λ (x : Course). x.client) (idle_lines width s.reached lines (idle no)) ∙ idle no) f in
+    (λ no. ap (λ (x : Course Asked). x.client) (idle_lines width s.reached lines (idle no)) ∙ idle no) f in
     record {
       events = goes_by s.left (map one.Hear lines) ++ more.events;
       are = (more.events, refl, more.are);
@@ -186,7 +205,8 @@ as_events width s (Feed bytes ∷ calls) t idle f =
     }
 as_events width s (Expire now ∷ calls) t idle f =
     let l = leads_expire width s.reached s.left now idle in
-    let more = as_events width (record s { reached = goes width s.reached (one.Expire now) }) calls t (λ no. ap (λ (x : Course). x.client) (idle_moment width s.reached now (idle no)) ∙ idle no) f in
+    let more = as_events width (record s { reached = goes width s.reached (one.Expire now) }) calls t
+    (λ no. ap (λ (x : Course Asked). x.client) (idle_moment width s.reached now (idle no)) ∙ idle no) f in
     record {
       events = goes_by s.left (one.Expire now ∷ []) ++ more.events;
       are = (more.events, refl, more.are);
@@ -210,12 +230,20 @@ only_events : (left rest : List ℕ) (calls : List Step) (es fs : List Event) �
 only_events left rest [] es fs f g = f ∙ sym g
 only_events left rest (Send target deadline procedure params ∷ calls) es fs (inl f) (inl g) =
     f.4
-    ∙ ap (λ call. Went (one.Send target call deadline) ∷ f.1) (one_call procedure params.now f.0 g.0 f.3 g.3)
-    ∙ ap (λ later. Went (one.Send target g.0 deadline) ∷ later) (only_events left rest calls f.1 g.1 f.5 g.5)
+    ∙ ap (λ call. Went (one.Send target (Table call) deadline) ∷ f.1) (one_call procedure params.now f.0 g.0 f.3 g.3)
+    ∙ ap (λ later. Went (one.Send target (Table g.0) deadline) ∷ later) (only_events left rest calls f.1 g.1 f.5 g.5)
     ∙ sym g.4
 only_events left rest (Send target deadline procedure params ∷ calls) es fs (inl f) (inr g) = absurd (g.0 f.2 f.0 f.3)
 only_events left rest (Send target deadline procedure params ∷ calls) es fs (inr f) (inl g) = absurd (f.0 g.2 g.0 g.3)
 only_events left rest (Send target deadline procedure params ∷ calls) es fs (inr f) (inr g) = only_events left rest calls es fs f.1 g.1
+only_events left rest (SendRaw target deadline procedure params ∷ calls) es fs (inl f) (inl g) =
+    f.4
+    ∙ ap (λ asked. Went (one.Send target asked deadline) ∷ f.1) (one_asked procedure params.now (Raw f.0) (Raw g.0) f.3 g.3)
+    ∙ ap (λ later. Went (one.Send target (Raw g.0) deadline) ∷ later) (only_events left rest calls f.1 g.1 f.5 g.5)
+    ∙ sym g.4
+only_events left rest (SendRaw target deadline procedure params ∷ calls) es fs (inl f) (inr g) = absurd (g.0 f.2 f.0 f.3)
+only_events left rest (SendRaw target deadline procedure params ∷ calls) es fs (inr f) (inl g) = absurd (f.0 g.2 g.0 g.3)
+only_events left rest (SendRaw target deadline procedure params ∷ calls) es fs (inr f) (inr g) = only_events left rest calls es fs f.1 g.1
 only_events left rest (Begin bytes ∷ calls) es fs f g =
     f.1 ∙ ap (λ later. begins_by left rest bytes.now ++ later) (only_events (left_behind left rest bytes.now) (rest_behind rest bytes.now) calls f.0 g.0 f.2 g.2) ∙ sym g.1
 only_events left rest (Feed bytes ∷ calls) es fs f g =
@@ -233,4 +261,4 @@ over_events width calls t f =
 pub follows_one_for_one : (width : ℕ) (steps : List Step) (t : Stage) → CallsReach width opened steps t → IsOneForOne t.reached
 follows_one_for_one width steps t f =
     let it = over_events width steps t f in
-    subst (λ (c : Course). IsOneForOne c) (sym it.reached) (one_for_one width (steps_among it.events))
+    subst (λ (c : Course Asked). IsOneForOne c) (sym it.reached) (one_for_one width (steps_among it.events))

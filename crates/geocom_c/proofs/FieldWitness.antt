@@ -4,20 +4,22 @@ use Rattle.std.specs.Prelude.{codes, take, drop}
 use Rattle.std.specs.Fmt.{digits}
 use Rattle.gc_lines.specs.Readers.{header_at, reply_at}
 use Rattle.gc_catalogue.specs.Calls.{IsCall}
+use Rattle.gc_catalogue.specs.declared.asked.Asked.TheVariants.{Table, Raw}
+use Rattle.gc_catalogue.specs.declared.raw.RawCall.{RawCall}
 use Rattle.gc_catalogue.specs.declared.call.Call.TheVariants.{InstrumentNo}
 use Rattle.gc_instrument.specs.Execution.{exec}
 use Rattle.gc_instrument.specs.Replying.{handed}
 use Rattle.gc_instrument.specs.State.{IsFittingState, simulator_opening}
-use Rattle.gc_world.specs.Clients.{ends}
+use Rattle.gc_field.specs.Simulator.{ends}
 use Rattle.gc_field.specs.CountingChain as chain
 use Rattle.gc_field.specs.CountingChain.{counting, kept_by}
-use Rattle.gc_field.specs.Instrument.{AnyState}
+use Rattle.gc_field.specs.Instrument.{AnyState, TreatsRawsAlike}
 use Rattle.gc_field.specs.Laws.{kept_of}
 use Rattle.gc_field.specs.Witness.{replies}
 use Rattle.gc_field.proofs.CountingChain.{counted}
 use Rattle.gc_field.proofs.Instruments.{simulator}
 use Rattle.gc_field.proofs.Witness.{fits, units}
-use Rattle.geocom_c.specs.FieldWitness.{AreInField, SomeCallsAreInField, moves}
+use Rattle.geocom_c.specs.FieldWitness.{AreInField, SomeCallsAreInField, moves, raw_second, table_second}
 
 -- procedure 5003 without parameters is a call
 number : IsCall 5003 [] InstrumentNo
@@ -28,14 +30,18 @@ not_alone : {A : Type 0} → (◌≡◌ {A = ℕ} 6 0 × A) ⊎ ⊥ → ⊥
 not_alone (inl f) = absurd (omega (arith, f.0))
 not_alone (inr f) = f
 
+-- after each request the instrument that counts keeps its own reply
+alike : TreatsRawsAlike counting AnyState kept_by
+alike state id call good lt = inr (counted.keeps.always state id call good lt refl)
+
 -- the calls over an instrument that counts meet every premise of the laws
-any : AreInField counting AnyState kept_by (record { count = 27; keeps = None }) chain.begun chain.first chain.second
+any : (raw : RawCall) → AreInField counting AnyState kept_by (record { count = 27; keeps = None }) chain.begun (raw_second raw) (Raw raw) chain.first chain.second
 unfolding header_at reply_at digits
-any =
+any raw =
     record {
       is = counted.is;
       width = (lit≤ tt, lit≤ tt);
-      follows = inl (InstrumentNo, refl, number, inl (InstrumentNo, refl, number, refl));
+      follows = inl (InstrumentNo, refl, number, inl (raw, refl, (refl, refl), refl));
       lines = record { ids = tt; good = tt };
       may = not_alone;
       are = (
@@ -75,7 +81,7 @@ any =
                             number,
                             refl,
                             inl
-                                (InstrumentNo, _, refl, number, refl, (_, refl, (_, refl, (_, refl, (_, refl, refl))))),
+                                (raw, _, refl, (refl, refl), refl, (_, refl, (_, refl, (_, refl, (_, refl, refl))))),
                           ),
                         ),
                       ),
@@ -94,13 +100,14 @@ any =
         ),
         (((tt, tt), tt), tt),
       );
+      safe = ((λ m command went. inr (inl alike)), ((λ m command went. inr (inl alike)), tt));
       settlements = refl;
       made_on = record {
-        front = take 3 (moves (codes "%R1P,0,0:0,36") (codes "%R1P,0,1:0,37"));
-        later = drop 4 (moves (codes "%R1P,0,0:0,36") (codes "%R1P,0,1:0,37"));
+        front = take 3 (moves (Raw raw) (codes "%R1P,0,0:0,36") (codes "%R1P,0,1:0,37"));
+        later = drop 4 (moves (Raw raw) (codes "%R1P,0,0:0,36") (codes "%R1P,0,1:0,37"));
         split = refl;
         id = 0;
-        rest = record { number = 9; line = record { id = 1; call = InstrumentNo } } ∷ [];
+        rest = record { number = 9; line = record { id = 1; call = Raw raw } } ∷ [];
         reaches = refl;
         executed = refl;
         reply = refl;
@@ -109,7 +116,7 @@ any =
 
 -- the calls over the simulator meet every premise of the laws
 over_simulator :
-    AreInField ends IsFittingState kept_of simulator_opening replies (codes "%R1P,0,0:0,123456") (codes "%R1P,0,1:0,123456")
+    AreInField ends IsFittingState kept_of simulator_opening replies table_second (Table InstrumentNo) (codes "%R1P,0,0:0,123456") (codes "%R1P,0,1:0,123456")
 unfolding header_at reply_at handed exec digits
 over_simulator =
     record {
@@ -174,13 +181,14 @@ over_simulator =
         ),
         (((tt, tt), tt), tt),
       );
+      safe = ((λ m command went. inl (refl, (refl, tt))), ((λ m command went. inl tt), tt));
       settlements = refl;
       made_on = record {
-        front = take 3 (moves (codes "%R1P,0,0:0,123456") (codes "%R1P,0,1:0,123456"));
-        later = drop 4 (moves (codes "%R1P,0,0:0,123456") (codes "%R1P,0,1:0,123456"));
+        front = take 3 (moves (Table InstrumentNo) (codes "%R1P,0,0:0,123456") (codes "%R1P,0,1:0,123456"));
+        later = drop 4 (moves (Table InstrumentNo) (codes "%R1P,0,0:0,123456") (codes "%R1P,0,1:0,123456"));
         split = refl;
         id = 0;
-        rest = record { number = 9; line = record { id = 1; call = InstrumentNo } } ∷ [];
+        rest = record { number = 9; line = record { id = 1; call = Table InstrumentNo } } ∷ [];
         reaches = refl;
         executed = refl;
         reply = refl;

@@ -4,6 +4,7 @@ use Rattle.std.specs.Prelude.{if◌then◌else◌, nat_lt}
 use Rattle.gc_lines.specs.declared.frame.Frame.{Frame}
 use Rattle.gc_lines.specs.declared.frame.Frame.TheVariants.{Line, Cleared, Overlong, More}
 use Rattle.gc_lines.specs.Frames.{frame_of, ends_in_return}
+use Rattle.gc_catalogue.specs.declared.asked.Asked.{Asked}
 use Rattle.gc_client.specs.Rule.{Windowed}
 use Rattle.geocom_c.specs.Rest.{IsRest}
 use Rattle.geocom_c.specs.State.{StandsFor}
@@ -24,7 +25,7 @@ pub never_more : (bs : List ℕ) → frame_of bs ≡ More → ⊥
 never_more bs e = pick (ends_in_return bs) (nat_lt 512 (length bs - 1)) (Line (record { items = take (length bs - 1) bs })) (λ same. cc) e
 
 -- a state stands for the same client with other bytes since the last line feed
-pub with_rest : (s : GeocomClient) (r : GeocomRest) (c : Windowed) (old new : List ℕ) → StandsFor s c old → IsRest r new → StandsFor (record s { rest = r }) c new
+pub with_rest : (s : GeocomClient) (r : GeocomRest) (c : Windowed Asked) (old new : List ℕ) → StandsFor s c old → IsRest r new → StandsFor (record s { rest = r }) c new
 with_rest s r c old new is rest =
     record {
       width = is.width;
@@ -36,7 +37,7 @@ with_rest s r c old new is rest =
     }
 
 -- what was fed is as `IsFed` says still with an equal frame g in place of f, and another number of used bytes
-pub fed_used : (c : Windowed) (f g : Frame) (r q : GeocomHeard) (records : List GeocomSettlement) (text : List ℕ) (used : ℕ) → f ≡ g
+pub fed_used : (c : Windowed Asked) (f g : Frame) (r q : GeocomHeard) (records : List GeocomSettlement) (text : List ℕ) (used : ℕ) → f ≡ g
     → q ≡ record r { used = used } → IsFed c f r records text → IsFed c g q records text
 fed_used c f g r q records text used e same is =
     subst (λ (h : Frame). IsFed c h q records text) e (record {

@@ -4,7 +4,7 @@
 use Rattle.std.proofs.Common.{◌≡◌, ◌≢◌, ℕ, ◌+◌, Bool, true, false, eqb, eq-eqb, arith, length, Option, List, [], ◌∷◌, ◌++◌, map, take, drop, Some, None, refl, sym, ap, subst, ◌∙◌}
 use Rattle.std.specs.List.{position, filter_map}
 use Rattle.std.proofs.lemmas.Bool.{eqb-true}
-use Rattle.gc_catalogue.specs.declared.call.Call.{Call}
+use Rattle.gc_catalogue.specs.declared.asked.Asked.{Asked}
 use Rattle.gc_lines.specs.Frames.{is_line_feed, frame_of, line_in, pieces_behind, rest_behind}
 use Rattle.gc_lines.specs.declared.frame.Frame.{Frame}
 use Rattle.gc_lines.specs.declared.frame.Frame.TheVariants.{Line, Cleared, Overlong, More}
@@ -19,21 +19,21 @@ use Rattle.geocom_c.specs.Following.{hearing, FedTo}
 use Rattle.geocom_c.specs.declared.state.GeocomClient.{GeocomClient}
 
 -- the course after a frame
-abbrev pub past : ℕ → Course → Frame → Course
+abbrev pub past : ℕ → Course Asked → Frame → Course Asked
 past width x (Line line) = goes width x (one.Hear line.items)
 past width x Cleared = x
 past width x Overlong = x
 past width x More = x
 
 -- the client after a frame is that of the course after it
-pub behind_past : (width : ℕ) (x : Course) (f : Frame) → behind (record { width = width; ids = x.client }) f ≡ record { width = width; ids = (past width x f).client }
+pub behind_past : (width : ℕ) (x : Course Asked) (f : Frame) → behind (record { width = width; ids = x.client }) f ≡ record { width = width; ids = (past width x f).client }
 behind_past width x (Line line) = refl
 behind_past width x Cleared = refl
 behind_past width x Overlong = refl
 behind_past width x More = refl
 
 -- hearing the lines of the frames f and `fs` is hearing f, and then the lines of `fs`
-frame_first : (width : ℕ) (x : Course) (f : Frame) (fs : List Frame) → course width x (map one.Hear (filter_map line_in (f ∷ fs))) ≡ course width
+frame_first : (width : ℕ) (x : Course Asked) (f : Frame) (fs : List Frame) → course width x (map one.Hear (filter_map line_in (f ∷ fs))) ≡ course width
     (past width x f) (map one.Hear (filter_map line_in fs))
 frame_first width x (Line line) fs = refl
 frame_first width x Cleared fs = refl
@@ -41,7 +41,7 @@ frame_first width x Overlong fs = refl
 frame_first width x More fs = refl
 
 -- of bytes without a line feed nothing is heard
-pub none_heard : (width : ℕ) (x : Course) (rest bytes : List ℕ) → position is_line_feed bytes ≡ None → hearing width x rest bytes ≡ x
+pub none_heard : (width : ℕ) (x : Course Asked) (rest bytes : List ℕ) → position is_line_feed bytes ≡ None → hearing width x rest bytes ≡ x
 none_heard width x rest bytes e = ap (λ ps. course width x (map one.Hear (filter_map line_in (map frame_of ps)))) (cut_none rest bytes e).0
 
 -- bytes without a line feed are added to those since the last one
@@ -49,7 +49,7 @@ pub none_left : (rest bytes : List ℕ) → position is_line_feed bytes ≡ None
 none_left rest bytes e = (cut_none rest bytes e).1
 
 -- of bytes with a line feed the first frame is heard, and then the others
-pub some_heard : (width : ℕ) (x : Course) (rest bytes : List ℕ) (at : ℕ) → position is_line_feed bytes ≡ Some at
+pub some_heard : (width : ℕ) (x : Course Asked) (rest bytes : List ℕ) (at : ℕ) → position is_line_feed bytes ≡ Some at
     → hearing width (past width x (frame_of (rest ++ take at bytes))) [] (drop (at + 1) bytes) ≡ hearing width x rest bytes
 some_heard width x rest bytes at e =
     sym (ap (λ ps. course width x (map one.Hear (filter_map line_in (map frame_of ps)))) (cut_some rest bytes at e).0
@@ -60,7 +60,7 @@ pub some_left : (rest bytes : List ℕ) (at : ℕ) → position is_line_feed byt
 some_left rest bytes at e = sym (cut_some rest bytes at e).1
 
 -- where no line feed came, and the bytes were kept, all of them were fed
-pub fed_none : (width : ℕ) (x : Course) (rest bytes : List ℕ) (state : GeocomClient) (left : List ℕ) → position is_line_feed bytes ≡ None → left ≡ []
+pub fed_none : (width : ℕ) (x : Course Asked) (rest bytes : List ℕ) (state : GeocomClient) (left : List ℕ) → position is_line_feed bytes ≡ None → left ≡ []
     → StandsFor state (record { width = width; ids = x.client }) (rest ++ bytes) → FedTo width x rest bytes state left
 fed_none width x rest bytes state left e none s =
     record {
@@ -72,19 +72,19 @@ fed_none width x rest bytes state left e none s =
     }
 
 -- where the first line feed ended a frame, which the client heard, the bytes through that line feed were fed
-pub fed_some : (width : ℕ) (x : Course) (rest bytes : List ℕ) (state : GeocomClient) (used at : ℕ) → position is_line_feed bytes ≡ Some at → used ≡ at + 1
+pub fed_some : (width : ℕ) (x : Course Asked) (rest bytes : List ℕ) (state : GeocomClient) (used at : ℕ) → position is_line_feed bytes ≡ Some at → used ≡ at + 1
     → StandsFor state (behind (record { width = width; ids = x.client }) (frame_of (rest ++ take at bytes))) [] → FedTo width x rest bytes state (drop used bytes)
 fed_some width x rest bytes state used at e n s =
     record {
       reached = past width x (frame_of (rest ++ take at bytes));
       now = [];
-      stands = subst (λ (d : Windowed). StandsFor state d []) (behind_past width x (frame_of (rest ++ take at bytes))) s;
+      stands = subst (λ (d : Windowed Asked). StandsFor state d []) (behind_past width x (frame_of (rest ++ take at bytes))) s;
       same = ap (λ m. hearing width (past width x (frame_of (rest ++ take at bytes))) [] (drop m bytes)) n ∙ some_heard width x rest bytes at e;
       behind = ap (λ m. rest_behind [] (drop m bytes)) n ∙ some_left rest bytes at e;
     }
 
 -- where all bytes but `left` were fed, and then all of `left` but `end`, all bytes but `end` were fed
-pub fed_on : (width : ℕ) (x : Course) (rest bytes left end : List ℕ) (state new : GeocomClient) (f : FedTo width x rest bytes state left)
+pub fed_on : (width : ℕ) (x : Course Asked) (rest bytes left end : List ℕ) (state new : GeocomClient) (f : FedTo width x rest bytes state left)
     → FedTo width f.reached f.now left new end → FedTo width x rest bytes new end
 fed_on width x rest bytes left end state new f g = record { reached = g.reached; now = g.now; stands = g.stands; same = g.same ∙ f.same; behind = g.behind ∙ f.behind }
 
@@ -102,16 +102,16 @@ nothing_left bytes used e = ap (λ n. drop n bytes) e ∙ none bytes where
   none (x ∷ xs) = none xs
 
 -- where all bytes were fed, the state stands for what all of them make of the client
-pub fed_all : (width : ℕ) (x : Course) (rest bytes left : List ℕ) (state : GeocomClient) → FedTo width x rest bytes state left → left ≡ []
+pub fed_all : (width : ℕ) (x : Course Asked) (rest bytes left : List ℕ) (state : GeocomClient) → FedTo width x rest bytes state left → left ≡ []
     → StandsFor state (record { width = width; ids = (hearing width x rest bytes).client }) (rest_behind rest bytes)
 fed_all width x rest bytes left state f none =
     let same : f.reached ≡ hearing width x rest bytes = sym (ap (hearing width f.reached f.now) none) ∙ f.same in
     let behind : f.now ≡ rest_behind rest bytes = sym (ap (rest_behind f.now) none) ∙ f.behind in
-    subst (λ (y : Course). StandsFor state (record { width = width; ids = y.client }) (rest_behind rest bytes)) same
+    subst (λ (y : Course Asked). StandsFor state (record { width = width; ids = y.client }) (rest_behind rest bytes)) same
     (subst (λ (r : List ℕ). StandsFor state (record { width = width; ids = f.reached.client }) r) behind f.stands)
 
 -- after a send, taken or refused by the rule, the state stands for the course that goes on with it
-pub sent_course : (width : ℕ) (x : Course) (rest : List ℕ) (call : Call) (target : ℕ) (o : Option (Sending ById)) (sent : Sent)
+pub sent_course : (width : ℕ) (x : Course Asked) (rest : List ℕ) (call : Asked) (target : ℕ) (o : Option (Sending (ById Asked))) (sent : Sent)
     → StandsFor sent.old (record { width = width; ids = x.client }) rest → IsSent (record { width = width; ids = x.client }) rest call o sent
     → StandsFor sent.new (record { width = width; ids = (sent_on x target call o).client }) rest
 sent_course width x rest call target None sent s is = subst (λ (t : GeocomClient). StandsFor t (record { width = width; ids = x.client }) rest) (sym is.1) s

@@ -3,7 +3,7 @@
 -- way.
 use Rattle.std.proofs.Common.{ℕ, ◌≤◌, List, [], ◌∷◌, Option, refl}
 use Rattle.gc_instrument.specs.State.{KeptReply}
-use Rattle.gc_world.specs.World.{Ends}
+use Rattle.gc_field.specs.World.{Ends}
 use Rattle.gc_field.specs.Begin.{AreLines, UnderWay}
 use Rattle.gc_field.specs.Beginnings.{AreFewKilled, AreRuns, IsRow, Run, killed_if, left_by_run, stood}
 use Rattle.gc_field.specs.Instrument.{IsAnInstrument}

@@ -11,5 +11,6 @@ mod Courses
 mod Lines
 mod Owning
 mod Parting
+mod Safely
 mod Killed
 mod FieldWitness

@@ -4,15 +4,16 @@
 use Rattle.std.proofs.Common.{◌≡◌, ℕ, zero, suc, ◌<◌, ◌≤◌, List, [], ◌∷◌, ◌++◌, map, length, drop, refl, arith}
 use Rattle.std.specs.Prelude.{Option, Some, slice_get}
 use Rattle.std.specs.List.{AllByRecursion}
+use Rattle.gc_catalogue.specs.declared.asked.Asked.{Asked}
 use Rattle.gc_client.specs.OneForOne.{of_settled}
 use Rattle.gc_client.specs.Rule.{Settlement, Answered, Lost, lost}
 use Rattle.gc_client.specs.declared.pending.Pending.{Pending}
 use Rattle.gc_instrument.specs.State.{KeptReply}
-use Rattle.gc_world.specs.World.{Ends, Sent}
+use Rattle.gc_field.specs.World.{Ends, Sent}
 use Rattle.gc_field.specs.Begin.{leaves}
 use Rattle.gc_field.specs.Begun.{IsFaithful}
 use Rattle.gc_field.specs.Laws.{asked}
-use Rattle.geocom_c.specs.Laws.{IsOwnAnswer}
+use Rattle.geocom_c.specs.Laws.{IsOwnAnswer, IsSafeRun}
 use Rattle.geocom_c.specs.Runs.{Part, begun_at, world}
 use Rattle.geocom_c.proofs.Places.{got}
 
@@ -44,16 +45,19 @@ behind_first {A} (suc k) m [] x e = (let bad : m < length {A = A} [] = within {A
 behind_first (suc k) m (y ∷ xs) x e = let more = behind_first k m xs x e in (suc more.0, omega (arith, more.1), more.2)
 
 -- a request and a settlement with one target and call ask the same
-same_asked : (r : Sent) (s : Settlement) → s.target ≡ r.target → s.call ≡ r.call → asked r ≡ of_settled s
+same_asked : (r : Sent) (s : Settlement Asked) → s.target ≡ r.target → s.call ≡ r.call → asked r ≡ of_settled s
 same_asked r s t c = rw (t, c) refl
 
 module _ {State : Type 0} (width : ℕ) (ends : Ends State) (Good : State → Type 0) (kept : State → Option KeptReply) where
   -- an answer that a run settled is its own request's, in the list that begins with this run
-  here : (p : Part State) (ps : List (Part State)) → IsFaithful width ends (leaves (begun_at width ends p)) p.run.moves Good kept → (m : ℕ) (x : Settlement)
+  here : (p : Part State) (ps : List (Part State)) → IsFaithful width ends (leaves (begun_at width ends p)) p.run.moves Good kept
+      → IsSafeRun width ends Good kept p → (m : ℕ) (x : Settlement Asked)
       → 8 ≤ m → slice_get (world width ends p).wire.settled m ≡ Some x → IsOwnAnswer width ends Good kept (p ∷ ps) x
-  here p ps f m x command e = λ line is.
+  here p ps f safe m x command e = λ line is.
       let o = f.one_for_one in
-      let request = got (world width ends p).wire.sent m (omega (arith, within (world width ends p).wire.settled m x e, o.count)) in
+      let went : m < length (world width ends p).wire.sent = omega (arith, within (world width ends p).wire.settled m x e, o.count) in
+      let request = got (world width ends p).wire.sent m went in
+      let s = safe m command went in
       let same = o.same m x request.0 e request.1 in
       record {
         k = 0;
@@ -65,21 +69,21 @@ module _ {State : Type 0} (width : ℕ) (ends : Ends State) (Good : State → Ty
         request = request.0;
         sent = request.1;
         asks = same_asked request.0 x same.0 same.1;
-        made = (f.booked m x command e line is).0;
-        reply = (f.booked m x command e line is).1;
-        executed = f.executed m x line command e is;
-        made_on = f.made_on m x line command e is;
+        made = (f.booked m x command s e line is).0;
+        reply = (f.booked m x command s e line is).1;
+        executed = f.executed m x line command s e is;
+        made_on = f.made_on m x line command s e is;
       }
 
   -- each answer that a run settled, after the eight null procedures, is its own request's, in the list that begins with this
-  -- run
+  -- run, if its commands are safe
   pub own_here : (p : Part State) (ps : List (Part State)) → IsFaithful width ends (leaves (begun_at width ends p)) p.run.moves Good kept
-      → AllByRecursion (IsOwnAnswer width ends Good kept (p ∷ ps)) (drop 8 (world width ends p).wire.settled)
-  own_here p ps f = all_of_places (IsOwnAnswer width ends Good kept (p ∷ ps)) (drop 8 (world width ends p).wire.settled)
-      (λ m x e. let at = behind_first 8 m (world width ends p).wire.settled x e in here p ps f at.0 x at.1 at.2)
+      → IsSafeRun width ends Good kept p → AllByRecursion (IsOwnAnswer width ends Good kept (p ∷ ps)) (drop 8 (world width ends p).wire.settled)
+  own_here p ps f safe = all_of_places (IsOwnAnswer width ends Good kept (p ∷ ps)) (drop 8 (world width ends p).wire.settled)
+      (λ m x e. let at = behind_first 8 m (world width ends p).wire.settled x e in here p ps f safe at.0 x at.1 at.2)
 
   -- an answer of a later run is its own request's in the list with one more run in front, too
-  pub later_own : (p : Part State) (ps : List (Part State)) (x : Settlement) → IsOwnAnswer width ends Good kept ps x → IsOwnAnswer width ends Good kept (p ∷ ps) x
+  pub later_own : (p : Part State) (ps : List (Part State)) (x : Settlement Asked) → IsOwnAnswer width ends Good kept ps x → IsOwnAnswer width ends Good kept (p ∷ ps) x
   later_own p ps x own = λ line is.
       let o = own line is in
       record {
@@ -99,7 +103,7 @@ module _ {State : Type 0} (width : ℕ) (ends : Ends State) (Good : State → Ty
       }
 
   -- what is lost is no answer
-  pub none_answered : (ps : List (Part State)) (lost_ones : List Pending) → AllByRecursion (IsOwnAnswer width ends Good kept ps) (map lost lost_ones)
+  pub none_answered : (ps : List (Part State)) (lost_ones : List (Pending Asked)) → AllByRecursion (IsOwnAnswer width ends Good kept ps) (map lost lost_ones)
   none_answered ps [] = tt
   none_answered ps (p ∷ lost_ones) = ((λ line is. absurd (clash line is)), none_answered ps lost_ones) where
     -- lost is no answer

@@ -6,14 +6,14 @@
 use Rattle.std.proofs.Common.{◌≡◌, ℕ, ◌≤◌, false, List, [], ◌∷◌, ◌++◌, map, drop, Option, Some, None, refl, sym, ◌∙◌, ap, subst, append_assoc}
 use Rattle.std.proofs.lemmas.List.{append-nil}
 use Rattle.std.specs.List.{AllByRecursion}
-use Rattle.gc_catalogue.specs.declared.call.Call.{Call}
+use Rattle.gc_catalogue.specs.declared.asked.Asked.{Asked}
 use Rattle.gc_client.specs.Beginning.{the_word}
 use Rattle.gc_client.specs.OneForOne.{Step, Send, Hear, Expire, Restart, Course, begun, sent_on, settled_on, goes, course}
 use Rattle.gc_client.specs.Rule.{ById, Sending, Settled, Settlement, sends, heard, hears, expires, restarts, lost}
 use Rattle.gc_instrument.specs.State.{KeptReply}
 use Rattle.gc_world.specs.Clients.{by_ids}
 use Rattle.gc_world.specs.Order.{Each}
-use Rattle.gc_world.specs.World.{Ends, Request}
+use Rattle.gc_field.specs.World.{Ends, Request}
 use Rattle.gc_field.specs.Begin.{Aged, AreLines, AreTurns, Asks, Comes, Foreign, Reaches, Up_lose, Up_repeat, Down_lose, Down_repeat, Anew, Changes, Model, Turn, UnderWay, asks, begins, comes, leaves, reaches, turned, turns}
 use Rattle.gc_field.specs.Beginnings.{IsOwnIf, Run, left_by_run, left_if, on_line, stood}
 use Rattle.gc_field.specs.Begun.{IsClean, behind, eighth, ids_begun}
@@ -24,7 +24,7 @@ use Rattle.gc_field.proofs.BeginJoin.{begins_cleanly, left_lines}
 use Rattle.gc_field.proofs.BegunFaithful.{faithful}
 use Rattle.gc_field.proofs.BegunRows.{rows_have_not, runs_leave_rows, runs_leave_good}
 use Rattle.geocom_c.specs.Following.{CallsReach, Stage, opened}
-use Rattle.geocom_c.specs.Laws.{AreOwn, IsOwnAnswer, MayBegin}
+use Rattle.geocom_c.specs.Laws.{AreOwn, IsOwnAnswer, IsSafeRun, MayBegin}
 use Rattle.geocom_c.specs.Runs.{Part, ArePossibleRuns, asked_of, begun_at, client_if, client_over, event_of, events_of, events_over, front_of, left_over, lost_if, parts, settled_if, settled_over, world}
 use Rattle.geocom_c.specs.Steps.{Event, Went, AreEvents, AreInTurn, left_among, steps_among}
 use Rattle.geocom_c.specs.declared.following.Step as call
@@ -34,21 +34,22 @@ use Rattle.geocom_c.proofs.Owning.{all_joined, all_weaker, later_own, none_answe
 -- A course with the client of another, which settled these before.
 
 -- course x is course y with the settlements `old` in front: the same client, and settlements that are `old` and then those of y
-record Behind (old : List Settlement) (x y : Course) : Type 0 where
+record Behind (old : List (Settlement Asked)) (x y : Course Asked) : Type 0 where
   settled : x.settlements ≡ old ++ y.settlements
   client : x.client ≡ y.client
 
 -- settlements in front stay in front over a send
-behind_send : (old : List Settlement) (x y : Course) (target : ℕ) (call : Call) (o : Option (Sending ById)) → Behind old x y → Behind old (sent_on x target call o) (sent_on y target call o)
+behind_send : (old : List (Settlement Asked)) (x y : Course Asked) (target : ℕ) (call : Asked) (o : Option (Sending (ById Asked))) → Behind old x y
+    → Behind old (sent_on x target call o) (sent_on y target call o)
 behind_send old x y target call None h = h
 behind_send old x y target call (Some s) h = record { settled = h.settled; client = refl }
 
 -- settlements in front stay in front over what a step settles
-behind_settled : (old : List Settlement) (x y : Course) (s : Settled ById) → Behind old x y → Behind old (settled_on x s) (settled_on y s)
+behind_settled : (old : List (Settlement Asked)) (x y : Course Asked) (s : Settled Asked (ById Asked)) → Behind old x y → Behind old (settled_on x s) (settled_on y s)
 behind_settled old x y s h = record { settled = ap (λ l. l ++ s.settlements) h.settled ∙ append_assoc old y.settlements s.settlements; client = refl }
 
 -- settlements in front stay in front over a step
-behind_step : (width : ℕ) (old : List Settlement) (x y : Course) (step : Step) → Behind old x y → Behind old (goes width x step) (goes width y step)
+behind_step : (width : ℕ) (old : List (Settlement Asked)) (x y : Course Asked) (step : Step Asked) → Behind old x y → Behind old (goes width x step) (goes width y step)
 behind_step width old x y (Send target call deadline) h =
     subst (λ c. Behind old (sent_on x target call (sends width c target call deadline)) (sent_on y target call (sends width y.client target call deadline))) (sym h.client)
     (behind_send old x y target call (sends width y.client target call deadline) h)
@@ -60,19 +61,19 @@ behind_step width old x y Restart h =
     subst (λ c. Behind old (settled_on x (restarts c)) (settled_on y (restarts y.client))) (sym h.client) (behind_settled old x y (restarts y.client) h)
 
 -- settlements in front stay in front over all steps
-behind_all : (width : ℕ) (old : List Settlement) (steps : List Step) (x y : Course) → Behind old x y → Behind old (course width x steps) (course width y steps)
+behind_all : (width : ℕ) (old : List (Settlement Asked)) (steps : List (Step Asked)) (x y : Course Asked) → Behind old x y → Behind old (course width x steps) (course width y steps)
 behind_all width old [] x y h = h
 behind_all width old (step ∷ steps) x y h = behind_all width old steps _ _ (behind_step width old x y step h)
 
 -- the course over the steps `first` and then `later` is that over `later` from where `first` lead
-course_append : (width : ℕ) (first later : List Step) (x : Course) → course width x (first ++ later) ≡ course width (course width x first) later
+course_append : (width : ℕ) (first later : List (Step Asked)) (x : Course Asked) → course width x (first ++ later) ≡ course width (course width x first) later
 course_append width [] later x = refl
 course_append width (step ∷ first) later x = course_append width first later (goes width x step)
 
 -- Steps among events.
 
 -- the steps among events that begin with steps
-steps_went : (steps : List Step) (es : List Event) → steps_among (map Went steps ++ es) ≡ steps ++ steps_among es
+steps_went : (steps : List (Step Asked)) (es : List Event) → steps_among (map Went steps ++ es) ≡ steps ++ steps_among es
 steps_went [] es = refl
 steps_went (step ∷ steps) es = ap (λ l. step ∷ l) (steps_went steps es)
 
@@ -81,12 +82,12 @@ over_none : (asked : ℕ) (later : List ℕ) → asked ∷ later ≡ [] → ⊥
 over_none asked later e = cc
 
 -- no step comes before the eighth answer
-none_went : (asked : ℕ) (later : List ℕ) (steps : List Step) (es : List Event) → AreInTurn (asked ∷ later) (map Went steps ++ es) → steps ≡ []
+none_went : (asked : ℕ) (later : List ℕ) (steps : List (Step Asked)) (es : List Event) → AreInTurn (asked ∷ later) (map Went steps ++ es) → steps ≡ []
 none_went asked later [] es h = refl
 none_went asked later (step ∷ steps) es h = absurd (over_none asked later h.0)
 
 -- no restart comes before the eighth answer, as a step
-no_restart : (asked : ℕ) (later : List ℕ) (steps : List Step) (es : List Event) → AreInTurn (asked ∷ later) (map Went steps ++ Went Restart ∷ es) → ⊥
+no_restart : (asked : ℕ) (later : List ℕ) (steps : List (Step Asked)) (es : List Event) → AreInTurn (asked ∷ later) (map Went steps ++ Went Restart ∷ es) → ⊥
 no_restart asked later [] es h = over_none asked later h.0
 no_restart asked later (step ∷ steps) es h = over_none asked later h.0
 
@@ -211,7 +212,7 @@ module _ {State : Type 0} (width : ℕ) (ends : Ends State) where
     OwnPart p = IsOwnIf width ends Good kept (begun_at width ends p).left (begun_at width ends p) p.run.moves
 
     -- each of these answers is its own request's
-    abbrev OwnAll : List (Part State) → List Settlement → Type 0
+    abbrev OwnAll : List (Part State) → List (Settlement Asked) → Type 0
     OwnAll ps ss = AllByRecursion (IsOwnAnswer width ends Good kept ps) ss
 
     -- what holds of runs (`ps`) and their events: the library settles and leaves what the runs do, each of its answers is its
@@ -226,9 +227,10 @@ module _ {State : Type 0} (width : ℕ) (ends : Ends State) where
     -- `Holds` is true of the last run alone, begun or not (`left` is the ids that it left unanswered)
     last_holds : (p : Part State) (left : List ℕ) → (begun_at width ends p).left ≡ left → AreLines Good p.before → MayBegin p.before → AreTurns ends Good kept p.run.turns (begins p.before)
         → ArePossible ends Good kept (by_ids width ends) p.run.moves (ids_begun (leaves (begun_at width ends p)))
+        → IsSafeRun width ends Good kept p
         → AreInTurn the_word (events_of width ends (begins p.before) p.run.turns ++ map Went (seen p.run.moves))
         → Holds (p ∷ []) (events_of width ends (begins p.before) p.run.turns ++ map Went (seen p.run.moves))
-    last_holds p [] e lines may ts possible h =
+    last_holds p [] e lines may ts possible safe h =
         let s = begun_at width ends p in
         let w = world width ends p in
         let steps = seen p.run.moves in
@@ -243,10 +245,10 @@ module _ {State : Type 0} (width : ℕ) (ends : Ends State) where
           settled = ap (λ l. (course width begun l).settlements) same ∙ sym here ∙ sym none;
           client = ap (λ l. (course width begun l).client) same ∙ f.stands ∙ sym (ap (λ l. client_if width ends l w) e);
           left = front.left (map Went steps) ∙ ap (λ l. left_among l (map Went steps)) e ∙ ap (left_among []) (sym nil) ∙ went_left p.run.moves [] ∙ sym e;
-          own = subst (λ l. OwnAll (p ∷ []) l) (sym none) (own_here width ends Good kept p [] f);
+          own = subst (λ l. OwnAll (p ∷ []) l) (sym none) (own_here width ends Good kept p [] f safe);
           each = (subst (λ l. IsOwnIf width ends Good kept l s p.run.moves) (sym e) b.own, tt);
         }
-    last_holds p (asked ∷ later) e lines may ts possible h =
+    last_holds p (asked ∷ later) e lines may ts possible safe h =
         let s = begun_at width ends p in
         let w = world width ends p in
         let steps = seen p.run.moves in
@@ -286,9 +288,9 @@ module _ {State : Type 0} (width : ℕ) (ends : Ends State) where
         absurd (no_restart asked later (seen p.run.moves) rest (subst (λ l. AreInTurn l (map Went (seen p.run.moves) ++ Went Restart ∷ rest)) e turn))
 
     -- where a run has begun and a restart follows (`Passes`), and `Holds` is true of the later runs, it is true of all of them
-    passed_holds : (p next : Part State) (others : List (Part State)) (rest : List Event) → Passes p rest → Holds (next ∷ others) rest
+    passed_holds : (p next : Part State) (others : List (Part State)) (rest : List Event) → IsSafeRun width ends Good kept p → Passes p rest → Holds (next ∷ others) rest
         → Holds (p ∷ next ∷ others) (events_of width ends (begins p.before) p.run.turns ++ (map Went (seen p.run.moves) ++ Went Restart ∷ rest))
-    passed_holds p next others rest pass more =
+    passed_holds p next others rest safe pass more =
         let s = begun_at width ends p in
         let w = world width ends p in
         let steps = seen p.run.moves in
@@ -303,27 +305,27 @@ module _ {State : Type 0} (width : ℕ) (ends : Ends State) where
         let same = front.steps tail ∙ steps_went steps (Went Restart ∷ rest) in
         let on = behind_all width z.settlements later z begun (record { settled = sym (append-nil z.settlements); client = refl }) in
         let here : z.settlements ≡ drop 8 w.wire.settled ++ map lost w.client.waiting =
-        ap (λ l. l ++ map lost x.client.waiting) (sym (ap (drop 8) f.settled)) ∙ ap (λ (c : ById). drop 8 w.wire.settled ++ map lost c.waiting) f.stands in
+        ap (λ l. l ++ map lost x.client.waiting) (sym (ap (drop 8) f.settled)) ∙ ap (λ (c : ById Asked). drop 8 w.wire.settled ++ map lost c.waiting) f.stands in
         let over : settled_over width ends all ≡ (drop 8 w.wire.settled ++ map lost w.client.waiting) ++ settled_over width ends (next ∷ others) =
         ap (λ l. (settled_if width ends l w ++ lost_if width ends l w) ++ settled_over width ends (next ∷ others)) e in
         record {
           settled =
               ap (λ l. (course width begun l).settlements) same
-              ∙ ap (λ (c : Course). c.settlements) (course_append width steps (Restart ∷ later) begun)
+              ∙ ap (λ (c : Course Asked). c.settlements) (course_append width steps (Restart ∷ later) begun)
               ∙ on.settled
               ∙ ap (λ l. l ++ (course width begun later).settlements) here
               ∙ ap (λ l. (drop 8 w.wire.settled ++ map lost w.client.waiting) ++ l) more.settled
               ∙ sym over;
           client =
               ap (λ l. (course width begun l).client) same
-              ∙ ap (λ (c : Course). c.client) (course_append width steps (Restart ∷ later) begun)
+              ∙ ap (λ (c : Course Asked). c.client) (course_append width steps (Restart ∷ later) begun)
               ∙ on.client
               ∙ more.client;
           left = front.left tail ∙ ap (λ l. left_among l tail) e ∙ went_left p.run.moves (Went Restart ∷ rest) ∙ more.left;
           own = subst (λ l. OwnAll all l) (sym over)
               (all_joined (IsOwnAnswer width ends Good kept all) (drop 8 w.wire.settled ++ map lost w.client.waiting) (settled_over width ends (next ∷ others))
               (all_joined (IsOwnAnswer width ends Good kept all) (drop 8 w.wire.settled) (map lost w.client.waiting)
-              (own_here width ends Good kept p (next ∷ others) f) (none_answered width ends Good kept all w.client.waiting))
+              (own_here width ends Good kept p (next ∷ others) f safe) (none_answered width ends Good kept all w.client.waiting))
               (all_weaker (IsOwnAnswer width ends Good kept (next ∷ others)) (IsOwnAnswer width ends Good kept all)
               (later_own width ends Good kept p (next ∷ others)) (settled_over width ends (next ∷ others)) more.own));
           each = (subst (λ l. IsOwnIf width ends Good kept l s p.run.moves) (sym e) pass.begins.own, more.each);
@@ -331,34 +333,35 @@ module _ {State : Type 0} (width : ℕ) (ends : Ends State) where
 
     -- `Holds` is true of all runs, one after the other, where the word isn't under way at first
     all_hold : (rs : List (Run State)) (u : UnderWay State) → AreLines Good u → MayBegin u → ArePossibleRuns width ends Good kept u rs
+        → AllByRecursion (IsSafeRun width ends Good kept) (parts width ends u rs)
         → AreInTurn the_word (events_over width ends u rs) → Holds (parts width ends u rs) (events_over width ends u rs)
-    all_hold [] u lines may possible h = record { settled = refl; client = refl; left = refl; own = tt; each = tt }
-    all_hold (r ∷ []) u lines may possible h = last_holds (record { before = u; run = r }) _ refl lines may possible.0.0 possible.0.1 h
-    all_hold (r ∷ next ∷ others) u lines may possible h =
+    all_hold [] u lines may possible safe h = record { settled = refl; client = refl; left = refl; own = tt; each = tt }
+    all_hold (r ∷ []) u lines may possible safe h = last_holds (record { before = u; run = r }) _ refl lines may possible.0.0 possible.0.1 safe.0 h
+    all_hold (r ∷ next ∷ others) u lines may possible safe h =
         let p : Part State = record { before = u; run = r } in
         let after = left_by_run width ends u r in
         let pass = passes p _ (events_over width ends after (next ∷ others)) refl lines may possible.0.0 possible.0.1 h in
         let s = stood width ends u r in
         let now = subst (λ l. AreLines Good (left_if width ends l s r.moves)) (sym pass.done) pass.begins.lines in
         let again = subst (λ l. MayBegin (left_if width ends l s r.moves)) (sym pass.done) pass.begins.may in
-        passed_holds p (record { before = after; run = next }) (parts width ends (left_by_run width ends after next) others) (events_over width ends after (next ∷ others)) pass
-        (all_hold (next ∷ others) after now again possible.1 pass.turns)
+        passed_holds p (record { before = after; run = next }) (parts width ends (left_by_run width ends after next) others) (events_over width ends after (next ∷ others)) safe.0 pass
+        (all_hold (next ∷ others) after now again possible.1 safe.1 pass.turns)
 
-    -- the law: where the calls on a state are the events of these runs, over lines among which a run may begin, they are as
+    -- the law: where the calls on a state are the events of these runs, over lines among which a run may begin, and all that is sent is safe, they are as
     -- `AreOwn` says: each answer is its own request's
     pub owned : (calls : List call.Step) (t : Stage) → CallsReach width opened calls t → (u : UnderWay State) → AreLines Good u → MayBegin u
         → (rs : List (Run State)) → AreEvents the_word [] calls (events_over width ends u rs) → ArePossibleRuns width ends Good kept u rs
-        → AreOwn width ends Good kept (parts width ends u rs) t
-    owned calls t follows u lines may rs are possible =
+        → AllByRecursion (IsSafeRun width ends Good kept) (parts width ends u rs) → AreOwn width ends Good kept (parts width ends u rs) t
+    owned calls t follows u lines may rs are possible safe =
         let over = over_events width calls t follows in
         let events = events_over width ends u rs in
         let same = over.only events are in
-        let all = all_hold rs u lines may possible (subst (λ l. AreInTurn the_word l) (sym same) over.turns) in
+        let all = all_hold rs u lines may possible safe (subst (λ l. AreInTurn the_word l) (sym same) over.turns) in
         let reached : t.reached ≡ course width begun (steps_among events) = over.reached ∙ ap (λ l. course width begun (steps_among l)) (sym same) in
-        let settled = ap (λ (c : Course). c.settlements) reached ∙ all.settled in
+        let settled = ap (λ (c : Course Asked). c.settlements) reached ∙ all.settled in
         record {
           settled = settled;
-          client = ap (λ (c : Course). c.client) reached ∙ all.client;
+          client = ap (λ (c : Course Asked). c.client) reached ∙ all.client;
           left = over.left ∙ ap (left_among the_word) (sym same) ∙ all.left;
           own = subst (λ l. OwnAll (parts width ends u rs) l) (sym settled) all.own;
           each = all.each;

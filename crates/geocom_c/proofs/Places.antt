@@ -2,7 +2,7 @@
 -- where an item of `xs` and one of `ys` "go together" if `Is` holds of them.
 use Rattle.std.proofs.Common.{◌≡◌, ℕ, zero, suc, ◌<◌, ◌≤◌, Bool, List, [], ◌∷◌, ◌++◌, length, take, refl, subst, arith}
 use Rattle.std.specs.Prelude.{Some, slice_get, slice_set}
-use Rattle.gc_catalogue.specs.declared.call.Call.{Call}
+use Rattle.gc_catalogue.specs.declared.asked.Asked.{Asked}
 use Rattle.gc_client.specs.declared.pending.Pending.{Pending}
 use Rattle.geocom_c.specs.FirstAre.{FirstAre}
 
@@ -48,7 +48,8 @@ first_map Is Be step [] (b ∷ ys) are = absurd are
 first_map Is Be step (a ∷ xs) (b ∷ ys) are = (step a b are.0, first_map Is Be step xs ys are.1)
 
 -- a request with the same target, call, deadline and `given_up` as p is p
-pub same_pending : (p : Pending) (target : ℕ) (call : Call) (deadline : ℕ) (given_up : Bool) → target ≡ p.target → Some call ≡ Some p.call → deadline ≡ p.deadline → Some given_up ≡ Some p.given_up
+pub same_pending : (p : Pending Asked) (target : ℕ) (call : Asked) (deadline : ℕ) (given_up : Bool) → target ≡ p.target → Some call ≡ Some p.call
+    → deadline ≡ p.deadline → Some given_up ≡ Some p.given_up
     → Some (record { target = target; call = call; deadline = deadline; given_up = given_up }) ≡ Some p
 same_pending p target call deadline given_up a b d e =
     let b' : call ≡ p.call = cc in

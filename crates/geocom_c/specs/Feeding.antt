@@ -6,6 +6,7 @@ use Rattle.gc_lines.specs.declared.frame.Frame.{Frame}
 use Rattle.gc_lines.specs.declared.frame.Frame.TheVariants.{Line, Cleared, Overlong, More}
 use Rattle.gc_lines.specs.Readers.{reply_at}
 use Rattle.gc_lines.specs.Replies.{ReplyFields}
+use Rattle.gc_catalogue.specs.declared.asked.Asked.{Asked}
 use Rattle.gc_client.specs.Rule.{Settlement, Windowed, heard, hears, fits}
 use Rattle.gc_client.specs.declared.window.TheConstants.{WINDOW}
 use Rattle.geocom_c.specs.FirstAre.{FirstAre}
@@ -26,7 +27,7 @@ line_kind (Ok reply) false = STRAY
 line_kind (Err fault) fit = UNREAD
 
 -- the kind of a frame
-abbrev pub frame_kind : Windowed → Frame → ℕ
+abbrev pub frame_kind : Windowed Asked → Frame → ℕ
 frame_kind c (Line line) = line_kind (reply_at line.items) (fits c.ids (heard line.items))
 frame_kind c Cleared = CLEARED
 frame_kind c Overlong = OVERLONG
@@ -45,14 +46,14 @@ frame_fault Overlong = 0
 frame_fault More = 0
 
 -- what a frame settles
-abbrev pub settled_by : Windowed → Frame → List Settlement
+abbrev pub settled_by : Windowed Asked → Frame → List (Settlement Asked)
 settled_by c (Line line) = (hears c.ids line.items (heard line.items)).settlements
 settled_by c Cleared = []
 settled_by c Overlong = []
 settled_by c More = []
 
 -- the client after a frame
-abbrev pub behind : Windowed → Frame → Windowed
+abbrev pub behind : Windowed Asked → Frame → Windowed Asked
 behind c (Line line) = record c { ids = (hears c.ids line.items (heard line.items)).client }
 behind c Cleared = c
 behind c Overlong = c
@@ -67,7 +68,7 @@ IsInFront More count text = Unit {0}
 
 -- a frame was fed: the result has its kind, its fault and the number of its settlements, a record says of each settlement how the request
 -- ended, and a line that settled stands at the front of the text
-pub record IsFed (c : Windowed) (frame : Frame) (r : GeocomHeard) (records : List GeocomSettlement) (text : List ℕ) : Type 0 where
+pub record IsFed (c : Windowed Asked) (frame : Frame) (r : GeocomHeard) (records : List GeocomSettlement) (text : List ℕ) : Type 0 where
   pub fault : r.fault ≡ 0
   pub kind : r.kind ≡ frame_kind c frame
   pub line_fault : r.line_fault ≡ frame_fault frame

@@ -1,16 +1,22 @@
 -- Some calls are such that the laws speak of them, this project's own. An old reply is under way, with the id that the first command has. It is
--- dropped, the eight null procedures are answered, two commands go out at once, and a moment passes; both are answered. Then the client
+-- dropped, the eight null procedures are answered, two commands go out at once, and a moment passes; both are answered. Over the instrument that
+-- counts the second command is for a procedure that isn't in the table, whichever it is. Then the client
 -- restarts, and begins anew.
 use Rattle.std.specs.Prelude.{◌≡◌, ℕ, List, [], ◌∷◌, ◌++◌, codes, drop, Option, None}
+use Rattle.std.specs.List.{AllByRecursion}
 use Rattle.gc_lines.specs.Lines.{with_end}
+use Rattle.gc_catalogue.specs.Asked.{raw_params}
+use Rattle.gc_catalogue.specs.declared.asked.Asked.{Asked}
+use Rattle.gc_catalogue.specs.declared.asked.Asked.TheVariants.{Table, Raw}
+use Rattle.gc_catalogue.specs.declared.raw.RawCall.{RawCall}
 use Rattle.gc_catalogue.specs.declared.call.Call.TheVariants.{InstrumentNo}
 use Rattle.gc_client.specs.Beginning.{the_word}
 use Rattle.gc_client.specs.declared.window.TheConstants.{WINDOW}
 use Rattle.gc_client.specs.OneForOne.{begun, course}
 use Rattle.gc_client.specs.Rule.{IsWidth, Answered}
 use Rattle.gc_instrument.specs.State.{KeptReply, IsFittingState, simulator_opening}
-use Rattle.gc_world.specs.Clients.{ends}
-use Rattle.gc_world.specs.World.{Ends, Up_deliver}
+use Rattle.gc_field.specs.Simulator.{ends}
+use Rattle.gc_field.specs.World.{Ends, Up_deliver}
 use Rattle.gc_field.specs.Begin.{AreLines, Turn, Asks, Comes, UnderWay, begins, leaves, turned}
 use Rattle.gc_field.specs.Beginnings.{Run}
 use Rattle.gc_field.specs.Begun.{WasMadeOn}
@@ -22,11 +28,11 @@ use Rattle.gc_field.specs.Instrument.{IsAnInstrument, AnyState}
 use Rattle.gc_field.specs.Laws.{kept_of}
 use Rattle.gc_field.specs.Witness.{eight, replies}
 use Rattle.geocom_c.specs.Following.{CallsReach, Stage, opened}
-use Rattle.geocom_c.specs.Laws.{MayBegin}
-use Rattle.geocom_c.specs.Runs.{ArePossibleRuns, events_over}
+use Rattle.geocom_c.specs.Laws.{IsSafeRun, MayBegin}
+use Rattle.geocom_c.specs.Runs.{ArePossibleRuns, events_over, parts}
 use Rattle.geocom_c.specs.Steps.{AreEvents, steps_among}
 use Rattle.geocom_c.specs.declared.following.Step.{Step}
-use Rattle.geocom_c.specs.declared.following.Step.TheVariants.{Send, Begin, Feed, Expire, Restart}
+use Rattle.geocom_c.specs.declared.following.Step.TheVariants.{Send, SendRaw, Begin, Feed, Expire, Restart}
 
 -- an old reply, from before the client begins, with the id that the first command has
 abbrev pub old : List ℕ
@@ -43,13 +49,13 @@ begin_calls [] later = later
 begin_calls (reply ∷ replies) later = Begin (record { ref_ptr = (0, 0); now = with_end reply }) ∷ begin_calls replies later
 
 -- the calls: a first one of the beginning without bytes, then one with the old reply and one with each of these replies; two
--- commands; a moment; the lines `one` and `other` as the replies to the commands; a restart; and a beginning anew
-abbrev pub calls : List (List ℕ) → List ℕ → List ℕ → List Step
-calls replies one other =
+-- commands, the second of which is this call; a moment; the lines `one` and `other` as the replies to the commands; a restart; and a beginning anew
+abbrev pub calls : List (List ℕ) → Step → List ℕ → List ℕ → List Step
+calls replies second one other =
     Begin (record { ref_ptr = (0, 0); now = [] })
     ∷ begin_calls (old ∷ replies)
     (Send 7 9 5003 (record { ref_ptr = (0, 0); now = [] })
-    ∷ Send 8 9 5003 (record { ref_ptr = (0, 0); now = [] })
+    ∷ second
     ∷ Expire 5
     ∷ Feed (record { ref_ptr = (0, 0); now = with_end one ++ with_end other })
     ∷ Restart
@@ -60,35 +66,44 @@ calls replies one other =
 abbrev pub beginning : {State : Type 0} → List (Turn State)
 beginning = Asks ∷ Comes ∷ drop 1 eight
 
+-- the second command where it is one of the table
+abbrev pub table_second : Step
+table_second = Send 8 9 5003 (record { ref_ptr = (0, 0); now = [] })
+
+-- the second command where it is for a procedure that isn't in the table
+abbrev pub raw_second : RawCall → Step
+raw_second raw = SendRaw 8 9 raw.rpc (record { ref_ptr = (0, 0); now = raw_params raw })
+
 -- the moves of the field for these calls: each command reaches the instrument, and its reply comes
-abbrev pub moves : {State : Type 0} → List ℕ → List ℕ → List (Move State)
-moves one other = Sends 7 InstrumentNo 9 ∷ Sends 8 InstrumentNo 9 ∷ Tells 5 ∷ OnLine Up_deliver ∷ OnLine Up_deliver ∷ field.Comes one ∷ field.Comes other ∷ []
+abbrev pub moves : {State : Type 0} → Asked → List ℕ → List ℕ → List (Move State)
+moves asked one other = Sends 7 (Table InstrumentNo) 9 ∷ Sends 8 asked 9 ∷ Tells 5 ∷ OnLine Up_deliver ∷ OnLine Up_deliver ∷ field.Comes one ∷ field.Comes other ∷ []
 
 -- the runs of the field for these calls: one with these moves, and after the restart one that has only asked
-abbrev pub runs : {State : Type 0} → List ℕ → List ℕ → List (Run State)
-runs one other = record { turns = beginning; moves = moves one other } ∷ record { turns = Asks ∷ []; moves = [] } ∷ []
+abbrev pub runs : {State : Type 0} → Asked → List ℕ → List ℕ → List (Run State)
+runs asked one other = record { turns = beginning; moves = moves asked one other } ∷ record { turns = Asks ∷ []; moves = [] } ∷ []
 
 -- the stage that the calls come to
-abbrev pub reached : {State : Type 0} → Ends State → State → List ℕ → List ℕ → Stage
-reached ends state one other = record { reached = course WINDOW begun (steps_among (events_over WINDOW ends (before state) (runs one other))); rest = []; left = the_word }
+abbrev pub reached : {State : Type 0} → Ends State → State → Asked → List ℕ → List ℕ → Stage
+reached ends state asked one other = record { reached = course WINDOW begun (steps_among (events_over WINDOW ends (before state) (runs asked one other))); rest = []; left = the_word }
 
 -- all premises of the laws hold of these calls at once; both commands are answered, and the first answer was made on executing its request
-pub record AreInField {State : Type 0} (ends : Ends State) (Good : State → Type 0) (kept : State → Option KeptReply) (state : State) (replies : List (List ℕ)) (one other : List ℕ) : Type 0 where
+pub record AreInField {State : Type 0} (ends : Ends State) (Good : State → Type 0) (kept : State → Option KeptReply) (state : State) (replies : List (List ℕ)) (second : Step) (asked : Asked) (one other : List ℕ) : Type 0 where
   pub is : IsAnInstrument ends Good kept
   pub width : IsWidth WINDOW
-  pub follows : CallsReach WINDOW opened (calls replies one other) (reached ends state one other)
+  pub follows : CallsReach WINDOW opened (calls replies second one other) (reached ends state asked one other)
   pub lines : AreLines Good (before state)
   pub may : MayBegin (before state)
-  pub are : AreEvents the_word [] (calls replies one other) (events_over WINDOW ends (before state) (runs one other))
-  pub possible : ArePossibleRuns WINDOW ends Good kept (before state) (runs one other)
+  pub are : AreEvents the_word [] (calls replies second one other) (events_over WINDOW ends (before state) (runs asked one other))
+  pub possible : ArePossibleRuns WINDOW ends Good kept (before state) (runs asked one other)
+  pub safe : AllByRecursion (IsSafeRun WINDOW ends Good kept) (parts WINDOW ends (before state) (runs asked one other))
   pub settlements :
-      (reached ends state one other).reached.settlements
-      ≡ record { target = 7; call = InstrumentNo; outcome = Answered one } ∷ record { target = 8; call = InstrumentNo; outcome = Answered other } ∷ []
-  pub made_on : WasMadeOn WINDOW ends (leaves (turned ends beginning (begins (before state)))) (moves one other) 8 InstrumentNo one
+      (reached ends state asked one other).reached.settlements
+      ≡ record { target = 7; call = Table InstrumentNo; outcome = Answered one } ∷ record { target = 8; call = asked; outcome = Answered other } ∷ []
+  pub made_on : WasMadeOn WINDOW ends (leaves (turned ends beginning (begins (before state)))) (moves asked one other) 8 (Table InstrumentNo) one
 
--- there are such calls over an instrument that counts, each state of which is a good one, and over the simulator as it is at the start
+-- there are such calls over an instrument that counts, each state of which is a good one, with each procedure that isn't in the table, and over the simulator as it is at the start
 pub record SomeCallsAreInField : Type 0 where
   pub any :
-      AreInField counting AnyState kept_by (record { count = 27; keeps = None }) chain.begun chain.first chain.second
+      (raw : RawCall) → AreInField counting AnyState kept_by (record { count = 27; keeps = None }) chain.begun (raw_second raw) (Raw raw) chain.first chain.second
   pub simulator :
-      AreInField ends IsFittingState kept_of simulator_opening replies (codes "%R1P,0,0:0,123456") (codes "%R1P,0,1:0,123456")
+      AreInField ends IsFittingState kept_of simulator_opening replies table_second (Table InstrumentNo) (codes "%R1P,0,0:0,123456") (codes "%R1P,0,1:0,123456")

@@ -1,7 +1,11 @@
 -- Any sequence of calls, this project's own: what a client does over the calls that a caller makes on a state.
 use Rattle.std.specs.Prelude.{◌≡◌, ◌⊎◌, ℕ, List, [], ◌∷◌, map}
 use Rattle.gc_lines.specs.Frames.{rest_behind}
+use Rattle.gc_catalogue.specs.declared.asked.Asked.{Asked}
+use Rattle.gc_catalogue.specs.declared.asked.Asked.TheVariants.{Table, Raw}
 use Rattle.gc_catalogue.specs.declared.call.Call.{Call}
+use Rattle.gc_catalogue.specs.declared.raw.RawCall.{RawCall}
+use Rattle.gc_catalogue.specs.Asked.{IsAsked}
 use Rattle.gc_catalogue.specs.Calls.{IsCall}
 use Rattle.gc_client.specs.Beginning.{the_word}
 use Rattle.gc_client.specs.OneForOne.{Course, begun, goes, course}
@@ -11,18 +15,18 @@ use Rattle.geocom_c.specs.Rest.{lines_behind}
 use Rattle.geocom_c.specs.State.{StandsFor, left_of}
 use Rattle.geocom_c.specs.declared.state.GeocomClient.{GeocomClient}
 use Rattle.geocom_c.specs.declared.following.Step.{Step}
-use Rattle.geocom_c.specs.declared.following.Step.TheVariants.{Send, Begin, Feed, Expire, Restart}
+use Rattle.geocom_c.specs.declared.following.Step.TheVariants.{Send, SendRaw, Begin, Feed, Expire, Restart}
 
 -- the course of a client that hears, in order, each line that these bytes end, where `rest` came before them since the last
 -- line feed
-abbrev pub hearing : ℕ → Course → List ℕ → List ℕ → Course
+abbrev pub hearing : ℕ → Course Asked → List ℕ → List ℕ → Course Asked
 hearing width x rest bytes = course width x (map one.Hear (lines_behind rest bytes))
 
 -- no part of a promise: a client of the course `x`, with the bytes `rest` since the last line feed, was fed all of `bytes` but
 -- the last ones, `left`. The state stands for the client as it is then. If that client hears `left`, too, it comes to the same
 -- as a client of the course `x` that hears all of `bytes`
-pub record FedTo (width : ℕ) (x : Course) (rest bytes : List ℕ) (state : GeocomClient) (left : List ℕ) : Type 0 where
-  pub reached : Course
+pub record FedTo (width : ℕ) (x : Course Asked) (rest bytes : List ℕ) (state : GeocomClient) (left : List ℕ) : Type 0 where
+  pub reached : Course Asked
   pub now : List ℕ
   pub stands : StandsFor state (record { width = width; ids = reached.client }) now
   pub same : hearing width reached now left ≡ hearing width x rest bytes
@@ -31,7 +35,7 @@ pub record FedTo (width : ℕ) (x : Course) (rest bytes : List ℕ) (state : Geo
 -- how far calls have brought a client: its course, the bytes since the last line feed, and the ids of the beginning that
 -- aren't answered
 pub record Stage : Type 0 where
-  pub reached : Course
+  pub reached : Course Asked
   pub rest : List ℕ
   pub left : List ℕ
 
@@ -50,8 +54,11 @@ pub record IsAt (width : ℕ) (s : Stage) (state : GeocomClient) : Type 0 where
 abbrev pub CallsReach : ℕ → Stage → List Step → Stage → Type 0
 CallsReach width s [] t = t ≡ s
 CallsReach width s (Send target deadline procedure params ∷ steps) t =
-    ((call : Call) × (s.left ≡ []) × IsCall procedure params.now call × CallsReach width (record s { reached = goes width s.reached (one.Send target call deadline) }) steps t)
+    ((call : Call) × (s.left ≡ []) × IsCall procedure params.now call × CallsReach width (record s { reached = goes width s.reached (one.Send target (Table call) deadline) }) steps t)
     ⊎ ((s.left ≡ [] → (call : Call) → IsCall procedure params.now call → ⊥) × CallsReach width s steps t)
+CallsReach width s (SendRaw target deadline procedure params ∷ steps) t =
+    ((raw : RawCall) × (s.left ≡ []) × IsAsked procedure params.now (Raw raw) × CallsReach width (record s { reached = goes width s.reached (one.Send target (Raw raw) deadline) }) steps t)
+    ⊎ ((s.left ≡ [] → (raw : RawCall) → IsAsked procedure params.now (Raw raw) → ⊥) × CallsReach width s steps t)
 CallsReach width s (Begin bytes ∷ steps) t = CallsReach width (record s { rest = rest_behind s.rest bytes.now; left = left_behind s.left s.rest bytes.now }) steps t
 CallsReach width s (Feed bytes ∷ steps) t = CallsReach width (record s { reached = hearing width s.reached s.rest bytes.now; rest = rest_behind s.rest bytes.now }) steps t
 CallsReach width s (Expire now ∷ steps) t = CallsReach width (record s { reached = goes width s.reached (one.Expire now) }) steps t

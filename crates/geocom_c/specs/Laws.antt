@@ -3,24 +3,26 @@
 -- line of many connections that keeps order, loses lines whole and repeats a line directly after it, and an instrument that may
 -- start anew and change by itself at any moment. What is under way when the client begins may be anything, but for the word of
 -- a beginning. No clock has a part in it.
-use Rattle.std.specs.Prelude.{◌≡◌, ℕ, ◌≤◌, List, [], Option, Some, slice_get}
+use Rattle.std.specs.Prelude.{◌≡◌, ℕ, ◌<◌, ◌≤◌, List, [], ◌∷◌, length, Option, Some, slice_get}
 use Rattle.std.specs.List.{AllByRecursion}
+use Rattle.gc_catalogue.specs.declared.asked.Asked.{Asked}
 use Rattle.gc_client.specs.Beginning.{IsSubsequence, the_word}
 use Rattle.gc_client.specs.OneForOne.{of_settled}
 use Rattle.gc_client.specs.Rule.{IsWidth, Settlement, Answered}
 use Rattle.gc_instrument.specs.State.{KeptReply, State, IsFittingState}
-use Rattle.gc_world.specs.Clients.{ends}
+use Rattle.gc_field.specs.Simulator.{ends}
 use Rattle.gc_world.specs.Record.{IsReplyTo}
-use Rattle.gc_world.specs.World.{Ends, Sent}
+use Rattle.gc_field.specs.World.{Ends, Sent}
 use Rattle.gc_field.specs.Begin.{AreLines, UnderWay, ids_under_way, leaves}
 use Rattle.gc_field.specs.Beginnings.{AreFewKilled, AreRuns, IsOwnIf, IsRow, Run}
-use Rattle.gc_field.specs.Begun.{WasMadeOn}
-use Rattle.gc_field.specs.Instrument.{IsAnInstrument, AnyState}
+use Rattle.gc_field.specs.Begun.{IsSafe, WasMadeOn}
+use Rattle.gc_field.specs.Instrument.{IsAnInstrument, AnyState, TreatsRawsAlike}
 use Rattle.gc_field.specs.Laws.{WasExecuted, asked, kept_of}
 use Rattle.geocom_c.specs.Following.{CallsReach, Stage, opened}
 use Rattle.geocom_c.specs.Runs.{Part, ArePossibleRuns, begun_at, client_over, events_over, left_by_runs, left_over, parts, settled_over, world}
 use Rattle.geocom_c.specs.Steps.{AreEvents, IsOverEvents}
 use Rattle.geocom_c.specs.declared.following.Step.{Step}
+use Rattle.geocom_c.specs.declared.following.Step.TheVariants.{Send, SendRaw, Begin, Feed, Expire, Restart}
 
 -- for every width: any calls on a state are one list of events, and bring the client to where its rule brings it over these
 -- events
@@ -35,7 +37,7 @@ module _ {State : Type 0} (width : ℕ) (ends : Ends State) (Good : State → Ty
   -- where the answer `line` of settlement `s` comes from, over the runs `ps`: it settled request m of run k, which has the
   -- settlement's target and call, and is none of the eight null procedures; and the instrument made this line on executing that
   -- very request
-  pub record IsItsOwn (ps : List (Part State)) (s : Settlement) (line : List ℕ) : Type 0 where
+  pub record IsItsOwn (ps : List (Part State)) (s : Settlement Asked) (line : List ℕ) : Type 0 where
     pub k : ℕ
     pub part : Part State
     pub of_parts : slice_get ps k ≡ Some part
@@ -52,8 +54,14 @@ module _ {State : Type 0} (width : ℕ) (ends : Ends State) (Good : State → Ty
     -- executed it, and this line was its reply
     pub made_on : WasMadeOn width ends (leaves (begun_at width ends part)) part.run.moves m s.call line
 
+  -- each command that went out in a run is safe (`IsSafe`): each request of the run is a call of the table; or a request that is none is to the
+  -- instrument as all others; or the command went out behind the table
+  abbrev pub IsSafeRun : Part State → Type 0
+  IsSafeRun p =
+      (m : ℕ) → 8 ≤ m → m < length (world width ends p).wire.sent → IsSafe width ends (leaves (begun_at width ends p)) Good kept p.run.moves m
+
   -- where a settlement is an answer, its line was made for that very request (`IsItsOwn`)
-  abbrev pub IsOwnAnswer : List (Part State) → Settlement → Type 0
+  abbrev pub IsOwnAnswer : List (Part State) → Settlement Asked → Type 0
   IsOwnAnswer ps s = (line : List ℕ) → s.outcome ≡ Answered line → IsItsOwn ps s line
 
   -- what holds of calls that are the events of these runs, and that bring the client to the stage t
@@ -71,14 +79,15 @@ module _ {State : Type 0} (width : ℕ) (ends : Ends State) (Good : State → Ty
     -- a first reply in time is booked
     pub each : AllByRecursion (λ p. IsOwnIf width ends Good kept (begun_at width ends p).left (begun_at width ends p) p.run.moves) ps
 
--- each answer is its own request's (`AreOwn`), for any instrument, every width, all calls on a state, whatever is under way when the state is
--- made, unless the word is, and all that the line and the instrument may do meanwhile
+-- each answer is its own request's (`AreOwn`), for any instrument, every width, all calls on a state that are safe (`IsSafeRun`), whatever is
+-- under way when the state is made, unless the word is, and all that the line and the instrument may do meanwhile
 abbrev pub AnswersAreTheirOwn : Type 0 → Type 0
 AnswersAreTheirOwn State =
     (ends : Ends State) (kept : State → Option KeptReply) → IsAnInstrument ends AnyState kept →
     (width : ℕ) → IsWidth width → (calls : List Step) (t : Stage) → CallsReach width opened calls t →
     (u : UnderWay State) → AreLines AnyState u → MayBegin u →
     (rs : List (Run State)) → AreEvents the_word [] calls (events_over width ends u rs) → ArePossibleRuns width ends AnyState kept u rs →
+    AllByRecursion (IsSafeRun width ends AnyState kept) (parts width ends u rs) →
     AreOwn width ends AnyState kept (parts width ends u rs) t
 
 -- the same as `AnswersAreTheirOwn` for the simulated instrument, in any state that fits
@@ -87,6 +96,7 @@ SimulatorsAnswersAreTheirOwn =
     (width : ℕ) → IsWidth width → (calls : List Step) (t : Stage) → CallsReach width opened calls t →
     (u : UnderWay State) → AreLines IsFittingState u → MayBegin u →
     (rs : List (Run State)) → AreEvents the_word [] calls (events_over width ends u rs) → ArePossibleRuns width ends IsFittingState kept_of u rs →
+    AllByRecursion (IsSafeRun width ends IsFittingState kept_of) (parts width ends u rs) →
     AreOwn width ends IsFittingState kept_of (parts width ends u rs) t
 
 -- after a run that measured, or over a line with nothing under way: as long as fewer than six runs in a row ended while they
@@ -96,3 +106,31 @@ FewKilledMayBegin State =
     (ends : Ends State) (kept : State → Option KeptReply) → IsAnInstrument ends AnyState kept →
     (width : ℕ) → IsWidth width → (u : UnderWay State) → AreLines AnyState u → IsRow u →
     (rs : List (Run State)) → AreRuns width ends AnyState kept u rs → AreFewKilled width ends 0 u rs → MayBegin (left_by_runs width ends u rs)
+
+-- no call on a state asks for a procedure that isn't in the table
+abbrev pub AreOfTheTable : List Step → Type 0
+AreOfTheTable [] = Unit {0}
+AreOfTheTable (Send target deadline procedure params ∷ calls) = AreOfTheTable calls
+AreOfTheTable (SendRaw target deadline procedure params ∷ calls) = ⊥
+AreOfTheTable (Begin bytes ∷ calls) = AreOfTheTable calls
+AreOfTheTable (Feed bytes ∷ calls) = AreOfTheTable calls
+AreOfTheTable (Expire now ∷ calls) = AreOfTheTable calls
+AreOfTheTable (Restart ∷ calls) = AreOfTheTable calls
+
+-- each run is safe (`IsSafeRun`) where a request that is no call of the table is to the instrument as all others, which all instruments meet that know
+-- the procedures; and, over any instrument and over the simulator, where no call on the state asks for such a procedure
+pub record CallsAreSafe (State : Type 0) : Type 0 where
+  pub alike :
+      (ends : Ends State) (kept : State → Option KeptReply) → TreatsRawsAlike ends AnyState kept →
+      (width : ℕ) (u : UnderWay State) (rs : List (Run State)) → AllByRecursion (IsSafeRun width ends AnyState kept) (parts width ends u rs)
+  pub table :
+      (ends : Ends State) (kept : State → Option KeptReply) (width : ℕ) (calls : List Step) → AreOfTheTable calls →
+      (u : UnderWay State) (rs : List (Run State)) → AreEvents the_word [] calls (events_over width ends u rs) →
+      AllByRecursion (IsSafeRun width ends AnyState kept) (parts width ends u rs)
+
+-- the same of calls over the simulator, which makes its refusals of such procedures anew, and keeps what it kept
+abbrev pub SimulatorsCallsAreSafe : Type 0
+SimulatorsCallsAreSafe =
+    (width : ℕ) (calls : List Step) → AreOfTheTable calls →
+    (u : UnderWay State) (rs : List (Run State)) → AreEvents the_word [] calls (events_over width ends u rs) →
+    AllByRecursion (IsSafeRun width ends IsFittingState kept_of) (parts width ends u rs)

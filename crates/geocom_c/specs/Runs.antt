@@ -2,24 +2,25 @@
 -- begins by its null procedures, among whatever is under way by then, and then sends. After a restart the next run begins among
 -- what the run before it left.
 use Rattle.std.specs.Prelude.{ℕ, List, [], ◌∷◌, ◌++◌, map, drop, Option}
+use Rattle.gc_catalogue.specs.declared.asked.Asked.{Asked}
 use Rattle.gc_client.specs.Beginning.{the_word}
 use Rattle.gc_client.specs.OneForOne as one
 use Rattle.gc_client.specs.Rule.{ById, Settlement, fresh, lost}
 use Rattle.gc_instrument.specs.State.{KeptReply}
 use Rattle.gc_world.specs.Clients.{by_ids}
-use Rattle.gc_world.specs.World.{Ends, World}
+use Rattle.gc_field.specs.World.{Ends, World}
 use Rattle.gc_field.specs.Begin.{Aged, AreTurns, Asks, Comes, Foreign, Reaches, Up_lose, Up_repeat, Down_lose, Down_repeat, Anew, Changes, Model, Turn, UnderWay, begins, leaves, turns}
 use Rattle.gc_field.specs.Beginnings.{Run, left_by_run, stood}
 use Rattle.gc_field.specs.Begun.{behind, ids_begun}
 use Rattle.gc_field.specs.Field.{ArePossible, seen}
-use Rattle.geocom_c.specs.Steps.{Event, Asked, Came, Went}
+use Rattle.geocom_c.specs.Steps.{Event, Null, Came, Went}
 
 -- What a run is to the library.
 
 -- the event of a null procedure that goes out; none once the client has begun
 abbrev pub asked_of : List ℕ → List Event
 asked_of [] = []
-asked_of (asked ∷ later) = Asked ∷ []
+asked_of (asked ∷ later) = Null ∷ []
 
 -- the event of the line in front, which comes; none where there is no line
 abbrev pub front_of : List (Aged (List ℕ)) → List Event
@@ -63,7 +64,7 @@ module _ {State : Type 0} (width : ℕ) (ends : Ends State) where
   begun_at p = stood width ends p.before p.run
 
   -- the world after a run
-  abbrev pub world : Part State → World ById State
+  abbrev pub world : Part State → World (ById Asked) State
   world p = behind width ends (leaves (begun_at p)) p.run.moves
 
   -- what runs leave under way
@@ -86,28 +87,28 @@ module _ {State : Type 0} (width : ℕ) (ends : Ends State) where
   -- What they settle.
 
   -- what the library settles in a run, by the ids that aren't answered: all but the eight null procedures once it has begun, and nothing before
-  abbrev pub settled_if : List ℕ → World ById State → List Settlement
+  abbrev pub settled_if : List ℕ → World (ById Asked) State → List (Settlement Asked)
   settled_if [] w = drop 8 w.wire.settled
   settled_if (asked ∷ later) w = []
 
   -- what the library settles at the restart after a run: what waits, as lost, if the run has begun, else nothing
-  abbrev pub lost_if : List ℕ → World ById State → List Settlement
+  abbrev pub lost_if : List ℕ → World (ById Asked) State → List (Settlement Asked)
   lost_if [] w = map lost w.client.waiting
   lost_if (asked ∷ later) w = []
 
   -- what the library settles over runs with restarts between them
-  abbrev pub settled_over : List (Part State) → List Settlement
+  abbrev pub settled_over : List (Part State) → List (Settlement Asked)
   settled_over [] = []
   settled_over (p ∷ []) = settled_if (begun_at p).left (world p)
   settled_over (p ∷ next ∷ others) = (settled_if (begun_at p).left (world p) ++ lost_if (begun_at p).left (world p)) ++ settled_over (next ∷ others)
 
   -- the client after a run, which is new where the run hasn't begun
-  abbrev pub client_if : List ℕ → World ById State → ById
+  abbrev pub client_if : List ℕ → World (ById Asked) State → ById Asked
   client_if [] w = w.client
   client_if (asked ∷ later) w = fresh
 
   -- the client after runs: that after the last one
-  abbrev pub client_over : List (Part State) → ById
+  abbrev pub client_over : List (Part State) → ById Asked
   client_over [] = fresh
   client_over (p ∷ []) = client_if (begun_at p).left (world p)
   client_over (p ∷ next ∷ others) = client_over (next ∷ others)

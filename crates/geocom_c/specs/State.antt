@@ -1,8 +1,8 @@
 -- What the bytes of a state stand for: a client, the bytes since the last line feed, and how far its beginning came. This project's own.
 use Rattle.std.specs.Prelude.{◌≡◌, ℕ, ◌<◌, ◌≤◌, List, length, take, drop, if◌then◌else◌, None}
 use Rattle.gc_lines.specs.Requests.{RequestFields, IsRequest}
-use Rattle.gc_catalogue.specs.declared.call.Call.{Call}
-use Rattle.gc_catalogue.specs.Calls.{IsCall}
+use Rattle.gc_catalogue.specs.declared.asked.Asked.{Asked}
+use Rattle.gc_catalogue.specs.Asked.{IsAsked}
 use Rattle.gc_client.specs.Beginning.{the_word}
 use Rattle.gc_client.specs.declared.pending.Pending.{Pending}
 use Rattle.gc_client.specs.declared.window.TheConstants.{IDS}
@@ -12,15 +12,16 @@ use Rattle.geocom_c.specs.Rest.{IsRest}
 use Rattle.geocom_c.specs.declared.state.GeocomWaiting.{GeocomWaiting}
 use Rattle.geocom_c.specs.declared.state.GeocomClient.{GeocomClient}
 
--- a request line without an id, for this call
-pub record IsLineOf (line : List ℕ) (call : Call) : Type 0 where
+-- a request line without an id, which asks for this: for a call where its number is in the table, else for the procedure with its
+-- parameters as they stand
+pub record IsLineOf (line : List ℕ) (asked : Asked) : Type 0 where
   pub fields : RequestFields
   pub is_request : IsRequest line fields
   pub no_id : fields.id ≡ None
-  pub is_call : IsCall fields.rpc fields.params call
+  pub is_asked : IsAsked fields.rpc fields.params asked
 
 -- the bytes of a place are those of this request
-pub record IsPlace (w : GeocomWaiting) (p : Pending) : Type 0 where
+pub record IsPlace (w : GeocomWaiting) (p : Pending Asked) : Type 0 where
   pub target : w.target ≡ p.target
   pub deadline : w.deadline ≡ p.deadline
   pub given_up : w.given_up ≡ (if p.given_up then 1 else 0)
@@ -39,7 +40,7 @@ abbrev pub left_of : GeocomClient → List ℕ
 left_of s = drop s.answered the_word
 
 -- the bytes of a state are those of this client, and the bytes `rest` came since the last line feed
-pub record StandsFor (s : GeocomClient) (c : Windowed) (rest : List ℕ) : Type 0 where
+pub record StandsFor (s : GeocomClient) (c : Windowed Asked) (rest : List ℕ) : Type 0 where
   pub width : s.width ≡ c.width
   pub next : s.next ≡ c.ids.next
   pub waiting : s.waiting ≡ length c.ids.waiting
@@ -49,4 +50,4 @@ pub record StandsFor (s : GeocomClient) (c : Windowed) (rest : List ℕ) : Type 
 
 -- the bytes of a state are no client's
 abbrev pub IsAstray : GeocomClient → Type 0
-IsAstray s = (c : Windowed) (rest : List ℕ) → StandsFor s c rest → ⊥
+IsAstray s = (c : Windowed Asked) (rest : List ℕ) → StandsFor s c rest → ⊥

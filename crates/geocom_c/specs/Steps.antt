@@ -1,7 +1,11 @@
 -- Calls as events, this project's own: what the calls that a caller makes on a state are to a beginning, and to a client that has begun.
 use Rattle.std.specs.Prelude.{◌≡◌, ◌⊎◌, ℕ, List, [], ◌∷◌, ◌++◌, map, Option, Some, None}
 use Rattle.gc_lines.specs.Frames.{rest_behind}
+use Rattle.gc_catalogue.specs.declared.asked.Asked.{Asked}
+use Rattle.gc_catalogue.specs.declared.asked.Asked.TheVariants.{Table, Raw}
 use Rattle.gc_catalogue.specs.declared.call.Call.{Call}
+use Rattle.gc_catalogue.specs.declared.raw.RawCall.{RawCall}
+use Rattle.gc_catalogue.specs.Asked.{IsAsked}
 use Rattle.gc_catalogue.specs.Calls.{IsCall}
 use Rattle.gc_client.specs.Beginning.{the_word, left_by}
 use Rattle.gc_client.specs.OneForOne.{begun, course}
@@ -11,18 +15,18 @@ use Rattle.geocom_c.specs.Beginning.{anew, given, left_behind}
 use Rattle.geocom_c.specs.Following.{Stage}
 use Rattle.geocom_c.specs.Rest.{lines_behind}
 use Rattle.geocom_c.specs.declared.following.Step.{Step}
-use Rattle.geocom_c.specs.declared.following.Step.TheVariants.{Send, Begin, Feed, Expire, Restart}
+use Rattle.geocom_c.specs.declared.following.Step.TheVariants.{Send, SendRaw, Begin, Feed, Expire, Restart}
 
 -- what happens to a client: while it begins, a null procedure goes out, or a line comes; once it has begun, it makes a step
 pub data Event : Type 0 where
-  Asked : Event
+  Null : Event
   Came : (line : List ℕ) → Event
-  Went : (step : one.Step) → Event
+  Went : (step : one.Step Asked) → Event
 
 -- the event of a line that goes out while the client begins: a null procedure is asked for. Without a line there is no event
 abbrev pub asked_by : Option (List ℕ) → List Event
 asked_by None = []
-asked_by (Some line) = Asked ∷ []
+asked_by (Some line) = Null ∷ []
 
 -- the events of a begin: while the client begins, each line that the bytes end comes, and then a null procedure may go out. Once it has begun
 -- there are none, and the lines are dropped
@@ -31,18 +35,22 @@ begins_by [] rest bytes = []
 begins_by (asked ∷ later) rest bytes = map Came (lines_behind rest bytes) ++ asked_by (given bytes (asked ∷ later) (left_behind (asked ∷ later) rest bytes))
 
 -- the events of steps of the client: none while it begins
-abbrev pub goes_by : List ℕ → List one.Step → List Event
+abbrev pub goes_by : List ℕ → List (one.Step Asked) → List Event
 goes_by [] steps = map Went steps
 goes_by (asked ∷ later) steps = []
 
 -- these calls are these events, by the ids that aren't answered and the bytes since the last line feed. A send is a step where the client has
--- begun, and its number and parameters are a call's, with room in the window or not; else it is nothing. Each line that bytes end is a step,
+-- begun, and its number and parameters are a call's, with room in the window or not; a raw send where they may be asked for as they stand;
+-- else it is nothing. Each line that bytes end is a step,
 -- and so is a moment; a restart is one, and forgets the bytes of a line. Lines that are fed while the client begins are dropped
 abbrev pub AreEvents : List ℕ → List ℕ → List Step → List Event → Type 0
 AreEvents left rest [] events = events ≡ []
 AreEvents left rest (Send target deadline procedure params ∷ calls) events =
-    ((call : Call) × (later : List Event) × (left ≡ []) × IsCall procedure params.now call × (events ≡ Went (one.Send target call deadline) ∷ later) × AreEvents left rest calls later)
+    ((call : Call) × (later : List Event) × (left ≡ []) × IsCall procedure params.now call × (events ≡ Went (one.Send target (Table call) deadline) ∷ later) × AreEvents left rest calls later)
     ⊎ ((left ≡ [] → (call : Call) → IsCall procedure params.now call → ⊥) × AreEvents left rest calls events)
+AreEvents left rest (SendRaw target deadline procedure params ∷ calls) events =
+    ((raw : RawCall) × (later : List Event) × (left ≡ []) × IsAsked procedure params.now (Raw raw) × (events ≡ Went (one.Send target (Raw raw) deadline) ∷ later) × AreEvents left rest calls later)
+    ⊎ ((left ≡ [] → (raw : RawCall) → IsAsked procedure params.now (Raw raw) → ⊥) × AreEvents left rest calls events)
 AreEvents left rest (Begin bytes ∷ calls) events =
     (later : List Event) × (events ≡ begins_by left rest bytes.now ++ later) × AreEvents (left_behind left rest bytes.now) (rest_behind rest bytes.now) calls later
 AreEvents left rest (Feed bytes ∷ calls) events =
@@ -51,14 +59,14 @@ AreEvents left rest (Expire now ∷ calls) events = (later : List Event) × (eve
 AreEvents left rest (Restart ∷ calls) events = (later : List Event) × (events ≡ goes_by left (one.Restart ∷ []) ++ later) × AreEvents (anew left) [] calls later
 
 -- the steps of the client among events
-abbrev pub steps_among : List Event → List one.Step
+abbrev pub steps_among : List Event → List (one.Step Asked)
 steps_among [] = []
-steps_among (Asked ∷ events) = steps_among events
+steps_among (Null ∷ events) = steps_among events
 steps_among (Came line ∷ events) = steps_among events
 steps_among (Went step ∷ events) = step ∷ steps_among events
 
 -- the ids that aren't answered after a step: all of them if it is a restart, and else none
-abbrev pub left_by_step : one.Step → List ℕ
+abbrev pub left_by_step : one.Step Asked → List ℕ
 left_by_step (one.Send target call deadline) = []
 left_by_step (one.Hear line) = []
 left_by_step (one.Expire now) = []
@@ -67,14 +75,14 @@ left_by_step one.Restart = the_word
 -- the ids that aren't answered after these events
 abbrev pub left_among : List ℕ → List Event → List ℕ
 left_among left [] = left
-left_among left (Asked ∷ events) = left_among left events
+left_among left (Null ∷ events) = left_among left events
 left_among left (Came line ∷ events) = left_among (left_by left (heard line)) events
 left_among left (Went step ∷ events) = left_among (left_by_step step) events
 
 -- no step of the client comes before all of the word is answered, at first and after each restart
 abbrev pub AreInTurn : List ℕ → List Event → Type 0
 AreInTurn left [] = Unit {0}
-AreInTurn left (Asked ∷ events) = AreInTurn left events
+AreInTurn left (Null ∷ events) = AreInTurn left events
 AreInTurn left (Came line ∷ events) = AreInTurn (left_by left (heard line)) events
 AreInTurn left (Went step ∷ events) = (left ≡ []) × AreInTurn (left_by_step step) events
 

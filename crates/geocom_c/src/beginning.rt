@@ -3,6 +3,7 @@
 ghost use Rattle.std.specs.Prelude.{◌≡◌, ◌≢◌, ◌↔◌, ◌<◌, ◌≤◌, ◌+◌, ◌++◌, ℕ, Bool, List, [], length, take, drop, Some, None, true, false};
 ghost use Rattle.std.specs.List.{position};
 ghost use Rattle.gc_lines.specs.Frames.{is_line_feed, frame_of, rest_behind};
+ghost use Rattle.gc_catalogue.specs.declared.asked.Asked.{Asked};
 ghost use Rattle.gc_client.specs.Beginning.{asks};
 ghost use Rattle.gc_client.specs.Rule.{Windowed};
 ghost use Rattle.geocom_c.specs.Beginning.{given, given_if, IsGiven, left_behind, left_past};
@@ -123,7 +124,7 @@ pub extern "C" fn geocom_client_begin(
     bytes: &[u8],
     line: &mut [u8],
 ) -> GeocomBeginning
-    ensures heard { LINE_ROOM ≤ length line.old → (c : Windowed) (rest : List ℕ) → StandsFor state.old c rest
+    ensures heard { LINE_ROOM ≤ length line.old → (c : Windowed Asked) (rest : List ℕ) → StandsFor state.old c rest
         → (result.fault ≡ 0) × StandsFor state.new c (rest_behind rest bytes.now)
         × (left_of state.new ≡ left_behind (left_of state.old) rest bytes.now) }
     ensures given { result.fault ≡ 0 → IsGiven (given bytes.now (left_of state.old) (left_of state.new)) result line.new }
@@ -131,7 +132,7 @@ pub extern "C" fn geocom_client_begin(
     ensures answered { result.fault ≡ 0 → result.answered ≡ state.new.answered }
     ensures room { (result.fault ≡ NO_ROOM) ↔ (length line.old < LINE_ROOM) }
     ensures astray { (result.fault ≡ NO_CLIENT) ↔ ((LINE_ROOM ≤ length line.old) × IsAstray state.old) }
-    ensures done { result.fault ≡ 0 → (c : Windowed) × (rest : List ℕ) × StandsFor state.old c rest }
+    ensures done { result.fault ≡ 0 → (c : Windowed Asked) × (rest : List ℕ) × StandsFor state.old c rest }
     ensures refused { result.fault ≢ 0 → (result ≡ record { fault = result.fault; count = 0; answered = 0; has_begun = 0 }) × (state.new ≡ state.old) × (line.new ≡ line.old) }
     ensures untouched { drop result.count line.new ≡ drop result.count line.old }
     ensures length { length line.new ≡ length line.old }

@@ -1,6 +1,7 @@
 //! The calls that need no text: a new client, a moment, the earliest deadline, and how many wait.
 
 ghost use Rattle.std.specs.Prelude.{◌≡◌, ◌≢◌, ◌↔◌, ◌<◌, ◌≤◌, ℕ, List, [], length, take, drop, Some, None, if◌then◌else◌};
+ghost use Rattle.gc_catalogue.specs.declared.asked.Asked.{Asked};
 ghost use Rattle.gc_client.specs.Rule.{Windowed, IsWidth, expires, expiring, deadlines, IsEarliest};
 ghost use Rattle.gc_client.specs.Rule;
 ghost use Rattle.gc_client.specs.Beginning.{the_word};
@@ -65,12 +66,12 @@ pub extern "C" fn geocom_client_expire(
     now: u64,
     targets: &mut [u32],
 ) -> GeocomCount
-    ensures expired { WINDOW ≤ length targets.old → (c : Windowed) (rest : List ℕ) → StandsFor state.old c rest
+    ensures expired { WINDOW ≤ length targets.old → (c : Windowed Asked) (rest : List ℕ) → StandsFor state.old c rest
         → (result.fault ≡ 0) × StandsFor state.new (record c { ids = expires c.ids now }) rest
         × (result.count ≡ length (expiring now c.ids.waiting)) × (take result.count targets.new ≡ expiring now c.ids.waiting) }
     ensures room { (result.fault ≡ NO_ROOM) ↔ (length targets.old < WINDOW) }
     ensures astray { (result.fault ≡ NO_CLIENT) ↔ ((WINDOW ≤ length targets.old) × IsAstray state.old) }
-    ensures done { result.fault ≡ 0 → (c : Windowed) × (rest : List ℕ) × StandsFor state.old c rest }
+    ensures done { result.fault ≡ 0 → (c : Windowed Asked) × (rest : List ℕ) × StandsFor state.old c rest }
     ensures refused { result.fault ≢ 0 → (result.count ≡ 0) × (state.new ≡ state.old) × (targets.new ≡ targets.old) }
     ensures few { result.count ≤ WINDOW }
     ensures answered { state.new.answered ≡ state.old.answered }
@@ -95,10 +96,10 @@ pub extern "C" fn geocom_client_expire(
 /// Fault 63: the state is no client's.
 #[unsafe(no_mangle)]
 pub extern "C" fn geocom_client_next_deadline(state: &GeocomClient) -> GeocomDeadline
-    ensures earliest { (c : Windowed) (rest : List ℕ) → StandsFor state.now c rest → (result.fault ≡ 0)
+    ensures earliest { (c : Windowed Asked) (rest : List ℕ) → StandsFor state.now c rest → (result.fault ≡ 0)
         × IsEarliest (deadlines c.ids.waiting) (earliest_in result) }
     ensures astray { (result.fault ≡ NO_CLIENT) ↔ IsAstray state.now }
-    ensures done { result.fault ≡ 0 → (c : Windowed) × (rest : List ℕ) × StandsFor state.now c rest }
+    ensures done { result.fault ≡ 0 → (c : Windowed Asked) × (rest : List ℕ) × StandsFor state.now c rest }
     ensures refused { result.fault ≢ 0 → result.is_set ≡ 0 }
     ensures unset { result.is_set ≢ 1 → (result.is_set ≡ 0) × (result.deadline ≡ 0) }
 {
@@ -123,10 +124,10 @@ pub extern "C" fn geocom_client_next_deadline(state: &GeocomClient) -> GeocomDea
 /// Fault 63: the state is no client's.
 #[unsafe(no_mangle)]
 pub extern "C" fn geocom_client_waiting(state: &GeocomClient) -> GeocomCount
-    ensures waiting { (c : Windowed) (rest : List ℕ) → StandsFor state.now c rest → (result.fault ≡ 0)
+    ensures waiting { (c : Windowed Asked) (rest : List ℕ) → StandsFor state.now c rest → (result.fault ≡ 0)
         × (result.count ≡ length c.ids.waiting) }
     ensures astray { (result.fault ≡ NO_CLIENT) ↔ IsAstray state.now }
-    ensures done { result.fault ≡ 0 → (c : Windowed) × (rest : List ℕ) × StandsFor state.now c rest }
+    ensures done { result.fault ≡ 0 → (c : Windowed Asked) × (rest : List ℕ) × StandsFor state.now c rest }
     ensures refused { result.fault ≢ 0 → result.count ≡ 0 }
 {
     match load(state) {

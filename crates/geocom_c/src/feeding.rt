@@ -3,6 +3,7 @@
 ghost use Rattle.std.specs.Prelude.{◌≡◌, ◌≢◌, ◌↔◌, ◌<◌, ◌≤◌, ◌+◌, ◌++◌, ℕ, List, [], length, take, drop, Some, None, IsTrue};
 ghost use Rattle.std.specs.List.{position};
 ghost use Rattle.gc_lines.specs.Frames.{is_line_feed, frame_of};
+ghost use Rattle.gc_catalogue.specs.declared.asked.Asked.{Asked};
 ghost use Rattle.gc_client.specs.Rule.{Windowed, restarts};
 ghost use Rattle.gc_client.specs.Beginning.{the_word};
 ghost use Rattle.gc_client.specs.declared.window.TheConstants.{WINDOW};
@@ -22,7 +23,8 @@ use crate::listed::tell;
 use crate::rest::{GeocomRest, put};
 use crate::settled::{GeocomSettlement, put_lost, put_records};
 use crate::state::{GeocomClient, load, store};
-use gc_client::{Client, Heard, Slots, WINDOW};
+use gc_catalogue::Asked;
+use gc_client::{Client, Heard, SlotsOf, WINDOW};
 use gc_lines::{Frame, Line};
 
 // Whether there is room for what a line can settle.
@@ -36,7 +38,7 @@ fn has_room(settlements: &[GeocomSettlement], text: &[u8]) -> bool
 // line.
 fn hear(
     state: &mut GeocomClient,
-    mut client: Client<Slots>,
+    mut client: Client<SlotsOf<Asked>>,
     line: &Line,
     settlements: &mut [GeocomSettlement],
     text: &mut [u8],
@@ -69,7 +71,7 @@ fn hear(
 // Hands the client the line that a frame is, if it is one, and returns what came of the frame.
 fn feed_frame(
     state: &mut GeocomClient,
-    client: Client<Slots>,
+    client: Client<SlotsOf<Asked>>,
     frame: &Frame,
     settlements: &mut [GeocomSettlement],
     text: &mut [u8],
@@ -95,7 +97,7 @@ fn feed_frame(
 // Takes bytes through the first line feed, and hands the client the frame that it ends. Without a line feed all bytes are kept.
 fn feed(
     state: &mut GeocomClient,
-    client: Client<Slots>,
+    client: Client<SlotsOf<Asked>>,
     bytes: &[u8],
     settlements: &mut [GeocomSettlement],
     text: &mut [u8],
@@ -145,18 +147,18 @@ pub extern "C" fn geocom_client_feed(
     settlements: &mut [GeocomSettlement],
     text: &mut [u8],
 ) -> GeocomHeard
-    ensures more { HasRoom settlements.old text.old → (c : Windowed) (rest : List ℕ) → StandsFor state.old c rest
+    ensures more { HasRoom settlements.old text.old → (c : Windowed Asked) (rest : List ℕ) → StandsFor state.old c rest
         → position is_line_feed bytes.now ≡ None
         → (result ≡ record { used = length bytes.now; fault = 0; count = 0; kind = MORE; line_fault = 0 })
         × StandsFor state.new c (rest ++ bytes.now) }
-    ensures frame { HasRoom settlements.old text.old → (c : Windowed) (rest : List ℕ) (at : ℕ) → StandsFor state.old c rest
+    ensures frame { HasRoom settlements.old text.old → (c : Windowed Asked) (rest : List ℕ) (at : ℕ) → StandsFor state.old c rest
         → position is_line_feed bytes.now ≡ Some at
         → (result.used ≡ at + 1) × IsFed c (frame_of (rest ++ take at bytes.now)) result settlements.new text.new
         × StandsFor state.new (behind c (frame_of (rest ++ take at bytes.now))) [] }
     ensures used { (result.used ≤ length bytes.now) × (result.fault ≡ 0 → 0 < length bytes.now → 0 < result.used) }
     ensures room { (result.fault ≡ NO_ROOM) ↔ (HasRoom settlements.old text.old → ⊥) }
     ensures astray { (result.fault ≡ NO_CLIENT) ↔ (HasRoom settlements.old text.old × IsAstray state.old) }
-    ensures done { result.fault ≡ 0 → (c : Windowed) × (rest : List ℕ) × StandsFor state.old c rest }
+    ensures done { result.fault ≡ 0 → (c : Windowed Asked) × (rest : List ℕ) × StandsFor state.old c rest }
     ensures refused { result.fault ≢ 0 → (result.used ≡ 0) × (result.count ≡ 0) × (result.kind ≡ 0) × (result.line_fault ≡ 0)
         × (state.new ≡ state.old) }
     ensures few { result.count ≤ WINDOW }
@@ -198,14 +200,14 @@ pub extern "C" fn geocom_client_restart(
     state: &mut GeocomClient,
     settlements: &mut [GeocomSettlement],
 ) -> GeocomCount
-    ensures restarted { WINDOW ≤ length settlements.old → (c : Windowed) (rest : List ℕ) → StandsFor state.old c rest
+    ensures restarted { WINDOW ≤ length settlements.old → (c : Windowed Asked) (rest : List ℕ) → StandsFor state.old c rest
         → (result.fault ≡ 0) × StandsFor state.new (record c { ids = (restarts c.ids).client }) []
         × (result.count ≡ length (restarts c.ids).settlements)
         × FirstAre (IsRecord []) settlements.new (restarts c.ids).settlements }
     ensures begins { result.fault ≡ 0 → left_of state.new ≡ anew (left_of state.old) }
     ensures room { (result.fault ≡ NO_ROOM) ↔ (length settlements.old < WINDOW) }
     ensures astray { (result.fault ≡ NO_CLIENT) ↔ ((WINDOW ≤ length settlements.old) × IsAstray state.old) }
-    ensures done { result.fault ≡ 0 → (c : Windowed) × (rest : List ℕ) × StandsFor state.old c rest }
+    ensures done { result.fault ≡ 0 → (c : Windowed Asked) × (rest : List ℕ) × StandsFor state.old c rest }
     ensures refused { result.fault ≢ 0 → (result.count ≡ 0) × (state.new ≡ state.old) × (settlements.new ≡ settlements.old) }
     ensures few { result.count ≤ WINDOW }
     ensures untouched { drop result.count settlements.new ≡ drop result.count settlements.old }

@@ -2,6 +2,7 @@
 
 ghost use Rattle.std.specs.Prelude.{◌≡◌, ◌<◌, ◌≤◌, ℕ, List, ◌∷◌, length, drop, slice_get, Some};
 ghost use Rattle.gc_lines.specs.Frames.{rest_behind};
+ghost use Rattle.gc_catalogue.specs.declared.asked.Asked.{Asked};
 ghost use Rattle.gc_client.specs.Rule.{IsWidth};
 ghost use Rattle.gc_client.specs.OneForOne.{Course, IsOneForOne};
 ghost use Rattle.geocom_c.specs.State.{StandsFor};
@@ -12,6 +13,7 @@ use crate::calls::{geocom_client_expire, geocom_client_init};
 use crate::feeding::{geocom_client_feed, geocom_client_restart};
 use crate::header::{LINE_ROOM, NONE, TEXT_ROOM};
 use crate::listed::NOWHERE;
+use crate::raws::geocom_client_send_raw;
 use crate::rest::bytes_from;
 use crate::sends::geocom_client_send;
 use crate::settled::GeocomSettlement;
@@ -23,6 +25,12 @@ use gc_values::MOST_ITEMS;
 #[derive(Clone, Copy)]
 pub enum Step<'a> {
     Send {
+        target: u32,
+        deadline: u64,
+        procedure: u16,
+        params: &'a [u8],
+    },
+    SendRaw {
         target: u32,
         deadline: u64,
         procedure: u16,
@@ -51,7 +59,7 @@ const VACANT: GeocomSettlement = GeocomSettlement {
 // Feeds bytes through the first line feed, and returns how many were used: all where there is none, or where the feed has a fault.
 fn feed_line(state: &mut GeocomClient, bytes: &[u8]) -> usize
     ensures used { (result ≤ length bytes.now) × (0 < length bytes.now → 0 < result) }
-    ensures fed { (width : ℕ) (x : Course) (rest : List ℕ) → StandsFor state.old (record { width = width; ids = x.client }) rest
+    ensures fed { (width : ℕ) (x : Course Asked) (rest : List ℕ) → StandsFor state.old (record { width = width; ids = x.client }) rest
         → FedTo width x rest bytes.now state.new (drop result bytes.now) }
     ensures answered { state.new.answered ≡ state.old.answered }
 {
@@ -66,7 +74,7 @@ fn feed_line(state: &mut GeocomClient, bytes: &[u8]) -> usize
 
 // Feeds bytes until all are used.
 fn feed_all(state: &mut GeocomClient, bytes: &[u8])
-    ensures fed { (width : ℕ) (x : Course) (rest : List ℕ) → StandsFor state.old (record { width = width; ids = x.client }) rest
+    ensures fed { (width : ℕ) (x : Course Asked) (rest : List ℕ) → StandsFor state.old (record { width = width; ids = x.client }) rest
         → StandsFor state.new (record { width = width; ids = (hearing width x rest bytes.now).client }) (rest_behind rest bytes.now) }
     ensures answered { state.new.answered ≡ state.old.answered }
 {
@@ -91,6 +99,17 @@ fn call(state: &mut GeocomClient, step: &Step<'_>)
         } => {
             let mut line = [0; LINE_ROOM];
             let _ = geocom_client_send(state, *target, *deadline, *procedure, params, &mut line);
+        }
+        Step::SendRaw {
+            target,
+            deadline,
+            procedure,
+            params,
+        } => {
+            let mut line = [0; LINE_ROOM];
+            let _ = geocom_client_send_raw(
+                state, *target, *deadline, *procedure, params, &mut line,
+            );
         }
         Step::Begin(bytes) => {
             let mut line = [0; LINE_ROOM];

@@ -5,7 +5,9 @@ ghost use Rattle.std.specs.Prelude.{◌≡◌};
 ghost use Rattle.gc_values.specs.declared.fault.ValueFault.{ValueFault};
 ghost use Rattle.gc_catalogue.specs.CallFault.{refusal_number};
 ghost use Rattle.gc_catalogue.specs.declared.fault.CallFault.{CallFault};
-ghost use Rattle.geocom_c.specs.declared.header.TheConstants.{VERSION, LINE_ROOM, TEXT_ROOM, WINDOW_FULL, NO_WIDTH, NO_ROOM, NO_CLIENT, NOT_BEGUN, ANSWERED, LATE, LOST, NONE, VALUE, REFUSED, COM_FAULT, UNREADABLE, MORE, SETTLED, STRAY, UNREAD, CLEARED, OVERLONG};
+ghost use Rattle.gc_catalogue.specs.declared.raw.RawFault.{RawFault};
+ghost use Rattle.geocom_c.specs.Sending.{raw_number};
+ghost use Rattle.geocom_c.specs.declared.header.TheConstants.{VERSION, LINE_ROOM, TEXT_ROOM, WINDOW_FULL, NO_WIDTH, NO_ROOM, NO_CLIENT, NOT_BEGUN, IN_TABLE, ANSWERED, LATE, LOST, NONE, VALUE, REFUSED, COM_FAULT, UNREADABLE, MORE, SETTLED, STRAY, UNREAD, CLEARED, OVERLONG};
 
 /// The version of the calls and of the structs that they take.
 pub const VERSION: u32 = 2;
@@ -34,6 +36,9 @@ pub const NO_CLIENT: u32 = 63;
 
 /// The client hasn't begun: `geocom_client_begin` hasn't heard the eighth answer, at first or after a restart.
 pub const NOT_BEGUN: u32 = 67;
+
+/// A raw request's number is that of a procedure of the table.
+pub const IN_TABLE: u32 = 68;
 
 // Outcomes: how a request ended.
 
@@ -83,8 +88,8 @@ pub const CLEARED: u32 = 4;
 /// A line of more than 512 bytes, which is dropped.
 pub const OVERLONG: u32 = 5;
 
-/// The constants have the values of the header, and so have the faults of a call, which are gc_catalogue's. The function does
-/// nothing: its contract is the law.
+/// The constants have the values of the header, and so have the faults of a call and of a raw request, which are gc_catalogue's. The
+/// function does nothing: its contract is the law.
 pub fn numbers()
     ensures version { VERSION ≡ 2 }
     ensures rooms { (LINE_ROOM ≡ 514) × (TEXT_ROOM ≡ 1024) }
@@ -92,7 +97,9 @@ pub fn numbers()
     ensures parameters { (refusal_number (CallFault.Parameters ValueFault.Spelling) ≡ 11) × (refusal_number (CallFault.Parameters ValueFault.Range) ≡ 12)
         × (refusal_number (CallFault.Parameters ValueFault.OpenQuote) ≡ 13) × (refusal_number (CallFault.Parameters ValueFault.TooMany) ≡ 14)
         × (refusal_number (CallFault.Parameters ValueFault.Count) ≡ 15) }
-    ensures faults { (WINDOW_FULL ≡ 31) × (NO_WIDTH ≡ 61) × (NO_ROOM ≡ 62) × (NO_CLIENT ≡ 63) × (NOT_BEGUN ≡ 67) }
+    ensures raws { (raw_number RawFault.InTable ≡ 68) × (raw_number RawFault.NotPlain ≡ 11) × (raw_number RawFault.TooLong ≡ 6)
+        × (raw_number RawFault.OpenQuote ≡ 13) × (raw_number RawFault.TooMany ≡ 14) }
+    ensures faults { (WINDOW_FULL ≡ 31) × (NO_WIDTH ≡ 61) × (NO_ROOM ≡ 62) × (NO_CLIENT ≡ 63) × (NOT_BEGUN ≡ 67) × (IN_TABLE ≡ 68) }
     ensures outcomes { (ANSWERED ≡ 1) × (LATE ≡ 2) × (LOST ≡ 3) }
     ensures readings { (NONE ≡ 0) × (VALUE ≡ 1) × (REFUSED ≡ 2) × (COM_FAULT ≡ 3) × (UNREADABLE ≡ 4) }
     ensures kinds { (MORE ≡ 0) × (SETTLED ≡ 1) × (STRAY ≡ 2) × (UNREAD ≡ 3) × (CLEARED ≡ 4) × (OVERLONG ≡ 5) }

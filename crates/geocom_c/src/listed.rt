@@ -2,10 +2,9 @@
 
 ghost use Rattle.std.specs.Prelude.{◌≡◌, ◌≤◌, ◌+◌, ◌++◌, ℕ, List, length};
 ghost use Rattle.arrayvec.specs.ArrayVec.{array_vec_len};
-ghost use Rattle.gc_values.specs.Lists.{AreParams};
-ghost use Rattle.gc_values.specs.declared.value.Value.{Value};
+ghost use Rattle.gc_values.specs.Params.{IsParams};
 ghost use Rattle.geocom_c.specs.FirstAre.{FirstAre};
-ghost use Rattle.geocom_c.specs.Settled.{StandsAt, AreListed, total, IsTold};
+ghost use Rattle.geocom_c.specs.Settled.{StandsAt, AreStanding, total, IsTold};
 ghost use Rattle.geocom_c.specs.declared.header.TheConstants.{TEXT_ROOM};
 
 use crate::header::TEXT_ROOM;
@@ -57,8 +56,8 @@ fn put_items(text: &mut ArrayVec<u8, TEXT_ROOM>, places: &mut [GeocomItem], item
 fn list(told: &mut Told, params: &[u8])
     requires { array_vec_len told.old.text + length params.now ≤ TEXT_ROOM }
     ensures front { (more : List ℕ) × (told.new.text.items ≡ told.old.text.items ++ more) }
-    ensures listed { (values : List Value) → length values ≤ 16 → AreParams params.now values
-        → AreListed told.new.items told.new.places told.new.text.items params.now values }
+    ensures listed { (items : List (List ℕ)) → IsParams params.now items → length items ≤ 16
+        → AreStanding told.new.items told.new.places told.new.text.items items }
 {
     match split(params) {
         Ok(items) => {

@@ -1,8 +1,12 @@
 //! Sending: a call's number and parameters become its request line, or are refused.
 
-ghost use Rattle.std.specs.Prelude.{◌≡◌, ◌≢◌, ◌↔◌, ◌<◌, ◌≤◌, ℕ, List, [], length, drop};
+ghost use Rattle.std.specs.Prelude.{◌≡◌, ◌≢◌, ◌↔◌, ◌<◌, ◌≤◌, ℕ, List, [], length, take, drop, Some};
+ghost use Rattle.gc_lines.specs.Lines.{with_end};
+ghost use Rattle.gc_catalogue.specs.declared.asked.Asked.{Asked};
+ghost use Rattle.gc_catalogue.specs.declared.asked.Asked.TheVariants.{Table};
 ghost use Rattle.gc_catalogue.specs.declared.call.Call.{Call};
 ghost use Rattle.gc_catalogue.specs.declared.fault.CallFault.{CallFault};
+ghost use Rattle.gc_catalogue.specs.Asked.{asked_line};
 ghost use Rattle.gc_catalogue.specs.CallFault.{refusal_number};
 ghost use Rattle.gc_catalogue.specs.Calls.{IsCall, IsRefusal};
 ghost use Rattle.gc_client.specs.Rule.{Windowed, sends};
@@ -15,23 +19,24 @@ use crate::answers::{GeocomCount, counted, refused};
 use crate::header::{LINE_ROOM, NO_CLIENT, NO_ROOM, NOT_BEGUN};
 use crate::rest::put;
 use crate::state::{GeocomClient, load, store};
-use gc_catalogue::{Call, decode_call};
-use gc_client::{Client, Slots};
+use gc_catalogue::{Asked, decode_call};
+use gc_client::{Client, SlotsOf};
 use gc_lines::Request;
 
-// Sends a call, and writes its line with CR LF into `line`. Where the window is full, the fault is 31, and nothing has changed.
-fn send_call(
+// Sends a request, and writes its line with CR LF into `line`. Where the window is full, the fault is 31, and nothing has changed.
+pub(crate) fn send_asked(
     state: &mut GeocomClient,
-    mut client: Client<Slots>,
+    mut client: Client<SlotsOf<Asked>>,
     target: u32,
     deadline: u64,
-    call: Call,
+    asked: Asked,
     line: &mut [u8],
 ) -> GeocomCount
     requires { LINE_ROOM ≤ length line.old }
     ensures sent { (rest : List ℕ) → IsRest state.old.rest rest → state.old.answered ≤ 8
-        → IsSent client rest call (sends client.width client.ids target call deadline)
+        → IsSent client rest asked (sends client.width client.ids target asked deadline)
         (record { old = state.old; new = state.new; before = line.old; after = line.new; told = result }) }
+    ensures given { result.fault ≡ 0 → take result.count line.new ≡ with_end (asked_line (Some client.ids.next) asked) }
     ensures untouched { drop result.count line.new ≡ drop result.count line.old }
     ensures length { length line.new ≡ length line.old }
     ensures answered { state.new.answered ≡ state.old.answered }
@@ -40,7 +45,7 @@ fn send_call(
     ensures either { (result.fault ≢ 0) → result.fault ≡ WINDOW_FULL }
     ensures refused { result.fault ≢ 0 → (result.count ≡ 0) × (state.new ≡ state.old) × (line.new ≡ line.old) }
 {
-    match client.send(target, call, deadline) {
+    match client.send(target, asked, deadline) {
         Ok(text) => {
             store(state, client);
             put(line, 0, text.as_slice());
@@ -65,20 +70,20 @@ pub extern "C" fn geocom_client_send(
     params: &[u8],
     line: &mut [u8],
 ) -> GeocomCount
-    ensures sent { LINE_ROOM ≤ length line.old → (c : Windowed) (rest : List ℕ) (call : Call) → StandsFor state.old c rest
+    ensures sent { LINE_ROOM ≤ length line.old → (c : Windowed Asked) (rest : List ℕ) (call : Call) → StandsFor state.old c rest
         → left_of state.old ≡ [] → IsCall procedure params.now call
-        → IsSent c rest call (sends c.width c.ids target call deadline)
+        → IsSent c rest (Table call) (sends c.width c.ids target (Table call) deadline)
         (record { old = state.old; new = state.new; before = line.old; after = line.new; told = result }) }
-    ensures call { LINE_ROOM ≤ length line.old → (c : Windowed) (rest : List ℕ) (e : CallFault) → StandsFor state.old c rest
+    ensures call { LINE_ROOM ≤ length line.old → (c : Windowed Asked) (rest : List ℕ) (e : CallFault) → StandsFor state.old c rest
         → left_of state.old ≡ [] → IsRefusal procedure params.now e → result.fault ≡ refusal_number e }
-    ensures begins { LINE_ROOM ≤ length line.old → (c : Windowed) (rest : List ℕ) → StandsFor state.old c rest
+    ensures begins { LINE_ROOM ≤ length line.old → (c : Windowed Asked) (rest : List ℕ) → StandsFor state.old c rest
         → left_of state.old ≢ [] → result.fault ≡ NOT_BEGUN }
     ensures begun { result.fault ≡ NOT_BEGUN → left_of state.old ≢ [] }
     ensures room { (result.fault ≡ NO_ROOM) ↔ (length line.old < LINE_ROOM) }
     ensures astray { (result.fault ≡ NO_CLIENT) ↔ ((LINE_ROOM ≤ length line.old) × IsAstray state.old) }
-    ensures full { result.fault ≡ WINDOW_FULL → (c : Windowed) × (rest : List ℕ) × (call : Call) × StandsFor state.old c rest
+    ensures full { result.fault ≡ WINDOW_FULL → (c : Windowed Asked) × (rest : List ℕ) × (call : Call) × StandsFor state.old c rest
         × (left_of state.old ≡ []) × IsCall procedure params.now call × (length c.ids.waiting ≡ c.width) }
-    ensures done { result.fault ≡ 0 → (c : Windowed) × (rest : List ℕ) × (call : Call) × StandsFor state.old c rest
+    ensures done { result.fault ≡ 0 → (c : Windowed Asked) × (rest : List ℕ) × (call : Call) × StandsFor state.old c rest
         × (left_of state.old ≡ []) × IsCall procedure params.now call × (length c.ids.waiting < c.width) }
     ensures refusal { result.fault ≢ 0 → result.fault ≢ WINDOW_FULL → result.fault ≢ NO_ROOM → result.fault ≢ NO_CLIENT
         → result.fault ≢ NOT_BEGUN → (e : CallFault) × IsRefusal procedure params.now e × (result.fault ≡ refusal_number e) }
@@ -103,7 +108,7 @@ pub extern "C" fn geocom_client_send(
         params,
     };
     match decode_call(&request) {
-        Ok(call) => send_call(state, client, target, deadline, call, line),
+        Ok(call) => send_asked(state, client, target, deadline, Asked::Table(call), line),
         Err(fault) => refused(u32::from(fault.refusal_number())),
     }
 }

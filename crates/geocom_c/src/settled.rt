@@ -1,16 +1,17 @@
 //! The records of settlements: how a request ended, in plain fields.
 
-ghost use Rattle.std.specs.Prelude.{◌≡◌, ◌≤◌, ℕ, List, [], length, drop, map, All};
-ghost use Rattle.gc_catalogue.specs.Calls.{call_fields};
+ghost use Rattle.std.specs.Prelude.{◌≡◌, ◌≤◌, ℕ, List, [], length, drop, map, All, None};
+ghost use Rattle.gc_catalogue.specs.Asked.{asked_request, IsAskedReading};
+ghost use Rattle.gc_catalogue.specs.declared.asked.Asked.{Asked};
 ghost use Rattle.gc_client.specs.declared.pending.Pending.{Pending};
 ghost use Rattle.gc_client.specs.Rule.{lost};
-ghost use Rattle.gc_client.specs.Settlements.{IsWellRead, ReadsAs, settlement_seen};
+ghost use Rattle.gc_client.specs.Settlements.{IsReadBy, ReadsBy, settlement_seen};
 ghost use Rattle.geocom_c.specs.FirstAre.{FirstAre};
 ghost use Rattle.geocom_c.specs.Settled.{IsTold, IsKind, IsAnswered, IsUnanswered, IsRecord, IsBy, AreBy};
 
 use crate::header::{ANSWERED, COM_FAULT, LATE, LOST, NONE, REFUSED, UNREADABLE, VALUE};
 use crate::listed::{GeocomItem, NOWHERE, Told};
-use gc_catalogue::Reading;
+use gc_catalogue::{Asked, Reading};
 use gc_client::{Outcome, Settlement};
 use gc_lines::Line;
 use gc_values::MOST_ITEMS;
@@ -19,7 +20,7 @@ use gc_values::MOST_ITEMS;
 #[repr(C)]
 #[derive(Clone, Copy)]
 pub struct GeocomSettlement {
-    /// Whom the request was for, as it was handed to `geocom_client_send`.
+    /// Whom the request was for, as it was handed to `geocom_client_send` or `geocom_client_send_raw`.
     pub target: u32,
     /// The procedure that was asked for.
     pub procedure: u16,
@@ -28,7 +29,7 @@ pub struct GeocomSettlement {
     pub code: u16,
     /// How many bytes at the front of the text are the answer's line; 0 where there is no answer.
     pub line_length: u16,
-    /// How many items the answer's value has.
+    /// How many items the answer's value has, or the parameters of an answer to a raw request.
     pub items: u16,
     /// Where they stand in the text.
     pub places: [GeocomItem; MOST_ITEMS],
@@ -39,9 +40,9 @@ pub struct GeocomSettlement {
 }
 
 // The record of a request that ended with this outcome, without an answer.
-fn unanswered(settlement: &Settlement, outcome: u8) -> GeocomSettlement
+fn unanswered(settlement: &Settlement<Asked>, outcome: u8) -> GeocomSettlement
     ensures target { result.target ≡ settlement.now.target }
-    ensures procedure { result.procedure ≡ (call_fields settlement.now.call).number }
+    ensures procedure { result.procedure ≡ (asked_request None settlement.now.call).rpc }
     ensures unanswered { IsUnanswered result outcome }
 {
     GeocomSettlement {
@@ -70,15 +71,15 @@ fn kind_of(reading: &Reading) -> (u8, u16)
 
 // The record of a request that was answered.
 fn answered(
-    settlement: &Settlement,
+    settlement: &Settlement<Asked>,
     reading: &Reading,
     line: &Line,
     told: &Told,
 ) -> GeocomSettlement
     requires { IsTold told.now.text.items told.now.items told.now.places line.now.items }
     ensures target { result.target ≡ settlement.now.target }
-    ensures procedure { result.procedure ≡ (call_fields settlement.now.call).number }
-    ensures answered { ReadsAs settlement.now.call line.now.items reading.now
+    ensures procedure { result.procedure ≡ (asked_request None settlement.now.call).rpc }
+    ensures answered { ReadsBy IsAskedReading settlement.now.call line.now.items reading.now
         → IsAnswered result told.now.text.items settlement.now.call line.now.items }
 {
     let (kind, code) = kind_of(reading);
@@ -95,9 +96,9 @@ fn answered(
 }
 
 // The record of a settlement.
-fn record_of(settlement: &Settlement, told: &Told) -> GeocomSettlement
+fn record_of(settlement: &Settlement<Asked>, told: &Told) -> GeocomSettlement
     requires { (line : List ℕ) × IsTold told.now.text.items told.now.items told.now.places line × IsBy line (settlement_seen settlement.now).outcome }
-    ensures { IsWellRead settlement.now.call settlement.now.outcome → IsRecord told.now.text.items result (settlement_seen settlement.now) }
+    ensures { IsReadBy IsAskedReading settlement.now.call settlement.now.outcome → IsRecord told.now.text.items result (settlement_seen settlement.now) }
 {
     match &settlement.outcome {
         Outcome::Answered(reading, line) => answered(settlement, reading, line, told),
@@ -107,10 +108,14 @@ fn record_of(settlement: &Settlement, told: &Told) -> GeocomSettlement
 }
 
 // Writes the records of settlements to the front of `records`. `told` is the text of the line that settled them.
-pub(crate) fn put_records(records: &mut [GeocomSettlement], settled: &[Settlement], told: &Told)
+pub(crate) fn put_records(
+    records: &mut [GeocomSettlement],
+    settled: &[Settlement<Asked>],
+    told: &Told,
+)
     requires room { length settled.now ≤ length records.old }
     requires told { (line : List ℕ) × IsTold told.now.text.items told.now.items told.now.places line × AreBy line (map settlement_seen settled.now) }
-    requires read { All (λ s. IsWellRead s.call s.outcome) settled.now }
+    requires read { All (λ s. IsReadBy IsAskedReading s.call s.outcome) settled.now }
     ensures records { FirstAre (IsRecord told.now.text.items) records.new (map settlement_seen settled.now) }
     ensures untouched { drop (length settled.now) records.new ≡ drop (length settled.now) records.old }
     ensures length { length records.new ≡ length records.old }
@@ -121,9 +126,9 @@ pub(crate) fn put_records(records: &mut [GeocomSettlement], settled: &[Settlemen
 }
 
 // Writes to the front of `records` a record for each of these requests, which are lost.
-pub(crate) fn put_lost(records: &mut [GeocomSettlement], settled: &[Settlement])
+pub(crate) fn put_lost(records: &mut [GeocomSettlement], settled: &[Settlement<Asked>])
     requires room { length settled.now ≤ length records.old }
-    requires lost { (ps : List Pending) × (map settlement_seen settled.now ≡ map lost ps) }
+    requires lost { (ps : List (Pending Asked)) × (map settlement_seen settled.now ≡ map lost ps) }
     ensures records { FirstAre (IsRecord []) records.new (map settlement_seen settled.now) }
     ensures untouched { drop (length settled.now) records.new ≡ drop (length settled.now) records.old }
     ensures length { length records.new ≡ length records.old }

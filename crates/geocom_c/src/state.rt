@@ -1,8 +1,8 @@
 //! A client in plain bytes: a state is read whole or not at all, and what a client leaves is written back.
 
 ghost use Rattle.std.specs.Prelude.{◌≡◌, ◌≤◌, ◌↔◌, IsTrue, ℕ, Bool, List, [], length, take, None, Some, IfSome, if◌then◌else◌};
-ghost use Rattle.gc_catalogue.specs.declared.call.Call.{Call};
-ghost use Rattle.gc_catalogue.specs.Calls.{IsCall};
+ghost use Rattle.gc_catalogue.specs.declared.asked.Asked.{Asked};
+ghost use Rattle.gc_catalogue.specs.Asked.{IsAsked};
 ghost use Rattle.gc_client.specs.Beginning.{the_word};
 ghost use Rattle.gc_client.specs.declared.pending.Pending.{Pending};
 ghost use Rattle.gc_client.specs.Rule.{Windowed};
@@ -12,8 +12,8 @@ ghost use Rattle.geocom_c.specs.Rest.{kept, IsCut, IsRest};
 ghost use Rattle.geocom_c.specs.State.{IsLineOf, IsPlace, HasHead, StandsFor, IsAstray, left_of};
 
 use crate::rest::GeocomRest;
-use gc_catalogue::{Call, decode_call, encode_call};
-use gc_client::{Client, IDS, Pending, Slots, WINDOW, Window};
+use gc_catalogue::{Asked, decode_asked, encode_asked};
+use gc_client::{Client, IDS, Pending, SlotsOf, WINDOW, Window};
 use gc_lines::{Line, Request, read_request};
 
 /// A request that waits. `line` is its request line without an id, `length` bytes of it.
@@ -66,41 +66,41 @@ pub(crate) fn fresh(width: u8) -> GeocomClient
     }
 }
 
-// The call of a request without an id. `None`: it has an id, or its number and parameters are no call's.
-fn call_of(request: &Request<'_>) -> Option<Call>
-    ensures found { IfSome result (λ call. (request.now.id ≡ None) × IsCall request.now.rpc request.now.params.now call) }
-    ensures only { (call : Call) → request.now.id ≡ None → IsCall request.now.rpc request.now.params.now call
-        → result ≡ Some call }
+// What a request without an id asks for. `None`: it has an id, or it may not be asked for.
+fn asked_of(request: &Request<'_>) -> Option<Asked>
+    ensures found { IfSome result (λ asked. (request.now.id ≡ None) × IsAsked request.now.rpc request.now.params.now asked) }
+    ensures only { (asked : Asked) → request.now.id ≡ None → IsAsked request.now.rpc request.now.params.now asked
+        → result ≡ Some asked }
 {
     if request.id.is_some() {
         return None;
     }
-    decode_call(request).ok()
+    decode_asked(request)
 }
 
-// The call of a request line without an id. `None`: the line is no such line.
-fn call_in(line: &[u8]) -> Option<Call>
-    ensures found { IfSome result (λ call. IsLineOf line.now call) }
-    ensures only { (call : Call) → IsLineOf line.now call → result ≡ Some call }
+// What a request line without an id asks for. `None`: the line is no such line.
+fn asked_in(line: &[u8]) -> Option<Asked>
+    ensures found { IfSome result (λ asked. IsLineOf line.now asked) }
+    ensures only { (asked : Asked) → IsLineOf line.now asked → result ≡ Some asked }
 {
     match read_request(line) {
-        Ok(request) => call_of(&request),
+        Ok(request) => asked_of(&request),
         Err(_) => None,
     }
 }
 
-// The call that a place's line is for. `None`: the length is above 512, or the line is no request line without an id.
-fn call_at(place: &GeocomWaiting) -> Option<Call>
+// What a place's line asks for. `None`: the length is above 512, or the line is no request line without an id.
+fn asked_at(place: &GeocomWaiting) -> Option<Asked>
     ensures within { IfSome result (λ _. place.now.length ≤ 512) }
-    ensures found { IfSome result (λ call. IsLineOf (take place.now.length place.now.line) call) }
-    ensures only { (call : Call) → place.now.length ≤ 512 → IsLineOf (take place.now.length place.now.line) call
-        → result ≡ Some call }
+    ensures found { IfSome result (λ asked. IsLineOf (take place.now.length place.now.line) asked) }
+    ensures only { (asked : Asked) → place.now.length ≤ 512 → IsLineOf (take place.now.length place.now.line) asked
+        → result ≡ Some asked }
 {
     let length = usize::from(place.length);
     if length > 512 {
         return None;
     }
-    call_in(&place.line[..length])
+    asked_in(&place.line[..length])
 }
 
 // The mark that a byte stands for: 0 is false and 1 true. `None`: any other byte.
@@ -116,11 +116,11 @@ fn mark_of(byte: u8) -> Option<bool>
 }
 
 // The request that a place's bytes stand for. `None`: they stand for no request.
-fn read_place(place: &GeocomWaiting) -> Option<Pending>
+fn read_place(place: &GeocomWaiting) -> Option<Pending<Asked>>
     ensures found { IfSome result (λ p. IsPlace place.now p) }
-    ensures only { (p : Pending) → IsPlace place.now p → result ≡ Some p }
+    ensures only { (p : Pending Asked) → IsPlace place.now p → result ≡ Some p }
 {
-    let Some(call) = call_at(place) else {
+    let Some(call) = asked_at(place) else {
         return None;
     };
     let Some(given_up) = mark_of(place.given_up) else {
@@ -144,10 +144,10 @@ fn padded(line: &Line) -> [u8; 512]
 }
 
 // The place that holds a request's bytes.
-fn write_place(p: &Pending) -> GeocomWaiting
+fn write_place(p: &Pending<Asked>) -> GeocomWaiting
     ensures { IsPlace result p.now }
 {
-    let text = encode_call(None, &p.call);
+    let text = encode_asked(None, &p.call);
     GeocomWaiting {
         deadline: p.deadline,
         target: p.target,
@@ -158,14 +158,14 @@ fn write_place(p: &Pending) -> GeocomWaiting
 }
 
 // Reads the requests of the first `count` places. `None`: one of these places holds no request.
-fn read_places(places: &[GeocomWaiting], count: usize) -> Option<Slots>
+fn read_places(places: &[GeocomWaiting], count: usize) -> Option<SlotsOf<Asked>>
     requires few { count ≤ WINDOW }
     requires there { count ≤ length places.now }
     ensures count { IfSome result (λ ps. length ps ≡ count) }
     ensures found { IfSome result (λ ps. FirstAre IsPlace places.now ps) }
-    ensures only { (ps : List Pending) → length ps ≡ count → FirstAre IsPlace places.now ps → result ≡ Some ps }
+    ensures only { (ps : List (Pending Asked)) → length ps ≡ count → FirstAre IsPlace places.now ps → result ≡ Some ps }
 {
-    let mut window = Slots::new();
+    let mut window = SlotsOf::new();
     for k in 0..count {
         let Some(p) = read_place(&places[k]) else {
             return None;
@@ -176,7 +176,7 @@ fn read_places(places: &[GeocomWaiting], count: usize) -> Option<Slots>
 }
 
 // Writes the bytes of these requests into the first places.
-fn write_places(places: &mut [GeocomWaiting], window: &Slots)
+fn write_places(places: &mut [GeocomWaiting], window: &SlotsOf<Asked>)
     requires { length window.now ≤ length places.old }
     ensures places { FirstAre IsPlace places.new window.now }
     ensures length { length places.new ≡ length places.old }
@@ -199,9 +199,9 @@ fn has_head(state: &GeocomClient) -> bool
 }
 
 // The client that a state's bytes stand for. `None`: they stand for no client.
-pub(crate) fn load(state: &GeocomClient) -> Option<Client<Slots>>
+pub(crate) fn load(state: &GeocomClient) -> Option<Client<SlotsOf<Asked>>>
     ensures found { IfSome result (λ c. StandsFor state.now c (kept state.now.rest)) }
-    ensures only { (c : Windowed) (rest : List ℕ) → StandsFor state.now c rest → result ≡ Some c }
+    ensures only { (c : Windowed Asked) (rest : List ℕ) → StandsFor state.now c rest → result ≡ Some c }
     ensures none { result ≡ None → IsAstray state.now }
 {
     if !has_head(state) || !state.rest.is_cut() {
@@ -214,7 +214,7 @@ pub(crate) fn load(state: &GeocomClient) -> Option<Client<Slots>>
 }
 
 // Writes a client into a state. The bytes of a line under way stay, and so does the number of null procedures that are answered.
-pub(crate) fn store(state: &mut GeocomClient, client: Client<Slots>)
+pub(crate) fn store(state: &mut GeocomClient, client: Client<SlotsOf<Asked>>)
     ensures client { (rest : List ℕ) → IsRest state.old.rest rest → state.old.answered ≤ 8 → StandsFor state.new client rest }
     ensures rest { state.new.rest ≡ state.old.rest }
     ensures answered { state.new.answered ≡ state.old.answered }

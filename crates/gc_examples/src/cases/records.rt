@@ -4,10 +4,10 @@
 ghost use Rattle.std.specs.Prelude.{◌≤◌, length};
 
 use gc_cases::{Case, Player, Told, bytes_of};
-use gc_catalogue::{Answer, Call, Reading, decode_answer};
+use gc_catalogue::{Answer, Asked, Asking, Call, Reading};
 use gc_lines::{Line, ToWriter, read_reply};
 use gc_rows::{Form, When, write_head, write_record};
-use gc_texts::{Command, Ending, Quality, Stamp, read_commands, reading_as_zero};
+use gc_texts::{Ending, Quality, Stamp, Wish, read_tasks, reading_as_zero};
 use gc_values::ValueFault;
 use std::alloc::Global;
 use std::io;
@@ -72,7 +72,7 @@ fn write_ending(
     case: &Case<'_>,
     form: Form,
     name: &[u8],
-    command: &Command,
+    command: &Wish,
     reply: &[u8],
     written: &mut Vec<u8>,
 ) {
@@ -91,7 +91,7 @@ fn put_record(
     form: Form,
     when: &When,
     name: &[u8],
-    command: &Command,
+    command: &Wish,
     ending: Ending<'_>,
     written: &mut Vec<u8>,
 )
@@ -128,23 +128,24 @@ fn line_of(reply: &[u8]) -> Line {
 }
 
 // The first command of a text; the null procedure where it gives none.
-fn command_of(alloc: Global, text: &[u8]) -> Command {
-    let none = Command {
+fn command_of(alloc: Global, text: &[u8]) -> Wish {
+    let none = Wish {
         target: 0,
-        call: Call::NullProc,
+        call: Asked::Table(Call::NullProc),
     };
-    match read_commands(alloc, text) {
-        Ok(commands) => commands.first().copied().unwrap_or(none),
+    match read_tasks(alloc, text, 0, false) {
+        Ok(all) => all.tasks.first().map_or(none, |task| task.command),
         Err(_) => none,
     }
 }
 
-// What a reply says of a call; a refusal where the line is no reply.
-fn reading_of(call: &Call, line: &Line) -> Reading {
-    match read_reply(line.as_slice()) {
-        Ok(reply) => decode_answer(call, &reply),
-        Err(_) => Reading::Refused(0),
+// What a reply says of what was asked; a refusal where the line is no reply.
+fn reading_of(asked: &Asked, line: &Line) -> Reading {
+    let mut reading = Reading::Refused(0);
+    if let Ok(reply) = read_reply(line.as_slice()) {
+        asked.read_into(&reply, &mut reading);
     }
+    reading
 }
 
 // How a command ended; where no word says it, as its reply reads. `zeroed` is what the reply says with return code 0, as one does

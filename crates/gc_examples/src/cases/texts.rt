@@ -2,6 +2,7 @@
 //! fault is printed.
 
 use gc_cases::{Case, Player, Told, bytes_of};
+use gc_catalogue::Asked;
 use gc_engines::read_schedule;
 use gc_lines::{Sink, ToWriter};
 use gc_links::place_of;
@@ -128,8 +129,18 @@ fn tell_tasks(tasks: &[Task], names: usize, is: &mut Told) {
 fn tell_task(task: &Task, is: &mut Told) {
     is.display(&task.command.target);
     is.titled(" ", &task.command.call.number());
+    tell_raw(&task.command.call, is);
     is.titled(" within ", &task.deadline);
     is.either(task.chained, " chained", "");
+}
+
+// Tells the parameters of a procedure that isn't in the table, in brackets.
+fn tell_raw(asked: &Asked, is: &mut Told) {
+    if let Asked::Raw(raw) = asked {
+        is.text(" [");
+        is.escaped(raw.params());
+        is.text("]");
+    }
 }
 
 // Tells where the target of a task stands, if the text says it, and within which tolerance.

@@ -59,7 +59,7 @@ impl Worlds {
     }
 
     /// What events lead to, over a window.
-    pub fn play<W: Window>(
+    pub fn play<W: Window<Asked = Call>>(
         &self,
         alloc: Global,
         window: W,
@@ -69,7 +69,13 @@ impl Worlds {
     }
 
     // Tells what events lead to, over a window.
-    fn tell_over<W: Window>(&self, alloc: Global, window: W, events: &[Event], came: &mut Told) {
+    fn tell_over<W: Window<Asked = Call>>(
+        &self,
+        alloc: Global,
+        window: W,
+        events: &[Event],
+        came: &mut Told,
+    ) {
         match self.play(alloc, window, events) {
             Ok((report, client)) => tell(&report, &client, came),
             Err(_) => came.lack(),
@@ -109,7 +115,7 @@ impl Worlds {
     }
 
     // Tells what these events lead to over this window, behind the words of `way`, where that isn't what was told.
-    fn compare<W: Window>(
+    fn compare<W: Window<Asked = Call>>(
         &self,
         alloc: Global,
         window: W,
@@ -182,7 +188,7 @@ fn number(word: &str) -> u64 {
 }
 
 // Tells the settlements, each with its number, the counts, how many requests wait, and the next id.
-fn tell<W: Window>(report: &Report, client: &Client<W>, came: &mut Told) {
+fn tell<W: Window<Asked = Call>>(report: &Report, client: &Client<W>, came: &mut Told) {
     tell_settled(report.settled.as_slice(), came);
     tell_made(report, came);
     tell_refused(report, came);
@@ -191,7 +197,7 @@ fn tell<W: Window>(report: &Report, client: &Client<W>, came: &mut Told) {
 }
 
 // Tells each settlement: its number, its target and its outcome.
-fn tell_settled(settled: &[Settlement], came: &mut Told) {
+fn tell_settled(settled: &[Settlement<Call>], came: &mut Told) {
     for (m, settlement) in settled.iter().enumerate() {
         came.counted(&m, " ");
         came.counted(&settlement.target, " ");

@@ -17,6 +17,7 @@ use crate::cause::Cause;
 use crate::plan::Plan;
 use crate::progress::Until;
 use crate::progressing::is_reply;
+use crate::writing::ends_with_table;
 use gc_lines::{Lent, Line, PortFailed};
 use gc_links::{Came, Link, Moment};
 
@@ -36,6 +37,8 @@ impl Station {
         if let Err(failed) = self.write(book) {
             return Err(failed);
         }
+        let of_table = ends_with_table(self.settled.as_slice());
+        self.progress.catch_up(of_table, self.client.waiting());
         self.progress.note(is_reply(hearing));
         Ok(())
     }

@@ -3,6 +3,7 @@
 ghost use Rattle.std.specs.Prelude.{◌≡◌, ℕ, ◌<◌, ◌≤◌, ◌++◌, List, [], ◌∷◌, false, length, Option};
 ghost use Rattle.gc_client.specs.Rule.{sends};
 ghost use Rattle.gc_client.specs.declared.window.TheConstants.{WINDOW};
+ghost use Rattle.gc_catalogue.specs.declared.asked.Asked.TheVariants.{Table};
 ghost use Rattle.gc_catalogue.specs.declared.call.Call.TheVariants.{NullProc};
 ghost use Rattle.gc_links.specs.Acts.{Tells, put_as, IsPart};
 ghost use Rattle.gc_station.specs.Deciding.{later, has_begun};
@@ -17,18 +18,18 @@ use crate::mark::Mark;
 use crate::plan::Plan;
 use crate::progressing::later;
 use arrayvec::ArrayVec;
-use gc_catalogue::Call;
+use gc_catalogue::{Asked, Call};
 use gc_lines::{Line, append};
 use gc_links::Link;
-use gc_texts::{Command, Task};
+use gc_texts::{Task, Wish};
 
 // The null procedure, for no target.
-fn null_command() -> Command
-    ensures { result ≡ record { target = 0; call = NullProc } }
+fn null_command() -> Wish
+    ensures { result ≡ record { target = 0; call = Table NullProc } }
 {
-    Command {
+    Wish {
         target: 0,
-        call: Call::NullProc,
+        call: Asked::Table(Call::NullProc),
     }
 }
 
@@ -58,7 +59,7 @@ impl Station {
     fn ask<L: Link>(
         &mut self,
         link: &mut L,
-        command: &Command,
+        command: &Wish,
         wait: u64,
         mark: Option<Mark>,
     ) -> Result<(), usize>

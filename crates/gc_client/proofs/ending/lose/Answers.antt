@@ -1,9 +1,8 @@
-use Rattle.std.proofs.Common.{◌+◌, ◌<◌, List, length, map, take, set, sym, subst, ap, ◌∙◌, arith, length-set}
+use Rattle.std.proofs.Common.{◌+◌, ◌<◌, length, map, take, set, sym, subst, ap, ◌∙◌, arith, length-set}
 use Rattle.arrayvec.specs.ArrayVec.{ArrayVec}
 use Rattle.gc_client.specs.declared.settlement.Settlement.{Settlement}
 use Rattle.gc_client.specs.Rule.{lost}
-use Rattle.gc_client.specs.Rule
-use Rattle.gc_client.specs.Settlements.{AreSettlements}
+use Rattle.gc_client.specs.Settlements.{AreSettledBy}
 use Rattle.gc_client.proofs.Lists.{left_turn, none_there}
 use Rattle.gc_client.proofs.Settling.{next_lost, one_written}
 use Rattle.gc_client.proofs.ending.lose.Goals as goal
@@ -12,6 +11,7 @@ use Rattle.gc_client.proofs.ending.lose.Goals.{in-Some, in_default}
 pub loop-k-preserved : goal.loop-k-preserved
 loop-k-preserved g c =
     let pendings = g.W.Window.pendings in
+    let says = g.W.Asked.Asking.says in
     let ws = pendings c.args.window.now in
     let k = c.loop-k.k in
     let p = c.take_first-p.result in
@@ -23,12 +23,12 @@ loop-k-preserved g c =
     elim c.match-get_mut.branch [
       | in-Some w ↦
           let s = w.set_lost.new.settlement in
-          let written = one_written old k (map lost (take k ws)) s (lost p) lt before.settled w.set_lost.ensures in
+          let written = one_written says old k (map lost (take k ws)) s (lost p) lt before.settled w.set_lost.ensures in
           record {
-            settled = subst (λ (x : ArrayVec Settlement). AreSettlements (take (k + 1) x.items) (map lost (take (k + 1) ws))) (sym w.settled-is)
-                (subst (λ (rs : List Rule.Settlement). AreSettlements (take (k + 1) (set old k s)) rs) (sym next) written);
+            settled = subst (λ (x : ArrayVec (Settlement _)). AreSettledBy says (take (k + 1) x.items) (map lost (take (k + 1) ws))) (sym w.settled-is)
+                (subst (λ rs. AreSettledBy says (take (k + 1) (set old k s)) rs) (sym next) written);
             left = left;
-            places = ap (λ (x : ArrayVec Settlement). length x.items) w.settled-is ∙ length-set old k s ∙ before.places;
+            places = ap (λ (x : ArrayVec (Settlement _)). length x.items) w.settled-is ∙ length-set old k s ∙ before.places;
           }
       | in_default w ↦ absurd (none_there c.get_mut.result w.in_default.is (c.get_mut.ensures.variant.1 lt))
     ]

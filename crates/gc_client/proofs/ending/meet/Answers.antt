@@ -4,4 +4,4 @@ use Rattle.gc_client.proofs.ending.meet.Goals as goal
 
 -- a request that wasn't given up is settled as answered by the line
 pub returns-else-p : goal.returns-else-p
-returns-else-p c = answered_is c.args.p.now c.args.line.now (reply_seen c.args.reply.now) c.answer.new.outcome c.if-p.false c.requires.reads c.answer.ensures
+returns-else-p g c = answered_is _ c.args.p.now c.args.line.now (reply_seen c.args.reply.now) c.answer.new.outcome c.if-p.false c.requires.reads c.answer.ensures

@@ -2,4 +2,4 @@ use Rattle.gc_client.proofs.Silence.{silent, ours_by_grammar}
 use Rattle.gc_client.proofs.laws.foreign_lines_are_silent.Goals as goal
 
 pub returns : goal.returns
-returns c = record { silent = silent; ours = ours_by_grammar }
+returns g c = record { silent = silent; ours = ours_by_grammar }

@@ -1,5 +1,5 @@
 use Rattle.gc_instrument.specs.State.{IsFittingState}
-use Rattle.gc_world.specs.Clients.{ends}
+use Rattle.gc_field.specs.Simulator.{ends}
 use Rattle.gc_field.specs.Laws.{kept_of}
 use Rattle.gc_field.proofs.BegunFaithful.{faithful}
 use Rattle.gc_field.proofs.Instruments.{simulator}

@@ -1,7 +1,7 @@
 use Rattle.std.proofs.Common.{◌∙◌}
 use Rattle.gc_client.specs.OneForOne.{begun}
 use Rattle.gc_instrument.specs.State.{IsFittingState}
-use Rattle.gc_world.specs.Clients.{ends}
+use Rattle.gc_field.specs.Simulator.{ends}
 use Rattle.gc_field.specs.Laws.{kept_of}
 use Rattle.gc_field.specs.Field.{seen}
 use Rattle.gc_field.proofs.InTime.{law}

@@ -8,7 +8,7 @@ pub returns-clause-text : goal.returns-clause-text
 returns-clause-text g c =
     let end = ending_seen c.args.ending in
     let old = c.args.line.now.items in
-    let quantities = quantity_members c.args.call.now end in
+    let quantities = quantity_members c.args.asked.now end in
     let last = last_members end in
     let first : c.append_quantities.new.line.items ≡ old ++ members_text quantities = search rules in
     let second : c.append_quality.new.line.items ≡ c.append_quantities.new.line.items ++ members_text last = search rules in

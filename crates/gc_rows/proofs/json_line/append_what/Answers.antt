@@ -1,8 +1,8 @@
 use Rattle.std.proofs.Common.{◌≡◌, ◌++◌, ap, rules, ◌∙◌}
 use Rattle.std.specs.Fmt.{decimal}
 use Rattle.std.specs.Prelude.{codes}
-use Rattle.gc_catalogue.specs.Calls.{call_fields}
 use Rattle.gc_rows.specs.JsonLines.{number_member, members_text, name_members}
+use Rattle.gc_rows.specs.Rows.{procedure_of}
 use Rattle.gc_rows.proofs.JsonLines.{what_text}
 use Rattle.gc_rows.proofs.json_line.append_what.Goals as goal
 
@@ -11,7 +11,7 @@ returns-clause-text g c =
     let command = c.args.command.now in
     let old = c.args.line.now.items in
     let target = decimal command.target in
-    let procedure = decimal (call_fields command.call).number in
+    let procedure = decimal (procedure_of command.call) in
     let name = name_members c.args.name.now in
     let first : c.append_number.new.line.items ≡ old ++ number_member (codes "target") target = search rules in
     let last : c.append_number-2.new.line.items ≡ c.append_called.new.line.items ++ number_member (codes "procedure") procedure = search rules in

@@ -1,7 +1,7 @@
 use Rattle.std.proofs.Common.{◌≡◌, ℕ, List, inl, inr, refl, ap, sym, ◌∙◌, arith}
 use Rattle.gc_catalogue.specs.declared.answer.Reading.{Reading}
 use Rattle.gc_catalogue.specs.declared.answer.Reading.TheVariants.{Refused}
-use Rattle.gc_catalogue.specs.declared.call.Call.{Call}
+use Rattle.gc_catalogue.specs.declared.asked.Asked.{Asked}
 use Rattle.gc_station.specs.declared.progress.Progress.{Progress}
 use Rattle.gc_station.specs.Runs.{stood}
 use Rattle.gc_station.specs.Scopes.{Scope}
@@ -141,7 +141,7 @@ pub loop-unsynced-init : goal.loop-unsynced-init
 loop-unsynced-init g c =
     let plan = c.args.plan.now in
     let commands = c.args.commands.now in
-    let any : Call → List ℕ → Reading = λ call line. Refused 0 in
+    let any : Asked → List ℕ → Reading = λ call line. Refused 0 in
     let start : Scope = record { turns = c.args.max_turns; reads = any } in
     let stands = c.new-station.ensures any in
     let none : c.new-station.result.progress.unsent ≡ 0 = ap (λ (p : Progress). p.unsent) stands.progress in

@@ -1,6 +1,6 @@
 use Rattle.std.proofs.Common.{◌≡◌, ◌≤◌, ℕ, List, length}
 use Rattle.gc_catalogue.specs.declared.answer.Reading.{Reading}
-use Rattle.gc_catalogue.specs.declared.call.Call.{Call}
+use Rattle.gc_catalogue.specs.declared.asked.Asked.{Asked}
 use Rattle.gc_station.specs.Scopes.{AreReadings}
 use Rattle.gc_station.proofs.Going.{Went, Somewhere}
 use Rattle.gc_station.proofs.Noting.{Noted}
@@ -11,10 +11,10 @@ abbrev pub invariant-loop-unsynced : goal.invariant-loop-unsynced
 invariant-loop-unsynced g l = record {
   within : l.station.progress.unsent ≤ length l.commands;
   some : Somewhere l.station;
-  went : (reads : Call → List ℕ → Reading) → AreReadings reads
+  went : (reads : Asked → List ℕ → Reading) → AreReadings reads
       → Went l.plan l.commands (record { turns = l.max_turns; reads = reads }) (g.B.Book.text l.initial.book) (g.L.Link.acts l.initial.link)
       (g.L.Link.acts l.link) (g.B.Book.taken l.initial.book) (g.B.Book.taken l.book) l.station;
-  noted : (reads : Call → List ℕ → Reading) → AreReadings reads
+  noted : (reads : Asked → List ℕ → Reading) → AreReadings reads
       → Noted l.plan l.commands (record { turns = l.max_turns; reads = reads }) (g.B.Book.text l.initial.book) (g.L.Link.acts l.initial.link) (g.B.Book.taken l.initial.book)
       (g.L.Link.acts l.link) (g.B.Book.taken l.book) l.station l.initial.kept.turns l.kept.turns;
   form : g.B.Book.text l.book ≡ g.B.Book.text l.initial.book;

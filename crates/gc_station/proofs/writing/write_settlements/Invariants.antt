@@ -1,7 +1,7 @@
 use Rattle.std.proofs.Common.{◌≡◌, ℕ, ◌++◌, List, Option, take, drop, map}
 use Rattle.std.specs.Io.KnownBytes.{Appends}
 use Rattle.gc_catalogue.specs.declared.answer.Reading.{Reading}
-use Rattle.gc_catalogue.specs.declared.call.Call.{Call}
+use Rattle.gc_catalogue.specs.declared.asked.Asked.{Asked}
 use Rattle.gc_client.specs.Settlements.{settlement_seen}
 use Rattle.gc_station.specs.Marks.{records_of, last_well}
 use Rattle.gc_station.specs.Records.{Record, texts_of}
@@ -11,13 +11,13 @@ use Rattle.gc_station.proofs.writing.write_settlements.Given as goal
 
 abbrev pub invariant-loop-settlement : goal.invariant-loop-settlement
 invariant-loop-settlement g l = record {
-  wrote : (reads : Call → List ℕ → Reading) (start : Option (List ℕ)) (before : List Record) → AreReadings reads
+  wrote : (reads : Asked → List ℕ → Reading) (start : Option (List ℕ)) (before : List Record) → AreReadings reads
       → Appends start (g.B.Book.taken l.initial.book) (texts_of (g.B.Book.text l.initial.book) before)
       → Appends start (g.B.Book.taken l.book) (texts_of (g.B.Book.text l.initial.book)
       (before ++ records_of reads l.utc l.initial.marks.items (map settlement_seen (take l.settlement-index l.settlements))));
-  tally : (reads : Call → List ℕ → Reading) → AreReadings reads → l.tally ≡ tallied l.initial.tally
+  tally : (reads : Asked → List ℕ → Reading) → AreReadings reads → l.tally ≡ tallied l.initial.tally
       (records_of reads l.utc l.initial.marks.items (map settlement_seen (take l.settlement-index l.settlements)));
-  well : (reads : Call → List ℕ → Reading) → AreReadings reads → l.well ≡ last_well l.initial.well
+  well : (reads : Asked → List ℕ → Reading) → AreReadings reads → l.well ≡ last_well l.initial.well
       (records_of reads l.utc l.initial.marks.items (map settlement_seen (take l.settlement-index l.settlements)));
   marks : l.marks.items ≡ drop l.settlement-index l.initial.marks.items;
   form : g.B.Book.text l.book ≡ g.B.Book.text l.initial.book;

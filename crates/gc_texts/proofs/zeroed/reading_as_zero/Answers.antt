@@ -5,8 +5,8 @@ use Rattle.gc_texts.proofs.zeroed.reading_as_zero.Goals as goal
 
 pub returns-in-Ok : goal.returns-in-Ok
 returns-in-Ok c r is =
-    zero_reads c.args.call.now c.args.line.now.items (reply_seen c.in-Ok.reply) c.decode_answer.result
-    (subst (λ (l : List ℕ). IsReply l (reply_seen c.in-Ok.reply)) c.as_slice.ensures.value c.in-Ok.ensures.found) c.decode_answer.ensures.found
+    zero_reads c.args.asked.now c.args.line.now.items (reply_seen c.in-Ok.reply) c.read_into.new.reading
+    (subst (λ (l : List ℕ). IsReply l (reply_seen c.in-Ok.reply)) c.as_slice.ensures.value c.in-Ok.ensures.found) c.read_into.ensures
 
 pub returns-in-Err : goal.returns-in-Err
 returns-in-Err c r is =

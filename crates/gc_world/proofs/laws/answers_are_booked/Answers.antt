@@ -1,5 +1,6 @@
 use Rattle.std.proofs.Common.{◌≡◌, ℕ, Some, refl, sym, subst}
 use Rattle.std.specs.Prelude.{slice_get}
+use Rattle.gc_catalogue.specs.declared.call.Call.{Call}
 use Rattle.gc_client.specs.Rule.{ById, Settlement}
 use Rattle.gc_instrument.specs.State.{State, IsFittingState, restarted}
 use Rattle.gc_world.specs.Clients.{ends}
@@ -13,7 +14,7 @@ use Rattle.gc_world.proofs.laws.answers_are_booked.Goals as goal
 pub returns-clause-own : goal.returns-clause-own
 returns-clause-own c = λ width narrow opening good events.
     let at = level_at width narrow ends IsFittingState exchange (restarted opening) good events in
-    subst (λ (w : World ById State). (m : ℕ) (s : Settlement) → slice_get w.wire.settled m ≡ Some s → IsBooked ends IsFittingState w.wire.made m s) (sym at.ids)
+    subst (λ (w : World (ById Call) State). (m : ℕ) (s : Settlement Call) → slice_get w.wire.settled m ≡ Some s → IsBooked ends IsFittingState w.wire.made m s) (sym at.ids)
     (booked_at width narrow ends IsFittingState exchange kept_of keeper refl at.steps opening good)
 
 pub returns-clause-fine : goal.returns-clause-fine

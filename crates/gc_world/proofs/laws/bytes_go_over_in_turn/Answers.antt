@@ -1,4 +1,5 @@
 use Rattle.std.proofs.Common.{◌+◌, ◌<◌, [], ◌∷◌, length, sym, ◌∙◌, ap, subst}
+use Rattle.gc_catalogue.specs.declared.call.Call.{Call}
 use Rattle.gc_client.specs.Rule.{ById}
 use Rattle.gc_instrument.specs.State.{State, restarted}
 use Rattle.gc_world.specs.Clients.{by_ids, ends, ids_open, streams_by_ids}
@@ -13,7 +14,7 @@ returns-clause-adds c = λ d width opening events m n some.
     let rule = by_ids width ends in
     let begins = untouched (ids_open (restarted opening)) in
     let v = streams_by_ids width ends events (restarted opening) in
-    let under = subst (λ (x : Streams ById State). 0 < length (lines d x.world.wire)) (flow_append ends rule events (bytes d (m + 1) ∷ []) begins) some in
+    let under = subst (λ (x : Streams (ById Call) State). 0 < length (lines d x.world.wire)) (flow_append ends rule events (bytes d (m + 1) ∷ []) begins) some in
     flow_append ends rule events (bytes d (m + 1 + (n + 1)) ∷ []) begins ∙ adds ends rule d v m n under
     ∙ sym (flow_append ends rule events (bytes d (m + 1) ∷ bytes d (n + 1) ∷ []) begins)
 
@@ -24,4 +25,4 @@ returns-clause-ends c = λ d width opening events m n none.
     let v = streams_by_ids width ends events (restarted opening) in
     let one = flow_append ends rule events (bytes d (m + 1) ∷ []) begins in
     flow_append ends rule events (bytes d (m + 1 + n) ∷ []) begins
-    ∙ stays ends rule d v m n (ap (λ (x : Streams ById State). lines d x.world.wire) (sym one) ∙ none) ∙ sym one
+    ∙ stays ends rule d v m n (ap (λ (x : Streams (ById Call) State). lines d x.world.wire) (sym one) ∙ none) ∙ sym one

@@ -1,4 +1,5 @@
 use Rattle.std.proofs.Common.{refl, sym, subst}
+use Rattle.gc_catalogue.specs.declared.call.Call.{Call}
 use Rattle.gc_client.specs.Rule.{ById}
 use Rattle.gc_instrument.specs.State.{State, restarted}
 use Rattle.gc_world.specs.Clients.{ends}
@@ -12,5 +13,5 @@ use Rattle.gc_world.proofs.laws.kept_reply_is_recent.Goals as goal
 pub returns : goal.returns
 returns c = λ width narrow opening events.
     let at = level_at width narrow ends KeptFits reads (restarted opening) tt events in
-    subst (λ (w : World ById State). IsRecent width w.wire.state.kept w.wire.executed (numbers w.wire.up)) (sym at.ids)
+    subst (λ (w : World (ById Call) State). IsRecent width w.wire.state.kept w.wire.executed (numbers w.wire.up)) (sym at.ids)
     (recent_at width narrow ends KeptFits reads kept_of keeper refl at.steps opening tt)

@@ -1,4 +1,5 @@
 use Rattle.std.proofs.Common.{sym, subst}
+use Rattle.gc_catalogue.specs.declared.call.Call.{Call}
 use Rattle.gc_client.specs.Rule.{ById}
 use Rattle.gc_instrument.specs.State.{State, restarted}
 use Rattle.gc_world.specs.Clients.{by_ids, ends, ids_open}
@@ -12,5 +13,5 @@ use Rattle.gc_world.proofs.laws.settlements_are_one_for_one.Goals as goal
 pub returns : goal.returns
 returns c = λ width opening events.
     let v = untouched (ids_open (restarted opening)) in
-    subst (λ (w : World ById State). IsOneForOne w.wire.sent w.wire.settled) (sym (flow_run ends (by_ids width ends) events v))
+    subst (λ (w : World (ById Call) State). IsOneForOne w.wire.sent w.wire.settled) (sym (flow_run ends (by_ids width ends) events v))
     (one_for_one_at width ends (taken ends (by_ids width ends) events v) (restarted opening))

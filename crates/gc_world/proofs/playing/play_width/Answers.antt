@@ -1,4 +1,5 @@
 use Rattle.std.proofs.Common.{◌+◌, take, sym, subst, arith}
+use Rattle.gc_catalogue.specs.declared.call.Call.{Call}
 use Rattle.gc_client.specs.Rule.{ById}
 use Rattle.gc_instrument.specs.State.{State}
 use Rattle.gc_world.specs.Clients.{streamed}
@@ -19,7 +20,7 @@ loop-event-preserved g c =
     let is = c.event-item.is in
     let shown = c.in_ok-happen.ensures.follows c.args.width (streamed c.args.width opening (take i events)) c.loop-event.invariant.shows in
     let shows : AreStreamsOf c.args.width s (streamed c.args.width opening (take (i + 1) events)) =
-    subst (λ (v : Streams ById State). AreStreamsOf c.args.width s v) (sym (played_more c.args.width opening events i c.event-item.result c.loop-event-test.true is)) shown in
+    subst (λ (v : Streams (ById Call) State). AreStreamsOf c.args.width s v) (sym (played_more c.args.width opening events i c.event-item.result c.loop-event-test.true is)) shown in
     let counts = counts_at c.args.width opening events (i + 1) s.report shows.lines.reports (omega (arith, c.loop-event-test.true)) in
     record { shows = shows; refused = counts.0; idle = counts.1 }
 

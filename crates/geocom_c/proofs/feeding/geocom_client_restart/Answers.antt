@@ -1,5 +1,6 @@
 use Rattle.std.proofs.Common.{◌≡◌, ◌∙◌, List, [], length, map, sym, ap, subst, arith}
 use Rattle.std.proofs.lemmas.List.{length-map}
+use Rattle.gc_catalogue.specs.declared.asked.Asked.{Asked}
 use Rattle.gc_client.specs.Rule.{Settlement, Windowed, restarts}
 use Rattle.gc_client.specs.Settlements.{settlement_seen}
 use Rattle.geocom_c.specs.FirstAre.{FirstAre}
@@ -22,9 +23,10 @@ returns-clause-restarted c = λ room c' rest s.
     let seen : map settlement_seen c.as_slice.result.now ≡ (restarts ids).settlements = ap (map settlement_seen) c.as_slice.ensures.value ∙ are in
     let n : c.counted.result.count ≡ length (restarts ids).settlements =
     omega (arith, c.counted.ensures.count, c.len.ensures.value, ap length are, length-map c.restart-settled.result.items settlement_seen) in
-    let stands = subst (λ (d : Windowed). StandsFor c.store.new.state d []) c.restart-settled.ensures.client (c.store.ensures.client [] c.new-state.ensures c.answered_anew-state.ensures.within) in
-    let told = subst (λ (ss : List Settlement). FirstAre (IsRecord []) c.put_lost.new.records ss) seen c.put_lost.ensures.records in
-    subst (λ (d : Windowed). (c.counted.result.fault ≡ 0) × StandsFor c.store.new.state (record d { ids = (restarts d.ids).client }) []
+    let stands = subst (λ (d : Windowed Asked). StandsFor c.store.new.state d []) c.restart-settled.ensures.client
+    (c.store.ensures.client [] c.new-state.ensures c.answered_anew-state.ensures.within) in
+    let told = subst (λ (ss : List (Settlement Asked)). FirstAre (IsRecord []) c.put_lost.new.records ss) seen c.put_lost.ensures.records in
+    subst (λ (d : Windowed Asked). (c.counted.result.fault ≡ 0) × StandsFor c.store.new.state (record d { ids = (restarts d.ids).client }) []
     × (c.counted.result.count ≡ length (restarts d.ids).settlements) × FirstAre (IsRecord []) c.put_lost.new.records (restarts d.ids).settlements)
     (from_some c.in-Some.client c' (sym c.in-Some.is ∙ c.load.ensures.only c' rest s))
     (c.counted.ensures.fault, stands, n, told)

@@ -1,6 +1,7 @@
 use Rattle.std.proofs.Common.{◌≡◌, ◌+◌, ◌++◌, ◌∙◌, ℕ, List, length, map, take, drop, sym, ap, subst, arith}
 use Rattle.std.proofs.lemmas.List.{length-map, length-take, take-append-le, take-append-drop}
 use Rattle.gc_lines.specs.Readers.{reply_at}
+use Rattle.gc_catalogue.specs.declared.asked.Asked.{Asked}
 use Rattle.gc_client.specs.Rule.{Settlement, Windowed, hears, heard}
 use Rattle.gc_client.specs.Settlements.{settlement_seen}
 use Rattle.geocom_c.specs.FirstAre.{FirstAre}
@@ -17,7 +18,7 @@ put_records-requires-clause-told c =
     let ids = c.args.client.ids in
     let seen : map settlement_seen c.as_slice-in-Settled.result.now ≡ (hears ids line (heard line)).settlements =
     ap (map settlement_seen) c.as_slice-in-Settled.ensures.value ∙ c.in-Settled.ensures.settled.seen in
-    (line, c.tell-answer.ensures, subst (λ (ss : List Settlement). AreBy line ss) (sym seen) (hears_by ids line (heard line)))
+    (line, c.tell-answer.ensures, subst (λ (ss : List (Settlement Asked)). AreBy line ss) (sym seen) (hears_by ids line (heard line)))
 
 pub returns-in-Settled-clause-fed : goal.returns-in-Settled-clause-fed
 returns-in-Settled-clause-fed c =
@@ -41,15 +42,15 @@ returns-in-Settled-clause-fed c =
       count = let number = ap (λ (x : GeocomHeard). x.count) h in omega (arith, number, c.len.ensures.value, ap length are, length-map c.in-Settled.settled.items settlement_seen);
       front = λ some. ap (take (length line)) whole ∙ take-append-le (length line) t (drop n new)
           (omega (arith, ap length c.tell-answer.ensures.front, length-take (length line) t)) ∙ c.tell-answer.ensures.front;
-      told = subst (λ (ss : List Settlement). FirstAre (IsRecord new) c.put_records.new.records ss) seen
+      told = subst (λ (ss : List (Settlement Asked)). FirstAre (IsRecord new) c.put_records.new.records ss) seen
           (subst (λ (x : List ℕ). FirstAre (IsRecord x) c.put_records.new.records (map settlement_seen c.as_slice-in-Settled.result.now)) (sym whole) behind);
     }
 
 pub returns-in-Settled-clause-state : goal.returns-in-Settled-clause-state
-returns-in-Settled-clause-state c = λ rest is part. subst (λ (d : Windowed). StandsFor c.store.new.state d rest) c.on_line-told.ensures.client (c.store.ensures.client rest is part)
+returns-in-Settled-clause-state c = λ rest is part. subst (λ (d : Windowed Asked). StandsFor c.store.new.state d rest) c.on_line-told.ensures.client (c.store.ensures.client rest is part)
 
 pub returns-in-Stray-clause-state : goal.returns-in-Stray-clause-state
-returns-in-Stray-clause-state c = λ rest is part. subst (λ (d : Windowed). StandsFor c.store.new.state d rest) c.on_line-told.ensures.client (c.store.ensures.client rest is part)
+returns-in-Stray-clause-state c = λ rest is part. subst (λ (d : Windowed Asked). StandsFor c.store.new.state d rest) c.on_line-told.ensures.client (c.store.ensures.client rest is part)
 
 pub returns-in-Unread-clause-state : goal.returns-in-Unread-clause-state
-returns-in-Unread-clause-state c = λ rest is part. subst (λ (d : Windowed). StandsFor c.store.new.state d rest) c.on_line-told.ensures.client (c.store.ensures.client rest is part)
+returns-in-Unread-clause-state c = λ rest is part. subst (λ (d : Windowed Asked). StandsFor c.store.new.state d rest) c.on_line-told.ensures.client (c.store.ensures.client rest is part)

@@ -1,6 +1,10 @@
 use Rattle.std.proofs.Common.{rules, ◌≡◌, ◌≢◌, [], ◌∷◌, ◌∙◌, drop, sym, ap, subst, inl, inr}
 use Rattle.gc_lines.specs.Frames.{rest_behind}
+use Rattle.gc_catalogue.specs.declared.asked.Asked.{Asked}
+use Rattle.gc_catalogue.specs.declared.asked.Asked.TheVariants.{Table, Raw}
 use Rattle.gc_catalogue.specs.declared.call.Call.{Call}
+use Rattle.gc_catalogue.specs.declared.raw.RawCall.{RawCall}
+use Rattle.gc_catalogue.specs.Asked.{IsAsked}
 use Rattle.gc_catalogue.specs.Calls.{IsCall}
 use Rattle.gc_catalogue.proofs.CallLaws.{no_refusal}
 use Rattle.gc_client.specs.Beginning.{the_word}
@@ -13,6 +17,7 @@ use Rattle.geocom_c.specs.Following.{hearing, CallsReach, Reached}
 use Rattle.geocom_c.specs.declared.following.Step.{Step}
 use Rattle.geocom_c.specs.declared.header.TheConstants.{WINDOW_FULL, NOT_BEGUN}
 use Rattle.geocom_c.specs.declared.state.GeocomClient.{GeocomClient}
+use Rattle.geocom_c.proofs.Clients.{never_refused}
 use Rattle.geocom_c.proofs.Hearings.{decided, sent_course}
 use Rattle.geocom_c.proofs.following.call.Goals as goal
 
@@ -53,15 +58,15 @@ returns-in-Restart c = λ width s steps at.
 
 pub returns-in-Send : goal.returns-in-Send
 returns-in-Send c = λ width s steps at.
-    let client : Windowed = record { width = width; ids = s.reached.client } in
+    let client : Windowed Asked = record { width = width; ids = s.reached.client } in
     let sent = c.geocom_client_send in
     let n = sent.result.fault in
     let answered = ap (λ n. drop n the_word) sent.ensures.answered in
     let by : (call : Call) → left_of c.args.state.now ≡ [] → IsCall c.in-Send.procedure c.in-Send.params.now call
     → Reached width s (c.args.step.now ∷ steps) sent.new.state steps = λ call begun is. record {
-      stage = record s { reached = goes width s.reached (one.Send c.in-Send.target call c.in-Send.deadline) };
+      stage = record s { reached = goes width s.reached (one.Send c.in-Send.target (Table call) c.in-Send.deadline) };
       at = record {
-        stands = sent_course width s.reached s.rest call c.in-Send.target (sends width s.reached.client c.in-Send.target call c.in-Send.deadline)
+        stands = sent_course width s.reached s.rest (Table call) c.in-Send.target (sends width s.reached.client c.in-Send.target (Table call) c.in-Send.deadline)
             (record { old = c.args.state.now; new = sent.new.state; before = _; after = sent.new.line; told = sent.result }) at.stands
             (sent.ensures.sent (search rules) client s.rest call at.stands begun is);
         left = answered ∙ at.left;
@@ -78,3 +83,32 @@ returns-in-Send c = λ width s steps at.
     (λ not_full. decided n NOT_BEGUN (λ e. none no (λ begun call is. sent.ensures.begun e (at.left ∙ begun)))
     (λ begun. let r = sent.ensures.refusal no not_full (λ e. let short = sent.ensures.room.0 e in absurd (search rules)) (λ e. absurd ((sent.ensures.astray.0 e).1 client s.rest at.stands)) begun in
     none no (λ left call is. no_refusal _ _ call r.0 is r.1))))
+
+pub returns-in-SendRaw : goal.returns-in-SendRaw
+returns-in-SendRaw c = λ width s steps at.
+    let client : Windowed Asked = record { width = width; ids = s.reached.client } in
+    let sent = c.geocom_client_send_raw in
+    let n = sent.result.fault in
+    let answered = ap (λ n. drop n the_word) sent.ensures.answered in
+    let by : (raw : RawCall) → left_of c.args.state.now ≡ [] → IsAsked c.in-SendRaw.procedure c.in-SendRaw.params.now (Raw raw)
+    → Reached width s (c.args.step.now ∷ steps) sent.new.state steps = λ raw begun is. record {
+      stage = record s { reached = goes width s.reached (one.Send c.in-SendRaw.target (Raw raw) c.in-SendRaw.deadline) };
+      at = record {
+        stands = sent_course width s.reached s.rest (Raw raw) c.in-SendRaw.target (sends width s.reached.client c.in-SendRaw.target (Raw raw) c.in-SendRaw.deadline)
+            (record { old = c.args.state.now; new = sent.new.state; before = _; after = sent.new.line; told = sent.result }) at.stands
+            (sent.ensures.sent (search rules) client s.rest raw at.stands begun is);
+        left = answered ∙ at.left;
+      };
+      on = λ t f. subst (λ (e : Step). CallsReach width s (e ∷ steps) t) (sym c.in-SendRaw.is) (inl (raw, sym at.left ∙ begun, is, f));
+    } in
+    let none : n ≢ 0 → (s.left ≡ [] → (raw : RawCall) → IsAsked c.in-SendRaw.procedure c.in-SendRaw.params.now (Raw raw) → ⊥)
+    → Reached width s (c.args.step.now ∷ steps) sent.new.state steps = λ no never. record {
+      stage = s;
+      at = record { stands = subst (λ (t : GeocomClient). StandsFor t client s.rest) (sym (sent.ensures.refused no).1) at.stands; left = answered ∙ at.left };
+      on = λ t f. subst (λ (e : Step). CallsReach width s (e ∷ steps) t) (sym c.in-SendRaw.is) (inr (never, f));
+    } in
+    decided n 0 (λ e. let d = sent.ensures.done e in by d.2 d.4 d.5)
+    (λ no. decided n WINDOW_FULL (λ e. let d = sent.ensures.full e in by d.2 d.4 d.5)
+    (λ not_full. decided n NOT_BEGUN (λ e. none no (λ begun call is. sent.ensures.begun e (at.left ∙ begun)))
+    (λ begun. let r = sent.ensures.refusal no not_full (λ e. let short = sent.ensures.room.0 e in absurd (search rules)) (λ e. absurd ((sent.ensures.astray.0 e).1 client s.rest at.stands)) begun in
+    none no (λ left raw is. never_refused _ _ raw r.0 is r.1))))

@@ -2,8 +2,8 @@ use Rattle.std.proofs.Common.{rules, ◌≡◌, ◌∙◌, [], sym, ap, subst}
 use Rattle.gc_lines.specs.Replies.{ReplyFields, reply_seen}
 use Rattle.gc_lines.specs.Readers.{reply_at}
 use Rattle.gc_lines.proofs.Replies.{reply_again, reply_one}
-use Rattle.gc_values.specs.Lists.{AreParams}
-use Rattle.geocom_c.specs.Settled.{AreListed}
+use Rattle.gc_values.specs.Params.{IsParams}
+use Rattle.geocom_c.specs.Settled.{AreStanding}
 use Rattle.geocom_c.proofs.Clients.{never_ok, front_of}
 use Rattle.geocom_c.proofs.listed.tell.Goals as goal
 
@@ -13,10 +13,10 @@ returns-in-Ok c =
     let first : c.append.new.to.items ≡ line = search rules in
     record {
       front = front_of line c.append.new.to.items c.list.new.told.text.items c.list.ensures.front.0 first c.list.ensures.front.1;
-      listed = λ reply values is few params.
+      listed = λ reply items is params few.
           let same = reply_one line (reply_seen c.in-Ok.reply) reply (search (rules, c.in-Ok.ensures.found)) is in
-          subst (λ (r : ReplyFields). AreParams r.params values → AreListed c.list.new.told.items c.list.new.told.places c.list.new.told.text.items r.params
-          values) same (c.list.ensures.listed values few) params;
+          subst (λ (r : ReplyFields). IsParams r.params items → AreStanding c.list.new.told.items c.list.new.told.places c.list.new.told.text.items items)
+          same (λ params. c.list.ensures.listed items params few) params;
     }
 
 pub returns-in-Err : goal.returns-in-Err
@@ -25,5 +25,5 @@ returns-in-Err c =
     let first : c.append.new.to.items ≡ line = search rules in
     record {
       front = front_of line c.append.new.to.items c.append.new.to.items [] first (search rules);
-      listed = λ reply values is few params. absurd (never_ok _ _ (sym c.in-Err.ensures.exact ∙ ap reply_at c.deref-2.ensures.0 ∙ reply_again line reply is));
+      listed = λ reply items is params few. absurd (never_ok _ _ (sym c.in-Err.ensures.exact ∙ ap reply_at c.deref-2.ensures.0 ∙ reply_again line reply is));
     }

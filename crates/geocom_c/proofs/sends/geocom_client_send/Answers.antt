@@ -1,4 +1,7 @@
 use Rattle.std.proofs.Common.{◌≡◌, ◌∙◌, Ok, sym, subst}
+use Rattle.gc_catalogue.specs.declared.asked.Asked.{Asked}
+use Rattle.gc_catalogue.specs.declared.asked.Asked.TheVariants.{Table}
+use Rattle.gc_catalogue.specs.declared.call.Call.{Call}
 use Rattle.gc_client.specs.Rule.{Windowed, sends}
 use Rattle.geocom_c.specs.Sending.{Sent, IsSent}
 use Rattle.geocom_c.proofs.Answering.{not_begun}
@@ -16,13 +19,13 @@ returns-in-Ok-clause-sent c = λ room c' rest call s begun is.
     let same = from_some c.in-Some.client c' (sym c.in-Some.is ∙ c.load.ensures.only c' rest s) in
     let both : Ok c.in-Ok.call ≡ Ok call = sym c.in-Ok.is ∙ c.decode_call.ensures.only call is in
     let called : c.in-Ok.call ≡ call = cc in
-    let sent : Sent = record { old = c.args.state.now; new = c.send_call.new.state; before = c.args.line.now; after = c.send_call.new.line; told = c.send_call.result } in
-    subst (λ k. IsSent c' rest k (sends c'.width c'.ids c.args.target k c.args.deadline) sent) called
-    (subst (λ (d : Windowed). IsSent d rest c.in-Ok.call (sends d.width d.ids c.args.target c.in-Ok.call c.args.deadline) sent) same
-    (c.send_call.ensures.sent rest s.under_way s.head.part))
+    let sent : Sent = record { old = c.args.state.now; new = c.send_asked.new.state; before = c.args.line.now; after = c.send_asked.new.line; told = c.send_asked.result } in
+    subst (λ (k : Call). IsSent c' rest (Table k) (sends c'.width c'.ids c.args.target (Table k) c.args.deadline) sent) called
+    (subst (λ (d : Windowed Asked). IsSent d rest (Table c.in-Ok.call) (sends d.width d.ids c.args.target (Table c.in-Ok.call) c.args.deadline) sent) same
+    (c.send_asked.ensures.sent rest s.under_way s.head.part))
 
 pub returns-in-Ok-clause-astray : goal.returns-in-Ok-clause-astray
-returns-in-Ok-clause-astray c = (λ e. absurd (full_alone _ c.send_call.ensures.either e), λ both. absurd (both.1 _ _ c.in-Some.ensures.found))
+returns-in-Ok-clause-astray c = (λ e. absurd (full_alone _ c.send_asked.ensures.either e), λ both. absurd (both.1 _ _ c.in-Some.ensures.found))
 
 pub returns-in_default-clause-astray : goal.returns-in_default-clause-astray
 returns-in_default-clause-astray c = (λ _. (c.if-line-lt-LINE_ROOM.false, c.load.ensures.none c.in_default.is), λ _. c.refused-in_default.ensures.fault)

@@ -3,6 +3,7 @@ use Rattle.std.specs.Prelude.{slice_get, slice_set}
 use Rattle.std.specs.Option.{option_map}
 use Rattle.std.proofs.lemmas.List.{drop-set-lt}
 use Rattle.std.proofs.lemmas.Option.{slice_get-map, slice_get-get_or}
+use Rattle.gc_catalogue.specs.declared.asked.Asked.{Asked}
 use Rattle.gc_client.specs.Rule.{Settlement}
 use Rattle.gc_client.specs.Rule
 use Rattle.gc_client.specs.Settlements.{settlement_seen}
@@ -22,7 +23,7 @@ loop-k-preserved c =
     let next : suc k ≡ k + 1 = omega arith in
     let here : slice_get seen k ≡ Some (settlement_seen s) =
     slice_get-map settlement_seen settled k ∙ ap (option_map settlement_seen) (slice_get-get_or settled k s c.loop-k-test.true ∙ ap Some (sym c.index-settled-k.is)) in
-    let over = lost_at c.requires.lost.0 k (settlement_seen s) (subst (λ (ss : List Settlement). slice_get ss k ≡ Some (settlement_seen s)) c.requires.lost.1 here) in
+    let over = lost_at c.requires.lost.0 k (settlement_seen s) (subst (λ (ss : List (Settlement Asked)). slice_get ss k ≡ Some (settlement_seen s)) c.requires.lost.1 here) in
     let is : IsRecord [] r (settlement_seen s) = record {
       target = c.unanswered.ensures.target;
       procedure = c.unanswered.ensures.procedure;

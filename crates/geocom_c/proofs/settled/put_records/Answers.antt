@@ -3,7 +3,9 @@ use Rattle.std.specs.Prelude.{slice_get, slice_set}
 use Rattle.std.specs.Option.{option_map}
 use Rattle.std.proofs.lemmas.List.{drop-set-lt}
 use Rattle.std.proofs.lemmas.Option.{slice_get-map, slice_get-get_or}
-use Rattle.gc_client.specs.Settlements.{IsWellRead, settlement_seen}
+use Rattle.gc_catalogue.specs.declared.asked.Asked.{Asked}
+use Rattle.gc_catalogue.specs.Asked.{IsAskedReading}
+use Rattle.gc_client.specs.Settlements.{IsReadBy, settlement_seen}
 use Rattle.gc_client.specs.declared.settlement.Settlement.{Settlement}
 use Rattle.geocom_c.specs.FirstAre.{FirstAre}
 use Rattle.geocom_c.specs.Settled.{IsRecord}
@@ -31,7 +33,7 @@ loop-k-preserved c =
     let next : suc k ≡ k + 1 = omega arith in
     let here : slice_get seen k ≡ Some (settlement_seen s) =
     slice_get-map settlement_seen settled k ∙ ap (option_map settlement_seen) (slice_get-get_or settled k s c.loop-k-test.true ∙ ap Some (sym c.index-settled-k.is)) in
-    let is = c.record_of.ensures (subst (λ (x : Settlement). IsWellRead x.call x.outcome) (sym c.index-settled-k.is) (c.requires.read k s c.loop-k-test.true)) in
+    let is = c.record_of.ensures (subst (λ (x : Settlement Asked). IsReadBy IsAskedReading x.call x.outcome) (sym c.index-settled-k.is) (c.requires.read k s c.loop-k-test.true)) in
     record {
       records = subst (λ m. FirstAre (IsRecord text) (slice_set c.loop-k.records k r) (take m seen)) next
           (first_written (IsRecord text) c.loop-k.records seen k r (settlement_seen s) c.loop-k.invariant.records

@@ -2,6 +2,7 @@ use Rattle.std.proofs.Common.{◌≡◌, ◌<◌, ◌+◌, ◌++◌, ◌∷◌, 
 use Rattle.std.specs.Prelude.{slice_get}
 use Rattle.std.proofs.lemmas.Option.{slice_get-get_or}
 use Rattle.std.proofs.lemmas.List.{take_all}
+use Rattle.gc_catalogue.specs.declared.asked.Asked.{Asked}
 use Rattle.gc_client.proofs.Lists.{take_turn}
 use Rattle.gc_client.specs.declared.pending.Pending.{Pending}
 use Rattle.geocom_c.specs.FirstAre.{FirstAre}
@@ -14,7 +15,7 @@ loop-k-init c =
     let e = c.new-window.ensures in
     record {
       count = ap length e;
-      found = subst (λ (w : List Pending). FirstAre IsPlace c.args.places.now w) (sym e) tt;
+      found = subst (λ (w : List (Pending Asked)). FirstAre IsPlace c.args.places.now w) (sym e) tt;
       only = λ ps n are. e;
     }
 
@@ -28,14 +29,14 @@ loop-k-preserved c =
     let here = slice_get-get_or places k _ within in
     record {
       count = omega (arith, ap length e, length-append c.loop-k.window (c.in-Some.p ∷ []), before.count);
-      found = subst (λ (w : List Pending). FirstAre IsPlace places w) (sym e)
+      found = subst (λ (w : List (Pending Asked)). FirstAre IsPlace places w) (sym e)
           (first_more IsPlace places c.loop-k.window _ c.in-Some.p before.found (ap (slice_get places) before.count ∙ here) c.in-Some.ensures.found);
       only = λ ps n are.
           let it = got ps k (omega (arith, n, c.loop-k-test.true)) in
           let both : Some c.in-Some.p ≡ Some it.0 = sym c.in-Some.is ∙ c.read_place.ensures.only it.0 (first_at IsPlace places ps k _ it.0 are here it.1) in
           let same : c.in-Some.p ≡ it.0 = cc in
           let next : suc k ≡ k + 1 = omega arith in
-          e ∙ ap (λ (w : List Pending). w ++ c.in-Some.p ∷ []) (before.only ps n are) ∙ ap (λ q. take k ps ++ q ∷ []) same ∙ sym (take_turn ps k it.0 it.1) ∙ ap (λ m. take m ps) next;
+          e ∙ ap (λ (w : List (Pending Asked)). w ++ c.in-Some.p ∷ []) (before.only ps n are) ∙ ap (λ q. take k ps ++ q ∷ []) same ∙ sym (take_turn ps k it.0 it.1) ∙ ap (λ m. take m ps) next;
     }
 
 pub returns-in_default-clause-only : goal.returns-in_default-clause-only

@@ -1,4 +1,5 @@
 use Rattle.std.proofs.Common.{◌≡◌, List, length, take}
+use Rattle.gc_catalogue.specs.declared.asked.Asked.{Asked}
 use Rattle.gc_client.specs.declared.pending.Pending.{Pending}
 use Rattle.geocom_c.specs.FirstAre.{FirstAre}
 use Rattle.geocom_c.specs.State.{IsPlace}
@@ -10,5 +11,5 @@ invariant-loop-k l =
     record {
       count : length l.window ≡ l.k;
       found : FirstAre IsPlace l.places l.window;
-      only : (ps : List Pending) → length ps ≡ l.count → FirstAre IsPlace l.places ps → l.window ≡ take l.k ps;
+      only : (ps : List (Pending Asked)) → length ps ≡ l.count → FirstAre IsPlace l.places ps → l.window ≡ take l.k ps;
     }

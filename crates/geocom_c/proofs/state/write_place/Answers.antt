@@ -8,5 +8,5 @@ returns c = record {
   deadline = search rules;
   given_up = search rules;
   within = search rules;
-  line = own_line _ c.args.p.now.call c.encode_call-text.ensures.reads_back (search rules);
+  line = own_line _ c.args.p.now.call c.encode_asked-text.ensures.reads_back (search rules);
 }

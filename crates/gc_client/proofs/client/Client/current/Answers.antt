@@ -1,4 +1,4 @@
-use Rattle.std.proofs.Common.{◌≡◌, ◌+◌, take, Some, length, sym, ap, ◌∙◌, arith, length-append}
+use Rattle.std.proofs.Common.{◌≡◌, ◌+◌, not, take, Some, length, sym, ap, ◌∙◌, arith, length-append}
 use Rattle.std.specs.Prelude.{slice_get}
 use Rattle.gc_client.specs.Rule.{deadlines}
 use Rattle.gc_client.proofs.Earliest.{one_more_deadline, same_deadlines}
@@ -14,14 +14,14 @@ loop-k-preserved g c =
     let here : slice_get ws k ≡ Some p = ap (λ d. slice_get d.ids.waiting k) (sym c.self.view_is) ∙ c.get.ensures in
     elim c.if-not-get.branch [
       | then-not-get w ↦
-          let more = ap length (one_more_deadline k ws p here w.if-not-get.true) ∙ length-append (deadlines (take k ws)) _ in
+          let more = ap length (one_more_deadline k ws p here (ap not w.if-not-get.true)) ∙ length-append (deadlines (take k ws)) _ in
           record {
             counted = w.current-is ∙ ap (λ n. n + 1) before.counted ∙ sym more;
             within = omega (arith, w.current-is, before.within);
           }
       | else-not-get w ↦
           record {
-            counted = w.current-is ∙ before.counted ∙ sym (ap length (same_deadlines k ws p here w.if-not-get.false));
+            counted = w.current-is ∙ before.counted ∙ sym (ap length (same_deadlines k ws p here (ap not w.if-not-get.false)));
             within = omega (arith, w.current-is, before.within);
           }
     ]

@@ -1,4 +1,4 @@
-use Rattle.std.proofs.Common.{◌≡◌, ◌+◌, take, Some, length, sym, subst, ap, ◌∙◌, arith}
+use Rattle.std.proofs.Common.{◌≡◌, ◌+◌, not, take, Some, length, sym, subst, ap, ◌∙◌, arith}
 use Rattle.std.specs.Prelude.{slice_get}
 use Rattle.std.proofs.lemmas.List.{take_all}
 use Rattle.gc_client.specs.Rule.{deadlines, IsEarliest}
@@ -14,10 +14,10 @@ loop-k-preserved g c =
     let here : slice_get ws k ≡ Some p = ap (λ d. slice_get d.ids.waiting k) (sym c.self.view_is) ∙ c.get-pending.ensures in
     elim c.if-not-pending.branch [
       | then-not-pending w ↦ subst (λ o. IsEarliest (deadlines (take (k + 1) ws)) o) (sym w.earliest-is)
-          (subst (λ ds. IsEarliest ds (Some w.earlier.result)) (sym (one_more_deadline k ws p here w.if-not-pending.true))
+          (subst (λ ds. IsEarliest ds (Some w.earlier.result)) (sym (one_more_deadline k ws p here (ap not w.if-not-pending.true)))
           (w.earlier.ensures (deadlines (take k ws)) c.loop-k.invariant))
       | else-not-pending w ↦ subst (λ o. IsEarliest (deadlines (take (k + 1) ws)) o) (sym w.earliest-is)
-          (subst (λ ds. IsEarliest ds c.loop-k.earliest) (sym (same_deadlines k ws p here w.if-not-pending.false)) c.loop-k.invariant)
+          (subst (λ ds. IsEarliest ds c.loop-k.earliest) (sym (same_deadlines k ws p here (ap not w.if-not-pending.false))) c.loop-k.invariant)
     ]
 
 pub returns : goal.returns

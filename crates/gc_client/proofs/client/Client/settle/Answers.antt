@@ -1,11 +1,9 @@
-use Rattle.std.proofs.Common.{◌≡◌, ◌+◌, ◌<◌, true, List, [], ◌∷◌, ◌++◌, length, map, take, set, sym, subst, ap, ◌∙◌, arith, length-set}
+use Rattle.std.proofs.Common.{◌≡◌, ◌+◌, ◌<◌, true, [], ◌∷◌, ◌++◌, length, map, take, set, sym, subst, ap, ◌∙◌, arith, length-set}
 use Rattle.std.proofs.lemmas.List.{take_all}
 use Rattle.arrayvec.specs.ArrayVec.{ArrayVec}
-use Rattle.gc_client.specs.declared.pending.Pending.{Pending}
 use Rattle.gc_client.specs.declared.settlement.Settlement.{Settlement}
-use Rattle.gc_client.specs.Rule.{ById, Windowed, lost, met, settle, id_settled}
-use Rattle.gc_client.specs.Rule
-use Rattle.gc_client.specs.Settlements.{AreSettlements}
+use Rattle.gc_client.specs.Rule.{Windowed, lost, met, settle, id_settled}
+use Rattle.gc_client.specs.Settlements.{AreSettledBy}
 use Rattle.gc_client.proofs.Ends.{settle_is, fewer}
 use Rattle.gc_client.proofs.Lists.{left_turn, none_there}
 use Rattle.gc_client.proofs.Settling.{one_written}
@@ -20,6 +18,7 @@ invariant_of-self g c =
 -- the first k are lost, and the one at place k is met
 pub returns-clause-settled : goal.returns-clause-settled
 returns-clause-settled g c =
+    let says = g.W.Asked.Asking.says in
     let ws = g.W.Window.pendings c.self.inside.window in
     let line = c.args.line.now in
     let k = c.args.k in
@@ -32,11 +31,11 @@ returns-clause-settled g c =
       | in-Some w ↦
           let s = w.meet.new.settlement in
           let all = take_all (k + 1) (set old k s) (omega (arith, places, length-set old k s)) in
-          let are = subst (λ (ss : List Settlement). AreSettlements ss ruled) all (one_written old k (map lost (take k ws)) s (met p line) lt c.lose.ensures.settled w.meet.ensures) in
-          let by_rule = subst (λ (rs : List Rule.Settlement). AreSettlements (set old k s) rs)
+          let are = subst (λ ss. AreSettledBy says ss ruled) all (one_written says old k (map lost (take k ws)) s (met p line) lt c.lose.ensures.settled w.meet.ensures) in
+          let by_rule = subst (λ rs. AreSettledBy says (set old k s) rs)
           (sym (settle_is k line ws p _ (sym c.lose.ensures.left ∙ c.take_first-p.ensures))
-          ∙ ap (λ (d : Windowed). settle k line d.ids.waiting) c.self.view_is) are in
-          subst (λ (x : ArrayVec Settlement). AreSettlements x.items (settle k line c.args.self.now.ids.waiting)) (sym w.settled-is) by_rule
+          ∙ ap (λ (d : Windowed _). settle k line d.ids.waiting) c.self.view_is) are in
+          subst (λ (x : ArrayVec (Settlement _)). AreSettledBy says x.items (settle k line c.args.self.now.ids.waiting)) (sym w.settled-is) by_rule
       | in_default w ↦ absurd (none_there c.get_mut.result w.in_default.is (c.get_mut.ensures.variant.1 lt))
     ]
 
@@ -45,5 +44,5 @@ pub returns-clause-client : goal.returns-clause-client
 returns-clause-client g c =
     let ws = g.W.Window.pendings c.self.inside.window in
     let left = left_turn ws c.args.k c.take_first-p.result (g.W.Window.pendings c.lose.new.window) (g.W.Window.pendings c.take_first-p.new.self) c.lose.ensures.left c.take_first-p.ensures in
-    ap (λ (ps : List Pending). let d : Windowed = record { width = c.self.inside.width; ids = record { next = c.self.inside.next; waiting = ps } } in d) left
-    ∙ ap (λ (d : Windowed). record d { ids = (id_settled d.ids c.args.line.now c.args.k true).client }) c.self.view_is
+    ap (λ ps. let d : Windowed _ = record { width = c.self.inside.width; ids = record { next = c.self.inside.next; waiting = ps } } in d) left
+    ∙ ap (λ (d : Windowed _). record d { ids = (id_settled d.ids c.args.line.now c.args.k true).client }) c.self.view_is

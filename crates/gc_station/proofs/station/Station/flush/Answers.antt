@@ -1,7 +1,9 @@
 use Rattle.std.proofs.Common.{None, ap, ◌∙◌}
+use Rattle.gc_catalogue.specs.declared.asked.Asked.TheVariants.{Table}
 use Rattle.gc_catalogue.specs.declared.call.Call.TheVariants.{NullProc}
+use Rattle.gc_catalogue.specs.declared.asked.Asked.{Asked}
 use Rattle.gc_client.specs.Rule.{ById}
-use Rattle.gc_texts.specs.declared.commands.Command.{Command}
+use Rattle.gc_texts.specs.declared.wish.Wish.{Wish}
 use Rattle.gc_links.specs.Acts.{put_as}
 use Rattle.gc_station.specs.Progressing.{asking}
 use Rattle.gc_station.specs.Model.{Model, requests_out, request_text, asks_null, with_progress}
@@ -15,14 +17,14 @@ returns g c text known =
     let plan = c.args.plan.now in
     let commands = c.args.commands.now in
     let one = c.null_command.result in
-    let other : Command = record { target = 0; call = NullProc } in
+    let other : Wish = record { target = 0; call = Table NullProc } in
     let line = request_text old.client.ids one.call in
     record {
       act = put_as put line;
       tells = c.ask-put.ensures.tells;
       goes = λ s start stands so. (
-        put_puts put line (request_text s.client NullProc) (ap (λ (k : Command). request_text old.client.ids k.call) c.null_command.ensures
-            ∙ ap (λ (ids : ById). request_text ids NullProc) stands.ids) c.ask-put.ensures.part,
+        put_puts put line (request_text s.client (Table NullProc)) (ap (λ (k : Wish). request_text old.client.ids k.call) c.null_command.ensures
+            ∙ ap (λ (ids : ById Asked). request_text ids (Table NullProc)) stands.ids) c.ask-put.ensures.part,
         put_stands put line c.requests_out-requests.result (requests_out plan commands s.progress)
             (λ (x : Model). with_progress asking (asks_null plan x)) s (record c.ask-put.new.self { progress = c.ask.new.self }) c.cut.new.self
             (stands_with c.ask-put.new.self c.ask.new.self asking (asks_null plan s)

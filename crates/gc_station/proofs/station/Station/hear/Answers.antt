@@ -2,10 +2,11 @@ use Rattle.std.proofs.Common.{◌≤◌, ℕ, List, subst, length, map, ap, sym,
 use Rattle.std.proofs.lemmas.List.{length-map}
 use Rattle.gc_client.specs.Rule.{hears, heard}
 use Rattle.gc_client.specs.Settlements.{settlement_seen}
-use Rattle.gc_station.specs.Model.{is_reply, settles, lines_came}
+use Rattle.gc_station.specs.Model.{is_reply, ends_with_table, settles, line_settles, lines_came}
 use Rattle.gc_station.specs.Stations.{Refines, Took}
+use Rattle.gc_station.specs.declared.station.Station.{Station}
 use Rattle.std.specs.Option.{option_to_list}
-use Rattle.gc_station.proofs.Hearing.{hears_paired, settles_ok, settles_part, with_noted, no_line}
+use Rattle.gc_station.proofs.Hearing.{hears_paired, settles_ok, settles_part, with_caught, with_noted, no_line}
 use Rattle.gc_station.proofs.station.Station.hear.Goals as goal
 
 pub returns-clause-hears : goal.returns-clause-hears
@@ -25,7 +26,12 @@ returns-clause-hears g c s start stands so =
     (sym (length-map items settlement_seen) ∙ ap length same)
     (hears_paired s.marks s.client line (heard line) stands.paired)
     (λ are. c.in_default-write.ensures.wrote s.reads start s.records are (so are)) c.in_default-write.ensures.after c.in_default-write.ensures.tally c.in_default-write.ensures.well in
-    rw c.in-Line.is (with_noted c.write.new.self c.note.new.self c.is_reply.result (is_reply line) (settles x s) t.0 reply c.note.ensures, t.1)
+    let after = c.in_default-write.ensures.after in
+    let table = c.ends_with_table-of_table.ensures ∙ ap (λ l. ends_with_table (map settlement_seen l)) c.as_slice.ensures.value ∙ ap (λ (st : Station). ends_with_table (map settlement_seen st.settled.items)) after ∙ ap ends_with_table same in
+    let waits = c.waiting.ensures.waiting ∙ ap (λ (st : Station). length st.client.ids.waiting) after ∙ ap (λ w. length w.ids.waiting) client ∙ ap (λ y. length y.client.waiting) seen in
+    let caught = with_caught c.write.new.self c.catch_up.new.self c.ends_with_table-of_table.result (ends_with_table x.settlements) c.waiting.result (length x.client.waiting) (settles x s) t.0
+    table waits c.catch_up.ensures in
+    rw c.in-Line.is (with_noted (record c.write.new.self { progress = c.catch_up.new.self }) c.note.new.self c.is_reply.result (is_reply line) (line_settles x s) caught reply c.note.ensures, t.1)
 
 pub returns-in-Err-clause-hears : goal.returns-in-Err-clause-hears
 returns-in-Err-clause-hears g c s start stands so =

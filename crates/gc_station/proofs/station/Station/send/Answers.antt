@@ -1,4 +1,5 @@
 use Rattle.std.proofs.Common.{◌≡◌, ◌-◌, ◌<◌, List, ◌∷◌, Some, length, drop, refl, ap, sym, ◌∙◌, arith}
+use Rattle.gc_catalogue.specs.declared.asked.Asked.{Asked}
 use Rattle.gc_client.specs.Rule.{ById}
 use Rattle.gc_texts.specs.declared.tasks.Task.{Task}
 use Rattle.gc_links.specs.Acts.{put_as}
@@ -31,7 +32,7 @@ returns g c text known =
           let asked = asks_stands old c.ask-put.new.self s task.deadline task.command task.command (Some c.mark-mark.result) stands c.requires.room refl c.ask-put.ensures.asks in
           let first = first_stands c.ask-put.new.self s c.mark-mark.result (mark_next plan commands s.progress) list task others is
           (c.mark-mark.ensures ∙ ap (mark_next plan commands) stands.progress) asked in (
-            put_puts put line (first_text s.client list) (ap (λ (ids : ById). request_text ids task.command.call) stands.ids ∙ sym (ap (first_text s.client) is)) c.ask-put.ensures.part,
+            put_puts put line (first_text s.client list) (ap (λ (ids : ById Asked). request_text ids task.command.call) stands.ids ∙ sym (ap (first_text s.client) is)) c.ask-put.ensures.part,
             put_stands put line c.requests_out-requests.result (requests_out plan commands s.progress) f s (record c.ask-put.new.self { progress = c.send.new.self }) c.cut.new.self
                 (stands_with c.ask-put.new.self c.send.new.self (sent (is_chained_behind_next commands s.progress)) (asks_next plan commands s) first
                 (c.send.ensures ∙ ap (λ b. sent b c.ask-put.new.self.progress)

@@ -1,4 +1,5 @@
 use Rattle.std.proofs.Common.{◌≡◌, ℕ}
+use Rattle.gc_catalogue.specs.declared.call.Call.{Call}
 use Rattle.gc_client.specs.Rule.{ById}
 use Rattle.gc_instrument.specs.State.{State}
 use Rattle.gc_world.specs.Directions.{gone, lines}
@@ -11,8 +12,8 @@ use Rattle.gc_world.proofs.stage.Stage.bytes.Given as goal
 abbrev pub invariant-loop-left : goal.invariant-loop-left
 invariant-loop-left g l =
     record {
-      follows : (width : ℕ) (v : Streams ById State) → Shows width l.fn.self v → IsReached width l.direction (seen l.self) v l.n l.left;
-      remaining : (width : ℕ) (v : Streams ById State) → Shows width l.self v → l.remaining ≡ remaining (gone l.direction v) (lines l.direction v.world.wire);
+      follows : (width : ℕ) (v : Streams (ById Call) State) → Shows width l.fn.self v → IsReached width l.direction (seen l.self) v l.n l.left;
+      remaining : (width : ℕ) (v : Streams (ById Call) State) → Shows width l.self v → l.remaining ≡ remaining (gone l.direction v) (lines l.direction v.world.wire);
     }
 
 abbrev pub decreases-loop-left : goal.decreases-loop-left

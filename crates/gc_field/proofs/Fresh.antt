@@ -1,0 +1,134 @@
+-- What holds of one request, m, from the moment at which it goes out behind the table: it is near the last call of the table that the instrument
+-- was handed, so the line that answers it was made for it. Of what was sent before nothing need be known.
+use Rattle.std.proofs.Common.{◌≡◌, ℕ, ◌+◌, ◌<◌, ◌≤◌, ◌⊎◌, inl, inr, Bool, true, false, List, [], ◌∷◌, ◌++◌, length, Option, Some, None, refl, subst, arith, ltb}
+use Rattle.std.proofs.lemmas.Bool.{ltb-true, ltb-false}
+use Rattle.gc_catalogue.specs.Asked.{is_of_table}
+use Rattle.gc_catalogue.specs.declared.asked.Asked.{Asked}
+use Rattle.gc_client.specs.Rule.{Outcome, Settlement, Answered, Late, Lost}
+use Rattle.gc_instrument.specs.State.{KeptReply}
+use Rattle.gc_world.specs.Clients.{ByNumber, by_numbers}
+use Rattle.gc_field.specs.World.{Ends, Numbered, World}
+use Rattle.gc_world.proofs.Sound.{Sound}
+use Rattle.gc_field.specs.Begun.{IsBehindTheTable, IsByReply}
+use Rattle.gc_field.specs.Field.{Move, Sends, Tells, Comes, Foreign, OnLine, Anew, Changes, Joins, AsksOnly, moves, moved}
+use Rattle.gc_field.specs.Instrument.{IsAnInstrument, all_known}
+use Rattle.gc_field.proofs.Answered.{AllSo, IsSo, all_so_get}
+use Rattle.gc_field.proofs.BeginLists.{each_both}
+use Rattle.gc_field.proofs.Once.{known_not}
+use Rattle.gc_field.proofs.Vouched.{IsDealt, KeptIs, True, Vouched}
+
+-- all moves ask only what is known, where all is
+pub asks_all : {State : Type 0} (ms : List (Move State)) → AsksOnly all_known ms
+asks_all [] = tt
+asks_all (Sends target call deadline ∷ ms) = (refl, asks_all ms)
+asks_all (Tells now ∷ ms) = asks_all ms
+asks_all (Comes line ∷ ms) = asks_all ms
+asks_all (Foreign line ∷ ms) = asks_all ms
+asks_all (OnLine step ∷ ms) = asks_all ms
+asks_all (Anew ∷ ms) = asks_all ms
+asks_all (Changes state ∷ ms) = asks_all ms
+asks_all (Joins line ∷ ms) = asks_all ms
+
+-- two lists of moves, one after the other, leave the world of numbers that the second makes of what the first leaves
+pub numbers_append : {State : Type 0} (width : ℕ) (ends : Ends State) (front later : List (Move State)) (b : World (ByNumber Asked) State)
+    → moved ends (by_numbers width) (front ++ later) b ≡ moved ends (by_numbers width) later (moved ends (by_numbers width) front b)
+numbers_append width ends [] later b = refl
+numbers_append width ends (m ∷ front) later b = numbers_append width ends front later (moves ends (by_numbers width) b m)
+
+-- `IsSo` of one property gives `IsSo` of another, where the one gives the other of this number
+so_at : (P Q : ℕ → List ℕ → Type 0) (n : ℕ) (o : Outcome) → ((line : List ℕ) → P n line → Q n line) → IsSo P n o → IsSo Q n o
+so_at P Q n (Answered line) f h = f line h
+so_at P Q n Late f h = (h.0, f h.0 h.1)
+so_at P Q n Lost f h = tt
+
+-- `AllSo` of one property gives `AllSo` of another, where the one gives the other of each number below `top`, and no settlement has another number
+all_so_below : (P Q : ℕ → List ℕ → Type 0) (top : ℕ) → ((n : ℕ) (line : List ℕ) → n < top → P n line → Q n line) → (n : ℕ) (ss : List (Settlement Asked)) → n + length ss ≤ top
+    → AllSo P n ss → AllSo Q n ss
+all_so_below P Q top f n [] low h = tt
+all_so_below P Q top f n (s ∷ ss) low h =
+    (so_at P Q n s.outcome (λ line p. f n line (omega (arith, low)) p) h.0, all_so_below P Q top f (n + 1) ss (omega (arith, low)) h.1)
+
+-- `KeptIs` of one property gives `KeptIs` of another, where the one gives the other of each number below `top`
+kept_below : (P Q : ℕ → List ℕ → Type 0) (since top table : ℕ) → ((n : ℕ) (line : List ℕ) → n < top → P n line → Q n line) → (k : Option KeptReply)
+    → KeptIs P since top table k → KeptIs Q since top table k
+kept_below P Q since top table f None h = tt
+kept_below P Q since top table f (Some k) h =
+    record { number = h.number; recent = h.recent; before = h.before; behind = h.behind; id = h.id; line = f h.number k.line h.before h.line }
+
+-- all requests but this one
+abbrev pub AllBut : ℕ → ℕ → Type 0
+AllBut m n = n ≡ m → ⊥
+
+-- each request
+abbrev pub EachOne : ℕ → Type 0
+EachOne n = Unit {0}
+
+-- each line, of each request
+abbrev pub AnyLine : ℕ → Asked → List ℕ → Type 0
+AnyLine n call line = Unit {0}
+
+module _ {State : Type 0} (width : ℕ) (narrow : width ≤ 7) (ends : Ends State) (Good : State → Type 0) (kept : State → Option KeptReply) (keeper : IsAnInstrument ends Good kept) (low : ℕ) where
+  -- `True`, with all requests excepted
+  abbrev pub TrueOfNone : World (ByNumber Asked) State → Type 0
+  TrueOfNone w = True width narrow is_of_table ends Good kept keeper low EachOne ⊥ AnyLine w
+
+  -- `True`, with all requests excepted but m
+  abbrev pub TrueOfOne : (ℕ → Asked → List ℕ → Type 0) → ℕ → World (ByNumber Asked) State → Type 0
+  TrueOfOne M m w = True width narrow is_of_table ends Good kept keeper low (AllBut m) ⊥ M w
+
+  -- before request m goes out, nothing is of it: so `True` holds with all requests excepted but m, if m is near the last call of the table
+  pub renewed : (M : ℕ → Asked → List ℕ → Type 0) (m : ℕ) (w : World (ByNumber Asked) State) → Sound width ends Good w → (t : TrueOfNone w) → length w.wire.sent ≡ m → m ≤ t.table + 7
+      → TrueOfOne M m w
+  renewed M m w s t size near =
+      let v = w.wire in
+      let P : ℕ → List ℕ → Type 0 = λ n line. Vouched width narrow is_of_table ends Good kept keeper low EachOne ⊥ AnyLine v.sent v.executed v.made t.table n line in
+      let Q : ℕ → List ℕ → Type 0 = λ n line. Vouched width narrow is_of_table ends Good kept keeper low (AllBut m) ⊥ M v.sent v.executed v.made t.table n line in
+      let f : (n : ℕ) (line : List ℕ) → n < t.top → P n line → Q n line = λ n line l p. (p.0, inl (λ e. omega (arith, e, l, t.within, size))) in
+      record {
+        top = t.top;
+        table = t.table;
+        counted = t.counted;
+        within = t.within;
+        lower = t.lower;
+        least = t.least;
+        above = t.above;
+        below = t.below;
+        holds = kept_below P Q w.client.since t.top t.table f (kept v.state) t.holds;
+        lines = t.lines;
+        near = inr (λ n. is_near n near);
+        coming =
+            each_both (λ (x : Numbered (List ℕ)). x.number < t.top) (λ x. P x.number x.line) (λ x. Q x.number x.line) (λ x l p. f x.number x.line l p) v.down t.below t.coming;
+        answers = all_so_below P Q t.top f 0 v.settled (omega (arith, s.booked, t.counted)) t.answers;
+        order = t.order;
+        once = t.once;
+      }
+    where
+      -- a request is another one than m, or near the last call of the table
+      is_near : (n : ℕ) → m ≤ t.table + 7 → AllBut m n ⊎ (n ≤ t.table + 7)
+      is_near n near = by_case (ltb n m) (ltb m n) refl refl where
+        by_case : (a b : Bool) → ltb n m ≡ a → ltb m n ≡ b → AllBut m n ⊎ (n ≤ t.table + 7)
+        by_case true b e f = let l : n < m = ltb-true n m e in inl (λ same. omega (arith, same, l))
+        by_case false true e f = let l : m < n = ltb-true m n f in inl (λ same. omega (arith, same, l))
+        by_case false false e f = let l : n ≤ m = ltb-false m n f in inr (omega (arith, l, near))
+
+  -- a settlement by a reply is of a request that the instrument was handed
+  dealt_of : (P : ℕ → List ℕ → Type 0) (D : Type 0) (n : ℕ) (o : Outcome) → ((line : List ℕ) → P n line → D) → IsByReply o → IsSo P n o → D
+  dealt_of P D n (Answered line) f by h = f line h
+  dealt_of P D n Late f by h = f h.0 h.1
+  dealt_of P D n Lost f by h = absurd by
+
+  -- a request that goes out behind the table is near the last call of the table that the instrument was handed
+  pub near_the_table : (m : ℕ) (w : World (ByNumber Asked) State) → (t : TrueOfNone w) → 8 ≤ low → length w.wire.sent ≡ m → IsBehindTheTable w.wire → m ≤ t.table + 7
+  near_the_table m w t eight size is =
+      elim is.3 [
+        | inl seven ↦ omega (arith, seven, size, is.2, t.least, eight)
+        | inr e ↦ (
+            let P : ℕ → List ℕ → Type 0 = λ n line. Vouched width narrow is_of_table ends Good kept keeper low EachOne ⊥ AnyLine w.wire.sent w.wire.executed w.wire.made t.table n line in
+            let i : 0 + is.0 ≡ is.0 = omega arith in
+            let so : IsSo P is.0 e.1.outcome = subst (λ k. IsSo P k e.1.outcome) i (all_so_get P 0 w.wire.settled is.0 e.1 t.answers e.4) in
+            let dealt : IsDealt is_of_table w.wire.sent t.table is.0 = dealt_of P (IsDealt is_of_table w.wire.sent t.table is.0) is.0 e.1.outcome (λ line p. p.0) e.5 so in
+            elim dealt [
+              | inl le ↦ omega (arith, le, size, is.2)
+              | inr u ↦ absurd (known_not is_of_table w.wire.sent is.0 e.0 e.2 e.3 u)
+            ])
+      ]

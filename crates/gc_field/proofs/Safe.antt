@@ -1,0 +1,197 @@
+-- Each command of a station is safe in its stretch: it goes out behind the table, as the station's rule says.
+use Rattle.std.proofs.Common.{◌≡◌, inl, inr, ℕ, zero, suc, ◌+◌, ◌<◌, ◌≤◌, Bool, true, false, List, [], ◌∷◌, ◌++◌, length, map, Option, Some, None, refl, sym, ◌∙◌, ap, subst, arith, ltb}
+use Rattle.std.proofs.lemmas.Bool.{ltb-true, ltb-false}
+use Rattle.std.specs.Prelude.{slice_get}
+use Rattle.std.proofs.lemmas.List.{length-append, length-map, length_push}
+use Rattle.gc_catalogue.specs.Asked.{is_of_table}
+use Rattle.gc_catalogue.specs.declared.asked.Asked.{Asked}
+use Rattle.gc_client.specs.OneForOne as step
+use Rattle.gc_client.specs.OneForOne.{Course, Step, begun, course, goes, sent_on}
+use Rattle.gc_client.specs.Rule.{ById, Outcome, Answered, Late, Lost, Sending, sends}
+use Rattle.gc_instrument.specs.State.{KeptReply}
+use Rattle.gc_station.specs.Behind.{IsNearTheTable}
+use Rattle.gc_field.specs.World.{Ends}
+use Rattle.gc_world.proofs.Places.{below, in_range}
+use Rattle.gc_world.proofs.Settled.{of_sent}
+use Rattle.gc_field.specs.Begun.{IsBehindTheTable, IsByReply, WentOutBehindTheTable, behind, nulls, nulls_settled}
+use Rattle.gc_field.specs.Field.{Move, Sends, Tells, Comes, Foreign, OnLine, Anew, Changes, Joins, seen}
+use Rattle.gc_field.specs.Instrument.{IsAnInstrument}
+use Rattle.gc_field.specs.Shown.{Stretch}
+use Rattle.gc_field.proofs.BegunFaithful.{sent_is}
+use Rattle.gc_field.proofs.InTime.{Sound, front_of, throughout}
+
+-- The step at which a request goes out.
+
+-- these steps by the one at which request n goes out, where the course before them is x
+pub record IsSplit (steps : List (Step Asked)) (x : Course Asked) (n : ℕ) : Type 0 where
+  pub front : List (Step Asked)
+  pub later : List (Step Asked)
+  pub target : ℕ
+  pub call : Asked
+  pub deadline : ℕ
+  pub split : steps ≡ front ++ step.Send target call deadline ∷ later
+  pub number : length (course 7 x front).sent ≡ n
+
+-- a send that is refused sends nothing, and another one sends one request
+sent_few : (x : Course Asked) (target : ℕ) (call : Asked) (o : Option (Sending (ById Asked))) → length (sent_on x target call o).sent ≤ length x.sent + 1
+sent_few x target call None = omega arith
+sent_few x target call (Some s) = omega (arith, length_push x.sent (record { target = target; call = call }))
+
+-- where request n goes out at one of these steps, it goes out at one of them, and n requests before it
+pub split_at : (steps : List (Step Asked)) (x : Course Asked) (n : ℕ) → length x.sent ≤ n → n < length (course 7 x steps).sent → IsSplit steps x n
+split_at [] x n low high = absurd (omega (arith, low, high))
+split_at (step.Send target call deadline ∷ steps) x n low high =
+    by_case (λ l. split_at steps (goes 7 x (step.Send target call deadline)) n l high) (ltb n (length (goes 7 x (step.Send target call deadline)).sent)) refl
+  where
+    by_case : (length (goes 7 x (step.Send target call deadline)).sent ≤ n → IsSplit steps (goes 7 x (step.Send target call deadline)) n) → (b : Bool)
+        → ltb n (length (goes 7 x (step.Send target call deadline)).sent) ≡ b → IsSplit (step.Send target call deadline ∷ steps) x n
+    by_case others true e =
+        let l : n < length (goes 7 x (step.Send target call deadline)).sent = ltb-true n (length (goes 7 x (step.Send target call deadline)).sent) e in
+        let few = sent_few x target call (sends 7 x.client target call deadline) in
+        record { front = []; later = steps; target = target; call = call; deadline = deadline; split = refl; number = omega (arith, l, few, low) }
+    by_case others false e =
+        let r = others (ltb-false n (length (goes 7 x (step.Send target call deadline)).sent) e) in
+        record {
+          front = step.Send target call deadline ∷ r.front;
+          later = r.later;
+          target = r.target;
+          call = r.call;
+          deadline = r.deadline;
+          split = ap (λ l. step.Send target call deadline ∷ l) r.split;
+          number = r.number;
+        }
+split_at (step.Hear line ∷ steps) x n low high =
+    let r = split_at steps (goes 7 x (step.Hear line)) n low high in
+    record { front = step.Hear line ∷ r.front; later = r.later; target = r.target; call = r.call; deadline = r.deadline; split = ap (λ l. step.Hear line ∷ l) r.split; number = r.number }
+split_at (step.Expire now ∷ steps) x n low high =
+    let r = split_at steps (goes 7 x (step.Expire now)) n low high in
+    record { front = step.Expire now ∷ r.front; later = r.later; target = r.target; call = r.call; deadline = r.deadline; split = ap (λ l. step.Expire now ∷ l) r.split; number = r.number }
+split_at (step.Restart ∷ steps) x n low high =
+    let r = split_at steps (goes 7 x step.Restart) n low high in
+    record { front = step.Restart ∷ r.front; later = r.later; target = r.target; call = r.call; deadline = r.deadline; split = ap (λ l. step.Restart ∷ l) r.split; number = r.number }
+
+-- moves by the step that one of them shows
+pub record IsSeen {State : Type 0} (ms : List (Move State)) (front : List (Step Asked)) (target : ℕ) (call : Asked) (deadline : ℕ) : Type 0 where
+  pub before : List (Move State)
+  pub after : List (Move State)
+  pub split : ms ≡ before ++ Sends target call deadline ∷ after
+  pub seen_before : seen before ≡ front
+
+-- the first elements of equal lists of steps are equal
+step_head : (x y : Step Asked) (xs ys : List (Step Asked)) → x ∷ xs ≡ y ∷ ys → x ≡ y
+step_head x y xs ys e = cc
+
+-- the rests of equal lists of steps are equal
+step_tail : (x y : Step Asked) (xs ys : List (Step Asked)) → x ∷ xs ≡ y ∷ ys → xs ≡ ys
+step_tail x y xs ys e = cc
+
+-- a move in front of those that are seen so, of which nothing is seen
+seen_later : {State : Type 0} (m : Move State) (ms : List (Move State)) (front : List (Step Asked)) (target : ℕ) (call : Asked) (deadline : ℕ) → ((l : List (Move State)) → seen (m ∷ l) ≡ seen l)
+    → IsSeen ms front target call deadline → IsSeen (m ∷ ms) front target call deadline
+seen_later m ms front target call deadline none h =
+    record { before = m ∷ h.before; after = h.after; split = ap (λ l. m ∷ l) h.split; seen_before = none h.before ∙ h.seen_before }
+
+-- a move in front of those that are seen so, of which this step is seen
+seen_more : {State : Type 0} (m : Move State) (s : Step Asked) (ms : List (Move State)) (front : List (Step Asked)) (target : ℕ) (call : Asked) (deadline : ℕ)
+    → ((l : List (Move State)) → seen (m ∷ l) ≡ s ∷ seen l) → IsSeen ms front target call deadline → IsSeen (m ∷ ms) (s ∷ front) target call deadline
+seen_more m s ms front target call deadline one h =
+    record { before = m ∷ h.before; after = h.after; split = ap (λ l. m ∷ l) h.split; seen_before = one h.before ∙ ap (λ l. s ∷ l) h.seen_before }
+
+-- a send among the steps that are seen is one of the moves
+pub seen_at : {State : Type 0} (ms : List (Move State)) (front later : List (Step Asked)) (target : ℕ) (call : Asked) (deadline : ℕ) → seen ms ≡ front ++ step.Send target call deadline ∷ later
+    → IsSeen ms front target call deadline
+seen_at [] [] later target call deadline e = let never : ⊥ = cc in absurd never
+seen_at [] (s ∷ front) later target call deadline e = let never : ⊥ = cc in absurd never
+seen_at (Sends t c d ∷ ms) [] later target call deadline e =
+    record { before = []; after = ms; split = same (step_head (step.Send t c d) (step.Send target call deadline) (seen ms) later e); seen_before = refl }
+  where
+    same : step.Send t c d ≡ step.Send target call deadline → Sends t c d ∷ ms ≡ Sends target call deadline ∷ ms
+    same e = cc
+seen_at (Sends t c d ∷ ms) (s ∷ front) later target call deadline e =
+    subst (λ (x : Step Asked). IsSeen (Sends t c d ∷ ms) (x ∷ front) target call deadline) (step_head (step.Send t c d) s (seen ms) (front ++ step.Send target call deadline ∷ later) e)
+    (seen_more (Sends t c d) (step.Send t c d) ms front target call deadline (λ l. refl)
+    (seen_at ms front later target call deadline (step_tail (step.Send t c d) s (seen ms) (front ++ step.Send target call deadline ∷ later) e)))
+seen_at (Tells now ∷ ms) [] later target call deadline e = let never : ⊥ = cc in absurd never
+seen_at (Tells now ∷ ms) (s ∷ front) later target call deadline e =
+    subst (λ (x : Step Asked). IsSeen (Tells now ∷ ms) (x ∷ front) target call deadline) (step_head (step.Expire now) s (seen ms) (front ++ step.Send target call deadline ∷ later) e)
+    (seen_more (Tells now) (step.Expire now) ms front target call deadline (λ l. refl)
+    (seen_at ms front later target call deadline (step_tail (step.Expire now) s (seen ms) (front ++ step.Send target call deadline ∷ later) e)))
+seen_at (Comes line ∷ ms) [] later target call deadline e = let never : ⊥ = cc in absurd never
+seen_at (Comes line ∷ ms) (s ∷ front) later target call deadline e =
+    subst (λ (x : Step Asked). IsSeen (Comes line ∷ ms) (x ∷ front) target call deadline) (step_head (step.Hear line) s (seen ms) (front ++ step.Send target call deadline ∷ later) e)
+    (seen_more (Comes line) (step.Hear line) ms front target call deadline (λ l. refl)
+    (seen_at ms front later target call deadline (step_tail (step.Hear line) s (seen ms) (front ++ step.Send target call deadline ∷ later) e)))
+seen_at (Foreign line ∷ ms) [] later target call deadline e = let never : ⊥ = cc in absurd never
+seen_at (Foreign line ∷ ms) (s ∷ front) later target call deadline e =
+    subst (λ (x : Step Asked). IsSeen (Foreign line ∷ ms) (x ∷ front) target call deadline) (step_head (step.Hear line) s (seen ms) (front ++ step.Send target call deadline ∷ later) e)
+    (seen_more (Foreign line) (step.Hear line) ms front target call deadline (λ l. refl)
+    (seen_at ms front later target call deadline (step_tail (step.Hear line) s (seen ms) (front ++ step.Send target call deadline ∷ later) e)))
+seen_at (OnLine m ∷ ms) front later target call deadline e = seen_later (OnLine m) ms front target call deadline (λ l. refl) (seen_at ms front later target call deadline e)
+seen_at (Anew ∷ ms) front later target call deadline e = seen_later Anew ms front target call deadline (λ l. refl) (seen_at ms front later target call deadline e)
+seen_at (Changes state ∷ ms) front later target call deadline e = seen_later (Changes state) ms front target call deadline (λ l. refl) (seen_at ms front later target call deadline e)
+seen_at (Joins line ∷ ms) front later target call deadline e = seen_later (Joins line) ms front target call deadline (λ l. refl) (seen_at ms front later target call deadline e)
+
+-- What is near the table by the steps is so by the moves.
+
+-- an outcome that isn't lost is by a reply
+by_reply : (o : Outcome) → (o ≡ Lost → ⊥) → IsByReply o
+by_reply (Answered line) not = tt
+by_reply Late not = tt
+by_reply Lost not = not refl
+
+-- what is at place k of the second list is at place length xs + k of both
+get_behind : {A : Type 0} (xs ys : List A) (n k : ℕ) (x : A) → n ≡ length xs + k → slice_get ys k ≡ Some x → slice_get (xs ++ ys) n ≡ Some x
+get_behind [] ys n k x e got = let same : k ≡ n = omega (arith, e) in subst (λ i. slice_get ys i ≡ Some x) same got
+get_behind (y ∷ xs) ys zero k x e got = absurd (omega (arith, e))
+get_behind (y ∷ xs) ys (suc n) k x e got = get_behind xs ys n k x (omega (arith, e)) got
+
+module _ {State : Type 0} (ends : Ends State) (Good : State → Type 0) (kept : State → Option KeptReply) (is : IsAnInstrument ends Good kept) where
+  -- in front of a move of a sound stretch, the requests sent are the eight null procedures and those of the steps that are seen
+  sent_count : (s : Stretch State) → Sound ends Good kept is s → (before after : List (Move State)) → s.moves ≡ before ++ after
+      → length (behind 7 ends s.from before).wire.sent ≡ 8 + length (course 7 begun (seen before)).sent
+  sent_count s sound before after e =
+      let p = front_of ends Good kept is s.from s.moves before after e sound.possible in
+      let w = (behind 7 ends s.from before).wire in
+      let all = sent_is ends Good kept is 7 (omega arith) s.from before p in
+      sym (length-map w.sent of_sent) ∙ ap length all ∙ length-append (map of_sent nulls) (course 7 begun (seen before)).sent
+
+  -- where a request goes out near the table by the steps that were seen, it goes out behind the table
+  near_is : (s : Stretch State) → Sound ends Good kept is s → (before after : List (Move State)) → s.moves ≡ before ++ after → IsNearTheTable (course 7 begun (seen before))
+      → IsBehindTheTable (behind 7 ends s.from before).wire
+  near_is s sound before after e near =
+      let w = (behind 7 ends s.from before).wire in
+      let x = course 7 begun (seen before) in
+      let count = sent_count s sound before after e in
+      let f = throughout ends Good kept is s sound before after e in
+      elim near [
+        | inl few ↦ (7, omega (arith, count), omega (arith, count, few), inl refl)
+        | inr h ↦ (
+            let got : slice_get w.settled (8 + h.0) ≡ Some h.1 =
+            subst (λ l. slice_get l (8 + h.0) ≡ Some h.1) (sym f.settled) (get_behind nulls_settled x.settlements (8 + h.0) h.0 h.1 refl h.2) in
+            let low : 8 + h.0 < length w.settled = below w.settled (8 + h.0) h.1 got in
+            let many : length w.settled ≤ length w.sent = f.one_for_one.count in
+            let r = in_range w.sent (8 + h.0) (omega (arith, low, many)) in
+            let same : h.1.call ≡ r.0.call = (f.one_for_one.same (8 + h.0) h.1 r.0 got r.1).1 in
+            (8 + h.0, omega (arith, low, many), omega (arith, count, h.4), inr (r.0, h.1, r.1, sym (ap is_of_table same) ∙ h.3.0, got, by_reply h.1.outcome h.3.1)))
+      ]
+
+  -- where request n goes out at one of the steps that a sound stretch shows, and goes out near the table, it goes out behind the table
+  pub goes_out : (s : Stretch State) → Sound ends Good kept is s → (steps : List (Step Asked)) → seen s.moves ≡ steps → (n : ℕ) → n < length (course 7 begun steps).sent
+      → ((front later : List (Step Asked)) (target : ℕ) (call : Asked) (deadline : ℕ) → steps ≡ front ++ step.Send target call deadline ∷ later → length (course 7 begun front).sent ≡ n
+      → IsNearTheTable (course 7 begun front)) → WentOutBehindTheTable 7 ends s.from s.moves (8 + n)
+  goes_out s sound steps shown n low near =
+      let at = split_at steps begun n (omega arith) low in
+      let m = seen_at s.moves at.front at.later at.target at.call at.deadline (shown ∙ at.split) in
+      let rest = Sends at.target at.call at.deadline ∷ m.after in
+      let count : length (course 7 begun (seen m.before)).sent ≡ n = ap (λ l. length (course 7 begun l).sent) m.seen_before ∙ at.number in
+      record {
+        front = m.before;
+        later = m.after;
+        target = at.target;
+        call = at.call;
+        deadline = at.deadline;
+        split = m.split;
+        number = sent_count s sound m.before rest m.split ∙ ap (λ k. 8 + k) count;
+        is = near_is s sound m.before rest m.split
+            (subst (λ l. IsNearTheTable (course 7 begun l)) (sym m.seen_before) (near at.front at.later at.target at.call at.deadline at.split at.number));
+      }

@@ -1,0 +1,20 @@
+-- The simulator as an instrument of which any procedure is asked, this project's own.
+use Rattle.std.specs.Prelude.{ℕ, true}
+use Rattle.gc_catalogue.specs.declared.asked.Asked.{Asked}
+use Rattle.gc_catalogue.specs.declared.asked.Asked.TheVariants.{Table, Raw}
+use Rattle.gc_catalogue.specs.declared.fault.CallFault.TheVariants.{Unknown}
+use Rattle.gc_client.specs.Rule.{heard}
+use Rattle.gc_instrument.specs.Replying as calls
+use Rattle.gc_instrument.specs.Replying.{Handed, refusal_line}
+use Rattle.gc_instrument.specs.State.{State, restarted}
+use Rattle.gc_field.specs.World.{Ends}
+
+-- what handing over a request line gives: of a call of the table what the instrument does with it. Another procedure it doesn't know: it refuses
+-- the request (communication code 3081), and nothing changes
+abbrev pub handed : State → ℕ → Asked → Handed State
+handed s id (Table call) = calls.handed s id call
+handed s id (Raw raw) = record { state = s; reply = refusal_line id Unknown; executed = true }
+
+-- the two ends: the simulated instrument, and a client that reads replies by their grammar
+abbrev pub ends : Ends State
+ends = record { handed = handed; restarted = restarted; heard = heard; joint = true }

@@ -1,0 +1,21 @@
+use Rattle.std.proofs.Common.{rules, Err, ap, sym, arith, append-nil, ◌++◌, ◌∙◌}
+use Rattle.std.specs.Prelude.{codes}
+use Rattle.gc_rows.specs.JsonLines.{texts_member, item_members, members_text}
+use Rattle.gc_rows.proofs.Items.{items_fit, refused_is_none, splits}
+use Rattle.gc_rows.proofs.json_line.append_items.Goals as goal
+
+pub append_list-requires : goal.append_list-requires
+append_list-requires g c =
+    let fit = items_fit c.args.values.now c.in-Ok.items c.in-Ok.ensures.found.0 in
+    let short = c.requires.short in
+    (search rules, (omega (arith, fit, short), (c.in-Ok.ensures.found.1, c.requires.room)))
+
+pub returns-in-Ok-clause-text : goal.returns-in-Ok-clause-text
+returns-in-Ok-clause-text g c =
+    c.append_list.ensures.text ∙ ap (λ l. c.args.line.now.items ++ l) (sym (append-nil (texts_member (codes "items") c.in-Ok.items)))
+    ∙ ap (λ o. c.args.line.now.items ++ members_text (item_members o)) (sym (splits c.args.values.now c.in-Ok.items c.in-Ok.ensures.found.0 c.in-Ok.ensures.found.1))
+
+pub returns-in-Err-clause-text : goal.returns-in-Err-clause-text
+returns-in-Err-clause-text g c =
+    let none = refused_is_none c.args.values.now c.in-Err.field-0 c.in-Err.ensures.faults (λ e. c.in-Err.ensures.open_quote.0 (ap Err e)) (λ e. c.in-Err.ensures.too_many.0 (ap Err e)) in
+    sym (append-nil c.args.line.now.items) ∙ ap (λ o. c.args.line.now.items ++ members_text (item_members o)) (sym none)

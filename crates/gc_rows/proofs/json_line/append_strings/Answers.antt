@@ -1,0 +1,49 @@
+use Rattle.std.proofs.Common.{rules, ◌≡◌, ◌≤◌, ◌<◌, ◌+◌, ◌*◌, ◌++◌, length, get_or, drop, [], ap, arith, ◌∙◌}
+use Rattle.std.specs.Prelude.{nat_lt}
+use Rattle.std.proofs.lemmas.Bool.{lt-ltb}
+use Rattle.arrayvec.specs.ArrayVec.{array_vec_len}
+use Rattle.gc_rows.specs.JsonLines.{comma_where, string_text, strings_text}
+use Rattle.gc_rows.proofs.Items.{bytes_more, bytes_below, up_to}
+use Rattle.gc_rows.proofs.JsonLines.{strings_next}
+use Rattle.gc_rows.proofs.json_line.append_strings.Goals as goal
+
+pub append_comma-requires : goal.append_comma-requires
+append_comma-requires g c =
+    let lt : c.loop-k.k < length c.args.texts.now = search rules in
+    let below = bytes_below c.args.texts.now c.loop-k.k lt in
+    let few = c.requires.few in
+    let short = c.requires.short in
+    let room = c.loop-k.invariant.room in
+    let fits : array_vec_len c.loop-k.line + 1 ≤ array_vec_len c.args.line.now + 4144 = omega (arith, lt, below, few, short, room) in
+    (search rules, up_to _ _ _ fits c.requires.room)
+
+pub append_string-requires : goal.append_string-requires
+append_string-requires g c =
+    let lt : c.loop-k.k < length c.args.texts.now = search rules in
+    let below = bytes_below c.args.texts.now c.loop-k.k lt in
+    let few = c.requires.few in
+    let short = c.requires.short in
+    let room = c.loop-k.invariant.room in
+    let comma = c.append_comma.ensures.room in
+    let same : length c.get.result.now ≡ length (get_or c.args.texts.now c.loop-k.k []) = ap length c.get.ensures in
+    let fits : array_vec_len c.append_comma.new.line + 8 * length c.get.result.now + 2 ≤ array_vec_len c.args.line.now + 4144 =
+    omega (arith, lt, below, few, short, room, comma, same) in
+    (search rules, (omega (arith, below, short, same), up_to _ _ _ fits c.requires.room))
+
+pub loop-k-preserved : goal.loop-k-preserved
+loop-k-preserved g c =
+    let texts = c.args.texts.now in
+    let k = c.loop-k.k in
+    let lt : k < length texts = search rules in
+    let more = bytes_more texts k lt in
+    let room = c.loop-k.invariant.room in
+    let comma = c.append_comma.ensures.room in
+    let string = c.append_string.ensures.room in
+    let same : length c.get.result.now ≡ length (get_or texts k []) = ap length c.get.ensures in
+    let written = c.append_string.ensures.text ∙ ap (λ t. c.append_comma.new.line.items ++ string_text t) c.get.ensures
+    ∙ ap (λ l. l ++ string_text (get_or texts k [])) c.append_comma.ensures.text in
+    record {
+      written = ap (λ l. l ++ strings_text (nat_lt 0 (k + 1)) (drop (k + 1) texts)) written
+          ∙ strings_next _ c.loop-k.line.items texts k (nat_lt 0 k) (nat_lt 0 (k + 1)) lt (lt-ltb 0 (k + 1) (omega arith)) c.loop-k.invariant.written;
+      room = omega (arith, more, room, comma, string, same);
+    }

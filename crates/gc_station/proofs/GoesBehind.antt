@@ -1,0 +1,359 @@
+-- Each command goes out behind a call of the table. What an act does to how many requests are behind the last such call that a
+-- reply ended is what the client's steps of its part do (`counted`); so it is that of the course since the beginning, and a command
+-- goes out only where it is below seven. A course is what a client has sent and settled so far, and the client after that; a part
+-- reaches from one beginning to the next. An act is one call of the link, with what came of it.
+use Rattle.std.proofs.Common.{◌≡◌, ◌⊎◌, inl, inr, ℕ, zero, suc, ◌+◌, ◌-◌, ◌<◌, ◌&&◌, ◌||◌, Bool, true, false, List, [], ◌∷◌, ◌++◌, length, map, drop, Option, Some, None, refl, sym, ap, ◌∙◌, subst, arith, append_assoc, append-nil, if◌then◌else◌, length-drop}
+use Rattle.std.specs.Prelude.{slice_get, not}
+use Rattle.std.specs.List.{AllByRecursion}
+use Rattle.std.proofs.lemmas.List.{length-append}
+use Rattle.gc_lines.specs.Frames.{rest_behind}
+use Rattle.gc_catalogue.specs.declared.asked.Asked.{Asked}
+use Rattle.gc_client.specs.OneForOne.{Step, Send, Hear, Expire, begun}
+use Rattle.gc_client.specs.Rule.{ById, fresh}
+use Rattle.gc_texts.specs.declared.tasks.Task.{Task}
+use Rattle.gc_links.specs.Acts.{Act, Told, Untold, Put, Cut, Gave, Silent}
+use Rattle.gc_station.specs.declared.mark.Mark.{Mark}
+use Rattle.gc_station.specs.declared.plan.Plan.{Plan}
+use Rattle.gc_station.specs.declared.progress.Action.{Action}
+use Rattle.gc_station.specs.declared.progress.Action.TheVariants as action
+use Rattle.gc_station.specs.declared.progress.Progress.{Progress}
+use Rattle.gc_station.specs.Behind.{IsNearTheTable, CommandsGoOutBehindTheTable}
+use Rattle.gc_station.specs.Deciding.{has_begun, is_none_left}
+use Rattle.gc_station.specs.Parts.{Part, joined, putting, asking_first, hearing, doing, beginning, acting, in_front, parts_of}
+use Rattle.gc_station.specs.Progressing.{one_more, turned, told, time_passed, loses_all}
+use Rattle.gc_station.specs.Reasons.{IsFor}
+use Rattle.gc_station.specs.Model.{Model, opening, action_at, waiting_of, place_next, mark_next, is_heard, with_progress, with_moment, with_rest, line_came, lines_came, lines_behind, came, moved, losing, after, Performs, Runs}
+use Rattle.gc_station.proofs.Behind.{behind_by, Counts, counts_steps, near_so, reached, get_behind, course_append}
+use Rattle.gc_station.proofs.Booking.{client_after, sent_by, course_sent, course_client, sent_append, of_length}
+use Rattle.gc_station.proofs.Counts.{losing_progress}
+use Rattle.gc_station.proofs.EachRun.{fine_after, fine_opening}
+use Rattle.gc_station.proofs.Facts.{action_for}
+use Rattle.gc_station.proofs.Invariant.{Invariant}
+use Rattle.gc_station.proofs.Midway.{clash}
+use Rattle.gc_station.proofs.Parting.{Leads, leads, keeps_action}
+use Rattle.gc_station.proofs.Walk.{quieted_along, closed_along, walk}
+
+-- What an act does.
+
+-- lines that are heard do what their steps do
+lines_counted : (s : Model) (lines : List (List ℕ)) → (lines_came s lines).progress.behind ≡ behind_by s.client s.progress.behind (map Hear lines)
+lines_counted s [] = refl
+lines_counted s (line ∷ others) = lines_counted (line_came s line) others
+
+-- a piece does what the steps do that hear its lines
+came_counted : (h : Bool) (word piece : List ℕ) (s : Model) → is_none_left word ≡ true → (came h word piece s).progress.behind ≡ behind_by s.client s.progress.behind (hearing h s.rest piece)
+came_counted true (asked ∷ others) piece s begun = cc
+came_counted true [] piece s begun = lines_counted (with_rest (rest_behind s.rest piece) s) (lines_behind s.rest piece)
+came_counted false word piece s begun = refl
+
+-- the first of some commands is one request more
+first_counted : (c : ById Asked) (b now : ℕ) (mark : Mark) (left : List Task) → 0 < length left → one_more b ≡ behind_by c b (asking_first now mark left).steps
+first_counted c b now mark [] some = absurd (omega (arith, some))
+first_counted c b now mark (task ∷ others) some = refl
+
+module _ (plan : Plan) (commands : List Task) where
+  -- an act does what the steps of its part do
+  abbrev IsCounted : Action → Model → Act → Model → Type 0
+  IsCounted o s act t = t.progress.behind ≡ behind_by s.client s.progress.behind (doing plan commands s o act).steps
+
+  -- once the station has begun, each act does what the steps of its part do, unless the station begins anew
+  pub counted : (s : Model) (o : Action) (act : Act) → Invariant plan commands s → IsFor plan s.progress (waiting_of s) o → Performs commands s o act → has_begun s.progress ≡ true
+      → has_begun (moved plan commands o (with_progress turned s) act).progress ≡ true → IsCounted o s act (moved plan commands o (with_progress turned s) act)
+  counted s action.Renew (Told m) fine is obeys begun still = cc
+  counted s action.Renew Untold fine is obeys begun still = refl
+  counted s action.Renew act fine is obeys begun still = absurd obeys
+  counted s action.Ask act fine is obeys begun still = absurd (clash (has_begun s.progress) begun is.1)
+  counted s action.Send act fine is obeys begun still =
+      let left = drop (place_next commands s.progress) commands in
+      let many : length left ≡ length commands - place_next commands s.progress = length-drop (place_next commands s.progress) commands in
+      let one = first_counted s.client s.progress.behind s.progress.moment.elapsed (mark_next plan commands s.progress) left (omega (arith, many, is.2, fine.unsent)) in
+      walk plan commands (IsCounted action.Send s) action.Send (with_progress turned s) act obeys (λ m. one, λ n. one)
+  counted s (action.Read until) act fine is obeys begun still =
+      walk plan commands (IsCounted (action.Read until) s) (action.Read until) (with_progress turned s) act obeys (
+        λ bytes m. came_counted (is_heard s.progress.phase) s.progress.word bytes (with_moment m (with_progress (told m) (with_progress turned s))) begun,
+        λ m. quieted_along (λ (q : Progress). q.behind ≡ s.progress.behind) plan s.progress.phase (time_passed until m (turned s.progress)) refl refl refl,
+        refl,
+        refl,
+        refl,
+      )
+  counted s (action.Close why) act fine is obeys begun still =
+      walk plan commands (IsCounted (action.Close why) s) (action.Close why) (with_progress turned s) act obeys
+      (closed_along (λ (q : Progress). q.behind ≡ s.progress.behind) plan (waiting_of (with_rest [] (with_progress turned s))) why (turned s.progress) refl refl)
+  counted s (action.Stop why) act fine is obeys begun still = absurd obeys
+  counted s o act fine is obeys begun still = walk plan commands (IsCounted o s) o (with_progress turned s) act obeys (λ m. refl, λ n. refl)
+
+-- What an act sends.
+
+-- a step sends nothing
+abbrev pub SendsNothing : Step Asked → Type 0
+SendsNothing (Send target call deadline) = ⊥
+SendsNothing _ = Unit {0}
+
+-- no send is among steps that send nothing
+pub no_send : (steps front later : List (Step Asked)) (target : ℕ) (call : Asked) (deadline : ℕ) → AllByRecursion SendsNothing steps → steps ≡ front ++ Send target call deadline ∷ later → ⊥
+no_send [] [] later target call deadline none e = cc
+no_send [] (f ∷ front) later target call deadline none e = cc
+no_send (x ∷ xs) [] later target call deadline none e = let same : x ≡ Send target call deadline = cc in subst SendsNothing same none.0
+no_send (x ∷ xs) (f ∷ front) later target call deadline none e = let tails : xs ≡ front ++ Send target call deadline ∷ later = cc in no_send xs front later target call deadline none.1 tails
+
+-- steps that hear lines send nothing
+hears_nothing : (lines : List (List ℕ)) → AllByRecursion SendsNothing (map Hear lines)
+hears_nothing [] = tt
+hears_nothing (line ∷ others) = (tt, hears_nothing others)
+
+-- a piece that is heard, or dropped, sends nothing
+hearing_nothing : (h : Bool) (rest piece : List ℕ) → AllByRecursion SendsNothing (hearing h rest piece)
+hearing_nothing true rest piece = hears_nothing (lines_behind rest piece)
+hearing_nothing false rest piece = tt
+
+-- in front of the only step there is none
+one_step : (x : Step Asked) (front later : List (Step Asked)) (target : ℕ) (call : Asked) (deadline : ℕ) → x ∷ [] ≡ front ++ Send target call deadline ∷ later → front ≡ []
+one_step x [] later target call deadline e = refl
+one_step x (f ∷ []) later target call deadline e = cc
+one_step x (f ∷ g ∷ front) later target call deadline e = cc
+
+module _ (plan : Plan) (commands : List Task) (s : Model) (k : ById Asked) (more : List (Option Mark)) (front later : List (Step Asked)) (target : ℕ) (call : Asked) (deadline : ℕ) (mark : Mark) where
+  -- in this part a command goes out behind the steps `front`
+  abbrev GoesOut : Part → Type 0
+  GoesOut p = (p.steps ≡ front ++ Send target call deadline ∷ later) × (slice_get (p.marks ++ more) (length (sent_by k front)) ≡ Some (Some mark))
+
+  -- where one of some commands goes out, it is the first
+  first_so : (now : ℕ) (its : Mark) (left : List Task) → GoesOut (asking_first now its left) → front ≡ []
+  first_so now its [] h = absurd (no_send [] front later target call deadline tt h.0)
+  first_so now its (task ∷ others) h = one_step _ front later target call deadline h.0
+
+  -- a null procedure isn't a command
+  null_not : front ≡ [] → slice_get ((None ∷ []) ++ more) (length (sent_by k front)) ≡ Some (Some mark) → ⊥
+  null_not e at = let first : ◌≡◌ {A = Option (Option Mark)} (Some None) (Some (Some mark)) = ap (λ l. slice_get ((None ∷ []) ++ more) (length (sent_by k l))) (sym e) ∙ at in cc
+
+  -- an act that puts bytes, and with them a command, sends the next command
+  put_so : (o : Action) → GoesOut (putting plan commands s o) → (front ≡ []) × (o ≡ action.Send)
+  put_so action.Flush h = absurd (null_not (one_step _ front later target call deadline h.0) h.1)
+  put_so action.Send h = (first_so s.progress.moment.elapsed (mark_next plan commands s.progress) (drop (place_next commands s.progress) commands) h, refl)
+  put_so o h = absurd (no_send [] front later target call deadline tt h.0)
+
+  -- an act at which a command goes out, once the station has begun, sends the next command
+  do_so : (o : Action) (act : Act) → GoesOut (doing plan commands s o act) → (front ≡ []) × (o ≡ action.Send)
+  do_so o (Told m) h = absurd (no_send (Expire m.elapsed ∷ []) front later target call deadline (tt, tt) h.0)
+  do_so o (Silent m) h = absurd (no_send (Expire m.elapsed ∷ []) front later target call deadline (tt, tt) h.0)
+  do_so o (Gave piece m) h =
+      absurd (no_send (Expire m.elapsed ∷ hearing (is_heard s.progress.phase) s.rest piece) front later target call deadline (tt, hearing_nothing (is_heard s.progress.phase) s.rest piece) h.0)
+  do_so o (Put bytes) h = put_so o h
+  do_so o (Cut bytes count) h = put_so o h
+  do_so o act h = absurd (no_send [] front later target call deadline tt h.0)
+
+  -- no command goes out while the station begins
+  begin_not : (o : Action) (act : Act) → GoesOut (beginning s o act) → ⊥
+  begin_not action.Ask (Put bytes) h = no_send [] front later target call deadline tt h.0
+  begin_not action.Ask (Cut bytes count) h = no_send [] front later target call deadline tt h.0
+  begin_not action.Ask act h = no_send [] front later target call deadline tt h.0
+  begin_not (action.Read until) (Gave piece m) h = no_send [] front later target call deadline tt h.0
+  begin_not (action.Read until) act h = no_send [] front later target call deadline tt h.0
+  begin_not o act h = no_send [] front later target call deadline tt h.0
+
+  -- an act at which a command goes out sends the next command
+  act_so : (o : Action) (act : Act) (b : Bool) → GoesOut (if b then doing plan commands s o act else beginning s o act) → (front ≡ []) × (o ≡ action.Send)
+  act_so o act true h = do_so o act h
+  act_so o act false h = absurd (begin_not o act h)
+
+-- Lists.
+
+-- where two lists in a row are `front`, an element and more, the element is in the first list or in the second
+abbrev Splits : {A : Type 0} → (xs ys front : List A) → A → List A → Type 0
+Splits {A} xs ys front a later = ((mid : List A) × (xs ≡ front ++ a ∷ mid)) ⊎ ((rest : List A) × (front ≡ xs ++ rest) × (ys ≡ rest ++ a ∷ later))
+
+-- `Splits` holds of any two lists
+split : {A : Type 0} (xs ys front : List A) (a : A) (later : List A) → xs ++ ys ≡ front ++ a ∷ later → Splits xs ys front a later
+split [] ys front a later e = inr (front, refl, e)
+split (x ∷ xs) ys [] a later e = let same : x ≡ a = cc in inl (xs, ap (λ y. y ∷ xs) same)
+split (x ∷ xs) ys (f ∷ front) a later e =
+    let head : x ≡ f = cc in
+    let tails : xs ++ ys ≡ front ++ a ∷ later = cc in
+    more (split xs ys front a later tails) head where
+      -- the lemma for one element more in front
+      more : Splits xs ys front a later → x ≡ f → Splits (x ∷ xs) ys (f ∷ front) a later
+      more (inl (mid, is)) head = inl (mid, ap (λ y. y ∷ xs) head ∙ ap (λ l. f ∷ l) is)
+      more (inr (rest, is, others)) head = inr (rest, ap (λ l. f ∷ l) is ∙ ap (λ y. y ∷ (xs ++ rest)) (sym head), others)
+
+-- what holds of each element of a list holds of the one at a place
+all_at : {A : Type 0} (P : A → Type 0) (xs : List A) (i : ℕ) (x : A) → AllByRecursion P xs → slice_get xs i ≡ Some x → P x
+all_at P [] i x all e = cc
+all_at P (y ∷ xs) zero x all e = let same : y ≡ x = cc in subst P same all.0
+all_at P (y ∷ xs) (suc i) x all e = all_at P xs i x all.1 e
+
+-- Runs.
+
+-- wherever a command goes out in a part, behind the steps `done` of the same part, a call of the table is near that a reply ended
+abbrev IsNear : List (Step Asked) → Part → Type 0
+IsNear done p =
+    (front later : List (Step Asked)) (target : ℕ) (call : Asked) (deadline : ℕ) (mark : Mark) → p.steps ≡ front ++ Send target call deadline ∷ later
+    → slice_get p.marks (length (sent_by (reached done).client front)) ≡ Some (Some mark) → IsNearTheTable (reached (done ++ front))
+
+-- the same in each of these parts, where the steps `done` are in front of the first
+abbrev AreNear : List (Step Asked) → List Part → Type 0
+AreNear done [] = Unit {0}
+AreNear done (p ∷ ps) = IsNear done p × AllByRecursion (IsNear []) ps
+
+-- parts with nothing done before
+near_all : (ps : List Part) → AreNear [] ps → AllByRecursion (IsNear []) ps
+near_all [] h = tt
+near_all (p ∷ ps) h = h
+
+module _ (plan : Plan) (commands : List Task) (s : Model) (o : Action) (act : Act) (done : List (Step Asked)) (fine : Invariant plan commands s)
+    (is : IsFor plan s.progress (waiting_of s) o) (obeys : Performs commands s o act) (client : s.client ≡ (reached done).client)
+    (counts : Counts (reached done) s.progress.behind) where
+  -- the part of the act
+  abbrev p : Part
+  p = acting plan commands s o act
+
+  -- what the act leads to
+  led : Leads commands s p (moved plan commands o (with_progress turned s) act)
+  led = leads plan commands s o act fine is obeys
+
+  -- a command goes out at the act, or behind it, only near a call of the table
+  sends_near : (more : List (Option Mark)) (front later : List (Step Asked)) (target : ℕ) (call : Asked) (deadline : ℕ) (mark : Mark) → p.steps ≡ front ++ Send target call deadline ∷ later
+      → slice_get (p.marks ++ more) (length (sent_by (reached done).client front)) ≡ Some (Some mark) → IsNearTheTable (reached (done ++ front))
+  sends_near more front later target call deadline mark e at =
+      let so = act_so plan commands s (reached done).client more front later target call deadline mark o act (has_begun s.progress) (e, at) in
+      let needs = subst (λ (x : Action). IsFor plan s.progress (waiting_of s) x) so.1 is in
+      subst (λ (l : List (Step Asked)). IsNearTheTable (reached l)) (sym (ap (λ l. done ++ l) so.0 ∙ append-nil done))
+      (near_so (reached done) s.progress.behind counts needs.5)
+
+  -- the marks of the act's requests are as many as these
+  as_many : length p.marks ≡ length (sent_by (reached done).client p.steps)
+  as_many = of_length commands p.marks (sent_by s.client p.steps) led.wrote.sent ∙ ap (λ (c : ById Asked). length (sent_by c p.steps)) client
+
+  -- the steps of the act, and then those of more
+  joined_near : (q : Part) → IsNear (done ++ p.steps) q → IsNear done (joined p q)
+  joined_near q h front later target call deadline mark e at = by_case (split p.steps q.steps front (Send target call deadline) later e) where
+    -- the lemma above, whether the command goes out at the act or behind it
+    by_case : Splits p.steps q.steps front (Send target call deadline) later → IsNearTheTable (reached (done ++ front))
+    by_case (inl (mid, here)) = sends_near q.marks front mid target call deadline mark here at
+    by_case (inr (rest, is_front, there)) =
+        let c = (reached done).client in
+        let after : (reached (done ++ p.steps)).client ≡ client_after c p.steps =
+        ap (λ y. y.client) (course_append begun done p.steps) ∙ course_client p.steps (reached done) in
+        let sent = sent_append c p.steps rest in
+        let many = length-append (sent_by c p.steps) (sent_by (client_after c p.steps) rest) in
+        let count : length (sent_by c front) ≡ length p.marks + length (sent_by (client_after c p.steps) rest) =
+        ap (λ l. length (sent_by c l)) is_front ∙ ap length sent ∙ many ∙ ap (λ n. n + length (sent_by (client_after c p.steps) rest)) (sym as_many) in
+        let at_q = sym (get_behind p.marks q.marks (length (sent_by c front)) (length (sent_by (client_after c p.steps) rest)) count) ∙ at in
+        subst (λ (l : List (Step Asked)). IsNearTheTable (reached l)) (append_assoc done p.steps rest ∙ ap (λ l. done ++ l) (sym is_front))
+        (h rest later target call deadline mark there (ap (λ (k : ById Asked). slice_get q.marks (length (sent_by k rest))) after ∙ at_q))
+
+  -- the steps of the act alone
+  alone_near : IsNear done p
+  alone_near front later target call deadline mark e at =
+      sends_near [] front later target call deadline mark e (ap (λ l. slice_get l (length (sent_by (reached done).client front))) (append-nil p.marks) ∙ at)
+
+  -- the part of the act in front of others
+  front_near : (ps : List Part) → AreNear (done ++ p.steps) ps → AreNear done (in_front p false ps)
+  front_near [] h = (alone_near, tt)
+  front_near (q ∷ ps) h = (joined_near q h.0, h.1)
+
+-- where nothing is lost, the station has begun
+not_lost : (p : Progress) → loses_all p ≡ false → has_begun p ≡ true
+not_lost p e = by_test (has_begun p) _ e where
+  -- the lemma above, by whether it has begun
+  by_test : (b over : Bool) → (not b || over) ≡ false → b ≡ true
+  by_test true over e = refl
+  by_test false over e = cc
+
+-- while the station begins, the client takes no step
+no_steps : (s : Model) (o : Action) (act : Act) → (beginning s o act).steps ≡ []
+no_steps s action.Ask (Put bytes) = refl
+no_steps s action.Ask (Cut bytes count) = refl
+no_steps s action.Ask act = refl
+no_steps s (action.Read until) (Gave piece m) = refl
+no_steps s (action.Read until) act = refl
+no_steps s o act = refl
+
+-- a new client has sent nothing, so that none of its requests is behind
+none_sent : (b : ℕ) → Counts (reached []) b
+none_sent b low = inl (omega arith)
+
+-- a new client is new, whether what waits is lost or not
+new_client : (t : Model) (b : Bool) → t.client ≡ fresh → (losing b t).client ≡ fresh
+new_client t true e = refl
+new_client t false e = e
+
+-- one act, and those behind it, of which `next` is known
+module _ (plan : Plan) (commands : List Task) (s : Model) (act : Act) (done : List (Step Asked)) (fine : Invariant plan commands s)
+    (obeys : Performs commands s (action_at plan s) act) (client : s.client ≡ (reached done).client) (new : has_begun s.progress ≡ false → done ≡ [])
+    (counts : Counts (reached done) s.progress.behind) (ps : List Part) where
+  -- the act's action
+  abbrev o : Action
+  o = action_at plan s
+
+  -- its conditions
+  its : IsFor plan s.progress (waiting_of s) o
+  its = action_for plan s.progress (waiting_of s)
+
+  -- its part
+  abbrev part : Part
+  part = acting plan commands s o act
+
+  -- the model behind it, before what waits is lost
+  abbrev t : Model
+  t = moved plan commands o (with_progress turned s) act
+
+  -- the model behind it
+  abbrev u : Model
+  u = losing (loses_all t.progress) t
+
+  -- the steps of the act's part, once the station has begun
+  part_is : (b : Bool) → has_begun s.progress ≡ b → part.steps ≡ (if b then doing plan commands s o act else beginning s o act).steps
+  part_is b w = ap (λ (x : Bool). (if x then doing plan commands s o act else beginning s o act).steps) w
+
+  -- what the act does to how many are behind, by its part
+  part_counted : has_begun s.progress ≡ true → has_begun t.progress ≡ true → t.progress.behind ≡ behind_by (reached done).client s.progress.behind part.steps
+  part_counted w still =
+      counted plan commands s o act fine its obeys w still ∙ ap (behind_by s.client s.progress.behind) (sym (part_is true w)) ∙ ap (λ (c : ById Asked). behind_by c s.progress.behind part.steps) client
+
+  -- the client behind the act is that of the course behind its steps
+  part_client : (reached (done ++ part.steps)).client ≡ t.client
+  part_client =
+      ap (λ y. y.client) (course_append begun done part.steps) ∙ course_client part.steps (reached done) ∙ ap (λ (c : ById Asked). client_after c part.steps) (sym client)
+      ∙ (led plan commands s o act done fine its obeys client counts).client
+
+  -- where what is known of the parts behind the act holds, all parts are near
+  by_case : (started all : Bool) → has_begun s.progress ≡ started → loses_all t.progress ≡ all
+      → ((later : List (Step Asked)) → u.client ≡ (reached later).client → (has_begun u.progress ≡ false → later ≡ []) → Counts (reached later) u.progress.behind → AreNear later ps)
+      → AreNear done (in_front part (started && all) ps)
+  by_case true true w l next =
+      (alone_near plan commands s o act done fine its obeys client counts, near_all ps (next [] (ap (λ b. (losing b t).client) l) (λ e. refl) (none_sent u.progress.behind)))
+  by_case true false w l next =
+      let same : u ≡ t = ap (λ b. losing b t) l in
+      let still = not_lost t.progress l in
+      front_near plan commands s o act done fine its obeys client counts ps
+      (next (done ++ part.steps) (ap (λ (x : Model). x.client) same ∙ sym part_client)
+      (λ e. absurd (clash (has_begun t.progress) still (ap (λ (x : Model). has_begun x.progress) (sym same) ∙ e)))
+      (subst (λ (x : Model). Counts (reached (done ++ part.steps)) x.progress.behind) (sym same)
+      (subst (λ (n : ℕ). Counts (reached (done ++ part.steps)) n) (sym (part_counted w still)) (counts_steps done part.steps s.progress.behind counts))))
+  by_case false all w l next =
+      let kept = keeps_action plan commands s o act its obeys w (fine.begins w) in
+      let steps : part.steps ≡ [] = part_is false w ∙ no_steps s o act in
+      let none_done : done ++ part.steps ≡ [] = ap (λ l. l ++ part.steps) (new w) ∙ steps in
+      front_near plan commands s o act done fine its obeys client counts ps
+      (subst (λ (l : List (Step Asked)). AreNear l ps) (sym none_done)
+      (next [] (new_client t (loses_all t.progress) kept.0) (λ e. refl) (none_sent u.progress.behind)))
+
+module _ (plan : Plan) (commands : List Task) where
+  -- wherever a command goes out, a call of the table is near that a reply ended
+  near_from : (s : Model) (acts : List Act) (done : List (Step Asked)) → Invariant plan commands s → Runs plan commands s acts → s.client ≡ (reached done).client
+      → (has_begun s.progress ≡ false → done ≡ []) → Counts (reached done) s.progress.behind → AreNear done (parts_of plan commands s acts)
+  near_from s [] done fine runs client new counts = ((λ front later target call deadline mark e at. absurd (no_send [] front later target call deadline tt e)), tt)
+  near_from s (act ∷ acts) done fine runs client new counts =
+      let t = moved plan commands (action_at plan s) (with_progress turned s) act in
+      let ps = parts_of plan commands (after plan commands s act) acts in
+      subst (λ b. AreNear done (in_front (acting plan commands s (action_at plan s) act) (has_begun s.progress && b) ps)) (sym (ap loses_all (losing_progress (loses_all t.progress) t)))
+      (by_case plan commands s act done fine runs.0 client new counts ps (has_begun s.progress) (loses_all t.progress) refl refl
+      (λ later. near_from (after plan commands s act) acts later (fine_after plan commands s act fine) runs.1))
+
+-- the law: each command goes out behind a call of the table that a reply ended, or behind the beginning
+pub behind_the_table : CommandsGoOutBehindTheTable
+behind_the_table plan commands scope acts runs i part at front later target call deadline mark e its =
+    let all = near_all (parts_of plan commands (opening plan scope) acts)
+    (near_from plan commands (opening plan scope) acts [] (fine_opening plan commands scope) runs refl (λ b. refl) (λ low. inl (omega arith))) in
+    all_at (IsNear []) (parts_of plan commands (opening plan scope) acts) i part all at front later target call deadline mark e
+    (ap (λ l. slice_get part.marks (length l)) (sym (course_sent front begun)) ∙ its)

@@ -1,0 +1,57 @@
+-- Where commands go out behind calls of the table, this project's own. An instrument may keep its reply to a request, and send it
+-- again for a later one with the same id; of eight requests in a row no two have one id. Procedures that aren't in the table may
+-- leave what it keeps. So no command goes out unless one of the seven requests before it is a call of the table that a reply
+-- ended, or the last null procedure of the beginning. A part reaches from one beginning to the next (`Parts`).
+use Rattle.std.specs.Prelude.{◌≡◌, ◌⊎◌, ℕ, ◌+◌, ◌<◌, ◌≤◌, true, false, List, ◌∷◌, ◌++◌, length, Some, slice_get}
+use Rattle.std.specs.List.{AllByRecursion}
+use Rattle.gc_catalogue.specs.Asked.{is_of_table}
+use Rattle.gc_catalogue.specs.declared.asked.Asked.{Asked}
+use Rattle.gc_client.specs.OneForOne.{Course, Step, Send, begun, course}
+use Rattle.gc_client.specs.Rule.{Settlement, Lost}
+use Rattle.gc_client.specs.declared.window.TheConstants.{WINDOW}
+use Rattle.gc_texts.specs.declared.tasks.Task.{Task}
+use Rattle.gc_links.specs.Acts.{Act}
+use Rattle.gc_station.specs.declared.mark.Mark.{Mark}
+use Rattle.gc_station.specs.declared.plan.Plan.{Plan}
+use Rattle.gc_station.specs.declared.progress.Action.TheVariants as action
+use Rattle.gc_station.specs.Deciding.{has_begun, action_next, action_room}
+use Rattle.gc_station.specs.Links.{parts}
+use Rattle.gc_station.specs.Model.{opening, waiting_of, Runs}
+use Rattle.gc_station.specs.Parts.{Part}
+use Rattle.gc_station.specs.Progressing.{is_over}
+use Rattle.gc_station.specs.Runs.{stood}
+use Rattle.gc_station.specs.Scopes.{Scope}
+
+-- a request was a call of the table, and a reply ended it: it was answered, or late
+abbrev pub IsReplied : Settlement Asked → Type 0
+IsReplied x = (is_of_table x.call ≡ true) × (x.outcome ≡ Lost → ⊥)
+
+-- of the requests that a client sent since its beginning, one of the last seven is a call of the table that a reply ended; or
+-- fewer than seven went out, so that the last null procedure of the beginning is one of the last seven. Settlement k is that of
+-- request k
+abbrev pub IsNearTheTable : Course Asked → Type 0
+IsNearTheTable x =
+    (length x.sent < WINDOW)
+    ⊎ ((k : ℕ) × (s : Settlement Asked) × (slice_get x.settlements k ≡ Some s) × IsReplied s × (length x.sent ≤ k + WINDOW))
+
+-- wherever a command goes out, one of the seven requests before it is a call of the table that a reply ended, or the last null
+-- procedure of its part's beginning (`IsNearTheTable`)
+abbrev pub CommandsGoOutBehindTheTable : Type 0
+CommandsGoOutBehindTheTable =
+    (plan : Plan) (commands : List Task) (scope : Scope) (acts : List Act) → Runs plan commands (opening plan scope) acts
+    → (i : ℕ) (part : Part) → slice_get (parts plan commands scope acts) i ≡ Some part
+    → (front later : List (Step Asked)) (target : ℕ) (call : Asked) (deadline : ℕ) (mark : Mark) → part.steps ≡ front ++ Send target call deadline ∷ later
+    → slice_get part.marks (length (course WINDOW begun front).sent) ≡ Some (Some mark) → IsNearTheTable (course WINDOW begun front)
+
+-- each of these tasks asks for a call of the table
+abbrev pub AreOfTable : List Task → Type 0
+AreOfTable tasks = AllByRecursion (λ task. is_of_table task.command.call ≡ true) tasks
+
+-- where all commands are calls of the table, and a run has begun and isn't over, as many requests are behind the last call of the table that a
+-- reply ended as wait; so a command that may go out does, as soon as there is room
+abbrev pub TheTableIsNeverHeldUp : Type 0
+TheTableIsNeverHeldUp =
+    (plan : Plan) (commands : List Task) (scope : Scope) (acts : List Act) → Runs plan commands (opening plan scope) acts → AreOfTable commands
+    → let s = stood plan commands scope acts in has_begun s.progress ≡ true → is_over s.progress ≡ false
+    → (s.progress.behind ≡ length s.client.waiting)
+    × (action_next plan s.progress (waiting_of s) ≡ action_room plan s.progress (waiting_of s) action.Send)

@@ -1,0 +1,53 @@
+-- Lines that ask for a procedure that isn't in the table (`IsRawWish`): their words, and that no command's line is one of them.
+use Rattle.std.proofs.Common.{◌≡◌, ◌<◌, ◌≤◌, ◌==◌, ℕ, List, [], ◌∷◌, ◌++◌, length, get_or, Option, Some, None, Bool, true, false, cond, arith, refl, ap, subst, sym, ◌∙◌, codes, append-nil}
+use Rattle.gc_values.specs.Digits.{AreDigits}
+use Rattle.gc_catalogue.specs.declared.asked.Asked.TheVariants.{Raw}
+use Rattle.gc_catalogue.specs.RawTexts.{raw_bytes}
+use Rattle.gc_catalogue.specs.declared.raw.RawCall.{RawCall}
+use Rattle.gc_catalogue.proofs.AskedRules.{one_asked}
+use Rattle.gc_texts.specs.Commands.{IsCommand}
+use Rattle.gc_texts.specs.Cuts.{Lacks, before, behind}
+use Rattle.gc_texts.specs.Procedures.{IsNumber, IsProcedure, behind_number}
+use Rattle.gc_texts.specs.Wishes.{IsRawWish}
+use Rattle.gc_texts.specs.Words.{first_word, second_word, third_word, behind_three}
+use Rattle.gc_texts.specs.declared.commands.Command.{Command}
+use Rattle.gc_texts.proofs.Cutting.{digits_lack_spaces}
+use Rattle.gc_texts.proofs.Fronts.{before_mark, before_none, behind_mark}
+use Rattle.gc_texts.proofs.Procedures.{one_number}
+
+-- what stands before the first space of digits and the parameters behind them is the digits
+before_params : (digits : List ℕ) (params : Option (List ℕ)) → AreDigits digits → before 32 (digits ++ behind_number params) ≡ digits
+before_params digits None are = ap (before 32) (append-nil digits) ∙ before_none 32 digits (digits_lack_spaces digits are)
+before_params digits (Some params) are = before_mark 32 digits params (digits_lack_spaces digits are)
+
+-- the second word of a command's line is its procedure's number
+number_word : (line : List ℕ) (command : Command) → (is : IsCommand line command) → second_word line ≡ is.procedure_is.rpc_text
+number_word line command is =
+    ap (λ l. before 32 (behind 32 l)) is.line_is
+    ∙ ap (before 32) (behind_mark 32 is.target_text is.procedure (digits_lack_spaces is.target_text is.target_is.names.digits) ∙ is.procedure_is.text_is)
+    ∙ before_params is.procedure_is.rpc_text is.procedure_is.params is.procedure_is.number.names.digits
+
+-- the word `raw` is no digits
+no_digits : (word : List ℕ) → AreDigits word → word ≡ codes "raw" → ⊥
+no_digits [] are e = let first : ◌≡◌ {A = ℕ} 0 114 = ap (λ bs. get_or bs 0 0) e in omega (arith, first)
+no_digits (d ∷ ds) are e = let first : d ≡ 114 = ap (λ bs. get_or bs 0 0) e in omega (arith, first, are.0.1)
+
+-- no line both has the form of a command and asks for a procedure that isn't in the table
+pub never_both : (line : List ℕ) (command : Command) (target : ℕ) (raw : RawCall) → IsCommand line command → IsRawWish line target raw → ⊥
+never_both line command target raw x y = no_digits x.procedure_is.rpc_text x.procedure_is.number.names.digits (sym (number_word line command x) ∙ y.word)
+
+-- a line asks one target at most for one procedure that isn't in the table
+pub one_raw : (line : List ℕ) (m n : ℕ) (r s : RawCall) → IsRawWish line m r → IsRawWish line n s → (m ≡ n) × (Raw r ≡ Raw s)
+one_raw line m n r s x y = (
+  one_number (first_word line) m n 4294967295 x.target_is y.target_is,
+  one_asked s.rpc (raw_bytes s.params) (Raw r) (Raw s) (one_number (third_word line) r.rpc s.rpc 65535 x.number y.number, x.params_are ∙ sym y.params_are) (refl, refl),
+)
+
+-- where digits stand before the first space of a line, the line begins with a byte up to that of 9
+pub first_digit : (line : List ℕ) → AreDigits (first_word line) → 0 < length (first_word line) → get_or line 0 0 ≤ 57
+first_digit [] digits some = omega arith
+first_digit (b ∷ bs) digits some = low (b == 32) (before 32 bs) digits some where
+  -- the same, where `z` says whether that byte is a space
+  low : (z : Bool) (rest : List ℕ) → AreDigits (cond z [] (b ∷ rest)) → 0 < length (cond z [] (b ∷ rest)) → b ≤ 57
+  low true rest digits some = absurd (omega (arith, some))
+  low false rest digits some = digits.0.1

@@ -1,0 +1,59 @@
+-- What is at fault in a line whose second word is `raw`, and the names of procedures by their numbers.
+use Rattle.std.proofs.Common.{◌≡◌, ◌≢◌, ◌==◌, ◌⊎◌, inl, inr, ℕ, List, [], ◌∷◌, ◌++◌, codes, append_assoc, Option, Some, None, IfSome, cond, refl, ap, subst, sym, ◌∙◌}
+use Rattle.std.proofs.lemmas.Bool.{ne_eqb}
+use Rattle.gc_catalogue.specs.Calls.{call_fields}
+use Rattle.gc_catalogue.specs.Names.{call_name}
+use Rattle.gc_catalogue.specs.Raws.{IsProcedure, IsNoProcedure, IsRawCall, IsRawRefusal}
+use Rattle.gc_catalogue.specs.declared.call.Call.{Call}
+use Rattle.gc_catalogue.specs.declared.call.Call.TheVariants.{NullProc}
+use Rattle.gc_catalogue.specs.declared.raw.RawFault.{RawFault}
+use Rattle.gc_catalogue.specs.declared.raw.RawFault.TheVariants.{InTable, NotPlain, TooLong, OpenQuote, TooMany}
+use Rattle.gc_texts.specs.Laws.{NamesAreTheCatalogues}
+use Rattle.gc_texts.specs.ProcedureNames.{each_procedure, name_among, name_of}
+use Rattle.gc_texts.specs.Procedures.{IsNumber}
+use Rattle.gc_texts.specs.Troubles.{raw_trouble, IsRaw, IsAskedRaw, IsRawTrouble, IsRawWordsTrouble, IsTrouble}
+use Rattle.gc_texts.specs.Words.{third_word, behind_three}
+use Rattle.gc_texts.specs.declared.trouble.Trouble.{Trouble}
+use Rattle.gc_texts.specs.declared.trouble.Trouble.TheVariants as trouble
+
+-- the law: the name that is printed of a procedure's number is the catalogue's
+pub names_are : NamesAreTheCatalogues
+names_are NullProc = refl
+names_are call = refl
+
+-- no name is found of a number that no procedure has
+pub no_name : (calls : List Call) (rpc : ℕ) → IsNoProcedure rpc → name_among calls rpc ≡ []
+no_name [] rpc none = refl
+no_name (call ∷ calls) rpc none =
+    ap (λ b. cond b (call_name call) (name_among calls rpc)) (ne_eqb (call_fields call).number rpc (none call)) ∙ no_name calls rpc none
+
+-- where `name` is the name of each call with this number, and some call has it, `name` is what is found of the number
+pub named : (rpc : ℕ) (name : List ℕ) → ((call : Call) → (call_fields call).number ≡ rpc → name ≡ call_name call) → IsProcedure rpc → name ≡ name_of rpc
+named rpc name each is = each is.0 is.1 ∙ sym (names_are is.0) ∙ ap name_of is.1
+
+-- a line whose second word is `raw`
+module _ (line : List ℕ) (word : IsRaw line) where
+  -- where a number and what stands behind it may not be asked for, what is told of the reason is a trouble of the line
+  refused : (rpc : ℕ) (fault : RawFault) → IsNumber (third_word line) rpc 65535 → IsRawRefusal rpc (behind_three line) fault → IsTrouble line (raw_trouble rpc fault)
+  refused rpc InTable number is = record { word = word; rpc = rpc; number = number; is = inl (InTable, is, refl) }
+  refused rpc NotPlain number is = record { word = word; rpc = rpc; number = number; is = inl (NotPlain, is, refl) }
+  refused rpc TooLong number is = record { word = word; rpc = rpc; number = number; is = inl (TooLong, is, refl) }
+  refused rpc OpenQuote number is = record { word = word; rpc = rpc; number = number; is = inl (OpenQuote, is, refl) }
+  refused rpc TooMany number is = record { word = word; rpc = rpc; number = number; is = inl (TooMany, is, refl) }
+
+  -- a trouble of what stands behind the word `raw` is a trouble of the line
+  pub raw_words : (t : Trouble) → IsRawWordsTrouble (third_word line) (behind_three line) t → IsTrouble line t
+  raw_words t (inl none) = subst (IsTrouble line) (sym none.0) (inl (word, none.1))
+  raw_words t (inr (rpc, number, inl (fault, is, told))) = subst (IsTrouble line) (sym told) (refused rpc fault number is)
+  raw_words t (inr (rpc, number, inr (may, told))) =
+      subst (IsTrouble line) (sym told) (inr (inr (record { word = word; rpc = rpc; number = number; is = inr (may, refl) })))
+
+-- what is at fault behind the word `raw` is told of equal words and of equal parameters
+pub same_words : (word other params others : List ℕ) (t : Trouble) → word ≡ other → params ≡ others → IsRawWordsTrouble word params t → IsRawWordsTrouble other others t
+same_words word other params others t e f is = subst (λ (w : List ℕ). IsRawWordsTrouble w others t) e (subst (λ (p : List ℕ). IsRawWordsTrouble word p t) f is)
+
+-- the line that names a procedure of the table, its line feed within the last text or behind it
+pub with_feed : (rpc name : List ℕ) → rpc ++ (codes " is " ++ (name ++ codes ": leave out raw\n")) ≡ (((rpc ++ codes " is ") ++ name) ++ codes ": leave out raw") ++ codes "\n"
+with_feed rpc name =
+    sym (append_assoc ((rpc ++ codes " is ") ++ name) (codes ": leave out raw") (codes "\n")
+    ∙ append_assoc (rpc ++ codes " is ") name (codes ": leave out raw\n") ∙ append_assoc rpc (codes " is ") (name ++ codes ": leave out raw\n"))

@@ -1,0 +1,12 @@
+use Rattle.std.proofs.Common.{◌≡◌, true, false, sym, ◌∙◌}
+use Rattle.gc_texts.specs.declared.task_line.TaskLine.TheVariants as says
+use Rattle.gc_texts.proofs.task_line.read_task_line.Goals as goal
+
+pub returns-in-None : goal.returns-in-None
+returns-in-None c says.Chained is = let both : true ≡ false = sym (c.is_word.ensures.1 is) ∙ c.if-is_word.false in cc
+returns-in-None c says.Unchained is = let both : true ≡ false = sym (c.is_word-2.ensures.1 is) ∙ c.if-is_word-2.false in cc
+returns-in-None c (says.Deadline deadline) is = c.in_default.ensures deadline is
+returns-in-None c (says.Naming name) is = c.in_default-read_naming.ensures name is
+returns-in-None c (says.Standing near) is = c.in_default-read_standing.ensures near is
+returns-in-None c (says.Accepting codes) is = c.in_default-read_accepting.ensures codes is
+returns-in-None c (says.Command wish) is = c.in-None.ensures wish is

@@ -1,0 +1,23 @@
+-- The words of a line of a station's text, with one space (byte 32) between two: this project's own.
+use Rattle.std.specs.Prelude.{ℕ, List}
+use Rattle.gc_texts.specs.Cuts.{before, behind}
+
+-- the first word of a line
+abbrev pub first_word : List ℕ → List ℕ
+first_word line = before 32 line
+
+-- the second word of a line
+abbrev pub second_word : List ℕ → List ℕ
+second_word line = before 32 (behind 32 line)
+
+-- what stands behind the first two words of a line
+abbrev pub behind_two : List ℕ → List ℕ
+behind_two line = behind 32 (behind 32 line)
+
+-- the third word of a line
+abbrev pub third_word : List ℕ → List ℕ
+third_word line = before 32 (behind_two line)
+
+-- what stands behind the first three words of a line
+abbrev pub behind_three : List ℕ → List ℕ
+behind_three line = behind 32 (behind_two line)

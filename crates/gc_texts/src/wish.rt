@@ -1,0 +1,75 @@
+//! Wishes: what a station is to ask, and whom.
+
+ghost use Rattle.std.specs.Prelude.{◌≡◌, ℕ, MatchOption};
+ghost use Rattle.gc_catalogue.specs.declared.raw.RawCall.{RawCall};
+ghost use Rattle.gc_texts.specs.Wishes.{IsRawWish, IsWish, wish_of};
+ghost use Rattle.gc_texts.specs.declared.wish.Wish.{Wish};
+
+use crate::commands::{Command, read_command};
+use crate::cuts::{before, behind, is_word};
+use crate::procedure::{TARGET_MAX, number_of};
+use gc_catalogue::{Asked, RawCall, raw_call};
+
+/// A request of a station that is to be asked: a command, or a procedure that isn't in the table.
+#[derive(Clone, Copy, Debug, PartialEq, Eq)]
+pub struct Wish {
+    /// Whom it is for: a number of the caller's own, handed back with the settlement.
+    pub target: u32,
+    /// What it asks for.
+    pub call: Asked,
+}
+
+impl Wish {
+    /// A command, as a wish.
+    pub fn of(command: &Command) -> Wish
+        ensures { result ≡ wish_of command.now }
+    {
+        Wish {
+            target: command.target,
+            call: Asked::Table(command.call),
+        }
+    }
+}
+
+// Reads `T raw RPC` or `T raw RPC PARAMS`: a target's number, and a procedure that isn't in the table with its parameters as they stand.
+// `None`: the line has no such form.
+fn read_raw(line: &[u8]) -> Option<(u32, RawCall)>
+    ensures { MatchOption result ((target : ℕ) (raw : RawCall) → IsRawWish line.now target raw → ⊥) (λ r. IsRawWish line.now r.0 r.1) }
+{
+    let rest = behind(b' ', line);
+    if !is_word(b"raw", before(b' ', rest)) {
+        return None;
+    }
+    let words = behind(b' ', rest);
+    let number = before(b' ', words);
+    let params = behind(b' ', words);
+    if params.is_empty() && number.len() < words.len() {
+        return None;
+    }
+    let Some(target) = number_of(before(b' ', line), TARGET_MAX) else {
+        return None
+    };
+    let Some(rpc) = number_of(number, 65535) else {
+        return None
+    };
+    match raw_call(rpc as u16, params) {
+        Ok(raw) => Some((target as u32, raw)),
+        Err(_) => None,
+    }
+}
+
+// Reads a wish: a line that has the form of a command, or asks for a procedure that isn't in the table. `None`: it has neither form.
+pub(crate) fn read_wish(line: &[u8]) -> Option<Wish>
+    ensures { MatchOption result ((wish : Wish) → IsWish line.now wish → ⊥) (λ wish. IsWish line.now wish) }
+{
+    if let Some((target, raw)) = read_raw(line) {
+        return Some(Wish {
+            target,
+            call: Asked::Raw(raw),
+        });
+    }
+    match read_command(line) {
+        Some(command) => Some(Wish::of(&command)),
+        None => None,
+    }
+}

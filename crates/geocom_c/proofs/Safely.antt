@@ -1,0 +1,143 @@
+-- When what calls on a state send is safe: where a request that is no call of the table is to the instrument as all others, and where each
+-- call sends what is in the table. An event is a null procedure that goes out, a line that comes, or a step of a client; a run is the turns
+-- of a beginning and then the moves of the field, and a part is a run with what was under way when it began.
+use Rattle.std.proofs.Common.{◌≡◌, ℕ, true, List, [], ◌∷◌, ◌++◌, map, Option, Some, None, refl, sym, subst, inl, inr}
+use Rattle.std.specs.List.{AllByRecursion}
+use Rattle.gc_catalogue.specs.Asked.{is_of_table}
+use Rattle.gc_client.specs.Beginning.{the_word}
+use Rattle.gc_client.specs.OneForOne as one
+use Rattle.gc_instrument.specs.State.{KeptReply}
+use Rattle.gc_lines.specs.Frames.{rest_behind}
+use Rattle.gc_field.specs.Begin.{UnderWay, begins}
+use Rattle.gc_field.specs.Beginnings.{Run, left_by_run}
+use Rattle.gc_field.specs.Field.{Move, Sends, Tells, OnLine, Joins, AsksTheTable, seen}
+use Rattle.gc_field.specs.Field as field
+use Rattle.gc_field.specs.Instrument.{TreatsRawsAlike}
+use Rattle.gc_field.specs.World.{Ends}
+use Rattle.geocom_c.specs.Beginning.{anew, given, left_behind}
+use Rattle.geocom_c.specs.Laws.{AreOfTheTable, IsSafeRun}
+use Rattle.geocom_c.specs.Rest.{lines_behind}
+use Rattle.geocom_c.specs.Runs.{Part, events_of, events_over, parts}
+use Rattle.geocom_c.specs.Steps.{Event, Null, Came, Went, AreEvents, asked_by, begins_by, goes_by}
+use Rattle.geocom_c.specs.declared.following.Step.{Step}
+use Rattle.geocom_c.specs.declared.following.Step.TheVariants.{Send, SendRaw, Begin, Feed, Expire, Restart}
+use Rattle.geocom_c.proofs.Owning.{all_joined}
+
+-- the event asks for nothing but a call of the table
+abbrev IsInTable : Event → Type 0
+IsInTable Null = Unit {0}
+IsInTable (Came line) = Unit {0}
+IsInTable (Went (one.Send target asked deadline)) = is_of_table asked ≡ true
+IsInTable (Went (one.Hear line)) = Unit {0}
+IsInTable (Went (one.Expire now)) = Unit {0}
+IsInTable (Went one.Restart) = Unit {0}
+
+-- so does each of these events
+abbrev AreInTable : List Event → Type 0
+AreInTable events = AllByRecursion IsInTable events
+
+-- what holds of all events of two lists joined holds of the first
+first_of : (xs ys : List Event) → AreInTable (xs ++ ys) → AreInTable xs
+first_of [] ys h = tt
+first_of (x ∷ xs) ys h = (h.0, first_of xs ys h.1)
+
+-- and of the second
+rest_of : (xs ys : List Event) → AreInTable (xs ++ ys) → AreInTable ys
+rest_of [] ys h = h
+rest_of (x ∷ xs) ys h = rest_of xs ys h.1
+
+-- lines that come ask for nothing
+came : (lines : List (List ℕ)) → AreInTable (map Came lines)
+came [] = tt
+came (line ∷ lines) = (tt, came lines)
+
+-- a null procedure that goes out is a call of the table
+nulls : (o : Option (List ℕ)) → AreInTable (asked_by o)
+nulls None = tt
+nulls (Some line) = (tt, tt)
+
+-- a begin asks for null procedures alone
+begun : (left rest bytes : List ℕ) → AreInTable (begins_by left rest bytes)
+begun [] rest bytes = tt
+begun (asked ∷ later) rest bytes =
+    let o = given bytes (asked ∷ later) (left_behind (asked ∷ later) rest bytes) in
+    all_joined IsInTable (map Came (lines_behind rest bytes)) (asked_by o) (came (lines_behind rest bytes)) (nulls o)
+
+-- lines that are heard ask for nothing
+heard_lines : (lines : List (List ℕ)) → AreInTable (map Went (map one.Hear lines))
+heard_lines [] = tt
+heard_lines (line ∷ lines) = (tt, heard_lines lines)
+
+-- lines that are fed ask for nothing
+fed : (left : List ℕ) (lines : List (List ℕ)) → AreInTable (goes_by left (map one.Hear lines))
+fed [] lines = heard_lines lines
+fed (asked ∷ later) lines = tt
+
+-- a moment asks for nothing
+expired : (left : List ℕ) (now : ℕ) → AreInTable (goes_by left (one.Expire now ∷ []))
+expired [] now = (tt, tt)
+expired (asked ∷ later) now = tt
+
+-- a restart asks for nothing
+restarted : (left : List ℕ) → AreInTable (goes_by left (one.Restart ∷ []))
+restarted [] = (tt, tt)
+restarted (asked ∷ later) = tt
+
+-- calls on a state that send what is in the table are events that ask for that alone
+in_table : (left rest : List ℕ) (calls : List Step) (events : List Event) → AreOfTheTable calls → AreEvents left rest calls events → AreInTable events
+in_table left rest [] events t e = subst (λ (es : List Event). AreInTable es) (sym e) tt
+in_table left rest (Send target deadline procedure params ∷ calls) events t (inl f) =
+    subst (λ (es : List Event). AreInTable es) (sym f.4) (refl, in_table left rest calls f.1 t f.5)
+in_table left rest (Send target deadline procedure params ∷ calls) events t (inr f) = in_table left rest calls events t f.1
+in_table left rest (SendRaw target deadline procedure params ∷ calls) events t f = absurd t
+in_table left rest (Begin bytes ∷ calls) events t f =
+    subst (λ (es : List Event). AreInTable es) (sym f.1)
+    (all_joined IsInTable (begins_by left rest bytes.now) f.0 (begun left rest bytes.now)
+    (in_table (left_behind left rest bytes.now) (rest_behind rest bytes.now) calls f.0 t f.2))
+in_table left rest (Feed bytes ∷ calls) events t f =
+    subst (λ (es : List Event). AreInTable es) (sym f.1)
+    (all_joined IsInTable (goes_by left (map one.Hear (lines_behind rest bytes.now))) f.0 (fed left (lines_behind rest bytes.now))
+    (in_table left (rest_behind rest bytes.now) calls f.0 t f.2))
+in_table left rest (Expire now ∷ calls) events t f =
+    subst (λ (es : List Event). AreInTable es) (sym f.1)
+    (all_joined IsInTable (goes_by left (one.Expire now ∷ [])) f.0 (expired left now) (in_table left rest calls f.0 t f.2))
+in_table left rest (Restart ∷ calls) events t f =
+    subst (λ (es : List Event). AreInTable es) (sym f.1)
+    (all_joined IsInTable (goes_by left (one.Restart ∷ [])) f.0 (restarted left) (in_table (anew left) [] calls f.0 t f.2))
+
+-- moves of the field whose events ask for calls of the table send nothing else
+table_moves : {State : Type 0} (ms : List (Move State)) → AreInTable (map Went (seen ms)) → AsksTheTable ms
+table_moves [] h = tt
+table_moves (Sends target call deadline ∷ ms) h = (h.0, table_moves ms h.1)
+table_moves (Tells now ∷ ms) h = table_moves ms h.1
+table_moves (field.Comes line ∷ ms) h = table_moves ms h.1
+table_moves (field.Foreign line ∷ ms) h = table_moves ms h.1
+table_moves (OnLine step ∷ ms) h = table_moves ms h
+table_moves (field.Anew ∷ ms) h = table_moves ms h
+table_moves (field.Changes state ∷ ms) h = table_moves ms h
+table_moves (Joins line ∷ ms) h = table_moves ms h
+
+module _ {State : Type 0} (width : ℕ) (ends : Ends State) (Good : State → Type 0) (kept : State → Option KeptReply) where
+  -- where a request that is no call of the table is to the instrument as all others, each run is safe
+  pub alike_safe : TreatsRawsAlike ends Good kept → (ps : List (Part State)) → AllByRecursion (IsSafeRun width ends Good kept) ps
+  alike_safe alike [] = tt
+  alike_safe alike (p ∷ ps) = ((λ m command went. inr (inl alike)), alike_safe alike ps)
+
+  -- runs whose events ask for calls of the table are safe
+  table_safe : (rs : List (Run State)) (u : UnderWay State) → AreInTable (events_over width ends u rs)
+      → AllByRecursion (IsSafeRun width ends Good kept) (parts width ends u rs)
+  table_safe [] u h = tt
+  table_safe (r ∷ []) u h =
+      let own = rest_of (events_of width ends (begins u) r.turns) (map Went (seen r.moves)) h in
+      ((λ m command went. inl (table_moves r.moves own)), tt)
+  table_safe (r ∷ next ∷ others) u h =
+      let after = left_by_run width ends u r in
+      let later = Went one.Restart ∷ events_over width ends after (next ∷ others) in
+      let rest = rest_of (events_of width ends (begins u) r.turns) (map Went (seen r.moves) ++ later) h in
+      let own = first_of (map Went (seen r.moves)) later rest in
+      ((λ m command went. inl (table_moves r.moves own)), table_safe (next ∷ others) after (rest_of (map Went (seen r.moves)) later rest).1)
+
+  -- where each call on a state sends what is in the table, the runs whose events these calls are are safe
+  pub calls_safe : (calls : List Step) (u : UnderWay State) (rs : List (Run State)) → AreOfTheTable calls
+      → AreEvents the_word [] calls (events_over width ends u rs) → AllByRecursion (IsSafeRun width ends Good kept) (parts width ends u rs)
+  calls_safe calls u rs t are = table_safe rs u (in_table the_word [] calls (events_over width ends u rs) t are)

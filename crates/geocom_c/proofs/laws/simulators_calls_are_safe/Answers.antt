@@ -1,0 +1,8 @@
+use Rattle.gc_instrument.specs.State.{IsFittingState}
+use Rattle.gc_field.specs.Simulator.{ends}
+use Rattle.gc_field.specs.Laws.{kept_of}
+use Rattle.geocom_c.proofs.Safely.{calls_safe}
+use Rattle.geocom_c.proofs.laws.simulators_calls_are_safe.Goals as goal
+
+pub returns : goal.returns
+returns c = λ width calls t u rs are. calls_safe width ends IsFittingState kept_of calls u rs t are
