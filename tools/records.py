@@ -30,6 +30,8 @@ NUMBERS = ["cycle", "place", "target", "procedure", "fault", "rc_com", "rc"]
 # The columns that a table of an earlier version may not have, and what every reader needs: the others.
 LATER = ["run", "sent", "quality"]
 NEEDED = [column for column in COLUMNS if column not in LATER]
+# The member that is a list: the items of an answer to a procedure that isn't in the table.
+ITEMS = "items"
 # What no row has empty.
 FILLED = ["run", "time", "cycle", "place", "target", "procedure", "outcome"]
 MOMENT = re.compile(r"[0-9]{4}-[0-9]{2}-[0-9]{2}T[0-9]{2}:[0-9]{2}:[0-9]{2}\.[0-9]{3}Z")
@@ -70,8 +72,13 @@ def fields_of(line):
         raise NoRow(str(why)) from None
 
 
+def is_list(field):
+    """Whether a member is a list of texts."""
+    return isinstance(field, list) and all(isinstance(text, str) for text in field)
+
+
 def members_of(line):
-    """The members of an object of JSON, each as the text that stands there."""
+    """The members of an object of JSON, each as the text that stands there, and those of a list joined by commas."""
     try:
         members = json.loads(printable(line), object_pairs_hook=list, parse_int=str, parse_float=str)
     except (ValueError, RecursionError):
@@ -79,6 +86,7 @@ def members_of(line):
     # A list of JSON would be read as the members of an object are.
     if members is None or not line.startswith(b"{"):
         raise NoRow("it is no object of JSON")
+    members = [(name, ",".join(field) if name == ITEMS and is_list(field) else field) for name, field in members]
     for name, field in members:
         if not all(isinstance(text, str) and text.isascii() and text.isprintable() for text in (name, field)):
             raise NoRow(f"its member {ascii(name)[:80]} is neither a number nor a printable text")

@@ -10,7 +10,8 @@
  *   2. geocom_client_begin until it has begun: write a line feed on the new connection, then the line of each null procedure that
  *      it gives, and hand it what comes. Where nothing came by a deadline of yours, call it without bytes: it gives the same
  *      line again. So nothing that is in flight from before is taken for the answer to a request.
- *   3. geocom_client_send for a request; write the line that it gives on the connection.
+ *   3. geocom_client_send for a request, or geocom_client_send_raw for one of a procedure that isn't in the table; write the line
+ *      that it gives on the connection.
  *   4. Read, waiting no longer than until geocom_client_next_deadline.
  *   5. geocom_client_expire with the moment after the read, then geocom_client_feed with the bytes until all are used.
  *   6. Where the connection fails or is dead: close it, open it anew, send a lone line feed, and feed a lone line feed, which
@@ -27,13 +28,16 @@
  * a feed).
  *
  * Faults (a call that answers one has changed nothing, and written nothing):
- *   11 to 15  the parameters don't read: form, range, an open quote, more than 16, another count than the procedure has
+ *   6         the line of a raw request would have more than 512 bytes
+ *   11 to 15  the parameters don't read: form, range, an open quote, more than 16, another count than the procedure has. Of raw
+ *             parameters: 11 a CR or LF stands in them, 13, 14
  *   21        no procedure has the number
  *   31        as many requests wait as the width allows
  *   61        the width is not 1 to 7
  *   62        less room than the call asks for
  *   63        the state is no client's: it was never made by geocom_client_init, or was written over
  *   67        the client hasn't begun: geocom_client_begin comes first, and again behind each restart
+ *   68        geocom_client_send_raw: the procedure is one of the table, which geocom_client_send asks
  */
 #ifndef GEOCOM_H
 #define GEOCOM_H
@@ -102,11 +106,11 @@ enum geocom_reading {
 
 /* The end of a request. */
 typedef struct geocom_settlement {
-    uint32_t target;      /* as it was handed to geocom_client_send */
-    uint16_t procedure;   /* as it was handed to geocom_client_send */
+    uint32_t target;      /* as it was handed to geocom_client_send or geocom_client_send_raw */
+    uint16_t procedure;   /* as it was handed to geocom_client_send or geocom_client_send_raw */
     uint16_t code;        /* the return code, the communication code, or the fault 11 to 15; 0 beside a value and where there is no answer */
     uint16_t line_length; /* the answer's line: so many bytes at the front of the text; 0 where there is no answer */
-    uint16_t items;       /* how many values the answer has */
+    uint16_t items;       /* how many values the answer has; beside a value of a raw request, how many items its parameters have */
     geocom_item places[GEOCOM_MOST_ITEMS]; /* where their texts stand in the text, as they came, without spaces round them */
     uint8_t outcome;      /* enum geocom_outcome */
     uint8_t reading;      /* enum geocom_reading */
@@ -171,6 +175,20 @@ geocom_beginning geocom_client_begin(geocom_client *state, const uint8_t *bytes,
  * `line`, `count` bytes. Faults: 62 (line_room below GEOCOM_LINE_ROOM), 63, 67, 21, 11 to 15, 31. */
 geocom_count geocom_client_send(geocom_client *state, uint32_t target, uint64_t deadline, uint16_t procedure,
                                 const uint8_t *params, size_t params_length, uint8_t *line, size_t line_room);
+
+/* Sends a request of any procedure that isn't in the table, with its parameters exactly as they stand: bytes other than CR and
+ * LF, at most 16 items with commas between them, and at most 512 bytes of line. All else is as for geocom_client_send. What an
+ * answer with both codes 0 says is text: its reading is GEOCOM_VALUE, with the items of its parameters, at most 16; or
+ * GEOCOM_UNREADABLE with the code 13 or 14.
+ *
+ * Ids come round behind eight requests, and an instrument may keep its reply over a procedure that it doesn't know. So let one
+ * of the seven requests before each be an answered one of the table: behind six raw requests in a row send a null procedure
+ * (geocom_client_send with procedure 0), send on once it, or another one behind it, is answered, and drop what it says. An
+ * instrument that knows each procedure which is asked needs none of it.
+ *
+ * Faults: 62 (line_room below GEOCOM_LINE_ROOM), 63, 67, 68, 11, 13, 14, 6, 31. */
+geocom_count geocom_client_send_raw(geocom_client *state, uint32_t target, uint64_t deadline, uint16_t procedure,
+                                    const uint8_t *params, size_t params_length, uint8_t *line, size_t line_room);
 
 /* Takes bytes as they come from a port, in any pieces, through the first line feed; call again with what is left until all
  * are used. A line settles at most GEOCOM_WINDOW requests: `count` records are written, the oldest request's first, and the

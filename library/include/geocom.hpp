@@ -71,6 +71,17 @@ public:
         return std::string(line.begin(), line.begin() + sent.count);
     }
 
+    // The line of a request of a procedure that isn't in the table, whose parameters go out exactly as they stand. What an answer says
+    // is text: the items of its parameters. Behind six of these in a row a null procedure has to be answered (`geocom.h`).
+    std::string send_raw(std::uint32_t target, std::uint64_t deadline, std::uint16_t procedure, std::string_view params = "") {
+        std::array<std::uint8_t, GEOCOM_LINE_ROOM> line;
+        const char *text = params.empty() ? "" : params.data();
+        const geocom_count sent = geocom_client_send_raw(&state_, target, deadline, procedure,
+                                                         reinterpret_cast<const std::uint8_t *>(text), params.size(), line.data(), line.size());
+        check(sent.fault);
+        return std::string(line.begin(), line.begin() + sent.count);
+    }
+
     // The settlements that all of these bytes give, in order. Lines that settle nothing are counted.
     std::vector<settlement> feed(std::string_view bytes) {
         std::vector<settlement> all;

@@ -151,6 +151,11 @@ def _load() -> ctypes.CDLL:
             _Count,
             [state, ctypes.c_uint32, ctypes.c_uint64, ctypes.c_uint16, ctypes.c_char_p, size, ctypes.c_char_p, size],
         ),
+        (
+            "geocom_client_send_raw",
+            _Count,
+            [state, ctypes.c_uint32, ctypes.c_uint64, ctypes.c_uint16, ctypes.c_char_p, size, ctypes.c_char_p, size],
+        ),
         ("geocom_client_feed", _Heard, [state, ctypes.c_char_p, size, records, size, ctypes.c_char_p, size]),
         ("geocom_client_expire", _Count, [state, ctypes.c_uint64, ctypes.POINTER(ctypes.c_uint32), size]),
         ("geocom_client_next_deadline", _Deadline, [state]),
@@ -177,8 +182,14 @@ class Fault(Exception):
         self.number = number
 
 
+class LineTooLong(Fault):
+    """6: the line of a raw request would have more than 512 bytes."""
+
+    text = "the line would have more than 512 bytes"
+
+
 class BadParameters(Fault):
-    """11 to 15: the parameters don't read as the procedure's."""
+    """11 to 15: the parameters don't read as the procedure's. Of raw ones: 11 a CR or LF, 13 an open quote, 14 more than 16."""
 
     text = "the parameters don't read"
 
@@ -219,9 +230,22 @@ class NotBegun(Fault):
     text = "the client hasn't begun"
 
 
-_FAULTS = {21: UnknownProcedure, 31: WindowFull, 61: BadWidth, 62: NoRoom, 63: NoClient, 67: NotBegun} | {
-    number: BadParameters for number in range(11, 16)
-}
+class InTable(Fault):
+    """68: the procedure is one of the table, which `send` asks."""
+
+    text = "the procedure is one of the table: send asks it"
+
+
+_FAULTS = {
+    6: LineTooLong,
+    21: UnknownProcedure,
+    31: WindowFull,
+    61: BadWidth,
+    62: NoRoom,
+    63: NoClient,
+    67: NotBegun,
+    68: InTable,
+} | {number: BadParameters for number in range(11, 16)}
 
 
 def _check(number: int) -> None:
@@ -320,15 +344,30 @@ class Client:
         The target is a number of your own below 2 ** 32, and comes back with the settlement. Parameters have commas
         between them, as "5000,1". Raises NotBegun, UnknownProcedure, BadParameters or WindowFull, and then nothing has changed.
         """
+        return self._sent(_library.geocom_client_send, target, deadline, procedure, params)
+
+    def send_raw(self, procedure: int, params: str | bytes = b"", *, target: int, deadline: int) -> bytes:
+        """Sends a request of a procedure that isn't in the table, and gives the line to write on the connection, with its CR LF.
+
+        The parameters go out exactly as they stand: bytes other than CR and LF, at most 16 items, at most 512 bytes of line. What an
+        answer with both codes 0 says is text: its reading is VALUE, and `items` has the items of its parameters.
+
+        Ids come round behind eight requests, and an instrument may keep its reply over a procedure that it doesn't know. So behind
+        six raw requests in a row send a null procedure (`send` with procedure 0), send on once it, or another one behind it, is
+        answered, and drop what it says. An instrument that knows each procedure which is asked needs none of it.
+
+        Raises NotBegun, InTable, BadParameters, LineTooLong or WindowFull, and then nothing has changed.
+        """
+        return self._sent(_library.geocom_client_send_raw, target, deadline, procedure, params)
+
+    def _sent(self, call, target: int, deadline: int, procedure: int, params: str | bytes) -> bytes:
         text = params.encode("latin-1") if isinstance(params, str) else bytes(params)
         _within(target, 32)
         _within(deadline, 64)
         _within(procedure, 16)
         with self._lock:
             line = ctypes.create_string_buffer(LINE_ROOM)
-            sent = _library.geocom_client_send(
-                self._state, target, deadline, procedure, text, len(text), line, LINE_ROOM
-            )
+            sent = call(self._state, target, deadline, procedure, text, len(text), line, LINE_ROOM)
             _check(sent.fault)
             return line.raw[: sent.count]
 

@@ -1,5 +1,5 @@
 /* The client's worked examples through the library, in pieces of a given size: examples PIECE < STEPS. A step is a line:
- * `send TARGET DEADLINE PROCEDURE [PARAMS]`, `feed TEXT` (with CR LF behind it), `hex BYTES`, `init`, `cleared TEXT` (with LF), `expire NOW`,
+ * `send TARGET DEADLINE PROCEDURE [PARAMS]`, `raw` with the same, `feed TEXT` (with CR LF behind it), `hex BYTES`, `init`, `cleared TEXT` (with LF), `expire NOW`,
  * `restart`, `next`, `new` and `begin [TEXT]`. For each step what came of it is written as a line. At the start, and behind `init` and
  * `restart`, the client is begun; `new` makes one that isn't. */
 #include <stdio.h>
@@ -73,10 +73,18 @@ int main(int count, char **words) {
         step[length] = '\0';
         char name[16], params[4096] = "";
         unsigned target, procedure;
+        int end = 0;
         unsigned long long moment;
         if (sscanf(step, "send %u %llu %u %4095[^\n]", &target, &moment, &procedure, params) >= 3) {
             uint8_t line[GEOCOM_LINE_ROOM];
             geocom_count sent = geocom_client_send(&client, target, moment, (uint16_t)procedure, (const uint8_t *)params, strlen(params), line, sizeof line);
+            if (sent.fault != 0) printf(" fault %u", sent.fault);
+            else printf(" %.*s", (int)sent.count - 2, (const char *)line);
+        } else if (sscanf(step, "raw %u %llu %u%n", &target, &moment, &procedure, &end) >= 3) {
+            /* The parameters are all that stands behind one space. */
+            uint8_t line[GEOCOM_LINE_ROOM];
+            const char *given = step[end] == ' ' ? step + end + 1 : step + end;
+            geocom_count sent = geocom_client_send_raw(&client, target, moment, (uint16_t)procedure, (const uint8_t *)given, strlen(given), line, sizeof line);
             if (sent.fault != 0) printf(" fault %u", sent.fault);
             else printf(" %.*s", (int)sent.count - 2, (const char *)line);
         } else if (sscanf(step, "expire %llu", &moment) == 1) {

@@ -1,6 +1,8 @@
 // A few of the worked examples through the C++ wrapper.
 #include <cstdio>
 #include <string>
+#include <utility>
+#include <vector>
 
 #include "geocom.hpp"
 
@@ -43,6 +45,18 @@ int main() {
     SEE(all[1].reading == geocom::reading::value && all[1].items.size() == 3 && all[1].items[2] == "110.0625")
     SEE(all[1].line == "%R1P,0,1:0,2.25,1.625,110.0625")
     SEE(client.count(GEOCOM_CLEARED) == 1 && client.count(GEOCOM_UNREAD) == 1)
+    SEE(client.send_raw(3, 30, 2167, " 2, \"a,b\"") == "%R1Q,2167,2: 2, \"a,b\"\r\n")
+    for (const auto &refused : {std::pair<std::uint16_t, std::uint32_t>(2108, 68), std::pair<std::uint16_t, std::uint32_t>(2167, 13)}) {
+        try {
+            client.send_raw(3, 30, refused.first, "\"");
+            return 1;
+        } catch (const geocom::fault &f) {
+            SEE(f.number == refused.second)
+        }
+    }
+    const auto raw = client.feed("%R1P,0,2:0, 0.0012 ,\"a,b\",\r\n");
+    SEE(raw.size() == 1 && raw[0].procedure == 2167 && raw[0].reading == geocom::reading::value)
+    SEE((raw[0].items == std::vector<std::string>{"0.0012", "\"a,b\"", ""}))
     client.send(4, 30, 5003);
     const auto lost = client.restart();
     SEE(lost.size() == 1 && lost[0].target == 4 && lost[0].outcome == geocom::outcome::lost)

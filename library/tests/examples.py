@@ -51,6 +51,13 @@ def main():
                 text = " " + line.decode("latin-1")[:-2]
             except geocom.Fault as fault:
                 text = f" fault {fault.number}"
+        elif name == "raw":
+            target, deadline, procedure, *params = rest.split(" ", 3)
+            try:
+                line = client.send_raw(int(procedure), "".join(params), target=int(target), deadline=int(deadline))
+                text = " " + line.decode("latin-1")[:-2]
+            except geocom.Fault as fault:
+                text = f" fault {fault.number}"
         elif name == "feed":
             text = feed(client, rest.encode("latin-1") + b"\r\n", piece)
         elif name == "hex":

@@ -63,6 +63,16 @@ int main(void) {
     geocom_count lost = geocom_client_restart(&a.client, b.settlements, GEOCOM_WINDOW);
     SEE(lost.fault == 0 && lost.count == 1 && s[0].target == 0x01020306u && s[0].outcome == GEOCOM_LOST)
     SEE(a.client.width == 5 && a.client.next == 0 && a.client.answered == 0 && geocom_client_waiting(&a.client).count == 0)
+    begun = geocom_client_begin(&a.client, answers, sizeof answers - 1, line, sizeof line);
+    static const uint8_t raw[] = " 2, \"a,b\"";
+    geocom_count sent = geocom_client_send_raw(&a.client, 0x01020304u, 0x1112131415161718u, 2167, raw, 9, line, sizeof line);
+    SEE(begun.has_begun == 1 && sent.fault == 0 && sent.count == 23 && memcmp(line, "%R1Q,2167,0: 2, \"a,b\"\r\n", 23) == 0)
+    SEE(a.client.places[0].target == 0x01020304u && a.client.places[0].deadline == 0x1112131415161718u && a.client.next == 1)
+    SEE(a.client.places[0].length == 19 && memcmp(a.client.places[0].line, "%R1Q,2167: 2, \"a,b\"", 19) == 0)
+    static const uint8_t tilt[] = "%R1P,0,0:0,0.0012, \"a,b\" ,\r\n";
+    heard = geocom_client_feed(&a.client, tilt, sizeof tilt - 1, b.settlements, GEOCOM_WINDOW, text, sizeof text);
+    SEE(heard.count == 1 && s[0].procedure == 2167 && s[0].outcome == GEOCOM_ANSWERED && s[0].reading == GEOCOM_VALUE && s[0].items == 3)
+    SEE(s[0].places[1].length == 5 && memcmp(text + s[0].places[1].offset, "\"a,b\"", 5) == 0 && s[0].places[2].length == 0)
     SEE(memcmp(a.behind, mark, 64) == 0 && memcmp(b.behind, mark, 64) == 0)
     printf("fields: all where the header has them\n");
     return 0;

@@ -29,10 +29,11 @@ def same(what, want, have):
         told.append(f"{what}: the source has {want}, and here stands {have}")
 
 
-# Each constant stands in the law. A fault is a constant of the clause `faults`, or a refusal of a call.
+# Each constant stands in the law. A fault is a constant of the clause `faults`, or a refusal of a call or of a raw request.
 same("the law", constants, {name: int(value) for clause in clauses.values() for name, value in clause.items()})
 faults = {constants[name] for name in clauses["faults"]}
 faults |= {int(number) for clause in ("procedure", "parameters") for number in re.findall(r"refusal_number [^≡]*≡ (\d+)", law[clause])}
+faults |= {int(number) for number in re.findall(r"raw_number [^≡]*≡ (\d+)", law["raws"])}
 groups = {group: {name: constants[name] for name in clauses[group + "s"]} for group in GROUPS}
 plain = {name: constants[name] for clause in ("version", "rooms") for name in clauses[clause]}
 for path, name in [("crates/gc_client/src/window.rt", "WINDOW"), ("crates/gc_values/src/items.rt", "MOST_ITEMS")]:

@@ -31,8 +31,10 @@ int main(int count, char **words) {
             memset(client, 0, sizeof *client);
             geocom_client_init(client, (uint8_t)(1 + draw() % 7));
             client->answered = (uint8_t)(draw() % 4 == 0 ? draw() % 9 : 8);
-            for (uint32_t k = draw() % 8; k > 0; k--)
-                geocom_client_send(client, draw(), draw(), 2108, (const uint8_t *)"5000,1", 6, line, GEOCOM_LINE_ROOM);
+            for (uint32_t k = draw() % 8; k > 0; k--) {
+                if (draw() % 2) geocom_client_send(client, draw(), draw(), 2108, (const uint8_t *)"5000,1", 6, line, GEOCOM_LINE_ROOM);
+                else geocom_client_send_raw(client, draw(), draw(), 2167, (const uint8_t *)" 2,\"1\" ", 7, line, GEOCOM_LINE_ROOM);
+            }
             for (uint32_t k = draw() % 4; k > 0; k--) ((uint8_t *)client)[draw() % sizeof *client] = (uint8_t)draw();
         }
         size_t length = draw() % 600;
@@ -40,6 +42,10 @@ int main(int count, char **words) {
         if (length > 14) memcpy(bytes, "%R1P,0,3:0\r\n", 12);
         geocom_client before = *client;
         geocom_count sent = geocom_client_send(client, draw(), draw(), 0, bytes, 0, line, GEOCOM_LINE_ROOM);
+        if (sent.fault != 0 && memcmp(&before, client, sizeof before) != 0) return 1;
+        if (sent.count > GEOCOM_LINE_ROOM) return 1;
+        before = *client;
+        sent = geocom_client_send_raw(client, draw(), draw(), (uint16_t)draw(), bytes, length, line, GEOCOM_LINE_ROOM);
         if (sent.fault != 0 && memcmp(&before, client, sizeof before) != 0) return 1;
         if (sent.count > GEOCOM_LINE_ROOM) return 1;
         geocom_client copy = *client;

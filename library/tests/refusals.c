@@ -25,10 +25,46 @@ static int is_no_client(void) {
     SEE(geocom_client_next_deadline(&client).fault == 63)
     SEE(geocom_client_feed(&client, x, 1, settlements, GEOCOM_WINDOW, text, sizeof text).fault == 63)
     SEE(geocom_client_send(&client, 1, 1, 0, x, 0, line, sizeof line).fault == 63)
+    SEE(geocom_client_send_raw(&client, 1, 1, 2167, x, 0, line, sizeof line).fault == 63)
     SEE(geocom_client_expire(&client, 0, targets, GEOCOM_WINDOW).fault == 63)
     SEE(geocom_client_restart(&client, settlements, GEOCOM_WINDOW).fault == 63)
     SEE(is_kept())
     return 0;
+}
+
+/* What a client that has begun doesn't send as it stands: a procedure of the table, a CR or LF, a line of 513 bytes, an open quote, 17
+ * parameters. The fault is the first of these. */
+static int refuses_raws(void) {
+    /* The procedures of the table. */
+    static const uint16_t table[] = {0, 107, 108, 110, 2008, 2009, 2010, 2011, 2012, 2026, 2107, 2108, 2117, 5003, 5004, 5007, 5008, 5011,
+                                     5034, 9027, 9028, 9037, 17008, 17009, 17017};
+    static const uint8_t commas[] = ",,,,,,,,,,,,,,,,", quote[] = "\"", feed[] = "1\n", back[] = "\r";
+    uint8_t longest[504];
+    memset(longest, '7', sizeof longest);
+    client.answered = 8;
+    memcpy(&before, &client, sizeof client);
+    size_t at = 0;
+    for (unsigned procedure = 0; procedure < 65536; procedure++) {
+        unsigned is_listed = at < sizeof table / sizeof table[0] && table[at] == procedure;
+        SEE(geocom_client_send_raw(&client, 1, 1, (uint16_t)procedure, quote, 1, line, sizeof line).fault == (is_listed ? 68 : 13))
+        at += is_listed;
+    }
+    SEE(at == sizeof table / sizeof table[0])
+    SEE(geocom_client_send_raw(&client, 1, 1, 2108, feed, 2, line, sizeof line).fault == 68)
+    SEE(geocom_client_send_raw(&client, 1, 1, 2167, feed, 2, line, sizeof line).fault == 11)
+    SEE(geocom_client_send_raw(&client, 1, 1, 2167, back, 1, line, sizeof line).fault == 11)
+    SEE(geocom_client_send_raw(&client, 1, 1, 2167, commas, 16, line, sizeof line).fault == 14)
+    SEE(geocom_client_send_raw(&client, 1, 1, 2167, quote, 1, line, sizeof line).fault == 13)
+    /* "%R1Q,2167,0:" has 12 bytes, and "%R1Q,7,0:" 9. */
+    SEE(geocom_client_send_raw(&client, 1, 1, 2167, longest, 501, line, sizeof line).fault == 6)
+    SEE(geocom_client_send_raw(&client, 1, 1, 7, longest, 504, line, sizeof line).fault == 6)
+    SEE(is_kept())
+    SEE(geocom_client_send_raw(&client, 1, 1, 2167, longest, 500, line, sizeof line).count == 514)
+    SEE(memcmp(line, "%R1Q,2167,0:", 12) == 0 && memcmp(line + 12, longest, 500) == 0 && memcmp(line + 512, "\r\n", 2) == 0)
+    SEE(geocom_client_send_raw(&client, 1, 1, 7, longest, 503, line, sizeof line).count == 514)
+    SEE(geocom_client_send_raw(&client, 1, 1, 65535, commas, 15, line, sizeof line).count == 30)
+    SEE(geocom_client_waiting(&client).count == 3)
+    return geocom_client_init(&client, 7) != 0;
 }
 
 int main(void) {
@@ -40,9 +76,12 @@ int main(void) {
     SEE(geocom_client_restart(&client, settlements, GEOCOM_WINDOW - 1).fault == 62)
     SEE(geocom_client_expire(&client, 0, targets, GEOCOM_WINDOW - 1).fault == 62)
     SEE(geocom_client_send(&client, 1, 1, 0, x, 0, line, GEOCOM_LINE_ROOM - 1).fault == 62)
+    SEE(geocom_client_send_raw(&client, 1, 1, 2167, x, 0, line, GEOCOM_LINE_ROOM - 1).fault == 62)
     SEE(geocom_client_begin(&client, x, 0, line, GEOCOM_LINE_ROOM - 1).fault == 62)
     SEE(geocom_client_send(&client, 1, 1, 0, x, 0, line, sizeof line).fault == 67)
+    SEE(geocom_client_send_raw(&client, 1, 1, 2167, x, 0, line, sizeof line).fault == 67)
     SEE(is_kept())
+    if (refuses_raws()) return 1;
     client.answered = 9;
     if (is_no_client()) return 1;
     client.answered = 0;
@@ -50,6 +89,6 @@ int main(void) {
     if (is_no_client()) return 1;
     client.width = 7;
     SEE(geocom_client_waiting(&client).fault == 0)
-    printf("refusals: 61, 62, 63 and 67, and nothing is changed\n");
+    printf("refusals: 61, 62, 63 and 67, those of raw requests, and nothing is changed\n");
     return 0;
 }

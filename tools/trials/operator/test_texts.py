@@ -10,6 +10,7 @@ from far_end import good, standing
 from measuring import expect_each_once, finished, measuring, outcomes_of
 from programs import ended
 
+RAW_PARAMETERS = "more than 16 parameters, a double quote without its end, or a carriage return"
 # Texts that are refused, with the number of the first faulty line and what is said of it.
 FAULTY = [
     (b"7 5003\n7 9999\n", 2, "no procedure 9999"),
@@ -35,6 +36,20 @@ FAULTY = [
     (b"".join(b"name %d pier\n" % target for target in range(65)), 65, "name"),
     (b"name x pier\n", 1, "target"),
     (b"7\n", 1, "no form"),
+    (b"7 raw 2167\n7 raw 2108 5000,1\n", 2, "2108 is TMC_GetSimpleMea: leave out raw"),
+    (b"7 raw 0\n", 1, "0 is COM_NullProc: leave out raw"),
+    (b"7 raw 09027\n", 1, "9027 is AUT_MakePositioning: leave out raw"),
+    (b"7 raw\n", 1, "procedure"),
+    (b"7 raw x\n", 1, "procedure"),
+    (b"7 raw 65536\n", 1, "procedure"),
+    (b"7 raw raw\n", 1, "procedure"),
+    (b"x raw 2167\n", 1, "target"),
+    (b"7 Raw 2167\n", 1, "procedure"),
+    (b"7 raw 2167 \n", 1, "no form"),
+    (b'7 raw 2167 "a\n', 1, RAW_PARAMETERS),
+    (b"7 raw 2167 " + 16 * b"1," + b"1\n", 1, RAW_PARAMETERS),
+    (b"7 raw 2167 1\r2\n", 1, RAW_PARAMETERS),
+    (b"7 raw 2167 " + 501 * b"1" + b"\n", 1, "the request has more than 512 bytes"),
     (b"Chained\n", 1, "no form"),
 ]
 

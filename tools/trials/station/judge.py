@@ -31,9 +31,9 @@ SIGNS = [
 
 @dataclass
 class Plan:
-    """What a station was to do: its commands, each a target and a procedure, their right values, its times and its cycles. The times are
-    in milliseconds, `every` in seconds. Where answers are tagged they have the numbers of their requests in place of their first
-    values."""
+    """What a station was to do: its commands, each a target and a procedure, their right values, its times and its cycles, and the return
+    codes of its answers. The times are in milliseconds, `every` in seconds. Where answers are tagged they have the numbers of their
+    requests in place of their first values."""
 
     commands: list
     values: list
@@ -42,6 +42,7 @@ class Plan:
     every: int
     cycles: int
     is_tagged: bool
+    codes: list
 
     def is_chained(self, place):
         """Whether the command at a place is chained to the one before it."""
@@ -158,7 +159,7 @@ def faults_of_answer(plan, row, place, number, log):
     if row["outcome"] != "answered":
         if number in log.in_time:
             yield f"{row['outcome']}, and its reply came in time, {log.first[number] - log.sent[number]} ms after it"
-    elif (row["rc_com"], row["rc"], row["fault"]) != ("0", "0", ""):
+    elif (row["rc_com"], row["rc"], row["fault"]) != ("0", plan.codes[place], "") or not is_well(row):
         yield f"{row}"
     elif number is None:
         yield "answered, and it wasn't sent"

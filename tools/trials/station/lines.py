@@ -8,6 +8,7 @@ from dataclasses import dataclass
 from pathlib import Path
 
 from judge import Plan, cycles_begun, judge, rows_of
+from knowing import KNOWN
 from line_log import read_log
 from programs import Run, ended, free_port, is_listening, until
 
@@ -28,6 +29,13 @@ COMMANDS = [
 ]
 # The targets of the same commands where some stand in chains.
 CHAINS = [11, 12, 12, 12, 13, 13, 14, 14, 14, 15, 16]
+# The commands where most ask for procedures that aren't in the table, of an instrument that knows these: target recognition, the
+# atmosphere, the tilts behind a measurement, and others. Nine stand in a row, which is more than a client has ids.
+RAWS = [(target, call, KNOWN[int(call.removeprefix("raw ").split()[0])]) for target, call in [
+    (11, "raw 18005 1"), (11, "raw 2028"), (11, "2107 0"), (11, "raw 2167 5000,1"), (12, "5003"), (12, "raw 2165 1"), (13, "raw 2124"),
+    (13, "raw 5051"), (14, "raw 17020"), (14, "raw 18007"), (14, "raw 9018 0"), (15, "raw 2003"), (15, "raw 2020"), (16, "raw 2022"),
+]]
+ACCEPTED = "accept 1283 1284\n"
 REFUSED = "geocom: fault 59"
 
 
@@ -49,21 +57,25 @@ class BadLine:
     every: int = 0
     is_chained: bool = False
     is_device: bool = False
+    is_raw: bool = False
 
     def calls(self):
         """Each target with its procedure and parameters."""
+        if self.is_raw:
+            return [(target, call) for target, call, _ in RAWS]
         targets = CHAINS if self.is_chained else [target for target, _, _ in COMMANDS]
         return [(target, call) for target, (_, call, _) in zip(targets, COMMANDS)]
 
     def text(self):
         """The commands of the station."""
-        return "".join(f"{target} {call}\n" for target, call in self.calls()).encode()
+        return (ACCEPTED * self.is_raw + "".join(f"{target} {call}\n" for target, call in self.calls())).encode()
 
     def plan(self, cycles):
         """What the station is to do, where all runs together have so many cycles."""
-        commands = [(target, int(call.split()[0])) for target, call in self.calls()]
-        values = [value for _, _, value in COMMANDS]
-        return Plan(commands, values, self.deadline, self.quiet, self.every, self.cycles or cycles // 7 + 1, self.is_tagged)
+        commands = [(target, int(call.removeprefix("raw ").split()[0])) for target, call in self.calls()]
+        right = [value.split(",", 1) for _, _, value in RAWS] if self.is_raw else [("0", value) for _, _, value in COMMANDS]
+        codes, values = zip(*right)
+        return Plan(commands, values, self.deadline, self.quiet, self.every, self.cycles or cycles // 7 + 1, self.is_tagged, codes)
 
 
 def relay(case, program, plan, port, log):
@@ -71,7 +83,8 @@ def relay(case, program, plan, port, log):
     procedures = ",".join(str(procedure) for _, procedure in plan.commands)
     return Run([
         sys.executable, HERE / "relay.py", "--at", case.address, "--listen", port, "--geocom", program, "--procedures", procedures,
-        "--deadline", plan.deadline, "--quiet", plan.quiet, "--log", log, *case.line.split(), *(["--tag"] if plan.is_tagged else [])])
+        "--deadline", plan.deadline, "--quiet", plan.quiet, "--log", log, *case.line.split(), *(["--tag"] if plan.is_tagged else []),
+        *(["--knowing"] if case.is_raw else [])])
 
 
 def measure(case, program, cycles):

@@ -1,4 +1,4 @@
-"""A bad line between `geocom station` and `geocom serve`, by a seed: it loses, delays, repeats, echoes and cuts lines, hands them
+"""A bad line between `geocom station` and `geocom serve`, or an instrument that knows more (`knowing.py`), by a seed: it loses, delays, repeats, echoes and cuts lines, hands them
 over in pieces, closes connections, also idle ones, refuses them for a while, and stalls. It keeps order, over connections too:
 what is under way where a connection ends is lost, or held back and handed over on a later one, before all that is new. Of a
 line that is cut there the front, the whole or nothing gets through. The instrument lives on, or starts anew, at any time.
@@ -36,7 +36,7 @@ from tagging import tagged
 from way import Line, Way
 
 REQUEST = re.compile(rb"%R1Q,(\d+),(\d):")
-REPLY = re.compile(rb"%R1P,0,(\d):0,([^\r]*)\r\n$")
+REPLY = re.compile(rb"%R1P,0,(\d):(\d+),([^\r]*)\r\n$")
 
 
 def receive(link):
@@ -56,7 +56,7 @@ class Relay:
         self.number, self.cycle, self.place = 0, 1, -1
         self.told = collections.Counter()
         self.up, self.down = Way(), Way()
-        self.instrument = Instrument(options.geocom)
+        self.instrument = Instrument(options.geocom, options.knowing)
         # Whether a request came behind the station's line feed, until when what was held back waits, and until when nothing goes.
         self.asked, self.held, self.dead = False, 0.0, 0.0
 
@@ -125,7 +125,7 @@ class Relay:
             number = self.instrument.owed.popleft()
             found = REPLY.match(line)
             if self.options.tag and number and found:
-                line = b"%%R1P,0,%s:0,%s\r\n" % (found[1], tagged(found[2].decode(), number).encode())
+                line = b"%%R1P,0,%s:%s,%s\r\n" % (found[1], found[2], tagged(found[3].decode(), number).encode())
             if self.asked:
                 self.spoil(self.down, line, (None, number))
             else:
@@ -274,6 +274,7 @@ def main():
     words.add_argument("--kill", action="store_true")
     words.add_argument("--idle", type=int, default=0, help="milliseconds behind which a connection that carries nothing is closed; 0: none")
     words.add_argument("--tag", action="store_true")
+    words.add_argument("--knowing", action="store_true", help="the instrument knows procedures that aren't in the table")
     words.add_argument("--log", required=True)
     relay = Relay(words.parse_args())
 

@@ -27,6 +27,8 @@ LINES = [
     BadLine("pressed", "--width 3", "--seed 9 --kill", cycles=60, is_tagged=True, every=1),
     BadLine("chains", "--width 3", "--seed 8 --kill", is_tagged=True, is_chained=True),
     BadLine("terminals", "--width 2", "--seed 6", is_tagged=True, is_device=True),
+    # Procedures that aren't in the table, of an instrument that answers them, some with warnings.
+    BadLine("raw", "--width 1", "--seed 10 --kill", cycles=500, is_tagged=True, is_raw=True),
 ]
 
 
