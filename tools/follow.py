@@ -32,6 +32,9 @@ class Sink:
     def look(self):
         """Looks whether it is still there, where that can be known without a row."""
 
+    def finish(self):
+        """With `once`: all that is there was taken."""
+
     def close(self):
         """Ends it; what was not booked is forgotten."""
 
@@ -133,6 +136,7 @@ class Following:
                 if came:
                     continue
                 if self.said.once:
+                    sink.finish()
                     if self.is_folder and self.told:
                         sys.exit(1)
                     return

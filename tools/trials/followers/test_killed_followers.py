@@ -57,7 +57,7 @@ def test_reads_both_forms(servers, folder, kills, note):
     for name in FORMS:
         messages_of(tool("plot", folder / name, folder / f"of {name}"))
         drawn.append({one.name: one.read_bytes() for one in (folder / f"of {name}").iterdir()})
-    assert len(drawn[0]) == 6
+    assert len(drawn[0]) == 8
     assert drawn[0] == drawn[1] == drawn[2], "the pictures of the three files"
 
 

@@ -9,7 +9,7 @@ import xml.dom.minidom
 from contextlib import ExitStack, closing
 
 from growing import Growing, first_rows
-from programs import Run, ended
+from programs import Run, ended, free_port
 from records import HEAD
 from sinks import TOOLS, expect_postgres, expect_retained, expect_sqlite, followers, messages_of, tool
 
@@ -37,6 +37,18 @@ def test_waits_where_the_sink_is_away(servers, folder, note):
         assert 1 <= text.count("the sink is away") <= count + 1, text
         assert text.count("there again") == text.count("is away"), text
     note(f"{grows.rows} rows, none missing")
+
+
+def test_a_refused_login_is_no_sink_away(servers, folder):
+    """It ends with a line of its own, also without `--once`; a port at which nobody listens is a sink that is away."""
+    path = folder / "refused.csv"
+    path.write_bytes(HEAD + b"".join(first_rows(3)))
+    for where, why in [(servers.where().replace("user=geocom", "user=nobody"), 'role "nobody" does not exist'),
+                       (servers.where().replace("dbname=postgres", "dbname=other"), 'database "other" does not exist')]:
+        messages = messages_of(tool("to-postgres", path, where), 1)
+        assert messages.startswith("to-postgres: the login is refused: ") and why in messages and messages.count("\n") == 1, messages
+    nowhere = servers.where().replace(str(servers.port), str(free_port()))
+    assert messages_of(tool("to-postgres", path, nowhere, "--once"), 1).startswith("to-postgres: the sink is away: ")
 
 
 def take_away(servers, base):
@@ -77,7 +89,7 @@ def test_draws_each_target(folder, note):
     status, output, messages = ended(tool("plot", path, drawn), patience=600)
     assert status == 0, messages
     assert sorted(output.decode().splitlines()) == sorted(map(str, drawn.iterdir())), "the files that it tells"
-    names = [f"target-{target}.{kind}" for target in (7, 8, 9) for kind in ("png", "svg")]
+    names = [f"{name}.{kind}" for name in ("site", "target-7", "target-8", "target-9") for kind in ("png", "svg")]
     assert sorted(one.name for one in drawn.iterdir()) == names, "the files"
     for target in 7, 8, 9:
         assert (drawn / f"target-{target}.png").read_bytes().startswith(b"\x89PNG\r\n"), "it is no PNG"
@@ -85,7 +97,7 @@ def test_draws_each_target(folder, note):
         xml.dom.minidom.parseString(text)
         for word in "horizontal direction", "slope distance", "µrad", "UTC", "lost (", "skipped (", "missed (", "late (":
             assert word in text, f"the picture of target {target}"
-    note("6 pictures")
+    note("8 pictures")
 
 
 def test_imports_without_a_follower(folder):

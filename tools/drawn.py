@@ -1,0 +1,112 @@
+"""What is drawn of a file of rows: of each target its quantities over time, face by face, and what its commands came to.
+
+What was measured in face II is turned over, so that both faces stand beside one another, and directions are joined over the circle's
+end. Numbers are floats here: a picture has no more places.
+"""
+
+import datetime
+import math
+import statistics
+from dataclasses import dataclass, field
+from pathlib import Path
+
+import quantities
+import records
+from followed import Refused
+
+NEEDED = ["time", "target", "name", "procedure", "outcome", "rc_com", "rc", "values"]
+# The columns that are no values of a row's own answer: those of `tools/reduce`.
+PLACES = ["target_easting_m", "target_northing_m", "target_height_m"]
+
+
+@dataclass
+class Series:
+    """A quantity of a target in a face: its moments and values."""
+
+    moments: list = field(default_factory=list)
+    values: list = field(default_factory=list)
+
+    def add(self, moment, value):
+        self.moments.append(moment)
+        self.values.append(value)
+
+
+@dataclass
+class Target:
+    """What is known of a target: its name, of each quantity a series a face, and the moments of each outcome."""
+
+    number: str
+    name: str = ""
+    series: dict = field(default_factory=dict)
+    marks: dict = field(default_factory=dict)
+    direction: float = None
+    first: datetime.datetime = None
+    last: datetime.datetime = None
+
+    def title(self):
+        return f"target {self.number}" + (f": {self.name}" if self.name else "")
+
+    def take(self, fields):
+        """Takes a row."""
+        self.name = fields["name"] or self.name
+        moment = records.moment(fields["time"])
+        self.first, self.last = min(self.first or moment, moment), max(self.last or moment, moment)
+        marked = outcome_of(fields)
+        if marked:
+            self.marks.setdefault(marked, []).append(moment)
+        found = {name: float(value) for name, value in quantities.quantities(fields).items() if name in quantities.POINT}
+        face = self.turn(found)
+        for name, value in found.items():
+            self.add(name, face, moment, value)
+        for name in PLACES if quantities.has_values(fields) else []:
+            if fields.get(name):
+                self.add(name, 1, moment, float(fields[name]))
+
+    def add(self, name, face, moment, value):
+        self.series.setdefault(name, {}).setdefault(face, Series()).add(moment, value)
+
+    def turn(self, found):
+        """Turns what was measured in face II over, and joins a direction to the one before it; gives the face."""
+        face = 2 if found.get("v_rad", 0) % math.tau > math.pi else 1
+        if face == 2:
+            found["v_rad"] = math.tau - found["v_rad"]
+            found["hz_rad"] -= math.pi
+        if "hz_rad" in found:
+            if self.direction is None:
+                self.direction = found["hz_rad"] % math.tau
+            self.direction += math.remainder(found["hz_rad"] - self.direction, math.tau)
+            found["hz_rad"] = self.direction
+        return face
+
+    def base(self, name):
+        """About the median of a quantity in the face that it has first: what its differences are counted from."""
+        values = next(series.values for _, series in sorted(self.series[name].items()))
+        return float(format(statistics.median(values), ".6f" if name.endswith("_rad") else ".4f"))
+
+
+def outcome_of(fields):
+    """What is marked: the outcome, a warning, a refusal, or nothing where both codes are 0."""
+    if fields["outcome"] != "answered":
+        return fields["outcome"]
+    if not quantities.has_values(fields):
+        return "refused"
+    return "warning" if fields.get("quality") == "warning" else None
+
+
+def read(path):
+    """The targets of a file, in the order of their numbers. Half a row at its end is left out."""
+    data = Path(path).read_bytes()
+    lines = data[: data.rfind(b"\n") + 1].split(b"\n")[:-1]
+    targets = {}
+    try:
+        form = records.form_of(lines[0] if lines else b"", NEEDED)
+    except records.NoRow as why:
+        raise Refused(f"{path} {why}") from None
+    for number, line in enumerate(lines, 1):
+        try:
+            fields = form.row(line)
+        except records.NoRow as why:
+            raise Refused(f"{path}: line {number} is no row: {why}") from None
+        if fields:
+            targets.setdefault(fields["target"], Target(fields["target"])).take(fields)
+    return [target for _, target in sorted(targets.items(), key=lambda pair: int(pair[0]))]
