@@ -1,5 +1,6 @@
 """The wheel: `geocom.py` as a package, with the library beside it. `tools/package` fills the folder, and names the version by
-GEOCOM_VERSION. The wheel is of no version of Python, but of this machine's processor."""
+GEOCOM_VERSION, the oldest glibc that the library needs by GEOCOM_GLIBC, as 2_14, and the project's address by GEOCOM_HOMEPAGE. The wheel is
+of no version of Python, but of this machine's processor."""
 
 import os
 
@@ -11,7 +12,7 @@ class Wheel(bdist_wheel):
     """Any Python 3, without its ABI: the library is called by ctypes."""
 
     def get_tag(self):
-        return "py3", "none", super().get_tag()[2]
+        return "py3", "none", f"manylinux_{os.environ['GEOCOM_GLIBC']}_x86_64"
 
 
 class Binary(Distribution):
@@ -29,8 +30,9 @@ setup(
     "It needs Linux with glibc, and any x86-64 processor.\n",
     long_description_content_type="text/plain",
     author="the geocom authors",
+    url=os.environ["GEOCOM_HOMEPAGE"],
     license="MIT",
-    license_files=["LICENSE"],
+    license_files=["LICENSE", "copyright"],
     python_requires=">=3.9",
     packages=["geocom"],
     package_data={"geocom": ["py.typed", "libgeocom.so"]},

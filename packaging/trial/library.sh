@@ -10,7 +10,7 @@ same() { "$@" <$tests/worked.steps | cmp - $tests/worked.expected; }
     gcc -std=c11 -Wall -Wextra -Werror $tests/examples.c $(pkg-config --cflags geocom) "$(pkg-config --variable=libdir geocom)/libgeocom.a" -o static
     g++ -std=c++17 -Wall -Wextra -Werror $tests/examples.cpp $(pkg-config --cflags --libs geocom) -o wrapper
 }
-ldd shared | grep -q 'libgeocom\.so\.1 => /lib/x86_64-linux-gnu/libgeocom\.so\.1'
+ldd shared | grep -q 'libgeocom\.so\.2 => /lib/x86_64-linux-gnu/libgeocom\.so\.2'
 for piece in 4096 1 7; do
     same ./shared $piece 7
     same ./static $piece 7
@@ -19,7 +19,7 @@ done
 cat >CMakeLists.txt <<'CMAKE'
 cmake_minimum_required(VERSION 3.18)
 project(trial C)
-find_package(geocom 1.0 REQUIRED)
+find_package(geocom 2.0 REQUIRED)
 add_executable(one /try/tests/examples.c)
 target_link_libraries(one geocom::geocom)
 add_executable(two /try/tests/examples.c)

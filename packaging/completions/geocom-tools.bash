@@ -1,0 +1,28 @@
+# bash completion for geocom-to-sqlite(1), geocom-to-postgres(1), geocom-to-mqtt(1), geocom-plot(1), geocom-reduce(1) and geocom-alarm(1)
+
+_geocom_tools() {
+    local cur prev words cword
+    _init_completion || return
+    local given='--as --once --rest --help'
+    case ${1##*/} in
+    geocom-to-mqtt) given="--host --port --user --password-file $given" ;;
+    geocom-reduce) given="--append $given" ;;
+    geocom-alarm) given="--run --apart --patience $given" ;;
+    geocom-plot) given='--help' ;;
+    esac
+    case $prev in
+    --append | --password-file)
+        _filedir
+        return
+        ;;
+    --host)
+        _known_hosts_real -- "$cur"
+        return
+        ;;
+    --as | --rest | --port | --user | --run | --apart | --patience) return ;;
+    esac
+    case $cur in
+    -*) mapfile -t COMPREPLY < <(compgen -W "$given" -- "$cur") ;;
+    *) _filedir ;;
+    esac
+} && complete -F _geocom_tools geocom-to-sqlite geocom-to-postgres geocom-to-mqtt geocom-plot geocom-reduce geocom-alarm
