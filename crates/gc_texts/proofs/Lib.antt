@@ -27,3 +27,7 @@ mod Chained
 pub mod Placing
 mod Directed
 mod Doubles
+mod ClockForms
+mod ReasonForms
+mod Laying
+mod Repeating

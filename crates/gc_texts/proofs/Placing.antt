@@ -69,7 +69,7 @@ placed_so nears (t ∷ tasks) (u ∷ earlier) others task e =
 
 -- the law: a place holds for all commands of its target
 pub places_hold : PlacesHoldForAll
-places_hold text deadline chained tasks names nears is front later near at earlier others task among same =
+places_hold text deadline chained setup tasks names nears is front later near at earlier others task among same =
     let follow : MayFollow [] [] (front ++ says.Standing near ∷ later) = subst (λ said. MayFollow [] [] said) at is.lines.follow in
     let all : nears ≡ nears_of front ++ near ∷ nears_of later = is.nears_are ∙ ap nears_of at ∙ nears_both front (says.Standing near ∷ later) in
     placed_so nears (tasks_of (opening deadline chained) is.said) earlier others task (sym is.tasks_are ∙ among)

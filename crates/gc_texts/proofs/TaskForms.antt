@@ -1,5 +1,5 @@
 -- Which lines have the forms of a station's text.
-use Rattle.std.proofs.Common.{◌≡◌, ◌≤◌, ◌==◌, inl, inr, ℕ, List, [], ◌∷◌, ◌++◌, get_or, true, false, Option, Some, None, MatchOption, arith, refl, ap, subst, sym, ◌∙◌, codes, cond, ne_eqb, if◌then◌else◌}
+use Rattle.std.proofs.Common.{◌≡◌, ◌≤◌, ◌==◌, inl, inr, ℕ, List, [], ◌∷◌, ◌++◌, get_or, Bool, true, false, Option, Some, None, MatchOption, arith, refl, ap, subst, sym, ◌∙◌, codes, cond, ne_eqb, if◌then◌else◌}
 use Rattle.std.proofs.lemmas.List.{append_cancel_left}
 use Rattle.gc_catalogue.specs.declared.asked.Asked.{Asked}
 use Rattle.gc_catalogue.specs.declared.asked.Asked.TheVariants.{Table, Raw}
@@ -9,14 +9,18 @@ use Rattle.gc_texts.specs.Cuts.{Cuts, before, behind}
 use Rattle.gc_texts.specs.Names.{is_name}
 use Rattle.gc_texts.specs.Procedures.{IsNumber}
 use Rattle.gc_texts.specs.Nears.{AreWords, IsNearText}
-use Rattle.gc_texts.specs.TaskLines.{IsDeadline, IsNaming, IsStanding, IsTaskLine}
+use Rattle.gc_texts.specs.TaskLines.{IsDeadline, IsNaming, IsStanding, IsAccepting, IsAsking, IsTaskLine}
 use Rattle.gc_texts.specs.Wishes.{AsksFor}
+use Rattle.gc_texts.specs.declared.codes.Codes.{Codes}
+use Rattle.gc_texts.specs.declared.wish.Wish.{Wish}
 use Rattle.gc_texts.specs.declared.name.Name.{Name}
 use Rattle.gc_texts.specs.declared.near.Near.{Near}
 use Rattle.gc_texts.specs.declared.task_line.TaskLine.{TaskLine}
 use Rattle.gc_texts.specs.declared.task_line.TaskLine.TheVariants as says
 use Rattle.gc_texts.proofs.Cutting.{cut_found, one_front, digits_lack_spaces}
+use Rattle.gc_texts.proofs.ClockForms.{one_clock, wish_is_no_clock}
 use Rattle.gc_texts.proofs.CodeForms.{one_accepting}
+use Rattle.gc_texts.proofs.ReasonForms.{one_retrying}
 use Rattle.gc_texts.proofs.RawForms.{first_digit}
 use Rattle.gc_texts.proofs.WishForms.{one_wish}
 use Rattle.gc_texts.proofs.Procedures.{one_number}
@@ -58,19 +62,22 @@ module _ (line rest : List ℕ) (name : Name) (e : line ≡ codes "name " ++ res
       cc
 
 -- the kinds of lines, told apart by the first byte: 0 a command, 1 `deadline`, 2 `chained`, 3 `unchained`, 4 `name` or `near`,
--- which begin alike, 5 `accept`
+-- which begin alike, 5 `accept` or `at start`, which begin alike, too, 6 `retry`, 7 `each cycle`
 abbrev kind : TaskLine → ℕ
-kind (says.Command command) = 0
+kind (says.Command command now) = 0
 kind (says.Deadline deadline) = 1
 kind says.Chained = 2
 kind says.Unchained = 3
 kind (says.Naming name) = 4
 kind (says.Standing near) = 4
 kind (says.Accepting accepted) = 5
+kind (says.Retrying retry) = 6
+kind says.AtStart = 5
+kind says.EachCycle = 7
 
--- the kind of a line with this first byte: 100 is d, 99 c, 117 u, 110 n and 97 a; any other begins a command
+-- the kind of a line with this first byte: 100 is d, 99 c, 117 u, 110 n, 97 a, 114 r and 101 e; any other begins a command
 abbrev first_kind : ℕ → ℕ
-first_kind b = if b == 100 then 1 else if b == 99 then 2 else if b == 117 then 3 else if b == 110 then 4 else if b == 97 then 5 else 0
+first_kind b = if b == 100 then 1 else if b == 99 then 2 else if b == 117 then 3 else if b == 110 then 4 else if b == 97 then 5 else if b == 114 then 6 else if b == 101 then 7 else 0
 
 -- the kind of a line, by its first byte
 abbrev kind_in : List ℕ → ℕ
@@ -79,11 +86,13 @@ kind_in line = first_kind (get_or line 0 0)
 -- a line that begins with a digit is of the kind of a command (0)
 digit_kind : (b : ℕ) → b ≤ 57 → first_kind b ≡ 0
 digit_kind b low =
-    ap (λ t. cond t 1 (if b == 99 then 2 else if b == 117 then 3 else if b == 110 then 4 else if b == 97 then 5 else 0)) (ne_eqb b 100 (λ e. omega (arith, e, low)))
-    ∙ ap (λ t. cond t 2 (if b == 117 then 3 else if b == 110 then 4 else if b == 97 then 5 else 0)) (ne_eqb b 99 (λ e. omega (arith, e, low)))
-    ∙ ap (λ t. cond t 3 (if b == 110 then 4 else if b == 97 then 5 else 0)) (ne_eqb b 117 (λ e. omega (arith, e, low)))
-    ∙ ap (λ t. cond t 4 (if b == 97 then 5 else 0)) (ne_eqb b 110 (λ e. omega (arith, e, low)))
-    ∙ ap (λ t. cond t 5 0) (ne_eqb b 97 (λ e. omega (arith, e, low)))
+    ap (λ t. cond t 1 (if b == 99 then 2 else if b == 117 then 3 else if b == 110 then 4 else if b == 97 then 5 else if b == 114 then 6 else if b == 101 then 7 else 0)) (ne_eqb b 100 (λ e. omega (arith, e, low)))
+    ∙ ap (λ t. cond t 2 (if b == 117 then 3 else if b == 110 then 4 else if b == 97 then 5 else if b == 114 then 6 else if b == 101 then 7 else 0)) (ne_eqb b 99 (λ e. omega (arith, e, low)))
+    ∙ ap (λ t. cond t 3 (if b == 110 then 4 else if b == 97 then 5 else if b == 114 then 6 else if b == 101 then 7 else 0)) (ne_eqb b 117 (λ e. omega (arith, e, low)))
+    ∙ ap (λ t. cond t 4 (if b == 97 then 5 else if b == 114 then 6 else if b == 101 then 7 else 0)) (ne_eqb b 110 (λ e. omega (arith, e, low)))
+    ∙ ap (λ t. cond t 5 (if b == 114 then 6 else if b == 101 then 7 else 0)) (ne_eqb b 97 (λ e. omega (arith, e, low)))
+    ∙ ap (λ t. cond t 6 (if b == 101 then 7 else 0)) (ne_eqb b 114 (λ e. omega (arith, e, low)))
+    ∙ ap (λ t. cond t 7 0) (ne_eqb b 101 (λ e. omega (arith, e, low)))
 
 -- a line that begins with digits and a space is of the kind of a command (0)
 digits_kind : (ds rest : List ℕ) → AreDigits ds → first_kind (get_or (ds ++ 32 ∷ rest) 0 0) ≡ 0
@@ -97,7 +106,8 @@ asks_kind line target (Raw raw) is = digit_kind (get_or line 0 0) (first_digit l
 
 -- the first byte of a line shows the kind of what the line says
 kind_is : (line : List ℕ) (said : TaskLine) → IsTaskLine line said → kind_in line ≡ kind said
-kind_is line (says.Command wish) is = asks_kind line wish.target wish.call is
+kind_is line (says.Command wish false) is = asks_kind line wish.target wish.call is
+kind_is line (says.Command wish true) is = digit_kind (get_or line 0 0) (first_digit line is.target_is.names.digits is.target_is.names.some)
 kind_is line (says.Deadline deadline) is = ap kind_in is.line_is
 kind_is line says.Chained is = ap kind_in is
 kind_is line says.Unchained is = ap kind_in is
@@ -105,6 +115,10 @@ kind_is line (says.Naming name) is = ap kind_in is.line_is
 kind_is line (says.Standing near) is = ap kind_in is.line_is
 kind_is line (says.Accepting accepted) (inl alone) = ap kind_in alone.0
 kind_is line (says.Accepting accepted) (inr is) = ap kind_in is.line_is
+kind_is line (says.Retrying retry) (inl alone) = ap kind_in alone.0
+kind_is line (says.Retrying retry) (inr is) = ap kind_in is.line_is
+kind_is line says.AtStart is = ap kind_in is
+kind_is line says.EachCycle is = ap kind_in is
 
 -- a line gives one deadline at most
 one_deadline : (line : List ℕ) (m n : ℕ) → IsDeadline line m → IsDeadline line n → m ≡ n
@@ -156,15 +170,32 @@ never_both line name near x y =
     let second : ◌≡◌ {A = ℕ} 97 101 = ap (λ bs. get_or bs 1 0) (sym x.line_is ∙ y.line_is) in
     omega (arith, second)
 
+-- no line both says which codes are accepted (`accept`) and begins the set-up (`at start`)
+never_start : (line : List ℕ) (accepted : Codes) → IsAccepting line accepted → line ≡ codes "at start" → ⊥
+never_start line accepted (inl alone) e = let second : ◌≡◌ {A = ℕ} 99 116 = ap (λ bs. get_or bs 1 0) (sym alone.0 ∙ e) in omega (arith, second)
+never_start line accepted (inr is) e = let second : ◌≡◌ {A = ℕ} 99 116 = ap (λ bs. get_or bs 1 0) (sym is.line_is ∙ e) in omega (arith, second)
+
+-- a line asks for one thing at most, and either with the moment at which it goes out or without
+one_asked_for : (line : List ℕ) (v w : Wish) (m n : Bool) → IsAsking line v m → IsAsking line w n → says.Command v m ≡ says.Command w n
+one_asked_for line v w true true x y = ap (λ u. says.Command u true) (one_clock line v w x y)
+one_asked_for line v w false false x y = ap (λ u. says.Command u false) (one_wish line v w x y)
+one_asked_for line v w true false x y = absurd (wish_is_no_clock line w v y x)
+one_asked_for line v w false true x y = absurd (wish_is_no_clock line v w x y)
+
 -- where a line says `a` and says `b`, and both are of one kind, they are the same
 same_said : (line : List ℕ) (a b : TaskLine) → IsTaskLine line a → IsTaskLine line b → kind a ≡ kind b → a ≡ b
-same_said line (says.Command v) (says.Command w) x y h = ap says.Command (one_wish line v w x y)
+same_said line (says.Command v m) (says.Command w n) x y h = one_asked_for line v w m n x y
 same_said line (says.Deadline m) (says.Deadline n) x y h = ap says.Deadline (one_deadline line m n x y)
 same_said line says.Chained says.Chained x y h = refl
 same_said line says.Unchained says.Unchained x y h = refl
 same_said line (says.Naming m) (says.Naming n) x y h = ap says.Naming (one_naming line m n x y)
 same_said line (says.Standing m) (says.Standing n) x y h = ap says.Standing (one_standing line m n x y)
 same_said line (says.Accepting a) (says.Accepting b) x y h = ap says.Accepting (one_accepting line a b x y)
+same_said line (says.Retrying a) (says.Retrying b) x y h = ap says.Retrying (one_retrying line a b x y)
+same_said line says.AtStart says.AtStart x y h = refl
+same_said line says.EachCycle says.EachCycle x y h = refl
+same_said line (says.Accepting a) says.AtStart x y h = absurd (never_start line a x y)
+same_said line says.AtStart (says.Accepting a) x y h = absurd (never_start line a y x)
 same_said line (says.Naming m) (says.Standing n) x y h = absurd (never_both line m n x y)
 same_said line (says.Standing m) (says.Naming n) x y h = absurd (never_both line n m y x)
 same_said line a b x y h = absurd (omega (arith, h))

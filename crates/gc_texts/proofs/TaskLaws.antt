@@ -1,15 +1,24 @@
 -- Laws of a station's text: it has one reading; a command text (lines of commands alone) is one; and chains stay within rows,
 -- which are runs of commands for one target with no line `chained` or `unchained` between them. The mode at a line is the
 -- deadline, the accepted codes, whether commands are chained, and the target of the row there.
-use Rattle.std.proofs.Common.{◌≡◌, ℕ, List, [], ◌∷◌, ◌++◌, map, Option, Some, None, Bool, true, false, ◌&&◌, ◌⊎◌, inl, inr, refl, ap, sym, ◌∙◌}
+use Rattle.std.proofs.Common.{arith, subst, length, ◌+◌, ◌*◌, zero, suc, nat_lt, if◌then◌else◌, append_assoc, append-nil, ◌≡◌, ℕ, List, [], ◌∷◌, ◌++◌, map, Option, Some, None, Bool, true, false, ◌&&◌, ◌⊎◌, inl, inr, refl, ap, sym, ◌∙◌}
 use Rattle.std.specs.Prelude.{filter}
+use Rattle.std.specs.List.{AllByRecursion}
+use Rattle.std.proofs.lemmas.List.{length-map, map-append}
 use Rattle.std.proofs.lemmas.Bool.{eqb-true}
+use Rattle.std.proofs.lemmas.Bool.Decides.{nat_tests}
+use Rattle.gc_texts.specs.Again.{no_again}
 use Rattle.gc_texts.specs.Codes.{no_codes}
 use Rattle.gc_texts.specs.Commands.{IsCommand}
-use Rattle.gc_texts.specs.Laws.{OneTaskList, CommandsAreTasks, CommandsArePlain, AreRows, ChainsAreRows}
+use Rattle.gc_texts.specs.Laws.{OneTaskList, CommandsAreTasks, plain_tasks, CommandsArePlain, AreRows, IsOneChain, ChainsAreRows}
+use Rattle.gc_texts.specs.Attempts.{in_attempt, attempts_from, attempts, laid_behind, laid_out}
+use Rattle.gc_texts.specs.Retries.{no_retry}
+use Rattle.gc_texts.specs.declared.again.Again.{Again}
+use Rattle.gc_texts.specs.declared.retry.Retry.{Retry}
+use Rattle.gc_texts.specs.declared.tasks.Planned.{Planned}
 use Rattle.gc_texts.specs.LineForms.{is_kept, text_lines, AreItems}
 use Rattle.gc_texts.specs.TaskLines.{IsTaskLine}
-use Rattle.gc_texts.specs.Tasks.{opening, behind, goes_on, tasks_of, names_of, nears_of, placed, MayFollow}
+use Rattle.gc_texts.specs.Tasks.{opening, behind, goes_on, task_at, setup_of, planned_of, tasks_of, names_of, nears_of, placed, MayFollow}
 use Rattle.gc_texts.specs.Wishes.{wish_of}
 use Rattle.gc_texts.specs.declared.commands.Command.{Command}
 use Rattle.gc_texts.specs.declared.name.Name.{Name}
@@ -23,9 +32,10 @@ use Rattle.gc_texts.proofs.TaskForms.{one_said}
 
 -- the law: a text gives one list of tasks at most, one of names, and one of places
 pub one_task_list : OneTaskList
-one_task_list text deadline chained xs ys ms ns ps qs h k =
+one_task_list text deadline chained m n xs ys ms ns ps qs h k =
     let same : h.said ≡ k.said = one_list IsTaskLine one_said (filter is_kept (text_lines text)) h.said k.said h.lines.forms k.lines.forms in
     let places : ps ≡ qs = h.nears_are ∙ ap nears_of same ∙ sym k.nears_are in (
+      h.setup_is ∙ ap (λ said. length (setup_of (opening deadline chained) said)) same ∙ sym k.setup_is,
       h.tasks_are ∙ ap (λ ns. map (placed ns) (tasks_of (opening deadline chained) h.said)) places ∙ ap (λ said. map (placed qs) (tasks_of (opening deadline chained) said)) same ∙ sym k.tasks_are,
       h.names_are ∙ ap names_of same ∙ sym k.names_are,
       places,
@@ -33,7 +43,7 @@ one_task_list text deadline chained xs ys ms ns ps qs h k =
 
 -- commands, as what the lines of a station's text say
 abbrev asks : List Command → List TaskLine
-asks commands = map (λ command. says.Command (wish_of command)) commands
+asks commands = map (λ command. says.Command (wish_of command) false) commands
 
 -- lines of commands have the forms of a station's text
 asked_forms : (lines : List (List ℕ)) (commands : List Command) → AreItems IsCommand lines commands → AreItems IsTaskLine lines (asks commands)
@@ -57,45 +67,117 @@ asked_nears : (commands : List Command) → [] ≡ nears_of (asks commands)
 asked_nears [] = refl
 asked_nears (c ∷ cs) = asked_nears cs
 
--- where the text says no place, giving tasks their places changes nothing: they have none
-unplaced : (mode : Mode) (lines : List TaskLine) → tasks_of mode lines ≡ map (placed []) (tasks_of mode lines)
-unplaced mode [] = refl
-unplaced mode (says.Command c ∷ later) = ap (λ ts. tasks_of mode (says.Command c ∷ []) ++ ts) (unplaced (behind mode (says.Command c)) later)
-unplaced mode (says.Deadline d ∷ later) = unplaced (behind mode (says.Deadline d)) later
-unplaced mode (says.Chained ∷ later) = unplaced (behind mode says.Chained) later
-unplaced mode (says.Unchained ∷ later) = unplaced (behind mode says.Unchained) later
-unplaced mode (says.Naming n ∷ later) = unplaced mode later
-unplaced mode (says.Standing n ∷ later) = unplaced mode later
-unplaced mode (says.Accepting cs ∷ later) = unplaced (behind mode (says.Accepting cs)) later
+-- a task of a command in its first attempt: without a place, a rule and a count of others
+record IsFirst (task : Task) : Type 0 where
+  near : task.near ≡ None
+  again : task.again ≡ no_again
+  attempt : task.turn.attempt ≡ 1
+  others : task.others ≡ 0
 
--- the tasks of lines of commands have these commands, in order
-asked_tasks : (mode : Mode) (commands : List Command) → map (λ task. task.command) (tasks_of mode (asks commands)) ≡ map wish_of commands
-asked_tasks mode [] = refl
-asked_tasks mode (c ∷ cs) = ap (λ l. wish_of c ∷ l) (asked_tasks (behind mode (says.Command (wish_of c))) cs)
+-- a command whose chain goes out once
+record IsOnce (planned : Planned) : Type 0 where
+  retry : planned.retry ≡ no_retry
+  first : IsFirst planned.task
+
+-- the first attempt of such a command is its task
+once : (n : ℕ) (p : Planned) → IsOnce p → in_attempt 1 no_again n p ≡ p.task
+once n p h =
+    ap (λ a. record p.task { again = a; turn = record { place = p.task.turn.place; attempt = 1; link = p.task.turn.link }; others = 0 }) (sym h.first.again)
+    ∙ ap (λ k. record p.task { turn = record { place = p.task.turn.place; attempt = k; link = p.task.turn.link }; others = 0 }) (sym h.first.attempt)
+    ∙ ap (λ k. record p.task { others = k }) (sym h.first.others)
+
+-- the first attempt of such commands is their tasks
+once_all : (n : ℕ) (ps : List Planned) → AllByRecursion IsOnce ps → map (in_attempt 1 no_again n) ps ≡ map (λ p. p.task) ps
+once_all n [] all = refl
+once_all n (p ∷ ps) all = ap (λ t. t ∷ map (in_attempt 1 no_again n) ps) (once n p all.0) ∙ ap (λ ts. p.task ∷ ts) (once_all n ps all.1)
+
+-- one more such command
+once_more : (ps : List Planned) (p : Planned) → AllByRecursion IsOnce ps → IsOnce p → AllByRecursion IsOnce (ps ++ p ∷ [])
+once_more [] p all is = (is, tt)
+once_more (q ∷ ps) p all is = (all.0, once_more ps p all.1 is)
+
+-- where all chains go out once, their attempts are the commands' tasks
+laid_once : (retry : Retry) (chain later : List Planned) → retry ≡ no_retry → AllByRecursion IsOnce chain → AllByRecursion IsOnce later
+    → laid_behind retry chain later ≡ map (λ p. p.task) chain ++ map (λ p. p.task) later
+laid_once retry chain [] none all rest = ap (λ r. attempts r chain) none ∙ once_all (length chain) chain all ∙ sym (append-nil (map (λ p. p.task) chain))
+laid_once retry chain (p ∷ later) none all rest =
+    by_chained (laid_once retry (chain ++ p ∷ []) later none (once_more chain p all rest.0) rest.1) (laid_once p.retry (p ∷ []) later rest.0.retry (rest.0, tt) rest.1) p.task.chained where
+      -- by whether the next goes on with the chain
+      by_chained : laid_behind retry (chain ++ p ∷ []) later ≡ map (λ q. q.task) (chain ++ p ∷ []) ++ map (λ q. q.task) later
+          → laid_behind p.retry (p ∷ []) later ≡ p.task ∷ map (λ q. q.task) later → (b : Bool)
+          → (if b then laid_behind retry (chain ++ p ∷ []) later else attempts retry chain ++ laid_behind p.retry (p ∷ []) later) ≡ map (λ q. q.task) chain ++ p.task ∷ map (λ q. q.task) later
+      by_chained on anew true =
+          on ∙ ap (λ ts. ts ++ map (λ q. q.task) later) (map-append (λ q. q.task) chain (p ∷ [])) ∙ append_assoc (map (λ q. q.task) chain) (p.task ∷ []) (map (λ q. q.task) later)
+      by_chained on anew false =
+          ap (λ r. attempts r chain ++ laid_behind p.retry (p ∷ []) later) none ∙ ap (λ ts. ts ++ laid_behind p.retry (p ∷ []) later) (once_all (length chain) chain all)
+          ∙ ap (λ ts. map (λ q. q.task) chain ++ ts) anew
+
+-- tasks without places stay as they are where the text says no place
+unplaced : (tasks : List Task) → AllByRecursion (λ task. task.near ≡ None) tasks → map (placed []) tasks ≡ tasks
+unplaced [] all = refl
+unplaced (t ∷ ts) all = ap (λ n. record t { near = n } ∷ map (placed []) ts) (sym all.0) ∙ ap (λ us. t ∷ us) (unplaced ts all.1)
+
+-- commands alone, read in a mode of the cycle without accepted codes and without retries, in which `place` of them stand in front, and `link` of
+-- the chain
+module _ (deadline : ℕ) (chained : Bool) where
+  -- the mode
+  abbrev at : Option ℕ → ℕ → ℕ → Mode
+  at row place link = record { deadline = deadline; chained = chained; row = row; accepted = no_codes; retry = no_retry; setup = false; begun = 0; place = place; link = link }
+
+  -- where the chain of the next command for a target stands
+  abbrev next_link : Option ℕ → ℕ → ℕ → ℕ
+  next_link row link target = (if chained && goes_on row target then link else 0) + 1
+
+  -- there is no set-up
+  no_setup : (row : Option ℕ) (place link : ℕ) (commands : List Command) → setup_of (at row place link) (asks commands) ≡ []
+  no_setup row place link [] = refl
+  no_setup row place link (c ∷ cs) = no_setup (Some c.target) (place + 1) (next_link row link c.target) cs
+
+  -- each goes out once
+  all_once : (row : Option ℕ) (place link : ℕ) (commands : List Command) → AllByRecursion IsOnce (planned_of (at row place link) (asks commands))
+  all_once row place link [] = tt
+  all_once row place link (c ∷ cs) =
+      (record { retry = refl; first = record { near = refl; again = refl; attempt = refl; others = refl } }, all_once (Some c.target) (place + 1) (next_link row link c.target) cs)
+
+  -- none has a place of its target
+  none_placed : (row : Option ℕ) (place link : ℕ) (commands : List Command) → AllByRecursion (λ task. task.near ≡ None) (map (λ p. p.task) (planned_of (at row place link) (asks commands)))
+  none_placed row place link [] = tt
+  none_placed row place link (c ∷ cs) = (refl, none_placed (Some c.target) (place + 1) (next_link row link c.target) cs)
+
+  -- they ask for the commands, in order
+  asked_tasks : (row : Option ℕ) (place link : ℕ) (commands : List Command)
+      → map (λ task. task.command) (map (λ p. p.task) (planned_of (at row place link) (asks commands))) ≡ map wish_of commands
+  asked_tasks row place link [] = refl
+  asked_tasks row place link (c ∷ cs) = ap (λ l. wish_of c ∷ l) (asked_tasks (Some c.target) (place + 1) (next_link row link c.target) cs)
+
+  -- the text of the commands gives these tasks
+  tasks_are_asked : (commands : List Command) → map (λ p. p.task) (planned_of (opening deadline chained) (asks commands)) ≡ map (placed []) (tasks_of (opening deadline chained) (asks commands))
+  tasks_are_asked commands =
+      let planned = planned_of (opening deadline chained) (asks commands) in
+      let laid : laid_out planned ≡ map (λ p. p.task) planned = laid_once no_retry [] planned refl tt (all_once None 0 0 commands) in
+      sym (unplaced (map (λ p. p.task) planned) (none_placed None 0 0 commands)) ∙ ap (map (placed [])) (sym laid) ∙ ap (λ ts. map (placed []) (ts ++ laid_out planned)) (sym (no_setup None 0 0 commands))
 
 -- the law: each command text is a station's text
 pub commands_are_tasks : CommandsAreTasks
 commands_are_tasks text commands deadline chained are = (
-  tasks_of (opening deadline chained) (asks commands),
+  map (λ p. p.task) (planned_of (opening deadline chained) (asks commands)),
   record {
     said = asks commands;
     lines = record { forms = asked_forms (filter is_kept (text_lines text)) commands are; follow = asked_follow [] [] commands };
-    tasks_are = unplaced (opening deadline chained) (asks commands);
+    tasks_are = tasks_are_asked deadline chained commands;
+    setup_is = ap length (sym (no_setup deadline chained None 0 0 commands));
     names_are = asked_names commands;
     nears_are = asked_nears commands;
   },
-  asked_tasks (opening deadline chained) commands,
+  asked_tasks deadline chained None 0 0 commands,
 )
 
--- the task of a command that isn't chained, with this deadline and without a place
-abbrev plain : ℕ → Command → Task
-plain deadline command = record { command = wish_of command; deadline = deadline; chained = false; near = None; accepted = no_codes }
-
 -- where commands aren't chained, each gives a task that isn't chained either, with the deadline `deadline`
-plain_tasks : (deadline : ℕ) (row : Option ℕ) (commands : List Command)
-    → map (plain deadline) commands ≡ tasks_of (record { deadline = deadline; chained = false; row = row; accepted = no_codes }) (asks commands)
-plain_tasks deadline row [] = refl
-plain_tasks deadline row (c ∷ cs) = ap (λ l. plain deadline c ∷ l) (plain_tasks deadline (Some c.target) cs)
+plain : (deadline : ℕ) (row : Option ℕ) (place link : ℕ) (commands : List Command) → plain_tasks deadline place commands ≡ map (λ p. p.task) (planned_of (at deadline false row place link) (asks commands))
+plain deadline row place link [] = refl
+plain deadline row place link (c ∷ cs) =
+    ap (λ l. record { command = wish_of c; deadline = deadline; chained = false; near = None; accepted = no_codes; again = no_again; turn = record { place = place; attempt = 1; link = 0 }; others = 0; now = false } ∷ l)
+    (plain deadline (Some c.target) (place + 1) 1 cs)
 
 -- the law: a command text, read as a station's text without chains, gives one task for each command, not chained and with the
 -- caller's deadline
@@ -104,7 +186,8 @@ commands_are_plain text commands deadline are =
     record {
       said = asks commands;
       lines = record { forms = asked_forms (filter is_kept (text_lines text)) commands are; follow = asked_follow [] [] commands };
-      tasks_are = plain_tasks deadline None commands ∙ unplaced (opening deadline false) (asks commands);
+      tasks_are = plain deadline None 0 0 commands ∙ tasks_are_asked deadline false commands;
+      setup_is = ap length (sym (no_setup deadline false None 0 0 commands));
       names_are = asked_names commands;
       nears_are = asked_nears commands;
     }
@@ -125,27 +208,151 @@ row_before : (row before : Option ℕ) (target : ℕ) → (row ≡ None) ⊎ (ro
 row_before row before target (inl none) e = let bad : None ≡ Some target = sym none ∙ e in cc
 row_before row before target (inr same) e = sym same ∙ e
 
--- `before` is the target of the task before these lines, if there is one. Where the mode's row is none or that target, each
--- chained task of the lines follows one for the same target
-rows : (mode : Mode) (before : Option ℕ) (said : List TaskLine) → (mode.row ≡ None) ⊎ (mode.row ≡ before) → AreRows before (tasks_of mode said)
+-- commands of the cycle are in rows as their tasks are
+abbrev pub InRows : Option ℕ → List Planned → Type 0
+InRows before planned = AreRows before (map (λ p. p.task) planned)
+
+-- `before` is the target of the cycle's command before these lines, if there is one. Where the mode is the set-up's, or its row is none or
+-- that target, each chained command of the cycle follows one for the same target
+pub rows : (mode : Mode) (before : Option ℕ) (said : List TaskLine) → (mode.setup ≡ true) ⊎ ((mode.row ≡ None) ⊎ (mode.row ≡ before)) → InRows before (planned_of mode said)
 rows mode before [] h = tt
-rows mode before (says.Command c ∷ later) h = (
-  (λ e. row_before mode.row before c.target h (row_is mode.row c.target (both_true mode.chained (goes_on mode.row c.target) e))),
-  rows (behind mode (says.Command c)) (Some c.target) later (inr refl),
-)
+rows mode before (says.Command c now ∷ later) h =
+    by_setup mode.setup refl h (λ e. rows (behind mode (says.Command c now)) before later (inl e)) (rows (behind mode (says.Command c now)) (Some c.target) later (inr (inr refl))) where
+      -- by the section
+      by_setup : (b : Bool) → mode.setup ≡ b → (mode.setup ≡ true) ⊎ ((mode.row ≡ None) ⊎ (mode.row ≡ before)) → (mode.setup ≡ true → InRows before (planned_of (behind mode (says.Command c now)) later))
+          → InRows (Some c.target) (planned_of (behind mode (says.Command c now)) later)
+          → InRows before ((if b then [] else record { task = task_at mode c now; retry = mode.retry } ∷ []) ++ planned_of (behind mode (says.Command c now)) later)
+      by_setup true e h at_start in_cycle = at_start e
+      by_setup false e (inl is) at_start in_cycle = let bad : true ≡ false = sym is ∙ e in cc
+      by_setup false e (inr is) at_start in_cycle = (
+        (λ on.
+            let so : (mode.chained && goes_on mode.row c.target) ≡ true = ap (λ b. if b then nat_lt 0 mode.begun else mode.chained && goes_on mode.row c.target) (sym e) ∙ on in
+            row_before mode.row before c.target is (row_is mode.row c.target (both_true mode.chained (goes_on mode.row c.target) so))),
+        in_cycle,
+      )
 rows mode before (says.Deadline d ∷ later) h = rows (behind mode (says.Deadline d)) before later h
-rows mode before (says.Chained ∷ later) h = rows (behind mode says.Chained) before later (inl refl)
-rows mode before (says.Unchained ∷ later) h = rows (behind mode says.Unchained) before later (inl refl)
+rows mode before (says.Chained ∷ later) h = rows (behind mode says.Chained) before later (inr (inl refl))
+rows mode before (says.Unchained ∷ later) h = rows (behind mode says.Unchained) before later (inr (inl refl))
 rows mode before (says.Naming n ∷ later) h = rows mode before later h
 rows mode before (says.Standing n ∷ later) h = rows mode before later h
 rows mode before (says.Accepting cs ∷ later) h = rows (behind mode (says.Accepting cs)) before later h
+rows mode before (says.Retrying r ∷ later) h = rows (behind mode (says.Retrying r)) before later (inr (inl refl))
+rows mode before (says.AtStart ∷ later) h = rows (behind mode says.AtStart) before later (inr (inl refl))
+rows mode before (says.EachCycle ∷ later) h = rows (behind mode says.EachCycle) before later (inr (inl refl))
+
+-- rows of which the first isn't chained stand behind anything
+rows_behind : (before : Option ℕ) (tasks : List Task) → AreRows None tasks → AreRows before tasks
+rows_behind before [] are = tt
+rows_behind before (t ∷ ts) are = ((λ e. let bad : None ≡ Some t.command.target = are.0 e in cc), are.1)
+
+-- rows, and behind them rows of which the first isn't chained, are rows
+rows_both : (before : Option ℕ) (xs ys : List Task) → AreRows before xs → AreRows None ys → AreRows before (xs ++ ys)
+rows_both before [] ys first behind = rows_behind before ys behind
+rows_both before (x ∷ xs) ys first behind = (first.0, rows_both (Some x.command.target) xs ys first.1 behind)
+
+-- an attempt of commands in rows is in rows
+attempt_rows : (attempt : ℕ) (again : Again) (n : ℕ) (before : Option ℕ) (ps : List Planned) → InRows before ps → AreRows before (map (in_attempt attempt again n) ps)
+attempt_rows attempt again n before [] are = tt
+attempt_rows attempt again n before (p ∷ ps) are = (are.0, attempt_rows attempt again n (Some p.task.command.target) ps are.1)
+
+-- the attempts of a chain are in rows
+attempts_rows : (attempt left : ℕ) (again : Again) (chain : List Planned) → InRows None chain → AreRows None (attempts_from attempt left again chain)
+attempts_rows attempt zero again chain are = attempt_rows attempt no_again (length chain) None chain are
+attempts_rows attempt (suc left) again chain are =
+    rows_both None (map (in_attempt attempt again (length chain * suc (suc left))) chain) (attempts_from (attempt + 1) left again chain)
+    (attempt_rows attempt again (length chain * suc (suc left)) None chain are) (attempts_rows (attempt + 1) left again chain are)
+
+-- the target of the last of these commands, or `before` where there is none
+abbrev last_of : Option ℕ → List Planned → Option ℕ
+last_of before [] = before
+last_of before (p ∷ ps) = last_of (Some p.task.command.target) ps
+
+-- one more command in its row
+rows_more : (before : Option ℕ) (ps : List Planned) (p : Planned) → InRows before ps → (p.task.chained ≡ true → last_of before ps ≡ Some p.task.command.target) → InRows before (ps ++ p ∷ [])
+rows_more before [] p are is = (is, tt)
+rows_more before (q ∷ ps) p are is = (are.0, rows_more (Some q.task.command.target) ps p are.1 is)
+
+-- behind one more command its target is the last
+last_more : (before : Option ℕ) (ps : List Planned) (p : Planned) → last_of before (ps ++ p ∷ []) ≡ Some p.task.command.target
+last_more before [] p = refl
+last_more before (q ∷ ps) p = last_more (Some q.task.command.target) ps p
+
+-- where a command isn't chained, it may stand in front
+not_chained : (b : Bool) (row : Option ℕ) → b ≡ false → b ≡ true → None ≡ row
+not_chained true row e f = cc
+not_chained false row e f = cc
+
+-- the attempts of a chain that was begun, and of those behind it, are in rows
+laid_rows : (retry : Retry) (chain later : List Planned) → InRows None chain → InRows (last_of None chain) later → AreRows None (laid_behind retry chain later)
+laid_rows retry chain [] are more = attempts_rows 1 retry.times retry.again chain are
+laid_rows retry chain (p ∷ later) are more =
+    by_chained p.task.chained refl
+    (laid_rows retry (chain ++ p ∷ []) later (rows_more None chain p are more.0) (subst (λ t. InRows t later) (sym (last_more None chain p)) more.1))
+    (λ e. laid_rows p.retry (p ∷ []) later (not_chained p.task.chained (Some p.task.command.target) e, tt) more.1) where
+      -- by whether the next goes on with the chain
+      by_chained : (b : Bool) → p.task.chained ≡ b → AreRows None (laid_behind retry (chain ++ p ∷ []) later) → (p.task.chained ≡ false → AreRows None (laid_behind p.retry (p ∷ []) later))
+          → AreRows None (if b then laid_behind retry (chain ++ p ∷ []) later else attempts retry chain ++ laid_behind p.retry (p ∷ []) later)
+      by_chained true e on anew = on
+      by_chained false e on anew = rows_both None (attempts retry chain) (laid_behind p.retry (p ∷ []) later) (attempts_rows 1 retry.times retry.again chain are) (anew e)
 
 -- giving tasks their places changes neither which are chained nor for which target they are, so rows stay rows
 placed_rows : (nears : List Near) (before : Option ℕ) (tasks : List Task) → AreRows before tasks → AreRows before (map (placed nears) tasks)
 placed_rows nears before [] are = tt
 placed_rows nears before (task ∷ later) are = (are.0, placed_rows nears (Some task.command.target) later are.1)
 
--- the law: each chained task stands behind one for the same target
+-- these tasks go on with a chain, or begin one where none stands in front
+abbrev GoOn : ℕ → List Task → Type 0
+GoOn zero tasks = IsOneChain tasks
+GoOn (suc n) tasks = AllByRecursion (λ task. task.chained ≡ true) tasks
+
+-- one more command goes on with the chain
+goes_first : (n : ℕ) (task : Task) (later : List Task) → task.chained ≡ nat_lt 0 n → GoOn (n + 1) later → GoOn n (task ∷ later)
+goes_first zero task later is more = (is, more)
+goes_first (suc n) task later is more = (is ∙ above n, subst (λ k. GoOn k later) (two n) more) where
+  -- a successor is above 0
+  above : (n : ℕ) → nat_lt 0 (suc n) ≡ true
+  above n = grind (arith, nat_tests)
+
+  -- the same number
+  two : (n : ℕ) → suc n + 1 ≡ suc (suc n)
+  two n = omega arith
+
+-- the set-up is one chain
+setup_chain : (nears : List Near) (mode : Mode) (said : List TaskLine) → GoOn mode.begun (map (placed nears) (setup_of mode said))
+setup_chain nears mode [] = none mode.begun where
+  -- no task
+  none : (n : ℕ) → GoOn n []
+  none zero = tt
+  none (suc n) = tt
+setup_chain nears mode (says.Command c now ∷ later) = by_setup mode.setup refl (setup_chain nears (behind mode (says.Command c now)) later) where
+  -- by the section
+  by_setup : (b : Bool) → mode.setup ≡ b → GoOn (behind mode (says.Command c now)).begun (map (placed nears) (setup_of (behind mode (says.Command c now)) later))
+      → GoOn mode.begun (map (placed nears) ((if b then task_at mode c now ∷ [] else []) ++ setup_of (behind mode (says.Command c now)) later))
+  by_setup true e more =
+      goes_first mode.begun (placed nears (task_at mode c now)) (map (placed nears) (setup_of (behind mode (says.Command c now)) later))
+      (ap (λ b. if b then nat_lt 0 mode.begun else mode.chained && goes_on mode.row c.target) e)
+      (subst (λ n. GoOn n (map (placed nears) (setup_of (behind mode (says.Command c now)) later))) (ap (λ b. if b then mode.begun + 1 else mode.begun) e) more)
+  by_setup false e more = subst (λ n. GoOn n (map (placed nears) (setup_of (behind mode (says.Command c now)) later))) (ap (λ b. if b then mode.begun + 1 else mode.begun) e) more
+setup_chain nears mode (says.Deadline d ∷ later) = setup_chain nears (behind mode (says.Deadline d)) later
+setup_chain nears mode (says.Chained ∷ later) = setup_chain nears (behind mode says.Chained) later
+setup_chain nears mode (says.Unchained ∷ later) = setup_chain nears (behind mode says.Unchained) later
+setup_chain nears mode (says.Naming n ∷ later) = setup_chain nears (behind mode (says.Naming n)) later
+setup_chain nears mode (says.Standing n ∷ later) = setup_chain nears (behind mode (says.Standing n)) later
+setup_chain nears mode (says.Accepting cs ∷ later) = setup_chain nears (behind mode (says.Accepting cs)) later
+setup_chain nears mode (says.Retrying r ∷ later) = setup_chain nears (behind mode (says.Retrying r)) later
+setup_chain nears mode (says.AtStart ∷ later) = setup_chain nears (behind mode says.AtStart) later
+setup_chain nears mode (says.EachCycle ∷ later) = setup_chain nears (behind mode says.EachCycle) later
+
+-- the law: the set-up is one chain, and behind it each chained task stands behind one for the same target
 pub chains_are_rows : ChainsAreRows
-chains_are_rows text deadline chained tasks names nears is =
-    rw is.tasks_are (placed_rows nears None (tasks_of (opening deadline chained) is.said) (rows (opening deadline chained) None is.said (inl refl)))
+chains_are_rows text deadline chained setup tasks names nears is =
+    let first = opening deadline chained in
+    let front = map (placed nears) (setup_of first is.said) in
+    let cycle = map (placed nears) (laid_out (planned_of first is.said)) in (
+      front,
+      cycle,
+      is.tasks_are ∙ map-append (placed nears) (setup_of first is.said) (laid_out (planned_of first is.said)),
+      is.setup_is ∙ sym (length-map (setup_of first is.said) (placed nears)),
+      setup_chain nears first is.said,
+      placed_rows nears None (laid_out (planned_of first is.said)) (laid_rows no_retry [] (planned_of first is.said) tt (rows first None is.said (inr (inl refl)))),
+    )

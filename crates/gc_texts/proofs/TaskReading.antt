@@ -1,16 +1,20 @@
 -- The tasks, names and places of lines that stand one behind the other, and how far the reading of a station's text has come
 -- (`ReadsTasks`). The mode at a line is the deadline, the accepted codes, whether commands are chained, and the target of the
 -- row there.
-use Rattle.std.proofs.Common.{◌≡◌, ◌+◌, ◌≤◌, ℕ, List, [], ◌∷◌, ◌++◌, length, Option, Some, Bool, true, false, refl, ap, subst, sym, ◌∙◌, append_assoc, append-nil}
-use Rattle.std.specs.Prelude.{not}
+use Rattle.std.proofs.lemmas.List.{length-append}
+use Rattle.std.proofs.Common.{◌⊎◌, inl, inr, ◌<◌, map, None, cond, arith, if◌then◌else◌, ◌≡◌, ◌+◌, ◌≤◌, ℕ, List, [], ◌∷◌, ◌++◌, length, Option, Some, Bool, true, false, refl, ap, subst, sym, ◌∙◌, append_assoc, append-nil}
+use Rattle.std.specs.Prelude.{not, filter}
 use Rattle.gc_texts.specs.Cuts.{Cuts}
-use Rattle.gc_texts.specs.LineForms.{text_lines, is_skipped, is_kept, without_cr}
+use Rattle.gc_texts.specs.LineForms.{text_lines, is_skipped, is_kept, without_cr, AreItems}
 use Rattle.gc_texts.specs.TaskLines.{IsTaskLine}
-use Rattle.gc_texts.specs.Tasks.{behind, task_at, tasks_of, name_at, names_of, near_at, nears_of, may_stand, MayFollow, IsFirstFaultyTask, IsBehindATask}
+use Rattle.gc_texts.specs.Attempts.{laid_out}
+use Rattle.gc_texts.specs.Tasks.{opening, behind, joined, link_at, task_at, setup_at, setup_of, planned_at, planned_of, placed, IsTasks, name_at, names_of, near_at, nears_of, may_stand, MayFollow, IsFirstFaultyTask, ReachesASoundTaskLine}
 use Rattle.gc_texts.specs.declared.name.Name.{Name}
 use Rattle.gc_texts.specs.declared.near.Near.{Near}
 use Rattle.gc_texts.specs.declared.task_line.TaskLine.{TaskLine}
 use Rattle.gc_texts.specs.declared.tasks.Mode.{Mode}
+use Rattle.gc_texts.specs.declared.tasks.Planned.{Planned}
+use Rattle.gc_texts.specs.declared.task_line.TaskLine.TheVariants as says
 use Rattle.gc_texts.specs.declared.tasks.Task.{Task}
 use Rattle.gc_texts.proofs.TaskForms.{one_said}
 use Rattle.gc_texts.proofs.TextLines.{Reads, reads_few, lines_left, lines-cut, turn_skips, turn_reads}
@@ -20,12 +24,102 @@ abbrev pub behind_all : Mode → List TaskLine → Mode
 behind_all mode [] = mode
 behind_all mode (line ∷ later) = behind_all (behind mode line) later
 
--- the tasks of lines, and of one more, are those of the lines, and that of the last in the mode behind them
-tasks_more : (mode : Mode) (lines : List TaskLine) (next : TaskLine) → tasks_of mode (lines ++ next ∷ []) ≡ tasks_of mode lines ++ task_at (behind_all mode lines) next
-tasks_more mode [] next = append-nil (task_at mode next)
-tasks_more mode (line ∷ lines) next =
-    ap (λ ts. task_at mode line ++ ts) (tasks_more (behind mode line) lines next)
-    ∙ sym (append_assoc (task_at mode line) (tasks_of (behind mode line) lines) (task_at (behind_all (behind mode line) lines) next))
+-- the set-up of lines, and of one more, is that of the lines, and that of the last in the mode behind them
+setup_more : (mode : Mode) (lines : List TaskLine) (next : TaskLine) → setup_of mode (lines ++ next ∷ []) ≡ setup_of mode lines ++ setup_at (behind_all mode lines) next
+setup_more mode [] next = append-nil (setup_at mode next)
+setup_more mode (line ∷ lines) next =
+    ap (λ ts. setup_at mode line ++ ts) (setup_more (behind mode line) lines next)
+    ∙ sym (append_assoc (setup_at mode line) (setup_of (behind mode line) lines) (setup_at (behind_all (behind mode line) lines) next))
+
+-- the cycle's commands of lines, and of one more, are those of the lines, and that of the last in the mode behind them
+planned_more : (mode : Mode) (lines : List TaskLine) (next : TaskLine) → planned_of mode (lines ++ next ∷ []) ≡ planned_of mode lines ++ planned_at (behind_all mode lines) next
+planned_more mode [] next = append-nil (planned_at mode next)
+planned_more mode (line ∷ lines) next =
+    ap (λ ts. planned_at mode line ++ ts) (planned_more (behind mode line) lines next)
+    ∙ sym (append_assoc (planned_at mode line) (planned_of (behind mode line) lines) (planned_at (behind_all (behind mode line) lines) next))
+
+-- each count of a mode is at most n
+record Counted (mode : Mode) (n : ℕ) : Type 0 where
+  begun : mode.begun ≤ n
+  place : mode.place ≤ n
+  link : mode.link ≤ n
+
+-- one of two numbers that are both at most n is at most n
+either_low : (b : Bool) (x y n : ℕ) → x ≤ n → y ≤ n → (if b then x else y) ≤ n
+either_low true x y n low other = low
+either_low false x y n low other = other
+
+-- a line adds one at most to each count
+counted_line : (mode : Mode) (line : TaskLine) (n : ℕ) → Counted mode n → Counted (behind mode line) (n + 1)
+counted_line mode (says.Command c now) n h = record {
+  begun = either_low mode.setup (mode.begun + 1) mode.begun (n + 1) (omega (arith, h.begun)) (omega (arith, h.begun));
+  place = either_low mode.setup mode.place (mode.place + 1) (n + 1) (omega (arith, h.place)) (omega (arith, h.place));
+  link =
+      let inner : (if joined mode c.target then mode.link else 0) ≤ n = either_low (joined mode c.target) mode.link 0 n h.link (omega arith) in
+      let low : link_at mode (joined mode c.target) ≤ n = either_low mode.setup mode.begun (if joined mode c.target then mode.link else 0) n h.begun inner in
+      omega (arith, low);
+}
+counted_line mode (says.Deadline d) n h = record { begun = omega (arith, h.begun); place = omega (arith, h.place); link = omega (arith, h.link) }
+counted_line mode says.Chained n h = record { begun = omega (arith, h.begun); place = omega (arith, h.place); link = omega (arith, h.link) }
+counted_line mode says.Unchained n h = record { begun = omega (arith, h.begun); place = omega (arith, h.place); link = omega (arith, h.link) }
+counted_line mode (says.Naming m) n h = record { begun = omega (arith, h.begun); place = omega (arith, h.place); link = omega (arith, h.link) }
+counted_line mode (says.Standing m) n h = record { begun = omega (arith, h.begun); place = omega (arith, h.place); link = omega (arith, h.link) }
+counted_line mode (says.Accepting cs) n h = record { begun = omega (arith, h.begun); place = omega (arith, h.place); link = omega (arith, h.link) }
+counted_line mode (says.Retrying r) n h = record { begun = omega (arith, h.begun); place = omega (arith, h.place); link = omega (arith, h.link) }
+counted_line mode says.AtStart n h = record { begun = omega (arith, h.begun); place = omega (arith, h.place); link = omega (arith, h.link) }
+counted_line mode says.EachCycle n h = record { begun = omega (arith, h.begun); place = omega (arith, h.place); link = omega (arith, h.link) }
+
+-- lines add at most one each to each count
+counted_lines : (mode : Mode) (lines : List TaskLine) (n : ℕ) → Counted mode n → Counted (behind_all mode lines) (n + length lines)
+counted_lines mode [] n h = record { begun = omega (arith, h.begun); place = omega (arith, h.place); link = omega (arith, h.link) }
+counted_lines mode (line ∷ lines) n h =
+    let more = counted_lines (behind mode line) lines (n + 1) (counted_line mode line n h) in
+    record { begun = omega (arith, more.begun); place = omega (arith, more.place); link = omega (arith, more.link) }
+
+-- one line gives one command at most
+one_planned : (b : Bool) (p : Planned) → length (if b then [] else p ∷ []) ≤ 1
+one_planned true p = omega arith
+one_planned false p = omega arith
+
+-- a line gives one command of the cycle at most
+planned_line : (mode : Mode) (line : TaskLine) → length (planned_at mode line) ≤ 1
+planned_line mode (says.Command c now) = one_planned mode.setup (record { task = task_at mode c now; retry = mode.retry })
+planned_line mode (says.Deadline d) = omega arith
+planned_line mode says.Chained = omega arith
+planned_line mode says.Unchained = omega arith
+planned_line mode (says.Naming m) = omega arith
+planned_line mode (says.Standing m) = omega arith
+planned_line mode (says.Accepting cs) = omega arith
+planned_line mode (says.Retrying r) = omega arith
+planned_line mode says.AtStart = omega arith
+planned_line mode says.EachCycle = omega arith
+
+-- lines give at most as many commands of the cycle as they are
+planned_few : (mode : Mode) (lines : List TaskLine) → length (planned_of mode lines) ≤ length lines
+planned_few mode [] = omega arith
+planned_few mode (line ∷ lines) =
+    let one = planned_line mode line in
+    let more = planned_few (behind mode line) lines in
+    let all : length (planned_at mode line ++ planned_of (behind mode line) lines) ≡ length (planned_at mode line) + length (planned_of (behind mode line) lines) =
+    length-append (planned_at mode line) (planned_of (behind mode line) lines) in
+    omega (arith, one, more, all)
+
+-- as many lines say something as are kept
+said_many : (lines : List (List ℕ)) (said : List TaskLine) → AreItems IsTaskLine lines said → length said ≡ length lines
+said_many [] [] are = refl
+said_many [] (s ∷ said) are = absurd are
+said_many (line ∷ lines) [] are = absurd are
+said_many (line ∷ lines) (s ∷ said) are = let n = said_many lines said are.1 in omega (arith, n)
+
+-- a line more keeps the kept ones at most as many as all
+kept_one : (b : Bool) (line : List ℕ) (kept all : List (List ℕ)) → length kept ≤ length all → length (cond b (line ∷ kept) kept) ≤ length (line ∷ all)
+kept_one true line kept all few = omega (arith, few)
+kept_one false line kept all few = omega (arith, few)
+
+-- at most all lines are kept
+kept_few : (lines : List (List ℕ)) → length (filter is_kept lines) ≤ length lines
+kept_few [] = omega arith
+kept_few (line ∷ lines) = kept_one (is_kept line) line (filter is_kept lines) lines (kept_few lines)
 
 -- the names of lines, and of one more, are those of the lines, and that of the last
 names_more : (lines : List TaskLine) (next : TaskLine) → names_of (lines ++ next ∷ []) ≡ names_of lines ++ name_at next
@@ -53,61 +147,106 @@ follow_more names nears (line ∷ lines) next follow stands = (
       ∙ ap (λ ps. may_stand (names ++ (name_at line ++ names_of lines)) ps next) (append_assoc nears (near_at line) (nears_of lines)) ∙ stands),
 )
 
--- how far the reading has come: `left` of the text is unread, `number` lines were read, and they gave these tasks, names and
--- places, and the mode behind them
-pub record ReadsTasks (text : List ℕ) (first : Mode) (left : Option (List ℕ)) (number : ℕ) (tasks : List Task) (names : List Name) (nears : List Near) (mode : Mode) : Type 0 where
+-- how far the reading has come: `left` of the text is unread, `number` lines were read, and they gave these tasks of the set-up, these
+-- commands of the cycle, names and places, and the mode behind them. Where a line that says something was read, a sound line was reached
+pub record ReadsTasks (text : List ℕ) (first : Mode) (left : Option (List ℕ)) (number : ℕ) (setup : List Task) (cycle : List Planned) (names : List Name) (nears : List Near) (mode : Mode) : Type 0 where
   pub said : List TaskLine
   pub reads : Reads IsTaskLine text left number said
   pub follow : MayFollow [] [] said
-  pub tasks_are : tasks ≡ tasks_of first said
+  pub setup_are : setup ≡ setup_of first said
+  pub cycle_are : cycle ≡ planned_of first said
   pub names_are : names ≡ names_of said
   pub nears_are : nears ≡ nears_of said
   pub mode_is : mode ≡ behind_all first said
+  pub reached : (said ≡ []) ⊎ ReachesASoundTaskLine text
 
 -- of a text of at most 65,536 bytes at most 65,537 lines are read, so that a u32 counts them
-pub tasks_few : (text : List ℕ) (first : Mode) (left : Option (List ℕ)) (number : ℕ) (tasks : List Task) (names : List Name) (nears : List Near) (mode : Mode)
-    → length text ≤ 65536 → ReadsTasks text first left number tasks names nears mode → number ≤ 65537
-tasks_few text first left number tasks names nears mode within r = reads_few IsTaskLine text left number r.said within r.reads
+pub tasks_few : (text : List ℕ) (first : Mode) (left : Option (List ℕ)) (number : ℕ) (setup : List Task) (cycle : List Planned) (names : List Name) (nears : List Near) (mode : Mode)
+    → length text ≤ 65536 → ReadsTasks text first left number setup cycle names nears mode → number ≤ 65537
+tasks_few text first left number setup cycle names nears mode within r = reads_few IsTaskLine text left number r.said within r.reads
+
+-- what was read
+module _
+    (text : List ℕ) (deadline : ℕ) (chained : Bool) (left : Option (List ℕ)) (number : ℕ) (setup : List Task) (cycle : List Planned) (names : List Name) (nears : List Near) (mode : Mode)
+    (within : length text ≤ 65536) (r : ReadsTasks text (opening deadline chained) left number setup cycle names nears mode) where
+  -- at most as many lines say something as were read
+  said_few : length r.said ≤ 65537
+  said_few =
+      let many = said_many (filter is_kept r.reads.read) r.said r.reads.items_are in
+      let few = kept_few r.reads.read in
+      let read = reads_few IsTaskLine text left number r.said within r.reads in
+      omega (arith, many, few, read, r.reads.count)
+
+  -- the counts of the mode are at most those of the lines
+  counted : Counted mode 65537
+  counted =
+      let all = counted_lines (opening deadline chained) r.said 0 (record { begun = omega arith; place = omega arith; link = omega arith }) in
+      let few = said_few in
+      subst (λ m. Counted m 65537) (sym r.mode_is) (record { begun = omega (arith, few, all.begun); place = omega (arith, few, all.place); link = omega (arith, few, all.link) })
+
+  -- the set-up has at most as many commands
+  pub begun_few : mode.begun ≤ 65537
+  begun_few = counted.begun
+
+  -- the cycle has at most as many commands
+  pub place_few : mode.place ≤ 65537
+  place_few = counted.place
+
+  -- a chain has at most as many commands
+  pub link_few : mode.link ≤ 65537
+  link_few = counted.link
+
+  -- the cycle's commands are at most as many
+  pub cycle_few : length cycle ≤ 65537
+  cycle_few = let few = said_few in let all = planned_few (opening deadline chained) r.said in let is = ap length r.cycle_are in omega (arith, few, all, is)
+
+  -- where the cycle has a command, a sound line was reached
+  pub cycle_wants : 0 < length cycle → ReachesASoundTaskLine text
+  cycle_wants some = by_reached r.reached where
+    -- the same, by whether a line says something
+    by_reached : (r.said ≡ []) ⊎ ReachesASoundTaskLine text → ReachesASoundTaskLine text
+    by_reached (inl none) = let empty = ap length (r.cycle_are ∙ ap (planned_of (opening deadline chained)) none) in absurd (omega (arith, empty, some))
+    by_reached (inr is) = is
+
+  -- where nothing is left, the text gives these tasks, once the chains are laid out and the tasks have their places
+  pub all_read : (tasks : List Task) → left ≡ None → tasks ≡ map (placed nears) (setup ++ laid_out cycle) → IsTasks text deadline chained (length setup) tasks names nears
+  all_read tasks none are =
+      record {
+        said = r.said;
+        lines = record {
+          forms = subst (λ ls. AreItems IsTaskLine (filter is_kept ls) r.said) (sym (r.reads.lines_are ∙ ap (λ o. r.reads.read ++ lines_left o) none ∙ append-nil r.reads.read)) r.reads.items_are;
+          follow = r.follow;
+        };
+        tasks_are = are ∙ ap (λ ts. map (placed nears) (ts ++ laid_out cycle)) r.setup_are ∙ ap (λ ps. map (placed nears) (setup_of (opening deadline chained) r.said ++ laid_out ps)) r.cycle_are;
+        setup_is = ap length r.setup_are;
+        names_are = r.names_are;
+        nears_are = r.nears_are;
+      }
 
 -- one turn of the reading loop: `line` is cut off what is left, `plain` is that line without its CR, and `skipped` whether it
 -- is skipped
 module _
     (text : List ℕ) (first : Mode) (left : Option (List ℕ)) (now line plain : List ℕ) (rest : Option (List ℕ)) (number : ℕ)
-    (tasks : List Task) (names : List Name) (nears : List Near) (mode : Mode) (skipped : Bool)
-    (r : ReadsTasks text first left number tasks names nears mode) (some : left ≡ Some now) (cut : Cuts 10 now line rest)
+    (setup : List Task) (cycle : List Planned) (names : List Name) (nears : List Near) (mode : Mode) (skipped : Bool)
+    (r : ReadsTasks text first left number setup cycle names nears mode) (some : left ≡ Some now) (cut : Cuts 10 now line rest)
     (is_plain : plain ≡ without_cr line) (tested : skipped ≡ is_skipped plain) where
   -- a line may stand behind the lines that were read exactly where it may stand behind the names and places so far
   said_so : (said : TaskLine) → may_stand (names_of r.said) (nears_of r.said) said ≡ may_stand names nears said
   said_so said = ap (λ ns. may_stand ns (nears_of r.said) said) (sym r.names_are) ∙ ap (λ ps. may_stand names ps said) (sym r.nears_are)
 
   -- a skipped line is read, and changes nothing but the number of lines
-  pub task_skips : skipped ≡ true → ReadsTasks text first rest (number + 1) tasks names nears mode
+  pub task_skips : skipped ≡ true → ReadsTasks text first rest (number + 1) setup cycle names nears mode
   task_skips is =
       record {
         said = r.said;
         reads = turn_skips IsTaskLine text left now line plain rest number r.said skipped r.reads some cut is_plain tested is;
         follow = r.follow;
-        tasks_are = r.tasks_are;
+        setup_are = r.setup_are;
+        cycle_are = r.cycle_are;
         names_are = r.names_are;
         nears_are = r.nears_are;
         mode_is = r.mode_is;
-      }
-
-  -- a line that isn't skipped, has a form and may stand there is read: the lists grow by what it gives, and the mode is the one
-  -- behind it
-  pub task_reads :
-      (said : TaskLine) (new_tasks : List Task) (new_names : List Name) (new_nears : List Near) (next : Mode) (stands : Bool) → skipped ≡ false → IsTaskLine plain said
-      → stands ≡ may_stand names nears said → stands ≡ true → new_tasks ≡ tasks ++ task_at mode said → new_names ≡ names ++ name_at said → new_nears ≡ nears ++ near_at said
-      → next ≡ behind mode said → ReadsTasks text first rest (number + 1) new_tasks new_names new_nears next
-  task_reads said new_tasks new_names new_nears next stands isnt is asked did more_tasks more_names more_nears more =
-      record {
-        said = r.said ++ said ∷ [];
-        reads = turn_reads IsTaskLine text left now line plain rest number r.said skipped r.reads some cut is_plain tested said (r.said ++ said ∷ []) isnt is refl;
-        follow = follow_more [] [] r.said said r.follow (said_so said ∙ sym asked ∙ did);
-        tasks_are = more_tasks ∙ ap (λ ts. ts ++ task_at mode said) r.tasks_are ∙ ap (λ m. tasks_of first r.said ++ task_at m said) r.mode_is ∙ sym (tasks_more first r.said said);
-        names_are = more_names ∙ ap (λ ns. ns ++ name_at said) r.names_are ∙ sym (names_more r.said said);
-        nears_are = more_nears ∙ ap (λ ns. ns ++ near_at said) r.nears_are ∙ sym (nears_more r.said said);
-        mode_is = more ∙ ap (λ m. behind m said) r.mode_is ∙ sym (behind_more first r.said said);
+        reached = r.reached;
       }
 
   -- how far the reading had come before this turn, as to the lines
@@ -146,7 +285,7 @@ module _
   task_refused said stands isnt is asked no_more = faulty isnt (λ other form. ap (may_stand names nears) (one_said plain other said form is) ∙ sym asked ∙ no_more)
 
   -- where memory is refused at a line that has a form and may stand there, no line up to it is faulty
-  pub task_wants : (said : TaskLine) (stands : Bool) → skipped ≡ false → IsTaskLine plain said → stands ≡ may_stand names nears said → stands ≡ true → IsBehindATask text
+  pub task_wants : (said : TaskLine) (stands : Bool) → skipped ≡ false → IsTaskLine plain said → stands ≡ may_stand names nears said → stands ≡ true → ReachesASoundTaskLine text
   task_wants said stands isnt is asked did =
       record {
         front = stood.read;
@@ -159,4 +298,23 @@ module _
         said = said;
         form = subst (λ (l : List ℕ). IsTaskLine l said) is_plain is;
         stands = said_so said ∙ sym asked ∙ did;
+      }
+
+  -- a line that isn't skipped, has a form and may stand there is read: the lists grow by what it gives, and the mode is the one
+  -- behind it
+  pub task_reads :
+      (said : TaskLine) (new_setup : List Task) (new_cycle : List Planned) (new_names : List Name) (new_nears : List Near) (next : Mode) (stands : Bool) → skipped ≡ false → IsTaskLine plain said
+      → stands ≡ may_stand names nears said → stands ≡ true → new_setup ≡ setup ++ setup_at mode said → new_cycle ≡ cycle ++ planned_at mode said → new_names ≡ names ++ name_at said → new_nears ≡ nears ++ near_at said
+      → next ≡ behind mode said → ReadsTasks text first rest (number + 1) new_setup new_cycle new_names new_nears next
+  task_reads said new_setup new_cycle new_names new_nears next stands isnt is asked did more_setup more_cycle more_names more_nears more =
+      record {
+        said = r.said ++ said ∷ [];
+        reads = turn_reads IsTaskLine text left now line plain rest number r.said skipped r.reads some cut is_plain tested said (r.said ++ said ∷ []) isnt is refl;
+        follow = follow_more [] [] r.said said r.follow (said_so said ∙ sym asked ∙ did);
+        setup_are = more_setup ∙ ap (λ ts. ts ++ setup_at mode said) r.setup_are ∙ ap (λ m. setup_of first r.said ++ setup_at m said) r.mode_is ∙ sym (setup_more first r.said said);
+        cycle_are = more_cycle ∙ ap (λ ts. ts ++ planned_at mode said) r.cycle_are ∙ ap (λ m. planned_of first r.said ++ planned_at m said) r.mode_is ∙ sym (planned_more first r.said said);
+        names_are = more_names ∙ ap (λ ns. ns ++ name_at said) r.names_are ∙ sym (names_more r.said said);
+        nears_are = more_nears ∙ ap (λ ns. ns ++ near_at said) r.nears_are ∙ sym (nears_more r.said said);
+        mode_is = more ∙ ap (λ m. behind m said) r.mode_is ∙ sym (behind_more first r.said said);
+        reached = inr (task_wants said stands isnt is asked did);
       }

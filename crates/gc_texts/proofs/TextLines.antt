@@ -5,7 +5,7 @@ use Rattle.std.proofs.Common.{◌≡◌, ◌≢◌, ◌≤◌, ◌+◌, ℕ, Lis
 use Rattle.std.specs.Prelude.{filter, not}
 use Rattle.std.proofs.lemmas.List.{length-map}
 use Rattle.gc_texts.specs.Cuts.{Cuts, Lacks}
-use Rattle.gc_texts.specs.LineForms.{Form, text_pieces, without_cr, text_lines, is_skipped, is_kept, AreItems, FirstFaulty, BehindAnItem}
+use Rattle.gc_texts.specs.LineForms.{Form, text_pieces, without_cr, text_lines, is_skipped, is_kept, AreItems, FirstFaulty, ReachesASoundLine}
 
 -- the lines of what is left of a text
 abbrev pub lines_left : Option (List ℕ) → List (List ℕ)
@@ -132,7 +132,7 @@ first_faulty form text now line rest number items r cut kept none =
 -- where the next line isn't skipped and has the form of an item, the reading comes to an item with no faulty line before it
 pub next_item : {Item : Type 0} (form : Form Item) (text now line : List ℕ) (rest : Option (List ℕ)) (number : ℕ) (items : List Item)
     → Reads form text (Some now) number items → Cuts 10 now line rest → is_skipped (without_cr line) ≡ false → (e : Item) → form (without_cr line) e
-    → BehindAnItem form text
+    → ReachesASoundLine form text
 next_item form text now line rest number items r cut kept e is =
     record {
       front = r.read;
@@ -177,6 +177,6 @@ module _
       first_faulty form text now line rest number items stands cut (not_skipped isnt) (λ e is. none e (subst (λ l. form l e) (sym is_plain) is))
 
   -- where memory is refused at a line that has the form of an item, no line up to it is faulty
-  pub turn_wants : (item : Item) → skipped ≡ false → form plain item → BehindAnItem form text
+  pub turn_wants : (item : Item) → skipped ≡ false → form plain item → ReachesASoundLine form text
   turn_wants item isnt is =
       next_item form text now line rest number items stands cut (not_skipped isnt) item (subst (λ l. form l item) is_plain is)

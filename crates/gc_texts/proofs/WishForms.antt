@@ -11,7 +11,7 @@ use Rattle.gc_texts.proofs.CommandForms.{one_command}
 use Rattle.gc_texts.proofs.RawForms.{never_both, one_raw}
 
 -- two wishes with equal targets, and for the same, are equal
-same_wish : (v w : Wish) → v.target ≡ w.target → v.call ≡ w.call → v ≡ w
+pub same_wish : (v w : Wish) → v.target ≡ w.target → v.call ≡ w.call → v ≡ w
 same_wish v w e f = ap (λ t. record { target = t; call = v.call }) e ∙ ap (λ x. record { target = w.target; call = x }) f
 
 -- a line asks one target at most for one thing

@@ -1,11 +1,13 @@
 -- What holds of a command in a station's text, by the lines in front of it: this project's own. The lines `chained` and
 -- `unchained` are called lines of a mode: they say whether the commands behind them are chained.
-use Rattle.std.specs.Prelude.{◌≡◌, ◌⊎◌, ℕ, suc, Bool, true, false, List, [], ◌∷◌, ◌++◌, length, Some}
+use Rattle.std.specs.Prelude.{◌≡◌, ◌⊎◌, ℕ, ◌+◌, ◌≤◌, nat_lt, if◌then◌else◌, Bool, true, false, List, [], ◌∷◌, ◌++◌, length, Some}
 use Rattle.std.specs.List.{AllByRecursion}
 use Rattle.gc_texts.specs.Codes.{no_codes}
 use Rattle.gc_texts.specs.Nears.{near_of}
 use Rattle.gc_texts.specs.Tasks.{IsTasks}
+use Rattle.gc_texts.specs.Retries.{no_retry}
 use Rattle.gc_texts.specs.declared.codes.Codes.{Codes}
+use Rattle.gc_texts.specs.declared.retry.Retry.{Retry}
 use Rattle.gc_texts.specs.declared.wish.Wish.{Wish}
 use Rattle.gc_texts.specs.declared.name.Name.{Name}
 use Rattle.gc_texts.specs.declared.near.Near.{Near}
@@ -13,11 +15,28 @@ use Rattle.gc_texts.specs.declared.task_line.TaskLine.{TaskLine}
 use Rattle.gc_texts.specs.declared.task_line.TaskLine.TheVariants as says
 use Rattle.gc_texts.specs.declared.tasks.Task.{Task}
 
--- how many of these lines are commands
-abbrev pub commands_in : List TaskLine → ℕ
-commands_in [] = 0
-commands_in (says.Command command ∷ later) = suc (commands_in later)
-commands_in (line ∷ later) = commands_in later
+-- whether the commands behind these lines are set-up, as the last line `at start` or `each cycle` says; `setup` says it in front of them
+abbrev pub section_behind : Bool → List TaskLine → Bool
+section_behind setup [] = setup
+section_behind setup (says.AtStart ∷ later) = section_behind true later
+section_behind setup (says.EachCycle ∷ later) = section_behind false later
+section_behind setup (line ∷ later) = section_behind setup later
+
+-- how many of these lines are commands of the set-up
+abbrev pub setup_commands : Bool → List TaskLine → ℕ
+setup_commands setup [] = 0
+setup_commands setup (says.Command command now ∷ later) = (if setup then 1 else 0) + setup_commands setup later
+setup_commands setup (says.AtStart ∷ later) = setup_commands true later
+setup_commands setup (says.EachCycle ∷ later) = setup_commands false later
+setup_commands setup (line ∷ later) = setup_commands setup later
+
+-- how many of these lines are commands of each cycle
+abbrev pub cycle_commands : Bool → List TaskLine → ℕ
+cycle_commands setup [] = 0
+cycle_commands setup (says.Command command now ∷ later) = (if setup then 0 else 1) + cycle_commands setup later
+cycle_commands setup (says.AtStart ∷ later) = cycle_commands true later
+cycle_commands setup (says.EachCycle ∷ later) = cycle_commands false later
+cycle_commands setup (line ∷ later) = cycle_commands setup later
 
 -- a line says no deadline
 abbrev pub SaysNoDeadline : TaskLine → Type 0
@@ -58,6 +77,17 @@ AreAcceptedBehind lines accepted =
     (AllByRecursion SaysNoCodes lines × (accepted ≡ no_codes))
     ⊎ ((before : List TaskLine) × (between : List TaskLine) × (lines ≡ before ++ says.Accepting accepted ∷ between) × AllByRecursion SaysNoCodes between)
 
+-- a line sets no retry
+abbrev pub SaysNoRetry : TaskLine → Type 0
+SaysNoRetry (says.Retrying retry) = ⊥
+SaysNoRetry _ = Unit {0}
+
+-- how often chains go out again behind these lines, and behind what: as the last line `retry` says, and never where there is none
+abbrev pub IsRetryBehind : List TaskLine → Retry → Type 0
+IsRetryBehind lines retry =
+    (AllByRecursion SaysNoRetry lines × (retry ≡ no_retry))
+    ⊎ ((before : List TaskLine) × (between : List TaskLine) × (lines ≡ before ++ says.Retrying retry ∷ between) × AllByRecursion SaysNoRetry between)
+
 -- a line that may stand between two commands of a chain without ending it: a deadline, a name, where a target stands, or accepted codes
 abbrev pub KeepsChains : TaskLine → Type 0
 KeepsChains (says.Deadline deadline) = Unit {0}
@@ -69,29 +99,46 @@ KeepsChains _ = ⊥
 -- the last command of these lines is for this target, and behind it stand deadlines, names, places and codes alone
 abbrev pub EndsWithTarget : List TaskLine → ℕ → Type 0
 EndsWithTarget lines target =
-    (before : List TaskLine) × (command : Wish) × (between : List TaskLine) × (lines ≡ before ++ says.Command command ∷ between) × AllByRecursion KeepsChains between × (command.target ≡ target)
+    (before : List TaskLine) × (command : Wish) × (now : Bool) × (between : List TaskLine) × (lines ≡ before ++ says.Command command now ∷ between) × AllByRecursion KeepsChains between
+    × (command.target ≡ target)
 
--- the task of a command that stands behind the lines `front`: it asks that command, with the deadline and the accepted codes that
--- hold there, and is chained exactly where commands are chained there and the command before is for the same target, with no line
--- of a mode between the two. `deadline` and `chained` hold where no line says otherwise
-pub record GoesOut (deadline : ℕ) (chained : Bool) (front : List TaskLine) (command : Wish) (task : Task) : Type 0 where
-  pub asks : task.command ≡ command
-  pub deadline_is : IsDeadlineBehind deadline front task.deadline
-  pub accepted_are : AreAcceptedBehind front task.accepted
+-- the task of a command of the cycle that stands behind the lines `front`: its place counts the cycle's commands among them, and it is chained
+-- exactly where commands are chained there and the command before is for the same target, with no line between the two that ends the row
+pub record GoesInCycle (chained : Bool) (front : List TaskLine) (command : Wish) (task : Task) : Type 0 where
+  pub place : task.turn.place ≡ cycle_commands false front
   pub only : task.chained ≡ true → IsModeBehind chained front true × EndsWithTarget front command.target
   pub found : IsModeBehind chained front true → EndsWithTarget front command.target → task.chained ≡ true
 
--- each command of a text goes out as the lines in front of it say, and its task has the place that the text gives its target, if any
+-- the task of a command of the set-up that stands behind the lines `front`: its place counts the set-up's commands among them, and it is
+-- chained exactly where there is one
+pub record GoesAtStart (front : List TaskLine) (task : Task) : Type 0 where
+  pub place : task.turn.place ≡ setup_commands false front
+  pub chained : task.chained ≡ nat_lt 0 (setup_commands false front)
+
+-- the task of a command that stands behind the lines `front`: it asks that command, in the first attempt of its chain, with the deadline
+-- and the accepted codes that hold there, and goes out as one of its section. `deadline` and `chained` hold where no line says otherwise
+pub record GoesOut (deadline : ℕ) (chained : Bool) (front : List TaskLine) (command : Wish) (now : Bool) (task : Task) : Type 0 where
+  pub asks : task.command ≡ command
+  pub moment : task.now ≡ now
+  pub first : task.turn.attempt ≡ 1
+  pub deadline_is : IsDeadlineBehind deadline front task.deadline
+  pub accepted_are : AreAcceptedBehind front task.accepted
+  pub at_start : section_behind false front ≡ true → GoesAtStart front task
+  pub in_cycle : section_behind false front ≡ false → GoesInCycle chained front command task
+
+-- each command of a text goes out as the lines in front of it say, and its task has the place that the text gives its target, if any. A
+-- command of the set-up stands among the first `setup` tasks, behind as many as are in front of it in the text; one of the cycle behind them
 abbrev pub CommandsGoOutSo : Type 0
 CommandsGoOutSo =
-    (text : List ℕ) (deadline : ℕ) (chained : Bool) (tasks : List Task) (names : List Name) (nears : List Near) (is : IsTasks text deadline chained tasks names nears)
-    (front later : List TaskLine) (command : Wish) → is.said ≡ front ++ says.Command command ∷ later
-    → (earlier : List Task) × (task : Task) × (others : List Task) × (tasks ≡ earlier ++ task ∷ others) × (length earlier ≡ commands_in front)
-    × GoesOut deadline chained front command task × (task.near ≡ near_of command.target nears)
+    (text : List ℕ) (deadline : ℕ) (chained : Bool) (setup : ℕ) (tasks : List Task) (names : List Name) (nears : List Near) (is : IsTasks text deadline chained setup tasks names nears)
+    (front later : List TaskLine) (command : Wish) (now : Bool) → is.said ≡ front ++ says.Command command now ∷ later
+    → (earlier : List Task) × (task : Task) × (others : List Task) × (tasks ≡ earlier ++ task ∷ others)
+    × (section_behind false front ≡ true → length earlier ≡ setup_commands false front) × (section_behind false front ≡ false → setup ≤ length earlier)
+    × GoesOut deadline chained front command now task × (task.near ≡ near_of command.target nears)
 
 -- where a line says where a target stands, it says so of each command of that target, in front of it and behind it
 abbrev pub PlacesHoldForAll : Type 0
 PlacesHoldForAll =
-    (text : List ℕ) (deadline : ℕ) (chained : Bool) (tasks : List Task) (names : List Name) (nears : List Near) (is : IsTasks text deadline chained tasks names nears)
+    (text : List ℕ) (deadline : ℕ) (chained : Bool) (setup : ℕ) (tasks : List Task) (names : List Name) (nears : List Near) (is : IsTasks text deadline chained setup tasks names nears)
     (front later : List TaskLine) (near : Near) → is.said ≡ front ++ says.Standing near ∷ later
     → (earlier others : List Task) (task : Task) → tasks ≡ earlier ++ task ∷ others → task.command.target ≡ near.target → task.near ≡ Some near

@@ -1,6 +1,6 @@
 -- A command text, and the commands that it gives: this project's own.
 use Rattle.std.specs.Prelude.{◌≡◌, ℕ, List, ◌∷◌, ◌++◌}
-use Rattle.gc_texts.specs.LineForms.{IsText, FirstFaulty, BehindAnItem}
+use Rattle.gc_texts.specs.LineForms.{IsText, FirstFaulty, ReachesASoundLine}
 use Rattle.gc_texts.specs.Procedures.{IsNumber, IsProcedure}
 use Rattle.gc_texts.specs.declared.commands.Command.{Command}
 
@@ -22,5 +22,5 @@ IsFirstFaultyCommand text n = FirstFaulty IsCommand text n
 
 -- some line has the form of a command, and no line before it is faulty: the reading comes to that line, and may want memory
 -- there
-abbrev pub IsBehindACommand : List ℕ → Type 0
-IsBehindACommand text = BehindAnItem IsCommand text
+abbrev pub ReachesASoundCommand : List ℕ → Type 0
+ReachesASoundCommand text = ReachesASoundLine IsCommand text

@@ -32,9 +32,9 @@ pub record FaultsHaveTheirNumbers : Type 0 where
       ≡ 41 ∷ 42 ∷ 43 ∷ 44 ∷ 45 ∷ []
   pub of_texts_and_ports : (number : ℕ) → map run_fault_number (run.Schedule number ∷ run.Memory ∷ run.InputTooLong ∷ run.Socket ∷ run.Output ∷ [])
       ≡ 51 ∷ 52 ∷ 53 ∷ 54 ∷ 55 ∷ []
-  -- of the program: 46 and 47, 50, 56 to 60, and 64 to 66
-  pub of_the_program : map run_fault_number (run.Mute ∷ run.Clock ∷ run.NoCommand ∷ run.StreamClosed ∷ run.Log ∷ run.NoTerminal ∷ run.Held ∷ run.Forbidden
+  -- of the program: 46 to 50, 56 to 60, and 64 to 66
+  pub of_the_program : map run_fault_number (run.Mute ∷ run.Clock ∷ run.Stale ∷ run.SetUp ∷ run.NoCommand ∷ run.StreamClosed ∷ run.Log ∷ run.NoTerminal ∷ run.Held ∷ run.Forbidden
       ∷ run.RecordsUnopened ∷ run.RecordsHeld ∷ run.RecordsForeign ∷ [])
-      ≡ 46 ∷ 47 ∷ 50 ∷ 56 ∷ 57 ∷ 58 ∷ 59 ∷ 60 ∷ 64 ∷ 65 ∷ 66 ∷ []
+      ≡ 46 ∷ 47 ∷ 48 ∷ 49 ∷ 50 ∷ 56 ∷ 57 ∷ 58 ∷ 59 ∷ 60 ∷ 64 ∷ 65 ∷ 66 ∷ []
   -- the code's names of three of them
   pub names : READ_FAILED ∷ WRITE_FAILED ∷ READS_SPENT ∷ [] ≡ 42 ∷ 43 ∷ 44 ∷ []

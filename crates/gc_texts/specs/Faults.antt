@@ -7,7 +7,7 @@ use Rattle.gc_lines.specs.declared.served.Served.{Served}
 use Rattle.gc_lines.specs.declared.served.ServeFault.{ServeFault}
 use Rattle.gc_lines.specs.declared.served.ServeFault.TheVariants as serving
 use Rattle.gc_texts.specs.declared.fault.RunFault.{RunFault}
-use Rattle.gc_texts.specs.declared.fault.RunFault.TheVariants.{SceneFull, Read, Write, TooManyReads, LinkClosed, Mute, Clock, NoCommand, Schedule, Memory, InputTooLong, Socket, Output, StreamClosed, Log, NoTerminal, Held, Forbidden, RecordsUnopened, RecordsHeld, RecordsForeign}
+use Rattle.gc_texts.specs.declared.fault.RunFault.TheVariants.{SceneFull, Read, Write, TooManyReads, LinkClosed, Mute, Clock, Stale, SetUp, NoCommand, Schedule, Memory, InputTooLong, Socket, Output, StreamClosed, Log, NoTerminal, Held, Forbidden, RecordsUnopened, RecordsHeld, RecordsForeign}
 
 -- the number of a fault
 abbrev pub run_fault_number : RunFault → ℕ
@@ -18,6 +18,8 @@ run_fault_number TooManyReads = 44
 run_fault_number LinkClosed = 45
 run_fault_number Mute = 46
 run_fault_number Clock = 47
+run_fault_number Stale = 48
+run_fault_number SetUp = 49
 run_fault_number NoCommand = 50
 run_fault_number (Schedule _) = 51
 run_fault_number Memory = 52

@@ -1,7 +1,9 @@
 -- Laws of the texts: this project's own, as the texts are.
-use Rattle.std.specs.Prelude.{◌≡◌, ◌<◌, ◌^◌, ℕ, Bool, true, false, List, [], ◌∷◌, length, map, All, Option, None, Some}
+use Rattle.std.specs.Prelude.{◌≡◌, ◌<◌, ◌^◌, ℕ, ◌+◌, ◌++◌, Bool, true, false, List, [], ◌∷◌, length, map, All, Option, None, Some}
 use Rattle.gc_texts.specs.Codes.{no_codes}
 use Rattle.gc_texts.specs.Commands.{IsCommands}
+use Rattle.std.specs.List.{AllByRecursion}
+use Rattle.gc_texts.specs.Again.{no_again}
 use Rattle.gc_texts.specs.Tasks.{IsTasks}
 use Rattle.gc_texts.specs.ProcedureNames.{name_of}
 use Rattle.gc_texts.specs.Troubles.{wanted}
@@ -24,30 +26,53 @@ OneCommandList = (text : List ℕ) (xs ys : List Command) → IsCommands text xs
 -- a station's text gives one list of tasks at most, one of names, and one of places
 abbrev pub OneTaskList : Type 0
 OneTaskList =
-    (text : List ℕ) (deadline : ℕ) (chained : Bool) (xs ys : List Task) (ms ns : List Name) (ps qs : List Near) →
-    IsTasks text deadline chained xs ms ps → IsTasks text deadline chained ys ns qs → (xs ≡ ys) × (ms ≡ ns) × (ps ≡ qs)
+    (text : List ℕ) (deadline : ℕ) (chained : Bool) (m n : ℕ) (xs ys : List Task) (ms ns : List Name) (ps qs : List Near) →
+    IsTasks text deadline chained m xs ms ps → IsTasks text deadline chained n ys ns qs → (m ≡ n) × (xs ≡ ys) × (ms ≡ ns) × (ps ≡ qs)
 
 -- each command text is a station's text: of the same commands in the same order, and without names and places
 abbrev pub CommandsAreTasks : Type 0
 CommandsAreTasks =
     (text : List ℕ) (commands : List Command) (deadline : ℕ) (chained : Bool) → IsCommands text commands →
-    (tasks : List Task) × IsTasks text deadline chained tasks [] [] × (map (λ task. task.command) tasks ≡ map wish_of commands)
+    (tasks : List Task) × IsTasks text deadline chained 0 tasks [] [] × (map (λ task. task.command) tasks ≡ map wish_of commands)
+
+-- the tasks of these commands, the first of which stands at this place: with the deadline, each not chained, and without a place of its target,
+-- an accepted code or a rule
+abbrev pub plain_tasks : ℕ → ℕ → List Command → List Task
+plain_tasks deadline place [] = []
+plain_tasks deadline place (command ∷ others) =
+    record {
+      command = wish_of command;
+      deadline = deadline;
+      chained = false;
+      near = None;
+      accepted = no_codes;
+      again = no_again;
+      turn = record { place = place; attempt = 1; link = 0 };
+      others = 0;
+      now = false;
+    } ∷ plain_tasks deadline (place + 1) others
 
 -- a command text, read as a station's text without chains, gives one task for each command, in order: with the caller's
 -- deadline, not chained, and without a place
 abbrev pub CommandsArePlain : Type 0
 CommandsArePlain =
-    (text : List ℕ) (commands : List Command) (deadline : ℕ) → IsCommands text commands →
-    IsTasks text deadline false (map (λ command. record { command = wish_of command; deadline = deadline; chained = false; near = None; accepted = no_codes }) commands) [] []
+    (text : List ℕ) (commands : List Command) (deadline : ℕ) → IsCommands text commands → IsTasks text deadline false 0 (plain_tasks deadline 0 commands) [] []
 
 -- each chained task stands behind one for the same target; the task in front of these, where there is one, is for the target `before`
 abbrev pub AreRows : Option ℕ → List Task → Type 0
 AreRows before [] = Unit {0}
 AreRows before (task ∷ later) = (task.chained ≡ true → before ≡ Some task.command.target) × AreRows (Some task.command.target) later
 
--- the first task of a text isn't chained, and each chained task stands behind one for the same target
+-- these tasks are one chain: the first isn't chained, and each behind it is
+abbrev pub IsOneChain : List Task → Type 0
+IsOneChain [] = Unit {0}
+IsOneChain (first ∷ later) = (first.chained ≡ false) × AllByRecursion (λ task. task.chained ≡ true) later
+
+-- the set-up is one chain; of the tasks behind it the first isn't chained, and each chained one stands behind one for the same target
 abbrev pub ChainsAreRows : Type 0
-ChainsAreRows = (text : List ℕ) (deadline : ℕ) (chained : Bool) (tasks : List Task) (names : List Name) (nears : List Near) → IsTasks text deadline chained tasks names nears → AreRows None tasks
+ChainsAreRows =
+    (text : List ℕ) (deadline : ℕ) (chained : Bool) (setup : ℕ) (tasks : List Task) (names : List Name) (nears : List Near) → IsTasks text deadline chained setup tasks names nears
+    → (front : List Task) × (cycle : List Task) × (tasks ≡ front ++ cycle) × (setup ≡ length front) × IsOneChain front × AreRows None cycle
 
 -- `wanted`, the number of parameters that is printed of a procedure, is the catalogue's number of its parameters
 abbrev pub WantedIsTheCatalogues : Type 0

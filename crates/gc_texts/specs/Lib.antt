@@ -11,6 +11,7 @@ pub mod Qualities
 pub mod Zeroed
 pub mod TaskLines
 pub mod Tasks
+pub mod Attempts
 pub mod Texts
 pub mod WholeTexts
 pub mod Settlements
@@ -18,9 +19,12 @@ pub mod Faults
 pub mod FaultNumbers
 pub mod Stamps
 pub mod Endings
+pub mod Again
+pub mod Retries
 pub mod ProcedureNames
 pub mod Troubles
 pub mod Logs
 pub mod Laws
 pub mod Moments
 pub mod Chained
+pub mod Repeats

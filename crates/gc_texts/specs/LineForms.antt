@@ -59,8 +59,8 @@ pub record FirstFaulty {Item : Type 0} (form : Form Item) (text : List ℕ) (n :
   pub items : List Item
   pub before : AreItems form (filter is_kept front) items
 
--- some line has the form of an item, and no line before it is faulty: the reading comes to that line, and may want memory there
-pub record BehindAnItem {Item : Type 0} (form : Form Item) (text : List ℕ) : Type 0 where
+-- the text has a line that isn't faulty and has no faulty one before it. The reading comes to such a line, and may want memory there
+pub record ReachesASoundLine {Item : Type 0} (form : Form Item) (text : List ℕ) : Type 0 where
   pub front : List (List ℕ)
   pub line : List ℕ
   pub rest : List (List ℕ)
@@ -76,5 +76,5 @@ pub record BehindAnItem {Item : Type 0} (form : Form Item) (text : List ℕ) : T
 abbrev pub TextFault : {Item : Type 0} → Form Item → List ℕ → RunFault → Type 0
 TextFault form text InputTooLong = TEXT_LIMIT < length text
 TextFault form text (Schedule n) = (length text ≤ TEXT_LIMIT) × FirstFaulty form text n
-TextFault form text Memory = (length text ≤ TEXT_LIMIT) × BehindAnItem form text
+TextFault form text Memory = (length text ≤ TEXT_LIMIT) × ReachesASoundLine form text
 TextFault form text _ = ⊥

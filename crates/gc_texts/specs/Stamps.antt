@@ -1,6 +1,7 @@
 -- Moments as text: UTC by the Gregorian calendar, in the form of ISO 8601; that a stamp has milliseconds is this project's own.
-use Rattle.std.specs.Prelude.{ℕ, zero, suc, ◌+◌, ◌/◌, ◌%◌, ◌==◌, ◌&&◌, ◌||◌, Bool, not, nat_lt, List, [], ◌∷◌, ◌++◌, if◌then◌else◌, codes}
+use Rattle.std.specs.Prelude.{ℕ, zero, suc, ◌+◌, ◌/◌, ◌%◌, ◌==◌, ◌&&◌, ◌||◌, Bool, not, nat_lt, List, [], ◌∷◌, ◌++◌, if◌then◌else◌, codes, min, pos}
 use Rattle.std.specs.Fmt.{decimal}
+use Rattle.gc_catalogue.specs.declared.call.DateTime.{DateTime}
 use Rattle.gc_texts.specs.declared.stamp.Date.{Date}
 
 -- whether a year is a leap year: one divisible by 4, but of those divisible by 100 only one divisible by 400
@@ -58,3 +59,16 @@ time_text millis =
 -- the moment this many milliseconds after the beginning of 1970, as 2026-11-22T23:08:27.123Z
 abbrev pub stamp_text : ℕ → List ℕ
 stamp_text utc = date_text (date_of (utc / 86_400_000)) ++ codes "T" ++ time_text (utc % 86_400_000) ++ codes "Z"
+
+-- the moment this many milliseconds after the beginning of 1970, cut to seconds, as a date and a time of day; the years from 32767 on
+-- are all told as 32767
+abbrev pub date_time : ℕ → DateTime
+date_time utc =
+    record {
+      year = pos (min (date_of (utc / 86_400_000)).year 32767);
+      month = (date_of (utc / 86_400_000)).month;
+      day = (date_of (utc / 86_400_000)).day;
+      hour = utc % 86_400_000 / 3_600_000;
+      minute = utc % 86_400_000 / 60_000 % 60;
+      second = utc % 86_400_000 / 1_000 % 60;
+    }

@@ -1,10 +1,18 @@
 -- The lines of a station's text, and what each says: this project's own.
-use Rattle.std.specs.Prelude.{◌≡◌, ◌⊎◌, ℕ, ◌≤◌, true, List, ◌∷◌, ◌++◌, codes}
+use Rattle.std.specs.Prelude.{◌≡◌, ◌⊎◌, ℕ, ◌≤◌, Bool, true, false, List, ◌∷◌, ◌++◌, codes}
+use Rattle.gc_catalogue.specs.declared.asked.Asked.TheVariants.{Table}
+use Rattle.gc_catalogue.specs.declared.call.Call.TheVariants.{SetDate}
 use Rattle.gc_texts.specs.Codes.{IsFilled, no_codes}
 use Rattle.gc_texts.specs.Wishes.{IsWish}
 use Rattle.gc_texts.specs.Names.{is_name}
 use Rattle.gc_texts.specs.Nears.{IsNearText}
 use Rattle.gc_texts.specs.Procedures.{IsNumber}
+use Rattle.gc_texts.specs.Cuts.{behind}
+use Rattle.gc_texts.specs.Retries.{IsRule, no_retry}
+use Rattle.gc_texts.specs.Words.{first_word}
+use Rattle.gc_texts.specs.declared.stamp.TheConstants.{FIRST_MOMENT}
+use Rattle.gc_texts.specs.declared.retry.Retry.{Retry}
+use Rattle.gc_texts.specs.declared.wish.Wish.{Wish}
 use Rattle.gc_texts.specs.declared.codes.Codes.{Codes}
 use Rattle.gc_texts.specs.declared.name.Name.{Name}
 use Rattle.gc_texts.specs.declared.near.Near.{Near}
@@ -41,13 +49,37 @@ pub record IsList (line : List ℕ) (accepted : Codes) : Type 0 where
 abbrev pub IsAccepting : List ℕ → Codes → Type 0
 IsAccepting line accepted = ((line ≡ codes "accept") × (accepted ≡ no_codes)) ⊎ IsList line accepted
 
--- what a line says: a command, a deadline, that commands are chained or that they aren't, a name, where a target stands, or which return
--- codes are accepted
+-- `retry N WORD WORD ..`: how often the chains behind it go out again, and behind what
+pub record IsRuleLine (line : List ℕ) (retry : Retry) : Type 0 where
+  pub rest : List ℕ
+  pub line_is : line ≡ codes "retry " ++ rest
+  pub rule_is : IsRule rest retry
+
+-- `retry N WORD WORD ..`, or `retry 0`: the chains behind it don't go out again
+abbrev pub IsRetrying : List ℕ → Retry → Type 0
+IsRetrying line retry = ((line ≡ codes "retry 0") × (retry ≡ no_retry)) ⊎ IsRuleLine line retry
+
+-- `T 5007 now`: the target T, whose clock is set to the moment at which the command goes out. Until then the call has the first moment
+pub record SetsClock (line : List ℕ) (wish : Wish) : Type 0 where
+  pub target_is : IsNumber (first_word line) wish.target 4294967295
+  pub rest_is : behind 32 line ≡ codes "5007 now"
+  pub call_is : wish.call ≡ Table (SetDate FIRST_MOMENT)
+
+-- a line asks for this; `true`: with the moment at which it goes out
+abbrev pub IsAsking : List ℕ → Wish → Bool → Type 0
+IsAsking line wish true = SetsClock line wish
+IsAsking line wish false = IsWish line wish
+
+-- what a line says: a command, a deadline, that commands are chained or that they aren't, a name, where a target stands, which return
+-- codes are accepted, how often chains go out again, or that the commands behind it are set-up or those of each cycle
 abbrev pub IsTaskLine : List ℕ → TaskLine → Type 0
-IsTaskLine line (says.Command wish) = IsWish line wish
+IsTaskLine line (says.Command wish now) = IsAsking line wish now
 IsTaskLine line (says.Deadline deadline) = IsDeadline line deadline
 IsTaskLine line says.Chained = line ≡ codes "chained"
 IsTaskLine line says.Unchained = line ≡ codes "unchained"
 IsTaskLine line (says.Naming name) = IsNaming line name
 IsTaskLine line (says.Standing near) = IsStanding line near
 IsTaskLine line (says.Accepting accepted) = IsAccepting line accepted
+IsTaskLine line (says.Retrying retry) = IsRetrying line retry
+IsTaskLine line says.AtStart = line ≡ codes "at start"
+IsTaskLine line says.EachCycle = line ≡ codes "each cycle"

@@ -1,11 +1,19 @@
--- A station's text, and the tasks, the names and the places of targets that it gives: this project's own. The mode at a line is
--- what holds for a command there: its deadline, whether commands are chained, and the target of the row that it may continue. A
--- row is a run of commands for one target, with no line `chained` or `unchained` between them.
-use Rattle.std.specs.Prelude.{◌≡◌, ℕ, ◌+◌, ◌<◌, ◌≤◌, ◌==◌, ◌&&◌, Bool, true, false, not, nat_lt, List, [], ◌∷◌, ◌++◌, length, map, filter, Option, None, Some}
+-- A station's text, and the tasks, the names and the places of targets that it gives: this project's own. The mode at a line is what holds
+-- for a command there: its deadline, whether commands are chained, the target of the row that it may continue, the codes that are accepted,
+-- how often its chain goes out again, whether it is set-up, and how many commands of each section stand in front. A row is a run of
+-- commands for one target, with no line `chained`, `unchained`, `retry`, `at start` or `each cycle` between them.
+use Rattle.std.specs.Prelude.{◌≡◌, ℕ, ◌+◌, ◌<◌, ◌≤◌, ◌==◌, ◌&&◌, Bool, true, false, not, nat_lt, List, [], ◌∷◌, ◌++◌, length, map, filter, Option, None, Some, if◌then◌else◌}
+use Rattle.gc_catalogue.specs.declared.asked.Asked.{Asked}
+use Rattle.gc_catalogue.specs.declared.asked.Asked.TheVariants.{Table}
+use Rattle.gc_catalogue.specs.declared.call.Call.TheVariants.{SetDate}
+use Rattle.gc_texts.specs.Again.{no_again}
+use Rattle.gc_texts.specs.Attempts.{laid_out}
 use Rattle.gc_texts.specs.Codes.{no_codes}
 use Rattle.gc_texts.specs.LineForms.{text_lines, is_kept, AreItems}
 use Rattle.gc_texts.specs.Names.{is_named}
 use Rattle.gc_texts.specs.Nears.{is_said, near_of}
+use Rattle.gc_texts.specs.Retries.{no_retry}
+use Rattle.gc_texts.specs.Stamps.{date_time}
 use Rattle.gc_texts.specs.TaskLines.{IsTaskLine}
 use Rattle.gc_texts.specs.declared.fault.RunFault.{RunFault}
 use Rattle.gc_texts.specs.declared.fault.RunFault.TheVariants.{Schedule, Memory, InputTooLong}
@@ -14,41 +22,101 @@ use Rattle.gc_texts.specs.declared.near.Near.{Near}
 use Rattle.gc_texts.specs.declared.task_line.TaskLine.{TaskLine}
 use Rattle.gc_texts.specs.declared.task_line.TaskLine.TheVariants as says
 use Rattle.gc_texts.specs.declared.tasks.Mode.{Mode}
+use Rattle.gc_texts.specs.declared.tasks.Planned.{Planned}
 use Rattle.gc_texts.specs.declared.tasks.Task.{Task}
+use Rattle.gc_texts.specs.declared.turn.Turn.{Turn}
+use Rattle.gc_texts.specs.declared.wish.Wish.{Wish}
 use Rattle.gc_texts.specs.declared.text.TheConstants.{TEXT_LIMIT}
 
--- the mode before any line: this deadline, chained or not, no row, and no code that is accepted beside 0
+-- the mode before any line: this deadline, chained or not, no row, no code that is accepted beside 0, and no retry; the commands are
+-- those of each cycle, and none stands in front
 abbrev pub opening : ℕ → Bool → Mode
-opening deadline chained = record { deadline = deadline; chained = chained; row = None; accepted = no_codes }
-
--- the mode behind a line: a command's target is that of the row from then on; a deadline changes the deadline; `chained` and
--- `unchained` change whether commands are chained, and end the row; `accept` changes which return codes are accepted; and the name or
--- the place of a target changes nothing
-abbrev pub behind : Mode → TaskLine → Mode
-behind mode (says.Command command) = record { deadline = mode.deadline; chained = mode.chained; row = Some command.target; accepted = mode.accepted }
-behind mode (says.Deadline deadline) = record { deadline = deadline; chained = mode.chained; row = mode.row; accepted = mode.accepted }
-behind mode says.Chained = record { deadline = mode.deadline; chained = true; row = None; accepted = mode.accepted }
-behind mode says.Unchained = record { deadline = mode.deadline; chained = false; row = None; accepted = mode.accepted }
-behind mode (says.Naming name) = mode
-behind mode (says.Standing near) = mode
-behind mode (says.Accepting accepted) = record { deadline = mode.deadline; chained = mode.chained; row = mode.row; accepted = accepted }
+opening deadline chained = record { deadline = deadline; chained = chained; row = None; accepted = no_codes; retry = no_retry; setup = false; begun = 0; place = 0; link = 0 }
 
 -- whether a command for `target` continues the row in front of it, where there is one: that row is for the target `before`
 abbrev pub goes_on : Option ℕ → ℕ → Bool
 goes_on (Some before) target = before == target
 goes_on None target = false
 
--- the task of a line that is a command, as a list of one; no task of another line. It is chained where the mode says so and the
--- command continues the row. Its place is set later (`placed`)
-abbrev pub task_at : Mode → TaskLine → List Task
-task_at mode (says.Command command) =
-    record { command = command; deadline = mode.deadline; chained = mode.chained && goes_on mode.row command.target; near = None; accepted = mode.accepted } ∷ []
-task_at mode _ = []
+-- whether a command for this target is chained: of the set-up each but the first, and of the cycle where the mode says so and the command
+-- continues the row
+abbrev pub joined : Mode → ℕ → Bool
+joined mode target = if mode.setup then nat_lt 0 mode.begun else mode.chained && goes_on mode.row target
 
--- the tasks of these lines, the first of which stands in this mode
+-- where a command stands in its chain: a set-up command behind all others of the set-up, a command that is chained behind the one
+-- before it, and any other in front
+abbrev pub link_at : Mode → Bool → ℕ
+link_at mode chained = if mode.setup then mode.begun else if chained then mode.link else 0
+
+-- the place of a command among those of its section, its first attempt, and its place in its chain
+abbrev pub turn_at : Mode → Bool → Turn
+turn_at mode chained = record { place = if mode.setup then mode.begun else mode.place; attempt = 1; link = link_at mode chained }
+
+-- the mode behind a command for this target
+abbrev pub behind_command : Mode → ℕ → Mode
+behind_command mode target =
+    record mode {
+      row = Some target;
+      begun = if mode.setup then mode.begun + 1 else mode.begun;
+      place = if mode.setup then mode.place else mode.place + 1;
+      link = link_at mode (joined mode target) + 1;
+    }
+
+-- the mode behind a line: behind a command its target is that of the row, and it is counted; a deadline changes the deadline; `chained` and
+-- `unchained` change whether commands are chained, `retry` changes how often chains go out again, `at start` and `each cycle` change the
+-- section, and each of these five ends the row; `accept` changes which return codes are accepted; and the name or the place of a target
+-- changes nothing
+abbrev pub behind : Mode → TaskLine → Mode
+behind mode (says.Command command now) = behind_command mode command.target
+behind mode (says.Deadline deadline) = record mode { deadline = deadline }
+behind mode says.Chained = record mode { chained = true; row = None }
+behind mode says.Unchained = record mode { chained = false; row = None }
+behind mode (says.Naming name) = mode
+behind mode (says.Standing near) = mode
+behind mode (says.Accepting accepted) = record mode { accepted = accepted }
+behind mode (says.Retrying retry) = record mode { retry = retry; row = None }
+behind mode says.AtStart = record mode { setup = true; row = None }
+behind mode says.EachCycle = record mode { setup = false; row = None }
+
+-- the task of a command in its first attempt; its place and its rule are set later (`placed`, `laid_out`)
+abbrev pub task_at : Mode → Wish → Bool → Task
+task_at mode command now =
+    record {
+      command = command;
+      deadline = mode.deadline;
+      chained = joined mode command.target;
+      near = None;
+      accepted = mode.accepted;
+      again = no_again;
+      turn = turn_at mode (joined mode command.target);
+      others = 0;
+      now = now;
+    }
+
+-- the task of a line that is a set-up command, as a list of one; no task of another line
+abbrev pub setup_at : Mode → TaskLine → List Task
+setup_at mode (says.Command command now) = if mode.setup then task_at mode command now ∷ [] else []
+setup_at mode _ = []
+
+-- the tasks of the set-up of these lines, the first of which stands in this mode
+abbrev pub setup_of : Mode → List TaskLine → List Task
+setup_of mode [] = []
+setup_of mode (line ∷ later) = setup_at mode line ++ setup_of (behind mode line) later
+
+-- the command of a line that is one of each cycle, with how often its chain goes out again, as a list of one; none of another line
+abbrev pub planned_at : Mode → TaskLine → List Planned
+planned_at mode (says.Command command now) = if mode.setup then [] else record { task = task_at mode command now; retry = mode.retry } ∷ []
+planned_at mode _ = []
+
+-- the commands of each cycle of these lines, the first of which stands in this mode
+abbrev pub planned_of : Mode → List TaskLine → List Planned
+planned_of mode [] = []
+planned_of mode (line ∷ later) = planned_at mode line ++ planned_of (behind mode line) later
+
+-- the tasks of these lines, before any line of which this mode holds: those of the set-up, and behind them the attempts of the chains of
+-- the cycle
 abbrev pub tasks_of : Mode → List TaskLine → List Task
-tasks_of mode [] = []
-tasks_of mode (line ∷ later) = task_at mode line ++ tasks_of (behind mode line) later
+tasks_of mode lines = setup_of mode lines ++ laid_out (planned_of mode lines)
 
 -- the name that a line gives a target, as a list of one; none of another line
 abbrev pub name_at : TaskLine → List Name
@@ -91,12 +159,13 @@ pub record AreTaskLines (lines : List (List ℕ)) (said : List TaskLine) : Type 
   pub forms : AreItems IsTaskLine (filter is_kept lines) said
   pub follow : MayFollow [] [] said
 
--- the text gives these tasks, names and places. Before any line the deadline is `deadline`, and commands are chained where
+-- the text gives these tasks, names and places; the first `setup` tasks are the set-up. Before any line the deadline is `deadline`, and commands are chained where
 -- `chained` says so. A place holds for all tasks of its target, wherever its line stands
-pub record IsTasks (text : List ℕ) (deadline : ℕ) (chained : Bool) (tasks : List Task) (names : List Name) (nears : List Near) : Type 0 where
+pub record IsTasks (text : List ℕ) (deadline : ℕ) (chained : Bool) (setup : ℕ) (tasks : List Task) (names : List Name) (nears : List Near) : Type 0 where
   pub said : List TaskLine
   pub lines : AreTaskLines (text_lines text) said
   pub tasks_are : tasks ≡ map (placed nears) (tasks_of (opening deadline chained) said)
+  pub setup_is : setup ≡ length (setup_of (opening deadline chained) said)
   pub names_are : names ≡ names_of said
   pub nears_are : nears ≡ nears_of said
 
@@ -113,9 +182,9 @@ pub record IsFirstFaultyTask (text : List ℕ) (n : ℕ) : Type 0 where
   pub lines : AreTaskLines front before
   pub faulty : (said : TaskLine) → IsTaskLine line said → may_stand (names_of before) (nears_of before) said ≡ false
 
--- some line has a form and may stand behind the lines before it, none of which is faulty: the reading comes to that line, and may
--- want memory there
-pub record IsBehindATask (text : List ℕ) : Type 0 where
+-- the text has a line that isn't faulty and has no faulty one before it: it has a form, and may stand behind the lines before it.
+-- The reading comes to such a line, and may want memory there
+pub record ReachesASoundTaskLine (text : List ℕ) : Type 0 where
   pub front : List (List ℕ)
   pub line : List ℕ
   pub rest : List (List ℕ)
@@ -132,5 +201,10 @@ pub record IsBehindATask (text : List ℕ) : Type 0 where
 abbrev pub TaskFault : List ℕ → RunFault → Type 0
 TaskFault text InputTooLong = TEXT_LIMIT < length text
 TaskFault text (Schedule n) = (length text ≤ TEXT_LIMIT) × IsFirstFaultyTask text n
-TaskFault text Memory = (length text ≤ TEXT_LIMIT) × IsBehindATask text
+TaskFault text Memory = (length text ≤ TEXT_LIMIT) × ReachesASoundTaskLine text
 TaskFault text _ = ⊥
+
+-- what a task asks for where it goes out at this moment, in milliseconds since 1970: what its command asks for, or that the clock is set to
+-- the moment, cut to seconds
+abbrev pub call_at : Task → ℕ → Asked
+call_at task utc = if task.now then Table (SetDate (date_time utc)) else task.command.call

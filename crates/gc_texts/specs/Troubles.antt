@@ -36,8 +36,8 @@ pub record IsListTrouble (rpc : ℕ) (params : List ℕ) (t : Trouble) : Type 0 
   pub refused : IsRefusal rpc params (Parameters fault)
   pub is : t ≡ list_trouble rpc fault
 
--- what is at fault in a procedure's number and its parameters: no procedure has the number, or the parameters have a fault, or
--- nothing is, because they make a call (`NoForm`)
+-- what is at fault in a procedure's number and its parameters: no procedure has the number, or the parameters have a fault. Where
+-- number and parameters make a call, nothing is at fault, which is told as `NoForm`
 abbrev pub IsCallTrouble : ℕ → List ℕ → Trouble → Type 0
 IsCallTrouble rpc params (trouble.NoProcedure n) = (n ≡ rpc) × IsRefusal rpc params Unknown
 IsCallTrouble rpc params trouble.NoForm = (call : Call) × IsCall rpc params call
@@ -83,13 +83,18 @@ pub record IsAskedRaw (line : List ℕ) (t : Trouble) : Type 0 where
   pub is : IsRawTrouble rpc (behind_three line) t
 
 -- in a line that is known to be faulty, this may be at fault; more than one trouble may fit a line. `Deadline`: the line begins with that
--- word, so its value is at fault. `NoForm`: the line has one word alone, or its number and its parameters make a call, or may be asked for
--- behind the word `raw`, so that neither of these is at fault
+-- word, so its value is at fault, and so it is with `retry`, `at` and `each`. `Now`: more stands behind `5007 now`.
+-- `NoForm`: the line has one word alone, or its number and its parameters make a call, or may be asked for behind the word `raw`, so that
+-- neither of these is at fault
 abbrev pub IsTrouble : List ℕ → Trouble → Type 0
 IsTrouble line trouble.Deadline = first_word line ≡ codes "deadline"
 IsTrouble line trouble.Name = (first_word line ≡ codes "name") × ((n : ℕ) × IsNumber (second_word line) n 4294967295)
 IsTrouble line trouble.Near = (first_word line ≡ codes "near") × ((n : ℕ) × IsNumber (second_word line) n 4294967295)
 IsTrouble line trouble.Accept = first_word line ≡ codes "accept"
+IsTrouble line trouble.Retry = first_word line ≡ codes "retry"
+IsTrouble line trouble.AtStart = first_word line ≡ codes "at"
+IsTrouble line trouble.EachCycle = first_word line ≡ codes "each"
+IsTrouble line trouble.Now = (second_word line ≡ codes "5007") × (third_word line ≡ codes "now")
 IsTrouble line trouble.Target =
     ((first_word line ≡ codes "name") × NoNumber (second_word line) 4294967295)
     ⊎ (((first_word line ≡ codes "near") × NoNumber (second_word line) 4294967295) ⊎ NoNumber (first_word line) 4294967295)
@@ -115,6 +120,10 @@ trouble_text trouble.Deadline = codes "deadline"
 trouble_text trouble.Name = codes "name"
 trouble_text trouble.Near = codes "near"
 trouble_text trouble.Accept = codes "accept"
+trouble_text trouble.Retry = codes "retry"
+trouble_text trouble.AtStart = codes "at start"
+trouble_text trouble.EachCycle = codes "each cycle"
+trouble_text trouble.Now = codes "5007 now"
 trouble_text (trouble.RawInTable rpc) = in_table_text rpc (name_of rpc)
 trouble_text trouble.RawParameters = codes "more than 16 parameters, a double quote without its end, or a carriage return"
 trouble_text trouble.RawTooLong = codes "the request has more than 512 bytes"

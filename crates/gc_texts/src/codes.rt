@@ -1,6 +1,6 @@
 //! The return codes beside 0 that a station's text accepts of an answer.
 
-ghost use Rattle.std.specs.Prelude.{◌≡◌, ◌==◌, ◌+◌, ◌<◌, ◌≤◌, ◌∷◌, ◌++◌, ℕ, List, [], length, MatchOption};
+ghost use Rattle.std.specs.Prelude.{◌≡◌, ◌==◌, ◌+◌, ◌<◌, ◌≤◌, ◌∷◌, ◌++◌, ℕ, List, [], length, slice_set, MatchOption};
 ghost use Rattle.std.specs.List.{list_any};
 ghost use Rattle.gc_texts.specs.Codes.{AreCodes, IsFilled, IsListed, are_accepted, filled, no_codes};
 ghost use Rattle.gc_texts.specs.declared.codes.Codes.{Codes};
@@ -45,6 +45,16 @@ impl Codes {
         code != 0 && self.is_in_a_place(code)
     }
 
+    // These codes, with this one in a place.
+    pub(crate) fn with(self, place: usize, code: u16) -> Codes
+        requires { place < 16 }
+        ensures { result.codes ≡ slice_set self.codes place code }
+    {
+        let mut codes = self.codes;
+        codes[place] = code;
+        Codes { codes }
+    }
+
     // These codes, of which there are `count`, with one more behind them.
     fn with_next(self, count: usize, code: u16) -> Codes
         requires { count < 16 }
@@ -57,7 +67,7 @@ impl Codes {
 }
 
 // Reads a code, from 1 to 65535. `None`: the word is no number, or the number lies outside.
-fn code_of(word: &[u8]) -> Option<u16>
+pub(crate) fn code_of(word: &[u8]) -> Option<u16>
     ensures { MatchOption result ((code : ℕ) → IsListed word.now code → ⊥) (λ code. IsListed word.now code) }
 {
     let Some(code) = number_of(word, CODE_MAX) else {

@@ -1,7 +1,7 @@
 //! Commands: whom to ask for what, and the text of them. They know no deadline and no time.
 
 ghost use Rattle.std.specs.Prelude.{◌≡◌, ◌<◌, ◌↔◌, ℕ, length, Err, IfOk, IfErr, MatchOption};
-ghost use Rattle.gc_texts.specs.Commands.{IsCommand, IsCommands, IsFirstFaultyCommand, IsBehindACommand};
+ghost use Rattle.gc_texts.specs.Commands.{IsCommand, IsCommands, IsFirstFaultyCommand, ReachesASoundCommand};
 ghost use Rattle.gc_texts.specs.LineForms.{TextFault};
 ghost use Rattle.gc_texts.specs.declared.fault.RunFault.{RunFault};
 ghost use Rattle.gc_texts.specs.declared.text.TheConstants.{TEXT_LIMIT};
@@ -77,7 +77,7 @@ pub fn read_commands(alloc: Global, text: &[u8]) -> Result<Vec<Command>, RunFaul
     ensures found { IfOk result (λ commands. IsCommands text.now commands.items) }
     ensures too_long { (result ≡ Err RunFault.InputTooLong) ↔ (TEXT_LIMIT < length text.now) }
     ensures faulty { (n : ℕ) → result ≡ Err (RunFault.Schedule n) → IsFirstFaultyCommand text.now n }
-    ensures memory { result ≡ Err RunFault.Memory → IsBehindACommand text.now }
+    ensures memory { result ≡ Err RunFault.Memory → ReachesASoundCommand text.now }
     ensures faults { IfErr result (λ e. TextFault IsCommand text.now e) }
 {
     read_items::<CommandForm>(alloc, text)

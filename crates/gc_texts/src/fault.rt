@@ -32,6 +32,12 @@ pub enum RunFault {
     /// The clock can't be read, or stands before 1970.
     #[error("fault {}", self.number())]
     Clock,
+    /// No good answer came for as long as `--stale` allows.
+    #[error("fault {}", self.number())]
+    Stale,
+    /// Set-up commands weren't answered well, and no try is left.
+    #[error("fault {}", self.number())]
+    SetUp,
     /// The text has no command.
     #[error("fault {}", self.number())]
     NoCommand,
@@ -77,7 +83,7 @@ pub enum RunFault {
 }
 
 impl RunFault {
-    /// The number of the fault, 41 to 47, 50 to 60 and 64 to 66. This project's own.
+    /// The number of the fault, 41 to 60 and 64 to 66. This project's own.
     pub fn number(self) -> u8
         ensures { result ≡ run_fault_number self }
     {
@@ -89,6 +95,8 @@ impl RunFault {
             RunFault::LinkClosed => 45,
             RunFault::Mute => 46,
             RunFault::Clock => 47,
+            RunFault::Stale => 48,
+            RunFault::SetUp => 49,
             RunFault::NoCommand => 50,
             RunFault::Schedule { .. } => 51,
             RunFault::Memory => 52,

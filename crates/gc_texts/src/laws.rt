@@ -2,6 +2,7 @@
 
 ghost use Rattle.gc_texts.specs.FaultNumbers.{FaultsHaveTheirNumbers};
 ghost use Rattle.gc_texts.specs.Chained.{CommandsGoOutSo, PlacesHoldForAll};
+ghost use Rattle.gc_texts.specs.Repeats.{ChainsGoOutAgain, RetriesHold};
 ghost use Rattle.gc_texts.specs.Moments.{StampsAreMoments};
 ghost use Rattle.gc_texts.specs.Nears.{DirectionsAreAskedFor};
 ghost use Rattle.gc_texts.specs.Laws.{OneCommandList, OneTaskList, CommandsAreTasks, CommandsArePlain, ChainsAreRows, WantedIsTheCatalogues, NamesAreTheCatalogues, LogLinesReadBack, LogLinesArePrintable};
@@ -23,9 +24,23 @@ pub fn commands_are_tasks()
     ensures plain { CommandsArePlain }
 {}
 
-/// A task is chained only where the task directly before it is for the same target. The first is never chained.
+/// The set-up is one chain. Of the tasks behind it the first isn't chained, and one is chained only where the task directly before it is for
+/// the same target.
 pub fn chains_are_rows()
     ensures { ChainsAreRows }
+{}
+
+/// The tasks behind the set-up are the attempts of the text's chains, in order. A chain has at most as many attempts behind the first as its
+/// line `retry` says. Each begins with the chain's first command, and has the chain's commands, in order, with the same deadlines, places and
+/// accepted codes. Each but the last has the rule of the line, and the last has none. The commands of the chains are those of the text, in
+/// order, each once.
+pub fn chains_go_out_again()
+    ensures { ChainsGoOutAgain }
+{}
+
+/// A command of the cycle has the retry that the last line `retry` in front of it says; where there is none, it doesn't go out again.
+pub fn retries_hold_behind_their_lines()
+    ensures { RetriesHold }
 {}
 
 /// The number of parameters that is printed of a procedure, where a line has another number of them, is the catalogue's.
@@ -54,9 +69,10 @@ pub fn faults_have_their_numbers()
     ensures { FaultsHaveTheirNumbers }
 {}
 
-/// Each command of a station's text has the deadline of the last line `deadline` in front of it, or else the caller's. It is
+/// Each command of a station's text has the deadline of the last line `deadline` in front of it, or else the caller's. One of the cycle is
 /// chained exactly where two things hold: the last line `chained` or `unchained` in front of it says `chained`, or there is
-/// none and the caller says so; and the command before it is for the same target, with no such line between the two.
+/// none and the caller says so; and the command before it is for the same target, with no line between the two that ends the row. One of the
+/// set-up is chained exactly where another stands in front of it, and all of the set-up goes out in front of the cycle.
 pub fn commands_go_out_as_their_lines_say()
     ensures { CommandsGoOutSo }
 {}

@@ -1,6 +1,7 @@
 //! The texts that the program reads and writes: lines and their items, commands, settlement lines, lines of a log, moments, faults.
 #![tactic(auto)]
 
+mod again;
 mod codes;
 mod command_text;
 mod commands;
@@ -15,15 +16,18 @@ mod name;
 mod near;
 mod procedure;
 mod quality;
+mod retry;
 mod settled;
 mod stamp;
 mod task_line;
 mod tasks;
 mod text;
 mod trouble;
+mod turn;
 mod wish;
 mod zeroed;
 
+pub use again::Again;
 pub use codes::Codes;
 pub use command_text::read_command_text;
 pub use commands::{Command, read_commands};
@@ -43,5 +47,6 @@ pub use task_line::DEADLINE_MAX;
 pub use tasks::{Task, Tasks, read_tasks};
 pub use text::{TEXT_LIMIT, limits_texts, read_text};
 pub use trouble::{Trouble, trouble_of};
+pub use turn::Turn;
 pub use wish::Wish;
 pub use zeroed::reading_as_zero;

@@ -5,9 +5,11 @@ ghost use Rattle.gc_texts.specs.Nears.{IsDouble, AreWords, IsNearText, is_said, 
 ghost use Rattle.gc_texts.specs.declared.near.Near.{Near};
 ghost use Rattle.gc_values.specs.declared.decimal.Decimal.{Decimal};
 
+use crate::again::Again;
 use crate::codes::Codes;
 use crate::cuts::{before, behind};
 use crate::procedure::{TARGET_MAX, number_of};
+use crate::turn::Turn;
 use gc_catalogue::{Answer, Asked, Call};
 use gc_values::{Decimal, Direction, is_tolerance};
 
@@ -22,13 +24,17 @@ pub struct Near {
     pub tolerance: Decimal,
 }
 
-/// What is expected of a command's answer.
+/// What the text says of a command beside what it asks and how long it waits: what is expected of its answer, and which turn it is.
 #[derive(Clone, Copy, Debug, PartialEq, Eq)]
 pub struct Expected {
     /// Where the command's target stands, if the text says so.
     pub near: Option<Near>,
     /// The return codes that are accepted, beside 0.
     pub accepted: Codes,
+    /// Behind which ends of it the command's chain goes out again.
+    pub again: Again,
+    /// Which command of the text it is, and in which attempt of its chain.
+    pub turn: Turn,
 }
 
 /// Reads a number with a point or without one. `None`: the text is no number, or has too many digits.

@@ -13,6 +13,9 @@ use gc_values::read_whole;
 /// The greatest target.
 pub const TARGET_MAX: u64 = 4294967295;
 
+/// The greatest number of a procedure.
+pub const RPC_MAX: u64 = 65535;
+
 /// The number that a text of digits writes, without a sign. `None`: the text is no such number, or the number is above `max`.
 pub fn number_of(digits: &[u8], max: u64) -> Option<u64>
     ensures { MatchOption result ((n : ℕ) → IsNumber digits.now n max → ⊥) (λ n. IsNumber digits.now n max) }
@@ -36,14 +39,15 @@ pub fn read_procedure(text: &[u8]) -> Option<Call>
     }
 }
 
-/// As [`read_procedure`], but the call is written into `call`, which may be any call where the text isn't a procedure's.
+/// As [`read_procedure`], but the call is written into `call`, which may be any call where the text isn't a procedure's. Returns
+/// whether the text is a procedure's.
 #[inline(always)]
 pub fn read_procedure_into(text: &[u8], call: &mut Call) -> bool
     ensures found { IsTrue result → IsProcedure text.now call.new }
     ensures none { IsFalse result → (other : Call) → IsProcedure text.now other → ⊥ }
 {
     let (digits, params) = cut_at(b' ', text);
-    let Some(rpc) = number_of(digits, 65535) else {
+    let Some(rpc) = number_of(digits, RPC_MAX) else {
         return false
     };
     let Some(params) = params else {

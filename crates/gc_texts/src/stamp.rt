@@ -2,9 +2,11 @@
 
 ghost use Rattle.std.specs.Prelude.{◌≡◌, ℕ, ◌+◌, ◌^◌, ◌<◌, ◌≤◌, ◌++◌, if◌then◌else◌};
 ghost use Rattle.arrayvec.specs.ArrayVec.{array_vec_len};
-ghost use Rattle.gc_texts.specs.Stamps.{is_leap, month_days, year_days, days_after, date_of, two_digits, three_digits, date_text, time_text, stamp_text};
+ghost use Rattle.gc_texts.specs.Stamps.{is_leap, month_days, year_days, days_after, date_of, two_digits, three_digits, date_text, time_text, stamp_text, date_time};
 
+use crate::turn::Turn;
 use arrayvec::ArrayVec;
+use gc_catalogue::DateTime;
 use gc_lines::append;
 use itoa::Buffer;
 
@@ -17,8 +19,10 @@ pub struct Stamp {
     pub utc: u64,
     /// The cycle, counted from 1.
     pub cycle: u64,
-    /// The command's place among the commands of a cycle, counted from 0.
+    /// The place of its task among the tasks of a cycle, counted from 0.
     pub place: usize,
+    /// Which command of the text it was, and in which attempt of its chain.
+    pub turn: Turn,
 }
 
 // A day of the Gregorian calendar.
@@ -140,6 +144,36 @@ fn time_text(millis: u64) -> ArrayVec<u8, 12>
     append(&mut text, b".");
     append(&mut text, &three_digits(millis % 1_000));
     text
+}
+
+// The beginning of 1970, as a date and a time of day.
+pub(crate) const FIRST_MOMENT: DateTime = DateTime {
+    year: 1970,
+    month: 1,
+    day: 1,
+    hour: 0,
+    minute: 0,
+    second: 0,
+};
+
+// The greatest year of a date and a time of day.
+const YEAR_MAX: u64 = 32767;
+
+/// The moment `utc` milliseconds after the beginning of 1970, cut to seconds, as a date and a time of day. The years from 32767 on are
+/// all told as 32767.
+pub fn date_time(utc: u64) -> DateTime
+    ensures { result ≡ date_time utc }
+{
+    let date = date_of(utc / 86_400_000);
+    let millis = utc % 86_400_000;
+    DateTime {
+        year: date.year.min(YEAR_MAX) as i16,
+        month: date.month as u8,
+        day: date.day as u8,
+        hour: (millis / 3_600_000) as u8,
+        minute: (millis / 60_000 % 60) as u8,
+        second: (millis / 1_000 % 60) as u8,
+    }
 }
 
 /// The most bytes of a stamp: a date, `T`, a time and `Z`.

@@ -1,18 +1,23 @@
 //! The reading of one line of a station's text.
 
 ghost use Rattle.std.specs.Prelude.{◌≡◌, ◌++◌, ℕ, List, MatchOption};
-ghost use Rattle.gc_texts.specs.TaskLines.{IsDeadline, IsNaming, IsStanding, IsAccepting, IsTaskLine};
+ghost use Rattle.gc_texts.specs.TaskLines.{IsDeadline, IsNaming, IsStanding, IsAccepting, IsRetrying, SetsClock, IsTaskLine};
 ghost use Rattle.gc_texts.specs.declared.codes.Codes.{Codes};
 ghost use Rattle.gc_texts.specs.declared.name.Name.{Name};
 ghost use Rattle.gc_texts.specs.declared.near.Near.{Near};
+ghost use Rattle.gc_texts.specs.declared.retry.Retry.{Retry};
+ghost use Rattle.gc_texts.specs.declared.wish.Wish.{Wish};
 ghost use Rattle.gc_texts.specs.declared.task_line.TaskLine.{TaskLine};
 
 use crate::codes::{Codes, read_codes};
-use crate::cuts::{cut_at, is_word};
+use crate::cuts::{before as words_before, behind as words_behind, cut_at, is_word};
 use crate::name::{Name, is_name, name_of_bytes};
 use crate::near::{Near, read_near};
 use crate::procedure::{TARGET_MAX, number_of};
+use crate::retry::{Retry, read_rule};
+use crate::stamp::FIRST_MOMENT;
 use crate::wish::{Wish, read_wish};
+use gc_catalogue::{Asked, Call};
 
 /// The greatest deadline of a line, in milliseconds: a day.
 pub const DEADLINE_MAX: u64 = 86400000;
@@ -20,8 +25,8 @@ pub const DEADLINE_MAX: u64 = 86400000;
 // What a line of a station's text says.
 #[derive(Drop)]
 pub(crate) enum TaskLine {
-    // A command is to be asked.
-    Command(Wish),
+    // A command is to be asked; `true`: it sets the clock to the moment at which it goes out.
+    Command(Wish, bool),
     // The deadline of the commands behind it, in milliseconds.
     Deadline(u64),
     // The commands behind it are chained.
@@ -34,6 +39,12 @@ pub(crate) enum TaskLine {
     Standing(Near),
     // The return codes that are accepted of the commands behind it.
     Accepting(Codes),
+    // How often the chains behind it go out again, and behind what.
+    Retrying(Retry),
+    // The commands behind it are set-up.
+    AtStart,
+    // The commands behind it are those of each cycle.
+    EachCycle,
 }
 
 // What stands behind a word at the front of a line. `None`: the line doesn't begin with the word.
@@ -101,6 +112,35 @@ fn read_accepting(line: &[u8]) -> Option<Codes>
     }
 }
 
+// Reads `retry N WORD WORD ..`, or `retry 0`. `None`: the line has no such form.
+fn read_retrying(line: &[u8]) -> Option<Retry>
+    ensures { MatchOption result ((retry : Retry) → IsRetrying line.now retry → ⊥) (λ retry. IsRetrying line.now retry) }
+{
+    if is_word(b"retry 0", line) {
+        return Some(Retry::none());
+    }
+    match behind(b"retry ", line) {
+        Some(rest) => read_rule(rest),
+        None => None,
+    }
+}
+
+// Reads `T 5007 now`: a target whose clock is set to the moment at which the command goes out. `None`: the line has no such form.
+fn read_clock(line: &[u8]) -> Option<Wish>
+    ensures { MatchOption result ((wish : Wish) → SetsClock line.now wish → ⊥) (λ wish. SetsClock line.now wish) }
+{
+    if !is_word(b"5007 now", words_behind(b' ', line)) {
+        return None;
+    }
+    match number_of(words_before(b' ', line), TARGET_MAX) {
+        Some(target) => Some(Wish {
+            target: target as u32,
+            call: Asked::Table(Call::SetDate(FIRST_MOMENT)),
+        }),
+        None => None,
+    }
+}
+
 // Reads one line of a station's text. `None`: it has no form.
 pub(crate) fn read_task_line(line: &[u8]) -> Option<TaskLine>
     ensures { MatchOption result ((said : TaskLine) → IsTaskLine line.now said → ⊥) (λ said. IsTaskLine line.now said) }
@@ -123,8 +163,20 @@ pub(crate) fn read_task_line(line: &[u8]) -> Option<TaskLine>
     if let Some(codes) = read_accepting(line) {
         return Some(TaskLine::Accepting(codes));
     }
+    if let Some(retry) = read_retrying(line) {
+        return Some(TaskLine::Retrying(retry));
+    }
+    if is_word(b"at start", line) {
+        return Some(TaskLine::AtStart);
+    }
+    if is_word(b"each cycle", line) {
+        return Some(TaskLine::EachCycle);
+    }
+    if let Some(wish) = read_clock(line) {
+        return Some(TaskLine::Command(wish, true));
+    }
     match read_wish(line) {
-        Some(wish) => Some(TaskLine::Command(wish)),
+        Some(wish) => Some(TaskLine::Command(wish, false)),
         None => None,
     }
 }

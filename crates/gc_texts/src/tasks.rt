@@ -1,28 +1,34 @@
 //! Tasks: commands of a station's text, with how each goes out and where its target stands.
 //!
-//! A row is a run of commands for one target, with no line `chained` or `unchained` between them. Where commands are chained,
-//! each command of a row but the first is chained to the one before it. A mode is what the lines read so far make hold for the
-//! next command: its deadline, whether commands are chained, the row that it may continue, and the return codes accepted.
+//! A row is a run of commands for one target, with no line `chained`, `unchained`, `retry`, `at start` or `each cycle` between them. Where
+//! commands are chained, each command of a row but the first is chained to the one before it. A mode is what the lines read so far make
+//! hold for the next command: its deadline, whether commands are chained, the row that it may continue, the return codes accepted, how
+//! often its chain goes out again, and whether it is set-up. All commands of the set-up are one chain.
 
-ghost use Rattle.std.specs.Prelude.{◌≡◌, ◌<◌, ◌≤◌, ◌↔◌, ◌⊎◌, ◌++◌, ◌==◌, ◌&&◌, ℕ, length, map, Err, None, IfOk, IfErr, OnOk, OnErr};
+ghost use Rattle.std.specs.Prelude.{◌-◌, take, drop, ◌≡◌, ◌<◌, ◌≤◌, ◌↔◌, ◌⊎◌, ◌++◌, ◌==◌, ◌&&◌, ℕ, length, map, Err, None, IfOk, IfErr, OnOk, OnErr};
 ghost use Rattle.std.specs.List.{list_any};
 ghost use Rattle.std.specs.Vec.{vec_capacity, vec_len};
-ghost use Rattle.gc_texts.specs.Codes.{no_codes};
+ghost use Rattle.gc_texts.specs.Attempts.{in_attempt, attempts, laid_out};
 ghost use Rattle.gc_texts.specs.Names.{name_text};
 ghost use Rattle.gc_texts.specs.Nears.{seeks_direction};
-ghost use Rattle.gc_texts.specs.Tasks.{opening, behind, goes_on, task_at, name_at, near_at, placed, may_stand, IsTasks, IsFirstFaultyTask, IsBehindATask, TaskFault};
+ghost use Rattle.gc_texts.specs.Tasks.{opening as first_mode, behind, behind_command, goes_on, joined, link_at, task_at, setup_at, planned_at, call_at, name_at, near_at, placed, may_stand, IsTasks, IsFirstFaultyTask, ReachesASoundTaskLine, TaskFault};
 ghost use Rattle.gc_texts.specs.declared.fault.RunFault.{RunFault};
 ghost use Rattle.gc_texts.specs.declared.text.TheConstants.{TEXT_LIMIT};
 
+use crate::again::Again;
 use crate::codes::Codes;
 use crate::cuts::cut_at;
 use crate::fault::RunFault;
 use crate::line_forms::{is_skipped, without_cr};
 use crate::name::{Name, is_named, name_text};
 use crate::near::{Near, is_said, near_of, seeks_direction};
+use crate::retry::Retry;
+use crate::stamp::date_time;
 use crate::task_line::{TaskLine, read_task_line};
 use crate::text::TEXT_LIMIT;
+use crate::turn::Turn;
 use crate::wish::Wish;
+use gc_catalogue::{Asked, Call};
 use std::alloc::{AllocError, Global};
 
 /// A command of a station's cycle, and how it goes out.
@@ -38,17 +44,41 @@ pub struct Task {
     pub near: Option<Near>,
     /// The return codes that are accepted of its answer, beside 0.
     pub accepted: Codes,
+    /// Behind which ends of its command the chain goes out again.
+    pub again: Again,
+    /// Which command of the text it is, and which attempt of its chain it belongs to.
+    pub turn: Turn,
+    /// Of the first command of a later attempt: how many commands this attempt and those behind it have together. 0 of any other.
+    pub others: usize,
+    /// Whether it sets the instrument's clock to the moment at which it goes out.
+    pub now: bool,
 }
 
 /// What a station's text gives: what is asked in each cycle, and what the targets are called and where they stand.
 #[derive(Drop)]
 pub struct Tasks {
-    /// The commands, in order.
+    /// How many of the commands in front are the set-up.
+    pub setup: usize,
+    /// The commands, in order: the set-up, and then the cycle.
     pub tasks: Vec<Task>,
     /// The names, in order: one at most for each target, and 64 at most.
     pub names: Vec<Name>,
     /// Where targets stand, in order: once at most for each, and 64 at most.
     pub nears: Vec<Near>,
+}
+
+impl Task {
+    /// What it asks for where it goes out at this moment, in milliseconds since 1970: what its command asks for; or, where it sets the
+    /// clock, that the clock is set to this moment, cut to seconds, UTC. The years from 32767 on are all told as 32767.
+    pub fn call_at(&self, utc: u64) -> Asked
+        ensures { result ≡ call_at self.entry.now utc }
+    {
+        if self.now {
+            Asked::Table(Call::SetDate(date_time(utc)))
+        } else {
+            self.command.call
+        }
+    }
 }
 
 impl Tasks {
@@ -86,19 +116,88 @@ struct Mode {
     row: Option<u32>,
     // The return codes that are accepted of commands, beside 0.
     accepted: Codes,
+    // How often a chain goes out again, and behind what.
+    retry: Retry,
+    // Whether commands are set-up.
+    setup: bool,
+    // How many commands of the set-up stand in front.
+    begun: usize,
+    // How many commands of the cycle stand in front.
+    place: usize,
+    // How many commands the chain has that was begun.
+    link: usize,
 }
 
-// The mode behind a line, where `mode` holds in front of it. Behind a command the row is its target's. A line `deadline` sets the
-// deadline, `chained` and `unchained` set whether commands are chained and end the row, and `accept` sets which return codes are
-// accepted. A name or a place changes nothing.
+// A command of the cycle: its task in the first attempt, and how often its chain goes out again.
+#[derive(Clone, Copy)]
+struct Planned {
+    task: Task,
+    retry: Retry,
+}
+
+// Where a command stands in its chain. Of the set-up it stands behind all others; of the cycle a chained one stands behind the command
+// before it.
+fn link_at(mode: Mode, chained: bool) -> usize
+    ensures { result ≡ link_at mode chained }
+{
+    if mode.setup {
+        mode.begun
+    } else if chained {
+        mode.link
+    } else {
+        0
+    }
+}
+
+// Whether a command for this target is chained. Of the set-up each is but the first; of the cycle one is that continues the row, where
+// commands are chained.
+fn joined(mode: Mode, target: u32) -> bool
+    ensures { result ≡ joined mode target }
+{
+    if mode.setup {
+        mode.begun > 0
+    } else {
+        mode.chained && goes_on(mode.row, target)
+    }
+}
+
+// The mode behind a command for this target.
+fn behind_command(mode: Mode, target: u32) -> Mode
+    requires begun { mode.begun < 4294967296 }
+    requires place { mode.place < 4294967296 }
+    requires link { mode.link < 4294967296 }
+    ensures { result ≡ behind_command mode target }
+{
+    let link = link_at(mode, joined(mode, target)) + 1;
+    if mode.setup {
+        Mode {
+            row: Some(target),
+            begun: mode.begun + 1,
+            link,
+            ..mode
+        }
+    } else {
+        Mode {
+            row: Some(target),
+            place: mode.place + 1,
+            link,
+            ..mode
+        }
+    }
+}
+
+// The mode behind a line, where `mode` holds in front of it. Behind a command the row is its target's, and it is counted. A line
+// `deadline` sets the deadline, `chained` and `unchained` set whether commands are chained, `retry` sets how often chains go out again,
+// `at start` and `each cycle` set the section, and each of these five ends the row; `accept` sets which return codes are accepted. A name
+// or a place changes nothing.
 fn behind(mode: Mode, said: &TaskLine) -> Mode
+    requires begun { mode.begun < 4294967296 }
+    requires place { mode.place < 4294967296 }
+    requires link { mode.link < 4294967296 }
     ensures { result ≡ behind mode said.now }
 {
     match said {
-        TaskLine::Command(command) => Mode {
-            row: Some(command.target),
-            ..mode
-        },
+        TaskLine::Command(command, _) => behind_command(mode, command.target),
         TaskLine::Deadline(deadline) => Mode {
             deadline: *deadline,
             ..mode
@@ -116,6 +215,21 @@ fn behind(mode: Mode, said: &TaskLine) -> Mode
         TaskLine::Naming(_) | TaskLine::Standing(_) => mode,
         TaskLine::Accepting(accepted) => Mode {
             accepted: *accepted,
+            ..mode
+        },
+        TaskLine::Retrying(retry) => Mode {
+            retry: *retry,
+            row: None,
+            ..mode
+        },
+        TaskLine::AtStart => Mode {
+            setup: true,
+            row: None,
+            ..mode
+        },
+        TaskLine::EachCycle => Mode {
+            setup: false,
+            row: None,
             ..mode
         },
     }
@@ -146,31 +260,57 @@ fn may_stand(names: &Vec<Name>, nears: &Vec<Near>, said: &TaskLine) -> bool
     }
 }
 
-// Appends the task, the name or the place that a line gives, if it gives one. `mode` holds in front of the line. Where the task's
-// target stands is set at the end of the text, by `place_tasks`. It fails where memory was refused.
+// The task of a command in its first attempt. Where its target stands and what its chain's rule is are set at the end of the text.
+fn task_at(mode: Mode, command: Wish, now: bool) -> Task
+    ensures { result ≡ task_at mode command now }
+{
+    let chained = joined(mode, command.target);
+    Task {
+        command,
+        deadline: mode.deadline,
+        chained,
+        near: None,
+        accepted: mode.accepted,
+        again: Again::none(),
+        turn: Turn {
+            place: if mode.setup { mode.begun } else { mode.place },
+            attempt: 1,
+            link: link_at(mode, chained),
+        },
+        others: 0,
+        now,
+    }
+}
+
+// Appends the command, the name or the place that a line gives, if it gives one; a command to those of its section. `mode` holds in
+// front of the line. It fails where memory was refused.
 fn keep(
-    tasks: &mut Vec<Task>,
+    setup: &mut Vec<Task>,
+    cycle: &mut Vec<Planned>,
     names: &mut Vec<Name>,
     nears: &mut Vec<Near>,
     mode: Mode,
     said: TaskLine,
 ) -> Result<(), AllocError>
-    ensures tasks { OnOk result (tasks.new.items ≡ tasks.old.items ++ task_at mode said) }
+    ensures setup { OnOk result (setup.new.items ≡ setup.old.items ++ setup_at mode said) }
+    ensures cycle { OnOk result (cycle.new.items ≡ cycle.old.items ++ planned_at mode said) }
     ensures names { OnOk result (names.new.items ≡ names.old.items ++ name_at said) }
     ensures nears { OnOk result (nears.new.items ≡ nears.old.items ++ near_at said) }
-    ensures wants { OnErr result ((vec_capacity tasks.old ≤ vec_len tasks.old) ⊎ ((vec_capacity names.old ≤ vec_len names.old) ⊎ (vec_capacity nears.old ≤ vec_len nears.old))) }
+    ensures wants { OnErr result (((vec_capacity setup.old ≤ vec_len setup.old) ⊎ (vec_capacity cycle.old ≤ vec_len cycle.old)) ⊎ ((vec_capacity names.old ≤ vec_len names.old) ⊎ (vec_capacity nears.old ≤ vec_len nears.old))) }
 {
     match said {
-        TaskLine::Command(command) => {
-            let chained = mode.chained && goes_on(mode.row, command.target);
-            tasks.reserve(1)?;
-            tasks.push_reserved(Task {
-                command,
-                deadline: mode.deadline,
-                chained,
-                near: None,
-                accepted: mode.accepted,
-            });
+        TaskLine::Command(command, now) => {
+            let task = task_at(mode, command, now);
+            if mode.setup {
+                setup.reserve(1)?;
+                setup.push_reserved(task);
+            } else {
+                cycle.reserve(1)?;
+                cycle.push_reserved(Planned {
+                    task,
+                    retry: mode.retry,
+                });
+            }
             Ok(())
         }
         TaskLine::Naming(name) => {
@@ -187,17 +327,119 @@ fn keep(
     }
 }
 
-// Sets in each task where its target stands: by one of `nears`, or `None` where none of them is for the target.
+// A command in this attempt of its chain. `again` is what the chain goes out again behind. The first command of a later attempt says how
+// many commands this attempt and those behind it have.
+fn in_attempt(attempt: u64, again: Again, commands: usize, planned: &Planned) -> Task
+    ensures { result ≡ in_attempt attempt again commands planned.now }
+{
+    let task = planned.task;
+    let others = if attempt > 1 && task.turn.link == 0 {
+        commands
+    } else {
+        0
+    };
+    Task {
+        again,
+        turn: Turn {
+            attempt,
+            ..task.turn
+        },
+        others,
+        ..task
+    }
+}
+
+// Appends one attempt of a chain. It fails where memory was refused.
+fn push_attempt(
+    tasks: &mut Vec<Task>,
+    chain: &[Planned],
+    attempt: u64,
+    again: Again,
+    commands: usize,
+) -> Result<(), AllocError>
+    ensures appends { OnOk result (tasks.new.items ≡ tasks.old.items ++ map (in_attempt attempt again commands) chain.now) }
+    ensures wants { OnErr result (0 < length chain.now) }
+{
+    for planned in chain {
+        tasks.reserve(1)?;
+        tasks.push_reserved(in_attempt(attempt, again, commands, planned));
+    }
+    Ok(())
+}
+
+// Appends all attempts of a chain. It fails where memory was refused.
+fn push_attempts(tasks: &mut Vec<Task>, chain: &[Planned], retry: Retry) -> Result<(), AllocError>
+    requires { length chain.now < 4294967296 }
+    ensures appends { OnOk result (tasks.new.items ≡ tasks.old.items ++ attempts retry chain.now) }
+    ensures wants { OnErr result (0 < length chain.now) }
+{
+    let mut attempt = 1u64;
+    let mut left = retry.times;
+    while left > 0 {
+        let commands = chain.len() * (left as usize + 1);
+        push_attempt(tasks, chain, attempt, retry.again, commands)?;
+        attempt += 1;
+        left -= 1;
+    }
+    push_attempt(tasks, chain, attempt, Again::none(), chain.len())
+}
+
+// The commands of the places from `from` to `to`, without `to`.
+fn part(cycle: &[Planned], from: usize, to: usize) -> &[Planned]
+    requires up { from ≤ to }
+    requires within { to ≤ length cycle.now }
+    ensures { result.now ≡ take (to - from) (drop from cycle.now) }
+{
+    &cycle[from..to]
+}
+
+// Appends the attempts of all chains of these commands. It fails where memory was refused.
+fn lay_out(tasks: &mut Vec<Task>, cycle: &[Planned]) -> Result<(), AllocError>
+    requires { length cycle.now < 4294967296 }
+    ensures appends { OnOk result (tasks.new.items ≡ tasks.old.items ++ laid_out cycle.now) }
+    ensures wants { OnErr result (0 < length cycle.now) }
+{
+    let mut retry = Retry::none();
+    let mut from = 0;
+    let mut place = 0;
+    while place < cycle.len() {
+        let planned = cycle[place];
+        if planned.task.chained {
+            place += 1;
+            continue;
+        }
+        push_attempts(tasks, part(cycle, from, place), retry)?;
+        from = place;
+        retry = planned.retry;
+        place += 1;
+    }
+    push_attempts(tasks, part(cycle, from, place), retry)
+}
+
+// A task with the place of its target, by one of `nears`, or with none where none of them is for the target.
+fn placed(task: Task, nears: &[Near]) -> Task
+    ensures { result ≡ placed nears.now task }
+{
+    Task {
+        near: near_of(task.command.target, nears),
+        ..task
+    }
+}
+
+// Sets in each task where its target stands.
 fn place_tasks(tasks: &mut Vec<Task>, nears: &[Near])
     ensures { tasks.new.items ≡ map (placed nears.now) tasks.old.items }
 {
     for task in tasks.iter_mut() {
-        task.near = near_of(task.command.target, nears);
+        *task = placed(*task, nears);
     }
 }
 
 /// Reads a station's text: its commands with how each goes out, the names of targets, and where they stand. Until a line says
 /// otherwise the commands have `deadline`, in milliseconds, and are chained where `chained` says so.
+///
+/// The tasks are those of the set-up, which are one chain, and behind them those of the cycle: each chain as often as it may go out, one attempt
+/// behind the other, each from the chain's first command on.
 ///
 /// Refused are a text of more than 65,536 bytes (`InputTooLong`, before any line is looked at), and the first faulty line
 /// (`Schedule`, with its number counted from 1): one that has no form, or gives a target a second name or a second place, or
@@ -209,10 +451,10 @@ pub fn read_tasks(
     deadline: u64,
     chained: bool,
 ) -> Result<Tasks, RunFault>
-    ensures found { IfOk result (λ all. IsTasks text.now deadline chained all.tasks.items all.names.items all.nears.items) }
+    ensures found { IfOk result (λ all. IsTasks text.now deadline chained all.setup all.tasks.items all.names.items all.nears.items) }
     ensures too_long { (result ≡ Err RunFault.InputTooLong) ↔ (TEXT_LIMIT < length text.now) }
     ensures faulty { (n : ℕ) → result ≡ Err (RunFault.Schedule n) → IsFirstFaultyTask text.now n }
-    ensures memory { result ≡ Err RunFault.Memory → IsBehindATask text.now }
+    ensures memory { result ≡ Err RunFault.Memory → ReachesASoundTaskLine text.now }
     ensures faults { IfErr result (λ e. TaskFault text.now e) }
 {
     if text.len() > TEXT_LIMIT {
@@ -223,6 +465,11 @@ pub fn read_tasks(
         chained,
         row: None,
         accepted: Codes::none(),
+        retry: Retry::none(),
+        setup: false,
+        begun: 0,
+        place: 0,
+        link: 0,
     };
     read_task_lines(alloc, text, opening)
 }
@@ -231,12 +478,12 @@ pub fn read_tasks(
 // `read_tasks` has them.
 fn read_task_lines(alloc: Global, text: &[u8], opening: Mode) -> Result<Tasks, RunFault>
     requires short { length text.now ≤ TEXT_LIMIT }
-    requires opening { opening.row ≡ None }
-    requires none { opening.accepted ≡ no_codes }
-    ensures found { IfOk result (λ all. IsTasks text.now opening.deadline opening.chained all.tasks.items all.names.items all.nears.items) }
+    requires first { opening ≡ first_mode opening.deadline opening.chained }
+    ensures found { IfOk result (λ all. IsTasks text.now opening.deadline opening.chained all.setup all.tasks.items all.names.items all.nears.items) }
     ensures fault { IfErr result (λ e. TaskFault text.now e) }
 {
     let mut tasks = Vec::new(alloc);
+    let mut cycle = Vec::new(alloc);
     let mut names = Vec::new(alloc);
     let mut nears = Vec::new(alloc);
     let mut mode = opening;
@@ -257,13 +504,18 @@ fn read_task_lines(alloc: Global, text: &[u8], opening: Mode) -> Result<Tasks, R
             return Err(RunFault::Schedule { line: number });
         }
         let next = behind(mode, &said);
-        if keep(&mut tasks, &mut names, &mut nears, mode, said).is_err() {
+        if keep(&mut tasks, &mut cycle, &mut names, &mut nears, mode, said).is_err() {
             return Err(RunFault::Memory);
         }
         mode = next;
     }
+    let setup = tasks.len();
+    if lay_out(&mut tasks, cycle.as_slice()).is_err() {
+        return Err(RunFault::Memory);
+    }
     place_tasks(&mut tasks, nears.as_slice());
     Ok(Tasks {
+        setup,
         tasks,
         names,
         nears,

@@ -1,12 +1,13 @@
 //! Troubles: which field of a faulty line of a station's text is at fault, and what is printed of it.
 
-ghost use Rattle.std.specs.Prelude.{◌≡◌, ◌++◌, OnOk, codes};
+ghost use Rattle.std.specs.Prelude.{◌≡◌, ◌++◌, OnOk, IsTrue, codes};
 ghost use Rattle.std.specs.Io.KnownBytes.{Appends};
 ghost use Rattle.gc_texts.specs.Troubles.{wanted, list_trouble, raw_trouble, IsCallTrouble, IsRawTrouble, IsRawWordsTrouble, IsTrouble, in_table_text, trouble_text, trouble_line};
+ghost use Rattle.gc_texts.specs.Words.{second_word, third_word};
 ghost use Rattle.gc_texts.specs.ProcedureNames.{name_of};
 
 use crate::cuts::{before, behind, is_word};
-use crate::procedure::{TARGET_MAX, number_of};
+use crate::procedure::{RPC_MAX, TARGET_MAX, number_of};
 use gc_catalogue::{CallFault, RawFault, decode_call, procedure_name, raw_call};
 use gc_lines::Request;
 use gc_values::ValueFault;
@@ -39,6 +40,14 @@ pub enum Trouble {
     RawTooLong,
     /// A word behind `accept` is no code from 1 to 65535, or there are more than 16.
     Accept,
+    /// A line `retry` names no number from 0 to 9, a word that is neither a code nor an outcome, no word, or more than 16 codes.
+    Retry,
+    /// The line begins as `at start`, and more or something else stands there.
+    AtStart,
+    /// The line begins as `each cycle`, and more or something else stands there.
+    EachCycle,
+    /// More stands behind `5007 now`.
+    Now,
     /// The line has the form of nothing.
     NoForm,
 }
@@ -66,6 +75,10 @@ impl Trouble {
             Trouble::Name => writeln!(messages, "name"),
             Trouble::Near => writeln!(messages, "near"),
             Trouble::Accept => writeln!(messages, "accept"),
+            Trouble::Retry => writeln!(messages, "retry"),
+            Trouble::AtStart => writeln!(messages, "at start"),
+            Trouble::EachCycle => writeln!(messages, "each cycle"),
+            Trouble::Now => writeln!(messages, "5007 now"),
             Trouble::RawInTable(rpc) => tell_name(rpc, name_of(rpc), messages),
             Trouble::RawParameters => {
                 writeln!(
@@ -162,7 +175,7 @@ fn raw_call_trouble(rpc: u16, params: &[u8]) -> Trouble
 fn raw_words_trouble(number: &[u8], params: &[u8]) -> Trouble
     ensures { IsRawWordsTrouble number.now params.now result }
 {
-    match number_of(number, 65535) {
+    match number_of(number, RPC_MAX) {
         Some(rpc) => raw_call_trouble(rpc as u16, params),
         None => Trouble::Number,
     }
@@ -184,16 +197,26 @@ fn asking_trouble(line: &[u8]) -> Trouble
     if is_word(b"raw", word) {
         return raw_words_trouble(before(b' ', words), behind(b' ', words));
     }
-    match number_of(word, 65535) {
+    match number_of(word, RPC_MAX) {
         Some(rpc) => call_trouble(rpc as u16, words),
         None => Trouble::Number,
     }
 }
 
+// Whether a line has a target's number, `5007` and `now`, and perhaps more.
+fn begins_with_now(line: &[u8]) -> bool
+    ensures { IsTrue result → (second_word line.now ≡ codes "5007") × (third_word line.now ≡ codes "now") }
+{
+    let rest = behind(b' ', line);
+    number_of(before(b' ', line), TARGET_MAX).is_some()
+        && is_word(b"5007", before(b' ', rest))
+        && is_word(b"now", before(b' ', behind(b' ', rest)))
+}
+
 /// Which field of a line is at fault, where the line is a faulty one of a station's text. A line that begins with `deadline`,
-/// `name`, `near` or `accept` is at fault in its target or in what it sets. Any other line is taken for a command, or for one of any other
+/// `name`, `near`, `accept`, `retry`, `at` or `each` is at fault in its target or in what it sets. Any other line is taken for a command, or for one of any other
 /// procedure where its second word is `raw`, and its first field that doesn't read is at fault. Some lines that aren't faulty give
-/// `NoForm`, too: a command, `chained` and `unchained`.
+/// `NoForm`, too: a command, `chained` and `unchained`; and `retry`, `at start`, `each cycle` and `T 5007 now` give their own.
 pub fn trouble_of(line: &[u8]) -> Trouble
     ensures { IsTrouble line.now result }
 {
@@ -216,6 +239,18 @@ pub fn trouble_of(line: &[u8]) -> Trouble
     }
     if is_word(b"accept", first) {
         return Trouble::Accept;
+    }
+    if is_word(b"retry", first) {
+        return Trouble::Retry;
+    }
+    if is_word(b"at", first) {
+        return Trouble::AtStart;
+    }
+    if is_word(b"each", first) {
+        return Trouble::EachCycle;
+    }
+    if begins_with_now(line) {
+        return Trouble::Now;
     }
     asking_trouble(line)
 }

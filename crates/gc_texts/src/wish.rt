@@ -7,7 +7,7 @@ ghost use Rattle.gc_texts.specs.declared.wish.Wish.{Wish};
 
 use crate::commands::{Command, read_command};
 use crate::cuts::{before, behind, is_word};
-use crate::procedure::{TARGET_MAX, number_of};
+use crate::procedure::{RPC_MAX, TARGET_MAX, number_of};
 use gc_catalogue::{Asked, RawCall, raw_call};
 
 /// A request of a station that is to be asked: a command, or a procedure that isn't in the table.
@@ -49,7 +49,7 @@ fn read_raw(line: &[u8]) -> Option<(u32, RawCall)>
     let Some(target) = number_of(before(b' ', line), TARGET_MAX) else {
         return None
     };
-    let Some(rpc) = number_of(number, 65535) else {
+    let Some(rpc) = number_of(number, RPC_MAX) else {
         return None
     };
     match raw_call(rpc as u16, params) {

@@ -1,0 +1,228 @@
+-- The attempts of the chains of a station's text.
+use Rattle.std.proofs.Common.{◌⊎◌, ◌&&◌, nat_lt, Option, subst, ◌≡◌, ◌+◌, ◌*◌, inr, inl, ℕ, zero, suc, Bool, true, false, List, [], ◌∷◌, ◌++◌, length, map, Some, None, refl, ap, sym, ◌∙◌, append_assoc, append-nil, if◌then◌else◌}
+use Rattle.std.specs.List.{AllByRecursion, flat_map}
+use Rattle.std.proofs.lemmas.List.{length-map, map-append}
+use Rattle.gc_texts.specs.Again.{no_again}
+use Rattle.gc_texts.specs.Attempts.{in_attempt, attempts_from, attempts, laid_behind, laid_out}
+use Rattle.gc_texts.specs.Laws.{IsOneChain}
+use Rattle.gc_texts.specs.Nears.{near_of}
+use Rattle.gc_texts.specs.Repeats.{as_said, IsAttempt, AreAttempts, Chain, AreLaidOut, ChainsGoOutAgain}
+use Rattle.gc_texts.specs.Retries.{no_retry}
+use Rattle.gc_texts.specs.Tasks.{opening, behind, goes_on, task_at, setup_of, planned_of, placed}
+use Rattle.gc_texts.specs.declared.again.Again.{Again}
+use Rattle.gc_texts.specs.declared.near.Near.{Near}
+use Rattle.gc_texts.specs.declared.retry.Retry.{Retry}
+use Rattle.gc_texts.specs.declared.task_line.TaskLine.{TaskLine}
+use Rattle.gc_texts.specs.declared.task_line.TaskLine.TheVariants as says
+use Rattle.gc_texts.specs.declared.tasks.Mode.{Mode}
+use Rattle.gc_texts.specs.declared.tasks.Planned.{Planned}
+use Rattle.gc_texts.specs.declared.tasks.Task.{Task}
+use Rattle.gc_texts.proofs.TaskLaws.{InRows, rows}
+
+-- a command as its line says it
+record IsSaid (planned : Planned) : Type 0 where
+  again : planned.task.again ≡ no_again
+  attempt : planned.task.turn.attempt ≡ 1
+  others : planned.task.others ≡ 0
+
+-- the cycle's commands are as their lines say them
+all_said : (mode : Mode) (lines : List TaskLine) → AllByRecursion IsSaid (planned_of mode lines)
+all_said mode [] = tt
+all_said mode (says.Command c now ∷ later) = by_setup mode.setup (all_said (behind mode (says.Command c now)) later) where
+  -- by the section
+  by_setup : (b : Bool) → AllByRecursion IsSaid (planned_of (behind mode (says.Command c now)) later)
+      → AllByRecursion IsSaid ((if b then [] else record { task = task_at mode c now; retry = mode.retry } ∷ []) ++ planned_of (behind mode (says.Command c now)) later)
+  by_setup true more = more
+  by_setup false more = (record { again = refl; attempt = refl; others = refl }, more)
+all_said mode (says.Deadline d ∷ later) = all_said (behind mode (says.Deadline d)) later
+all_said mode (says.Chained ∷ later) = all_said (behind mode says.Chained) later
+all_said mode (says.Unchained ∷ later) = all_said (behind mode says.Unchained) later
+all_said mode (says.Naming n ∷ later) = all_said (behind mode (says.Naming n)) later
+all_said mode (says.Standing n ∷ later) = all_said (behind mode (says.Standing n)) later
+all_said mode (says.Accepting cs ∷ later) = all_said (behind mode (says.Accepting cs)) later
+all_said mode (says.Retrying r ∷ later) = all_said (behind mode (says.Retrying r)) later
+all_said mode (says.AtStart ∷ later) = all_said (behind mode says.AtStart) later
+all_said mode (says.EachCycle ∷ later) = all_said (behind mode says.EachCycle) later
+
+-- each chained command has the retry of the one before it, and the first that of a command before, which has `retry`
+abbrev SameRules : Retry → List Planned → Type 0
+SameRules retry [] = Unit {0}
+SameRules retry (p ∷ later) = (p.task.chained ≡ true → p.retry ≡ retry) × SameRules p.retry later
+
+-- where `a && b` is true, b is
+both_true : (a b : Bool) → (a && b) ≡ true → b ≡ true
+both_true true b e = e
+both_true false b e = cc
+
+-- where no row is there, no command goes on with it
+no_row : (row : Option ℕ) (target : ℕ) → row ≡ None → goes_on row target ≡ true → ⊥
+no_row None target e on = cc
+no_row (Some t) target e on = cc
+
+-- where the mode is the set-up's, or has no row, or the retry of the command before, each chained command has the retry of the one before it
+same_rules : (mode : Mode) (retry : Retry) (lines : List TaskLine) → (mode.setup ≡ true) ⊎ ((mode.row ≡ None) ⊎ (mode.retry ≡ retry)) → SameRules retry (planned_of mode lines)
+same_rules mode retry [] h = tt
+same_rules mode retry (says.Command c now ∷ later) h =
+    by_setup mode.setup refl h (λ e. same_rules (behind mode (says.Command c now)) retry later (inl e)) (same_rules (behind mode (says.Command c now)) mode.retry later (inr (inr refl))) where
+      -- by the section
+      by_setup : (b : Bool) → mode.setup ≡ b → (mode.setup ≡ true) ⊎ ((mode.row ≡ None) ⊎ (mode.retry ≡ retry)) → (mode.setup ≡ true → SameRules retry (planned_of (behind mode (says.Command c now)) later))
+          → SameRules mode.retry (planned_of (behind mode (says.Command c now)) later)
+          → SameRules retry ((if b then [] else record { task = task_at mode c now; retry = mode.retry } ∷ []) ++ planned_of (behind mode (says.Command c now)) later)
+      by_setup true e h at_start in_cycle = at_start e
+      by_setup false e (inl is) at_start in_cycle = let bad : true ≡ false = sym is ∙ e in cc
+      by_setup false e (inr (inr is)) at_start in_cycle = ((λ on. is), in_cycle)
+      by_setup false e (inr (inl is)) at_start in_cycle = (
+        (λ on.
+            let so : (mode.chained && goes_on mode.row c.target) ≡ true = ap (λ b. if b then nat_lt 0 mode.begun else mode.chained && goes_on mode.row c.target) (sym e) ∙ on in
+            absurd (no_row mode.row c.target is (both_true mode.chained (goes_on mode.row c.target) so))),
+        in_cycle,
+      )
+same_rules mode retry (says.Deadline d ∷ later) h = same_rules (behind mode (says.Deadline d)) retry later h
+same_rules mode retry (says.Chained ∷ later) h = same_rules (behind mode says.Chained) retry later (inr (inl refl))
+same_rules mode retry (says.Unchained ∷ later) h = same_rules (behind mode says.Unchained) retry later (inr (inl refl))
+same_rules mode retry (says.Naming n ∷ later) h = same_rules (behind mode (says.Naming n)) retry later h
+same_rules mode retry (says.Standing n ∷ later) h = same_rules (behind mode (says.Standing n)) retry later h
+same_rules mode retry (says.Accepting cs ∷ later) h = same_rules (behind mode (says.Accepting cs)) retry later h
+same_rules mode retry (says.Retrying r ∷ later) h = same_rules (behind mode (says.Retrying r)) retry later (inr (inl refl))
+same_rules mode retry (says.AtStart ∷ later) h = same_rules (behind mode says.AtStart) retry later (inr (inl refl))
+same_rules mode retry (says.EachCycle ∷ later) h = same_rules (behind mode says.EachCycle) retry later (inr (inl refl))
+
+module _ (nears : List Near) where
+  -- the task of a command, with its place
+  abbrev own : Planned → Task
+  own p = placed nears p.task
+
+  -- the tasks of an attempt, with their places
+  abbrev made : ℕ → Again → ℕ → List Planned → List Task
+  made attempt again n ps = map (placed nears) (map (in_attempt attempt again n) ps)
+
+  -- without what tells attempts apart, the task of an attempt is the command's
+  said_one : (attempt : ℕ) (again : Again) (n : ℕ) (p : Planned) → IsSaid p → as_said (placed nears (in_attempt attempt again n p)) ≡ own p
+  said_one attempt again n p h =
+      let near = near_of p.task.command.target nears in
+      ap (λ a. record p.task { near = near; again = a; turn = record { place = p.task.turn.place; attempt = 1; link = p.task.turn.link }; others = 0 }) (sym h.again)
+      ∙ ap (λ k. record p.task { near = near; turn = record { place = p.task.turn.place; attempt = k; link = p.task.turn.link }; others = 0 }) (sym h.attempt)
+      ∙ ap (λ k. record p.task { near = near; others = k }) (sym h.others)
+
+  -- the same of all tasks of an attempt
+  said_all : (attempt : ℕ) (again : Again) (n : ℕ) (ps : List Planned) → AllByRecursion IsSaid ps → map as_said (made attempt again n ps) ≡ map own ps
+  said_all attempt again n [] all = refl
+  said_all attempt again n (p ∷ ps) all = ap (λ t. t ∷ map as_said (made attempt again n ps)) (said_one attempt again n p all.0) ∙ ap (λ ts. own p ∷ ts) (said_all attempt again n ps all.1)
+
+  -- the tasks of an attempt say which it is
+  all_numbered : (attempt : ℕ) (again : Again) (n : ℕ) (ps : List Planned) → AllByRecursion (λ task. task.turn.attempt ≡ attempt) (made attempt again n ps)
+  all_numbered attempt again n [] = tt
+  all_numbered attempt again n (p ∷ ps) = (refl, all_numbered attempt again n ps)
+
+  -- the tasks of an attempt have its rule
+  all_ruled : (attempt : ℕ) (again : Again) (n : ℕ) (ps : List Planned) → AllByRecursion (λ task. task.again ≡ again) (made attempt again n ps)
+  all_ruled attempt again n [] = tt
+  all_ruled attempt again n (p ∷ ps) = (refl, all_ruled attempt again n ps)
+
+  -- an attempt is one
+  attempt_is : (attempt : ℕ) (again : Again) (n : ℕ) (ps : List Planned) → AllByRecursion IsSaid ps → IsAttempt attempt again (map own ps) (made attempt again n ps)
+  attempt_is attempt again n ps all = record { same = said_all attempt again n ps all; numbered = all_numbered attempt again n ps; ruled = all_ruled attempt again n ps }
+
+  -- the attempts of a chain are its attempts
+  attempts_are : (attempt left : ℕ) (again : Again) (ps : List Planned) → AllByRecursion IsSaid ps → AreAttempts attempt left again (map own ps) (map (placed nears) (attempts_from attempt left again ps))
+  attempts_are attempt zero again ps all = attempt_is attempt no_again (length ps) ps all
+  attempts_are attempt (suc left) again ps all = (
+    made attempt again (length ps * suc (suc left)) ps,
+    map (placed nears) (attempts_from (attempt + 1) left again ps),
+    map-append (placed nears) (map (in_attempt attempt again (length ps * suc (suc left))) ps) (attempts_from (attempt + 1) left again ps),
+    attempt_is attempt again (length ps * suc (suc left)) ps all,
+    attempts_are (attempt + 1) left again ps all,
+  )
+
+  -- one more of these
+  said_more : (ps : List Planned) (p : Planned) → AllByRecursion IsSaid ps → IsSaid p → AllByRecursion IsSaid (ps ++ p ∷ [])
+  said_more [] p all is = (is, tt)
+  said_more (q ∷ ps) p all is = (all.0, said_more ps p all.1 is)
+
+  -- one more chained command
+  chained_more : (ps : List Planned) (p : Planned) → AllByRecursion (λ task. task.chained ≡ true) (map own ps) → p.task.chained ≡ true → AllByRecursion (λ task. task.chained ≡ true) (map own (ps ++ p ∷ []))
+  chained_more [] p all is = (is, tt)
+  chained_more (q ∷ ps) p all is = (all.0, chained_more ps p all.1 is)
+
+  -- a command with its place
+  abbrev own_planned : Planned → Planned
+  own_planned p = record { task = own p; retry = p.retry }
+
+  -- a task with a retry
+  abbrev with_retry : Retry → Task → Planned
+  with_retry retry task = record { task = task; retry = retry }
+
+  -- these tasks are the attempts of chains that have these commands
+  abbrev Laid : List Task → List Planned → Type 0
+  Laid tasks planned = (chains : List Chain) × AreLaidOut chains tasks × (flat_map {A = Planned} (λ (chain : Chain). map (with_retry chain.retry) chain.commands) chains ≡ map own_planned planned)
+
+  -- commands of one retry
+  abbrev HaveRetry : Retry → List Planned → Type 0
+  HaveRetry retry ps = AllByRecursion (λ p. p.retry ≡ retry) ps
+
+  -- with their retry they are themselves
+  retries_are : (retry : Retry) (ps : List Planned) → HaveRetry retry ps → map (with_retry retry) (map own ps) ≡ map own_planned ps
+  retries_are retry [] have = refl
+  retries_are retry (p ∷ ps) have = ap (λ r. record { task = own p; retry = r } ∷ map (with_retry retry) (map own ps)) (sym have.0) ∙ ap (λ l. own_planned p ∷ l) (retries_are retry ps have.1)
+
+  -- one more of this retry
+  retry_more : (retry : Retry) (ps : List Planned) (p : Planned) → HaveRetry retry ps → p.retry ≡ retry → HaveRetry retry (ps ++ p ∷ [])
+  retry_more retry [] p have is = (is, tt)
+  retry_more retry (q ∷ ps) p have is = (have.0, retry_more retry ps p have.1 is)
+
+  -- a chain in front of chains
+  one_more : (retry : Retry) (chain later : List Planned) (tasks : List Task) → IsOneChain (map own chain) → AllByRecursion IsSaid chain → HaveRetry retry chain → Laid tasks later
+      → Laid (map (placed nears) (attempts retry chain) ++ tasks) (chain ++ later)
+  one_more retry chain later tasks one all have (chains, laid, are) = (
+    record { retry = retry; commands = map own chain } ∷ chains,
+    (one, (map (placed nears) (attempts retry chain), tasks, refl, attempts_are 1 retry.times retry.again chain all, laid)),
+    ap (λ ps. map (with_retry retry) (map own chain) ++ ps) are ∙ ap (λ ps. ps ++ map own_planned later) (retries_are retry chain have) ∙ sym (map-append own_planned chain later),
+  )
+
+  -- no chain
+  none : Laid [] []
+  none = ([], refl, refl)
+
+  -- the attempts of a chain that was begun, and of those behind it
+  laid_are : (retry : Retry) (first : Planned) (chain later : List Planned) → IsOneChain (map own (first ∷ chain)) → AllByRecursion IsSaid (first ∷ chain) → AllByRecursion IsSaid later → HaveRetry retry (first ∷ chain) → SameRules retry later
+      → Laid (map (placed nears) (laid_behind retry (first ∷ chain) later)) ((first ∷ chain) ++ later)
+  laid_are retry first chain [] one all rest have follow =
+      subst (λ ts. Laid ts ((first ∷ chain) ++ [])) (append-nil (map (placed nears) (attempts retry (first ∷ chain)))) (one_more retry (first ∷ chain) [] [] one all have none)
+  laid_are retry first chain (p ∷ later) one all rest have follow =
+      by_chained p.task.chained refl
+      (λ e. laid_are retry first (chain ++ p ∷ []) later (one.0, chained_more chain p one.1 e) (all.0, said_more chain p all.1 rest.0) rest.1 (have.0, retry_more retry chain p have.1 (follow.0 e)) (subst (λ r. SameRules r later) (follow.0 e) follow.1))
+      (λ e. laid_are p.retry p [] later (e, tt) (rest.0, tt) rest.1 (refl, tt) follow.1) where
+        -- by whether the next goes on with the chain
+        by_chained : (b : Bool) → p.task.chained ≡ b
+            → (p.task.chained ≡ true → Laid (map (placed nears) (laid_behind retry (first ∷ (chain ++ p ∷ [])) later)) ((first ∷ (chain ++ p ∷ [])) ++ later))
+            → (p.task.chained ≡ false → Laid (map (placed nears) (laid_behind p.retry (p ∷ []) later)) (p ∷ later))
+            → Laid (map (placed nears) (if b then laid_behind retry ((first ∷ chain) ++ p ∷ []) later else attempts retry (first ∷ chain) ++ laid_behind p.retry (p ∷ []) later)) ((first ∷ chain) ++ p ∷ later)
+        by_chained true e on anew = subst (λ ps. Laid (map (placed nears) (laid_behind retry ((first ∷ chain) ++ p ∷ []) later)) ps) (append_assoc (first ∷ chain) (p ∷ []) later) (on e)
+        by_chained false e on anew =
+            subst (λ ts. Laid ts ((first ∷ chain) ++ p ∷ later)) (sym (map-append (placed nears) (attempts retry (first ∷ chain)) (laid_behind p.retry (p ∷ []) later)))
+            (one_more retry (first ∷ chain) (p ∷ later) (map (placed nears) (laid_behind p.retry (p ∷ []) later)) one all have (anew e))
+
+  -- the attempts of all chains
+  all_laid : (planned : List Planned) → InRows None planned → AllByRecursion IsSaid planned → SameRules no_retry planned → Laid (map (placed nears) (laid_out planned)) planned
+  all_laid [] are all follow = none
+  all_laid (p ∷ later) are all follow = by_chained p.task.chained refl (λ e. laid_are p.retry p [] later (e, tt) (all.0, tt) all.1 (refl, tt) follow.1) where
+    -- the first isn't chained
+    by_chained : (b : Bool) → p.task.chained ≡ b → (p.task.chained ≡ false → Laid (map (placed nears) (laid_behind p.retry (p ∷ []) later)) (p ∷ later))
+        → Laid (map (placed nears) (if b then laid_behind no_retry ([] ++ p ∷ []) later else attempts no_retry [] ++ laid_behind p.retry (p ∷ []) later)) (p ∷ later)
+    by_chained true e anew = let bad : None ≡ Some p.task.command.target = are.0 e in cc
+    by_chained false e anew = anew e
+
+-- the law: the tasks behind the set-up are the attempts of the chains of the text's commands
+pub chains_go_out_again : ChainsGoOutAgain
+chains_go_out_again text deadline chained setup tasks names nears is =
+    let first = opening deadline chained in
+    let planned = planned_of first is.said in
+    let laid = all_laid nears planned (rows first None is.said (inr (inl refl))) (all_said first is.said) (same_rules first no_retry is.said (inr (inl refl))) in (
+      laid.0,
+      map (placed nears) (setup_of first is.said),
+      map (placed nears) (laid_out planned),
+      is.tasks_are ∙ map-append (placed nears) (setup_of first is.said) (laid_out planned),
+      is.setup_is ∙ sym (length-map (setup_of first is.said) (placed nears)),
+      laid.1,
+      laid.2,
+    )

@@ -1,0 +1,9 @@
+use Rattle.std.proofs.Common.{◌-◌, length}
+use Rattle.gc_texts.proofs.Laying.{Lays}
+use Rattle.gc_texts.proofs.tasks.lay_out.Given as goal
+
+abbrev pub invariant-loop-place : goal.invariant-loop-place
+invariant-loop-place l = Lays l.initial.tasks.items l.tasks.items l.cycle l.retry l.from l.place
+
+abbrev pub decreases-loop-place : goal.decreases-loop-place
+decreases-loop-place l = length l.cycle - l.place

@@ -1,0 +1,40 @@
+-- The attempts of the chains of a station's text: this project's own. A chain is a command that isn't chained, and the chained ones
+-- behind it. It goes out at most once more than its line `retry` says, each time from its first command on.
+use Rattle.std.specs.Prelude.{ℕ, zero, suc, ◌+◌, ◌*◌, ◌==◌, ◌&&◌, nat_lt, List, [], ◌∷◌, ◌++◌, length, map, if◌then◌else◌}
+use Rattle.gc_texts.specs.Again.{no_again}
+use Rattle.gc_texts.specs.Retries.{no_retry}
+use Rattle.gc_texts.specs.declared.again.Again.{Again}
+use Rattle.gc_texts.specs.declared.retry.Retry.{Retry}
+use Rattle.gc_texts.specs.declared.tasks.Planned.{Planned}
+use Rattle.gc_texts.specs.declared.tasks.Task.{Task}
+
+-- a command in this attempt of its chain. Behind the ends in `again` the chain goes out again. The first command of a later attempt says
+-- how many commands this attempt and those behind it have together
+abbrev pub in_attempt : ℕ → Again → ℕ → Planned → Task
+in_attempt attempt again commands planned =
+    record planned.task {
+      again = again;
+      turn = record { place = planned.task.turn.place; attempt = attempt; link = planned.task.turn.link };
+      others = if (nat_lt 1 attempt) && (planned.task.turn.link == 0) then commands else 0;
+    }
+
+-- a chain's attempts from this one on, where as many as `left` may follow it; behind the last the chain doesn't go out again
+abbrev pub attempts_from : ℕ → ℕ → Again → List Planned → List Task
+attempts_from attempt zero again chain = map (in_attempt attempt no_again (length chain)) chain
+attempts_from attempt (suc left) again chain = map (in_attempt attempt again (length chain * suc (suc left))) chain ++ attempts_from (attempt + 1) left again chain
+
+-- all attempts of a chain
+abbrev pub attempts : Retry → List Planned → List Task
+attempts retry chain = attempts_from 1 retry.times retry.again chain
+
+-- the attempts of a chain that was begun, and those of the chains behind it: a chained command goes on with the chain, and one that
+-- isn't chained begins the next
+abbrev pub laid_behind : Retry → List Planned → List Planned → List Task
+laid_behind retry chain [] = attempts retry chain
+laid_behind retry chain (planned ∷ later) =
+    if planned.task.chained then laid_behind retry (chain ++ planned ∷ []) later
+    else attempts retry chain ++ laid_behind planned.retry (planned ∷ []) later
+
+-- the attempts of the chains of these commands, in order
+abbrev pub laid_out : List Planned → List Task
+laid_out planned = laid_behind no_retry [] planned

@@ -1,0 +1,62 @@
+-- What holds of the chains of a station's text and of their attempts: this project's own.
+use Rattle.std.specs.Prelude.{◌≡◌, ℕ, zero, suc, ◌+◌, Bool, false, List, [], ◌∷◌, ◌++◌, length, map}
+use Rattle.std.specs.List.{AllByRecursion, flat_map}
+use Rattle.gc_texts.specs.Again.{no_again}
+use Rattle.gc_texts.specs.Chained.{section_behind, IsRetryBehind}
+use Rattle.gc_texts.specs.Laws.{IsOneChain}
+use Rattle.gc_texts.specs.Tasks.{IsTasks, opening, planned_of, placed}
+use Rattle.gc_texts.specs.declared.again.Again.{Again}
+use Rattle.gc_texts.specs.declared.name.Name.{Name}
+use Rattle.gc_texts.specs.declared.near.Near.{Near}
+use Rattle.gc_texts.specs.declared.retry.Retry.{Retry}
+use Rattle.gc_texts.specs.declared.task_line.TaskLine.{TaskLine}
+use Rattle.gc_texts.specs.declared.task_line.TaskLine.TheVariants as says
+use Rattle.gc_texts.specs.declared.wish.Wish.{Wish}
+use Rattle.gc_texts.specs.declared.tasks.Planned.{Planned}
+use Rattle.gc_texts.specs.declared.tasks.Task.{Task}
+
+-- a task without what tells the attempts of its chain apart: what it asks, its deadline, its places and its accepted codes are left
+abbrev pub as_said : Task → Task
+as_said task = record task { again = no_again; turn = record { place = task.turn.place; attempt = 1; link = task.turn.link }; others = 0 }
+
+-- these tasks are one attempt of a chain: its commands, in order, each in this attempt and with this rule
+pub record IsAttempt (attempt : ℕ) (again : Again) (commands tasks : List Task) : Type 0 where
+  pub same : map as_said tasks ≡ commands
+  pub numbered : AllByRecursion (λ task. task.turn.attempt ≡ attempt) tasks
+  pub ruled : AllByRecursion (λ task. task.again ≡ again) tasks
+
+-- these tasks are a chain's attempts from this one on, in order, as many as `left` behind it. Each but the last has the rule `again`, and the
+-- last has none
+abbrev pub AreAttempts : ℕ → ℕ → Again → List Task → List Task → Type 0
+AreAttempts attempt zero again commands tasks = IsAttempt attempt no_again commands tasks
+AreAttempts attempt (suc left) again commands tasks =
+    (first : List Task) × (later : List Task) × (tasks ≡ first ++ later) × IsAttempt attempt again commands first × AreAttempts (attempt + 1) left again commands later
+
+-- a chain of a text: its commands, and how often it may go out again
+pub record Chain : Type 0 where
+  pub retry : Retry
+  pub commands : List Task
+
+-- these tasks are the attempts of these chains, in order: of each the first, and as many more as its line `retry` says
+abbrev pub AreLaidOut : List Chain → List Task → Type 0
+AreLaidOut [] tasks = tasks ≡ []
+AreLaidOut (chain ∷ others) tasks =
+    IsOneChain chain.commands
+    × ((mine : List Task) × (later : List Task) × (tasks ≡ mine ++ later) × AreAttempts 1 chain.retry.times chain.retry.again chain.commands mine × AreLaidOut others later)
+
+-- the tasks behind the set-up are the attempts of chains, in order, and the commands of these chains, each with its chain's retry, are the text's
+-- commands of the cycle, in order, each once, with the retry that holds for it
+abbrev pub ChainsGoOutAgain : Type 0
+ChainsGoOutAgain =
+    (text : List ℕ) (deadline : ℕ) (chained : Bool) (setup : ℕ) (tasks : List Task) (names : List Name) (nears : List Near) (is : IsTasks text deadline chained setup tasks names nears)
+    → (chains : List Chain) × (front : List Task) × (cycle : List Task) × (tasks ≡ front ++ cycle) × (setup ≡ length front) × AreLaidOut chains cycle
+    × (flat_map {A = Planned} (λ (chain : Chain). map (λ task. record { task = task; retry = chain.retry }) chain.commands) chains
+    ≡ map (λ planned. record { task = placed nears planned.task; retry = planned.retry }) (planned_of (opening deadline chained) is.said))
+
+-- a command of the cycle has the retry that the last line `retry` in front of it says
+abbrev pub RetriesHold : Type 0
+RetriesHold =
+    (deadline : ℕ) (chained : Bool) (front later : List TaskLine) (command : Wish) (now : Bool) → section_behind false front ≡ false
+    → (planned : Planned) × (others : List Planned) × (planned_of (opening deadline chained) (front ++ says.Command command now ∷ later)
+    ≡ planned_of (opening deadline chained) front ++ planned ∷ others)
+    × (planned.task.command ≡ command) × IsRetryBehind front planned.retry

@@ -1,0 +1,71 @@
+-- Lines `retry` of a station's text: how often a chain goes out again, and behind which ends of its commands. This project's own.
+use Rattle.std.specs.Prelude.{◌≡◌, ℕ, ◌+◌, ◌≤◌, Bool, true, nat_lt, List, [], ◌∷◌, ◌++◌, slice_set, codes}
+use Rattle.gc_texts.specs.Again.{no_again}
+use Rattle.gc_texts.specs.Codes.{IsListed}
+use Rattle.gc_texts.specs.Cuts.{before, behind}
+use Rattle.gc_texts.specs.Procedures.{IsNumber}
+use Rattle.gc_texts.specs.declared.again.Again.{Again}
+use Rattle.gc_texts.specs.declared.retry.Reason.{Reason}
+use Rattle.gc_texts.specs.declared.retry.Reason.TheVariants.{Code, Unreadable, Elsewhere, Late, Lost, Skipped}
+use Rattle.gc_texts.specs.declared.retry.Retry.{Retry}
+
+-- a chain with this doesn't go out again
+abbrev pub no_retry : Retry
+no_retry = record { times = 0; again = no_again }
+
+-- a word is this return code, or this outcome
+abbrev pub IsReason : List ℕ → Reason → Type 0
+IsReason word (Code code) = IsListed word code
+IsReason word Unreadable = word ≡ codes "unreadable"
+IsReason word Elsewhere = word ≡ codes "elsewhere"
+IsReason word Late = word ≡ codes "late"
+IsReason word Lost = word ≡ codes "lost"
+IsReason word Skipped = word ≡ codes "skipped"
+
+-- a text is these words, at least one, with one space between two
+abbrev pub AreReasons : List ℕ → List Reason → Type 0
+AreReasons text [] = ⊥
+AreReasons text (reason ∷ []) = IsReason text reason
+AreReasons text (reason ∷ next ∷ others) = (word : List ℕ) × (rest : List ℕ) × (text ≡ word ++ 32 ∷ rest) × IsReason word reason × AreReasons rest (next ∷ others)
+
+-- whether there is room for a word behind `count` codes: for a code while they are fewer than 16, and for an outcome always
+abbrev pub has_room : ℕ → Reason → Bool
+has_room count (Code code) = nat_lt count 16
+has_room count _ = true
+
+-- how many codes there are with one word more
+abbrev pub count_with : ℕ → Reason → ℕ
+count_with count (Code code) = count + 1
+count_with count _ = count
+
+-- what is named with one word more: a code stands in the place behind the `count` codes so far, and an outcome is named
+abbrev pub again_with : Again → ℕ → Reason → Again
+again_with again count (Code code) = record again { codes = record { codes = slice_set again.codes.codes count code } }
+again_with again count Unreadable = record again { unreadable = true }
+again_with again count Elsewhere = record again { elsewhere = true }
+again_with again count Late = record again { late = true }
+again_with again count Lost = record again { lost = true }
+again_with again count Skipped = record again { skipped = true }
+
+-- how many of these words are codes, with `count` others
+abbrev pub codes_with : ℕ → List Reason → ℕ
+codes_with count [] = count
+codes_with count (reason ∷ others) = codes_with (count_with count reason) others
+
+-- what is named with these words more
+abbrev pub named_with : Again → ℕ → List Reason → Again
+named_with again count [] = again
+named_with again count (reason ∷ others) = named_with (again_with again count reason) (count_with count reason) others
+
+-- the words of a text name this: at least one word, and at most 16 codes
+pub record IsNamedBy (text : List ℕ) (again : Again) : Type 0 where
+  pub reasons : List Reason
+  pub are : AreReasons text reasons
+  pub few : codes_with 0 reasons ≤ 16
+  pub again_is : again ≡ named_with no_again 0 reasons
+
+-- `N WORD WORD ..`: how often, from 1 to 9 times, and behind what
+pub record IsRule (text : List ℕ) (retry : Retry) : Type 0 where
+  pub times_are : IsNumber (before 32 text) retry.times 9
+  pub some : 1 ≤ retry.times
+  pub again_is : IsNamedBy (behind 32 text) retry.again

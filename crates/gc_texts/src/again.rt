@@ -1,0 +1,66 @@
+//! Behind which ends of its commands a chain goes out again.
+
+ghost use Rattle.std.specs.Prelude.{◌≡◌};
+ghost use Rattle.gc_texts.specs.Again.{has_code, is_named, no_again};
+ghost use Rattle.gc_texts.specs.Endings.{ending_seen};
+
+use crate::codes::Codes;
+use crate::ending::Ending;
+
+/// The return codes and outcomes behind which a chain goes out again.
+#[derive(Clone, Copy, Debug, PartialEq, Eq)]
+pub struct Again {
+    /// The return codes of an answered command.
+    pub codes: Codes,
+    /// Whether it goes out again behind a reply whose values don't read.
+    pub unreadable: bool,
+    /// Whether it goes out again behind a measurement that was made elsewhere.
+    pub elsewhere: bool,
+    /// Whether it goes out again behind a late reply.
+    pub late: bool,
+    /// Whether it goes out again where no reply came.
+    pub lost: bool,
+    /// Whether it goes out again where a command was skipped.
+    pub skipped: bool,
+}
+
+impl Again {
+    /// No code and no outcome: a chain with this doesn't go out again.
+    pub fn none() -> Again
+        ensures { result ≡ no_again }
+    {
+        Again {
+            codes: Codes::none(),
+            unreadable: false,
+            elsewhere: false,
+            late: false,
+            lost: false,
+            skipped: false,
+        }
+    }
+
+    // Whether a reply's return code other than 0, if it has one, is among the codes.
+    fn has_code(&self, code: Option<u16>) -> bool
+        ensures { result ≡ has_code self.now.codes code }
+    {
+        match code {
+            Some(code) => self.codes.has(code),
+            None => false,
+        }
+    }
+
+    /// Whether a command that ended so is named here. `code` is its reply's return code, where that is another than 0.
+    pub fn names(&self, code: Option<u16>, ending: Ending<'_>) -> bool
+        ensures { result ≡ is_named self.now code (ending_seen ending.entry) }
+    {
+        match ending {
+            Ending::Answered(..) => self.has_code(code),
+            Ending::Unreadable(..) => self.unreadable,
+            Ending::Elsewhere(_) => self.elsewhere,
+            Ending::Late => self.late,
+            Ending::Lost => self.lost,
+            Ending::Skipped => self.skipped,
+            Ending::Missed => false,
+        }
+    }
+}

@@ -1,0 +1,167 @@
+//! Lines `retry` of a station's text: how often a chain goes out again, and behind which ends of its commands.
+
+ghost use Rattle.std.specs.Prelude.{◌≡◌, ◌<◌, ℕ, true, MatchOption};
+ghost use Rattle.gc_texts.specs.Retries.{IsReason, IsNamedBy, IsRule, again_with, count_with, has_room, no_retry};
+ghost use Rattle.gc_texts.specs.declared.again.Again.{Again};
+ghost use Rattle.gc_texts.specs.declared.retry.Reason.{Reason};
+ghost use Rattle.gc_texts.specs.declared.retry.Retry.{Retry};
+
+use crate::again::Again;
+use crate::codes::{CODES_MAX, code_of};
+use crate::cuts::{before, behind, cut_at, is_word};
+use crate::procedure::number_of;
+
+// How often a chain goes out again at most.
+const TIMES_MAX: u64 = 9;
+
+// How often a chain goes out again at most, and behind which ends of its commands.
+#[derive(Clone, Copy)]
+pub(crate) struct Retry {
+    // At most 9; 0: it doesn't go out again.
+    pub(crate) times: u8,
+    pub(crate) again: Again,
+}
+
+impl Retry {
+    // A chain with this doesn't go out again.
+    pub(crate) fn none() -> Retry
+        ensures { result ≡ no_retry }
+    {
+        Retry {
+            times: 0,
+            again: Again::none(),
+        }
+    }
+}
+
+// A word of a line `retry`: a return code, or an outcome.
+#[derive(Clone, Copy)]
+enum Reason {
+    Code(u16),
+    Unreadable,
+    Elsewhere,
+    Late,
+    Lost,
+    Skipped,
+}
+
+// Reads a word of a line `retry`. `None`: it is neither a return code nor one of the outcomes.
+fn reason_of(word: &[u8]) -> Option<Reason>
+    ensures { MatchOption result ((reason : Reason) → IsReason word.now reason → ⊥) (λ reason. IsReason word.now reason) }
+{
+    if is_word(b"unreadable", word) {
+        return Some(Reason::Unreadable);
+    }
+    if is_word(b"elsewhere", word) {
+        return Some(Reason::Elsewhere);
+    }
+    if is_word(b"late", word) {
+        return Some(Reason::Late);
+    }
+    if is_word(b"lost", word) {
+        return Some(Reason::Lost);
+    }
+    if is_word(b"skipped", word) {
+        return Some(Reason::Skipped);
+    }
+    match code_of(word) {
+        Some(code) => Some(Reason::Code(code)),
+        None => None,
+    }
+}
+
+// Whether there is room for a word behind `count` codes: for an outcome always.
+fn has_room(count: usize, reason: Reason) -> bool
+    ensures { result ≡ has_room count reason }
+{
+    match reason {
+        Reason::Code(_) => count < CODES_MAX,
+        _ => true,
+    }
+}
+
+// How many codes there are with one word more.
+fn count_with(count: usize, reason: Reason) -> usize
+    requires { count < 4294967296 }
+    ensures { result ≡ count_with count reason }
+{
+    match reason {
+        Reason::Code(_) => count + 1,
+        _ => count,
+    }
+}
+
+// What is named by one word more, where `count` codes are named so far.
+fn again_with(again: Again, count: usize, reason: Reason) -> Again
+    requires { has_room count reason ≡ true }
+    ensures { result ≡ again_with again count reason }
+{
+    match reason {
+        Reason::Code(code) => Again {
+            codes: again.codes.with(count, code),
+            ..again
+        },
+        Reason::Unreadable => Again {
+            unreadable: true,
+            ..again
+        },
+        Reason::Elsewhere => Again {
+            elsewhere: true,
+            ..again
+        },
+        Reason::Late => Again {
+            late: true,
+            ..again
+        },
+        Reason::Lost => Again {
+            lost: true,
+            ..again
+        },
+        Reason::Skipped => Again {
+            skipped: true,
+            ..again
+        },
+    }
+}
+
+// Reads the words of a line `retry`, with one space between two. `None`: a word is neither a code nor an outcome, or there are more
+// than 16 codes.
+fn read_again(text: &[u8]) -> Option<Again>
+    ensures { MatchOption result ((again : Again) → IsNamedBy text.now again → ⊥) (λ again. IsNamedBy text.now again) }
+{
+    let mut again = Again::none();
+    let mut count = 0;
+    let mut left = Some(text);
+    while let Some(text) = left {
+        let (word, rest) = cut_at(b' ', text);
+        let Some(reason) = reason_of(word) else {
+            return None
+        };
+        if !has_room(count, reason) {
+            return None;
+        }
+        again = again_with(again, count, reason);
+        count = count_with(count, reason);
+        left = rest;
+    }
+    Some(again)
+}
+
+// Reads `N WORD WORD ..`: from 1 to 9 times, and a word at least. `None`: the text has no such form.
+pub(crate) fn read_rule(text: &[u8]) -> Option<Retry>
+    ensures { MatchOption result ((retry : Retry) → IsRule text.now retry → ⊥) (λ retry. IsRule text.now retry) }
+{
+    let Some(times) = number_of(before(b' ', text), TIMES_MAX) else {
+        return None
+    };
+    if times == 0 {
+        return None;
+    }
+    let Some(again) = read_again(behind(b' ', text)) else {
+        return None
+    };
+    Some(Retry {
+        times: times as u8,
+        again,
+    })
+}
