@@ -5,11 +5,11 @@ use gc_lines::{Durable, write_whole};
 
 // The header of a file of rows.
 const HEAD: &[u8] =
-    b"run,sent,time,cycle,place,target,name,procedure,outcome,fault,rc_com,rc,values,quality\n";
+    b"run,sent,time,cycle,place,target,name,procedure,outcome,fault,rc_com,rc,values,quality,attempt\n";
 
 // The row that is appended.
 const ROW: &[u8] =
-    b"2026-11-22T23:08:00.000Z,2026-11-22T23:08:27.103Z,2026-11-22T23:08:27.123Z,1,0,7,,5003,answered,,0,0,123456,ok\n";
+    b"2026-11-22T23:08:00.000Z,2026-11-22T23:08:27.103Z,2026-11-22T23:08:27.123Z,1,0,7,,5003,answered,,0,0,123456,ok,1\n";
 
 /// Appends `count` rows to the file of this path, with a sync after each where `sync` is true, and returns how many were
 /// appended and synced well: 0 where the file can't be opened.
@@ -28,14 +28,9 @@ pub fn append(rt: &HostRuntime, path: &str, count: u32, sync: bool) -> u64 {
 fn append_to(rows: &mut RowsFile<SystemFile>, count: u32) -> u64 {
     let mut sum = 0u64;
     for _ in 0..count {
-        if write_whole(rows, ROW).is_ok() && is_durable(rows) {
+        if write_whole(rows, ROW).is_ok() && rows.sync().is_ok() {
             sum = sum.wrapping_add(1);
         }
     }
     sum
-}
-
-// Syncs the file where it was opened with `sync`, and returns whether no call of the file has failed so far.
-fn is_durable(rows: &mut RowsFile<SystemFile>) -> bool {
-    rows.sync().is_ok()
 }

@@ -33,6 +33,16 @@ what_text old target procedure name =
     flat_map-append member_text name (Number (codes "procedure") procedure ∷ []) ∙ ap (λ l. n ++ l) (append-nil p) in
     append_assoc (old ++ t) n p ∙ append_assoc old t (n ++ p) ∙ ap (λ l. old ++ (t ++ l)) (sym last)
 
+-- the quality and the attempt, appended one after the other, are the members behind all others
+pub last_text : (old attempt : List ℕ) (quality : List Member)
+    → (old ++ members_text quality) ++ number_member (codes "attempt") attempt ≡ old ++ members_text (quality ++ Number (codes "attempt") attempt ∷ [])
+last_text old attempt quality =
+    let a = number_member (codes "attempt") attempt in
+    let q = members_text quality in
+    let last : members_text (quality ++ Number (codes "attempt") attempt ∷ []) ≡ q ++ a =
+    flat_map-append member_text quality (Number (codes "attempt") attempt ∷ []) ∙ ap (λ l. q ++ l) (append-nil a) in
+    append_assoc old q a ∙ ap (λ l. old ++ l) (sym last)
+
 -- behind `front`, four lists of members, written one after the other, and the end of the line are the members of the lists
 -- joined and that end
 pub all_members : (front : List ℕ) (ws hs es qs : List Member)

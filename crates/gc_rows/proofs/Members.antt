@@ -31,8 +31,8 @@ use Rattle.gc_values.specs.declared.fault.ValueFault.TheVariants.{Spelling, Rang
 use Rattle.gc_values.specs.declared.value.Value.{Value}
 use Rattle.gc_values.specs.declared.value.Value.TheVariants as value
 use Rattle.gc_values.proofs.OneText.{whole_text_once, decimal_text_once}
-use Rattle.gc_texts.specs.Endings.{End, Answered, Unreadable, Elsewhere, Late, Lost, Skipped, Missed}
-use Rattle.gc_rows.specs.JsonLines.{Text, Number, without_zeros, sent_members, when_members, name_members, what_members, reply_members, ending_members, value_members, values_members, item_members, answer_members, quantity_members, last_members, more_members}
+use Rattle.gc_texts.specs.Endings.{End, Answered, Unreadable, Elsewhere, Late, Lost, Skipped, Missed, quality_of, quality_text}
+use Rattle.gc_rows.specs.JsonLines.{Text, Number, without_zeros, sent_members, when_members, name_members, what_members, reply_members, ending_members, value_members, values_members, item_members, answer_members, quantity_members, worded_members, attempt_members, last_members, more_members}
 use Rattle.gc_rows.specs.Laws.{IsPlainName, IsMember, IsReplyOfBytes, IsAnswerOfBytes, IsEnd, IsWhen, ColumnsSay, RecordsAreMembers}
 use Rattle.gc_rows.specs.Quantities.{column_of, quantity_name, quantity_names}
 use Rattle.gc_texts.specs.declared.quality.Quality.TheVariants.{Fine, Warning, Refused}
@@ -227,10 +227,10 @@ sent_are (Some utc) h = ((plain_name (codes "sent") refl, stamp_bytes utc h), tt
 when_are : (when : When) → IsWhen when → AllByRecursion IsMember (when_members when)
 when_are when is =
     all_both IsMember (sent_members when.stamp.sent) (Text (codes "time") (stamp_text when.stamp.utc) ∷ Number (codes "cycle")
-    (decimal when.stamp.cycle) ∷ Number (codes "place") (decimal when.stamp.place) ∷ [])
+    (decimal when.stamp.cycle) ∷ Number (codes "place") (decimal when.stamp.turn.place) ∷ [])
     (sent_are when.stamp.sent is.sent) (
       (plain_name (codes "time") refl, stamp_bytes when.stamp.utc is.utc),
-      ((plain_name (codes "cycle") refl, IsNumber-decimal when.stamp.cycle is.cycle), ((plain_name (codes "place") refl, IsNumber-decimal when.stamp.place is.place), tt)),
+      ((plain_name (codes "cycle") refl, IsNumber-decimal when.stamp.cycle is.cycle), ((plain_name (codes "place") refl, IsNumber-decimal when.stamp.turn.place is.place), tt)),
     )
 
 -- the member of a name reads back
@@ -360,12 +360,18 @@ quantities_are asked end is = tt
 quality_is : (text : List ℕ) → are_fit text ≡ true → IsMember (Text (codes "quality") text)
 quality_is text fit = (plain_name (codes "quality") refl, all_bytes text (plain_bytes text fit))
 
--- the member behind all others reads back
-last_are : (end : End) → AllByRecursion IsMember (last_members end)
-last_are (Answered Fine answer line) = (quality_is (codes "ok") refl, tt)
-last_are (Answered Warning answer line) = (quality_is (codes "warning") refl, tt)
-last_are (Answered Refused answer line) = (quality_is (codes "refused") refl, tt)
-last_are end = tt
+-- the member of the quality of a command's answer reads back
+worded_are : (end : End) → AllByRecursion IsMember (worded_members (quality_text (quality_of end)))
+worded_are (Answered Fine answer line) = (quality_is (codes "ok") refl, tt)
+worded_are (Answered Warning answer line) = (quality_is (codes "warning") refl, tt)
+worded_are (Answered Refused answer line) = (quality_is (codes "refused") refl, tt)
+worded_are end = tt
+
+-- the members behind all others read back
+last_are : (when : When) (end : End) → IsWhen when → AllByRecursion IsMember (last_members when end)
+last_are when end is =
+    all_both IsMember (worded_members (quality_text (quality_of end))) (attempt_members when) (worded_are end)
+    ((plain_name (codes "attempt") refl, IsNumber-decimal when.stamp.turn.attempt is.attempt), tt)
 
 -- the law: all members of a record's line read back
 pub are_members : RecordsAreMembers
@@ -374,7 +380,7 @@ are_members when name command end is bytes target ended =
     let hs = what_members command name in
     let es = ending_members end in
     let qs = quantity_members command.call end in
-    let ls = last_members end in
+    let ls = last_members when end in
     all_both IsMember ws (hs ++ (es ++ (qs ++ ls))) (when_are when is)
     (all_both IsMember hs (es ++ (qs ++ ls)) (what_are command name bytes target)
-    (all_both IsMember es (qs ++ ls) (ending_are end ended) (all_both IsMember qs ls (quantities_are command.call end ended) (last_are end))))
+    (all_both IsMember es (qs ++ ls) (ending_are end ended) (all_both IsMember qs ls (quantities_are command.call end ended) (last_are when end is))))

@@ -97,9 +97,9 @@ pub quantities_fill : (asked : Asked) (end : End) → length (quantity_fields as
 quantities_fill asked (Answered quality (Some answer) line) = columns_filled asked answer
 quantities_fill asked end = refl
 
--- however a command ended, its quantities and, behind them, its quality have 25 fields
-more_fill : (asked : Asked) (end : End) → length (quantity_fields asked end ++ last_fields end) ≡ 25
-more_fill asked end = length-append (quantity_fields asked end) (last_fields end) ∙ ap (λ n. n + 1) (quantities_fill asked end)
+-- however a command ended, its quantities and, behind them, its quality and its attempt have 26 fields
+more_fill : (when : When) (asked : Asked) (end : End) → length (quantity_fields asked end ++ last_fields when end) ≡ 26
+more_fill when asked end = length-append (quantity_fields asked end) (last_fields when end) ∙ ap (λ n. n + 2) (quantities_fill asked end)
 
 -- a row without quantities has a field for each name of its header
 csv_fills : (when : When) (name : List ℕ) (command : Wish) (end : End) → length (row_fields false when name command end) ≡ length (names ++ last_names)
@@ -108,7 +108,8 @@ csv_fills when name command end = refl
 
 -- a row with quantities has a field for each name of its header
 columns_fill : (when : When) (name : List ℕ) (command : Wish) (end : End) → length (row_fields true when name command end) ≡ length (names ++ (quantity_names ++ last_names))
-columns_fill when name command (Answered quality answer line) = ap (λ n. suc (suc (suc (suc (suc (suc (suc (suc (suc (suc (suc (suc (suc n))))))))))))) (more_fill command.call (Answered quality answer line))
+columns_fill when name command (Answered quality answer line) =
+    ap (λ n. suc (suc (suc (suc (suc (suc (suc (suc (suc (suc (suc (suc (suc n))))))))))))) (more_fill when command.call (Answered quality answer line))
 columns_fill when name command end = refl
 
 -- the law: each row has a field for each name of its header

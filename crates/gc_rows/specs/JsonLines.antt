@@ -99,7 +99,7 @@ sent_members (Some utc) = Text (codes "sent") (stamp_text utc) ∷ []
 abbrev pub when_members : When → List Member
 when_members when =
     sent_members when.stamp.sent
-    ++ (Text (codes "time") (stamp_text when.stamp.utc) ∷ Number (codes "cycle") (decimal when.stamp.cycle) ∷ Number (codes "place") (decimal when.stamp.place) ∷ [])
+    ++ (Text (codes "time") (stamp_text when.stamp.utc) ∷ Number (codes "cycle") (decimal when.stamp.cycle) ∷ Number (codes "place") (decimal when.stamp.turn.place) ∷ [])
 
 -- what a target is called, where it has a name
 abbrev pub name_members : List ℕ → List Member
@@ -158,14 +158,18 @@ abbrev pub worded_members : List ℕ → List Member
 worded_members [] = []
 worded_members (b ∷ bs) = Text (codes "quality") (b ∷ bs) ∷ []
 
--- the member behind all others: the quality of the command's answer, where it was answered
-abbrev pub last_members : End → List Member
-last_members end = worded_members (quality_text (quality_of end))
+-- the member of the attempt of a command's chain
+abbrev pub attempt_members : When → List Member
+attempt_members when = Number (codes "attempt") (decimal when.stamp.turn.attempt) ∷ []
 
--- the members of the quantities or the items of an answer, and behind them the one of its quality
-abbrev pub more_members : Asked → End → List Member
-more_members asked end = quantity_members asked end ++ last_members end
+-- the members behind all others: the quality of the command's answer, where it was answered, and the attempt of its chain
+abbrev pub last_members : When → End → List Member
+last_members when end = worded_members (quality_text (quality_of end)) ++ attempt_members when
+
+-- the members of the quantities or the items of an answer, and behind them the last ones
+abbrev pub more_members : When → Asked → End → List Member
+more_members when asked end = quantity_members asked end ++ last_members when end
 
 -- the members of a record's object behind the first, which is `run`
 abbrev pub json_members : When → List ℕ → Wish → End → List Member
-json_members when name command end = when_members when ++ (what_members command name ++ (ending_members end ++ more_members command.call end))
+json_members when name command end = when_members when ++ (what_members command name ++ (ending_members end ++ more_members when command.call end))

@@ -110,12 +110,13 @@ IsEnd Lost = Unit {0}
 IsEnd Skipped = Unit {0}
 IsEnd Missed = Unit {0}
 
--- the moments, the cycle and the place of a record have at most 64 bits each
+-- the moments, the cycle, the place and the attempt of a record have at most 64 bits each
 pub record IsWhen (when : When) : Type 0 where
   pub sent : IfSome when.stamp.sent (λ utc. utc < 2 ^ 64)
   pub utc : when.stamp.utc < 2 ^ 64
   pub cycle : when.stamp.cycle < 2 ^ 64
-  pub place : when.stamp.place < 2 ^ 64
+  pub place : when.stamp.turn.place < 2 ^ 64
+  pub attempt : when.stamp.turn.attempt < 2 ^ 64
 
 -- each member of a record's line has a plain name, and holds bytes or a number of JSON, so that the line reads back by
 -- `JsonLinesReadBack`

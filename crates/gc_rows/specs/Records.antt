@@ -33,7 +33,7 @@ ending_text end = codes " " ++ word_of end ++ spaced_fault (fault_of end) ++ spa
 -- the line of a record: when its command ended, the command's place, its target, and how it ended
 abbrev pub record_line : When → Wish → End → List ℕ
 record_line when command end =
-    stamp_text when.stamp.utc ++ codes " " ++ decimal when.stamp.place ++ codes " " ++ decimal command.target ++ ending_text end ++ codes "\n"
+    stamp_text when.stamp.utc ++ codes " " ++ decimal when.stamp.turn.place ++ codes " " ++ decimal command.target ++ ending_text end ++ codes "\n"
 
 -- a record in its form: its moments, the target's name, the command, and how it ended
 abbrev pub record_text : Form → When → List ℕ → Wish → End → List ℕ
@@ -50,7 +50,7 @@ names =
 
 -- the names of the columns behind all others
 abbrev pub last_names : List (List ℕ)
-last_names = codes "quality" ∷ []
+last_names = codes "quality" ∷ codes "attempt" ∷ []
 
 -- what stands in front of all records: the names of the columns as a row, in the forms that have columns
 abbrev pub head_text : Form → List ℕ

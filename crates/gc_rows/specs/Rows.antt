@@ -67,7 +67,7 @@ moment_text (Some utc) = stamp_text utc
 
 -- when a command was sent and ended, and which command of its run it was
 abbrev pub when_fields : When → List (List ℕ)
-when_fields when = moment_text when.stamp.sent ∷ stamp_text when.stamp.utc ∷ decimal when.stamp.cycle ∷ decimal when.stamp.place ∷ []
+when_fields when = moment_text when.stamp.sent ∷ stamp_text when.stamp.utc ∷ decimal when.stamp.cycle ∷ decimal when.stamp.turn.place ∷ []
 
 -- the number of the procedure that is asked for
 abbrev pub procedure_of : Asked → ℕ
@@ -110,17 +110,18 @@ abbrev pub quantity_fields : Asked → End → List (List ℕ)
 quantity_fields asked (Answered quality (Some answer) line) = answer_columns asked answer
 quantity_fields asked _ = replicate 24 []
 
--- the field behind all others: the quality of the command's answer, and empty where it wasn't answered
-abbrev pub last_fields : End → List (List ℕ)
-last_fields end = quality_text (quality_of end) ∷ []
+-- the fields behind all others: the quality of the command's answer, empty where it wasn't answered, and the attempt of its chain
+abbrev pub last_fields : When → End → List (List ℕ)
+last_fields when end = quality_text (quality_of end) ∷ decimal when.stamp.turn.attempt ∷ []
 
--- the fields behind the first thirteen: those of the quantities if a row has columns for them (`true`), and the one of the quality
-abbrev pub more_fields : Bool → Asked → End → List (List ℕ)
-more_fields true asked end = quantity_fields asked end ++ last_fields end
-more_fields false asked end = last_fields end
+-- the fields behind the first thirteen: those of the quantities if a row has columns for them (`true`), and the last ones
+abbrev pub more_fields : Bool → When → Asked → End → List (List ℕ)
+more_fields true when asked end = quantity_fields asked end ++ last_fields when end
+more_fields false when asked end = last_fields when end
 
 -- the fields of a record's row: when its run began, when its command was sent and ended, and which one of the run it was; the target, its
--- name and the procedure; how the command ended; if `columns` asks for them, a field for each quantity; and last the quality of the answer
+-- name and the procedure; how the command ended; if `columns` asks for them, a field for each quantity; and last the quality of the answer and
+-- the attempt
 abbrev pub row_fields : Bool → When → List ℕ → Wish → End → List (List ℕ)
 row_fields columns when name command end =
-    stamp_text when.run ∷ (when_fields when ++ (what_fields command name ++ (ending_fields end ++ more_fields columns command.call end)))
+    stamp_text when.run ∷ (when_fields when ++ (what_fields command name ++ (ending_fields end ++ more_fields columns when command.call end)))

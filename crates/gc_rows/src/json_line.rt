@@ -6,7 +6,8 @@ ghost use Rattle.arrayvec.specs.ArrayVec.{array_vec_len};
 ghost use Rattle.gc_rows.specs.Items.{bytes_in, split_items};
 ghost use Rattle.gc_texts.specs.Endings.{ending_seen};
 ghost use Rattle.gc_texts.specs.Logs.{escaped};
-ghost use Rattle.gc_rows.specs.JsonLines.{behind_backslash, in_quotes, named, string_text, text_member, number_member, comma_where, strings_text, texts_member, item_members, members_text, without_zeros, sent_members, when_members, name_members, what_members, fault_members, reply_members, ending_members, value_members, values_members, answer_members, quantity_members, worded_members, last_members, more_members, json_line, json_members};
+ghost use Rattle.gc_rows.specs.declared.json_line.TheConstants.{NAME_ROOM, VALUE_ROOM, STRINGS_ROOM, LIST_ROOM, ANSWER_ROOM, QUALITY_ROOM, LAST_ROOM, MORE_ROOM};
+ghost use Rattle.gc_rows.specs.JsonLines.{behind_backslash, in_quotes, named, string_text, text_member, number_member, comma_where, strings_text, texts_member, item_members, members_text, without_zeros, sent_members, when_members, name_members, what_members, fault_members, reply_members, ending_members, value_members, values_members, answer_members, quantity_members, worded_members, attempt_members, last_members, more_members, json_line, json_members};
 
 use crate::quantity::{answer_values, column_of, quantity_name, quantity_text};
 use crate::row::texts_of;
@@ -20,6 +21,32 @@ use itoa::Buffer;
 
 /// The most bytes of a line.
 pub(crate) const JSON_ROOM: usize = 40_960;
+
+// The most bytes of a member's name of at most 37 bytes, with a comma in front, within quotes, and with a colon behind.
+const NAME_ROOM: usize = 1 + 2 + 37 + 1;
+
+// The most bytes of a value's two members: the number with its name, and how it came, of at most 512 bytes, with its name.
+const VALUE_ROOM: usize = 8 * 512 + 640;
+
+// The most bytes of up to 16 strings that hold 512 bytes together: each byte may be escaped as four, each of these stand behind a
+// backslash, and each string has its quotes and a comma.
+const STRINGS_ROOM: usize = 8 * 512 + 3 * 16;
+
+// The most bytes of the member `items`: its name, the brackets, and the strings.
+const LIST_ROOM: usize = NAME_ROOM + 2 + STRINGS_ROOM;
+
+// The most bytes of the members of an answer, which are those of six values, or the list of its items.
+const ANSWER_ROOM: usize = 6 * VALUE_ROOM;
+
+// The most bytes of the member `quality`: its name, the quotes, and a word of at most 16 bytes, each with the room of one that is
+// escaped.
+const QUALITY_ROOM: usize = NAME_ROOM + 2 + 8 * 16;
+
+// The most bytes of the members behind all others: the quality, and the attempt, a name and at most 20 digits.
+const LAST_ROOM: usize = QUALITY_ROOM + NAME_ROOM + 20;
+
+// The most bytes of the members behind how a command ended: those of its answer and the last ones.
+const MORE_ROOM: usize = ANSWER_ROOM + LAST_ROOM;
 
 // Appends a text with a backslash before each double quote and each backslash.
 fn append_behind_backslashes<const N: usize>(line: &mut ArrayVec<u8, N>, text: &[u8])
@@ -52,9 +79,9 @@ fn append_string<const N: usize>(line: &mut ArrayVec<u8, N>, bytes: &[u8])
 fn append_name<const N: usize>(line: &mut ArrayVec<u8, N>, name: &[u8], ending: &[u8])
     requires short { length name.now ≤ 32 }
     requires ends { length ending.now ≤ 5 }
-    requires room { array_vec_len line.old + 41 ≤ N }
+    requires room { array_vec_len line.old + NAME_ROOM ≤ N }
     ensures text { line.new.items ≡ line.old.items ++ named (name.now ++ ending.now) }
-    ensures room { array_vec_len line.new ≤ array_vec_len line.old + 41 }
+    ensures room { array_vec_len line.new ≤ array_vec_len line.old + NAME_ROOM }
 {
     append(line, b",\"");
     append(line, name);
@@ -78,9 +105,9 @@ fn append_text<const N: usize>(line: &mut ArrayVec<u8, N>, name: &[u8], bytes: &
 fn append_number<const N: usize>(line: &mut ArrayVec<u8, N>, name: &[u8], digits: &[u8])
     requires named { length name.now ≤ 32 }
     requires short { length digits.now ≤ 514 }
-    requires room { array_vec_len line.old + length digits.now + 41 ≤ N }
+    requires room { array_vec_len line.old + length digits.now + NAME_ROOM ≤ N }
     ensures text { line.new.items ≡ line.old.items ++ number_member name.now digits.now }
-    ensures room { array_vec_len line.new ≤ array_vec_len line.old + length digits.now + 41 }
+    ensures room { array_vec_len line.new ≤ array_vec_len line.old + length digits.now + NAME_ROOM }
 {
     append_name(line, name, b"");
     append(line, digits);
@@ -107,7 +134,11 @@ fn append_when<const N: usize>(line: &mut ArrayVec<u8, N>, when: &When)
     append_sent(line, when.stamp.sent);
     append_text(line, b"time", &stamp_text(when.stamp.utc));
     append_number(line, b"cycle", digits.format(when.stamp.cycle).as_bytes());
-    append_number(line, b"place", digits.format(when.stamp.place).as_bytes());
+    append_number(
+        line,
+        b"place",
+        digits.format(when.stamp.turn.place).as_bytes(),
+    );
 }
 
 // Appends a target's name, if it has one.
@@ -228,9 +259,9 @@ fn append_values<const N: usize>(
 )
     requires fits { first + length values.now ≤ 24 }
     requires short { length came.now ≤ 512 }
-    requires room { array_vec_len line.old + 4736 * length values.now ≤ N }
+    requires room { array_vec_len line.old + VALUE_ROOM * length values.now ≤ N }
     ensures text { line.new.items ≡ line.old.items ++ members_text (values_members first values.now came.now) }
-    ensures room { array_vec_len line.new ≤ array_vec_len line.old + 4736 * length values.now }
+    ensures room { array_vec_len line.new ≤ array_vec_len line.old + VALUE_ROOM * length values.now }
 {
     let mut column = first;
     let mut rest = came;
@@ -256,9 +287,9 @@ fn append_comma<const N: usize>(line: &mut ArrayVec<u8, N>, behind: bool)
 fn append_strings<const N: usize>(line: &mut ArrayVec<u8, N>, texts: &Items<'_>)
     requires short { bytes_in texts.now ≤ 512 }
     requires few { length texts.now ≤ 16 }
-    requires room { array_vec_len line.old + 4144 ≤ N }
+    requires room { array_vec_len line.old + STRINGS_ROOM ≤ N }
     ensures text { line.new.items ≡ line.old.items ++ strings_text false texts.now }
-    ensures room { array_vec_len line.new ≤ array_vec_len line.old + 4144 }
+    ensures room { array_vec_len line.new ≤ array_vec_len line.old + STRINGS_ROOM }
 {
     for k in 0..texts.len() {
         append_comma(line, k > 0);
@@ -270,9 +301,9 @@ fn append_strings<const N: usize>(line: &mut ArrayVec<u8, N>, texts: &Items<'_>)
 fn append_list<const N: usize>(line: &mut ArrayVec<u8, N>, texts: &Items<'_>)
     requires short { bytes_in texts.now ≤ 512 }
     requires few { length texts.now ≤ 16 }
-    requires room { array_vec_len line.old + 4187 ≤ N }
+    requires room { array_vec_len line.old + LIST_ROOM ≤ N }
     ensures text { line.new.items ≡ line.old.items ++ texts_member (codes "items") texts.now }
-    ensures room { array_vec_len line.new ≤ array_vec_len line.old + 4187 }
+    ensures room { array_vec_len line.new ≤ array_vec_len line.old + LIST_ROOM }
 {
     append_name(line, b"items", b"");
     append(line, b"[");
@@ -283,9 +314,9 @@ fn append_list<const N: usize>(line: &mut ArrayVec<u8, N>, texts: &Items<'_>)
 // Appends the items of a reply's values, where these split.
 fn append_items<const N: usize>(line: &mut ArrayVec<u8, N>, values: &[u8])
     requires short { length values.now ≤ 512 }
-    requires room { array_vec_len line.old + 4187 ≤ N }
+    requires room { array_vec_len line.old + LIST_ROOM ≤ N }
     ensures text { line.new.items ≡ line.old.items ++ members_text (item_members (split_items values.now)) }
-    ensures room { array_vec_len line.new ≤ array_vec_len line.old + 4187 }
+    ensures room { array_vec_len line.new ≤ array_vec_len line.old + LIST_ROOM }
 {
     match split(values) {
         Ok(items) => append_list(line, &items),
@@ -300,9 +331,9 @@ fn append_answer<const N: usize>(
     answer: &Answer,
     reply: &Line,
 )
-    requires { array_vec_len line.old + 28416 ≤ N }
+    requires { array_vec_len line.old + ANSWER_ROOM ≤ N }
     ensures text { line.new.items ≡ line.old.items ++ members_text (answer_members asked.now answer.now reply.now.items) }
-    ensures room { array_vec_len line.new ≤ array_vec_len line.old + 28416 }
+    ensures room { array_vec_len line.new ≤ array_vec_len line.old + ANSWER_ROOM }
 {
     match asked {
         Asked::Table(call) => append_values(
@@ -317,9 +348,9 @@ fn append_answer<const N: usize>(
 
 // Appends the quantities or the items of a command's answer, if it ended with one.
 fn append_quantities<const N: usize>(line: &mut ArrayVec<u8, N>, asked: &Asked, ending: Ending<'_>)
-    requires { array_vec_len line.old + 28416 ≤ N }
+    requires { array_vec_len line.old + ANSWER_ROOM ≤ N }
     ensures text { line.new.items ≡ line.old.items ++ members_text (quantity_members asked.now (ending_seen ending.entry)) }
-    ensures room { array_vec_len line.new ≤ array_vec_len line.old + 28416 }
+    ensures room { array_vec_len line.new ≤ array_vec_len line.old + ANSWER_ROOM }
 {
     if let Ending::Answered(_, Some(answer), reply) = ending {
         append_answer(line, asked, answer, reply);
@@ -329,23 +360,42 @@ fn append_quantities<const N: usize>(line: &mut ArrayVec<u8, N>, asked: &Asked, 
 // Appends the member `quality`, which holds this word. Where the word is empty, nothing is appended.
 fn append_quality<const N: usize>(line: &mut ArrayVec<u8, N>, word: &[u8])
     requires short { length word.now ≤ 16 }
-    requires room { array_vec_len line.old + 171 ≤ N }
+    requires room { array_vec_len line.old + QUALITY_ROOM ≤ N }
     ensures text { line.new.items ≡ line.old.items ++ members_text (worded_members word.now) }
-    ensures room { array_vec_len line.new ≤ array_vec_len line.old + 171 }
+    ensures room { array_vec_len line.new ≤ array_vec_len line.old + QUALITY_ROOM }
 {
     if !word.is_empty() {
         append_text(line, b"quality", word);
     }
 }
 
-// Appends a member for each quantity of a command's answer, or one for its items, and behind them the member of the answer's quality.
-fn append_more<const N: usize>(line: &mut ArrayVec<u8, N>, asked: &Asked, ending: Ending<'_>)
-    requires { array_vec_len line.old + 28587 ≤ N }
-    ensures text { line.new.items ≡ line.old.items ++ members_text (more_members asked.now (ending_seen ending.entry)) }
-    ensures room { array_vec_len line.new ≤ array_vec_len line.old + 28587 }
+// Appends the member of the answer's quality, where the command was answered, and the one of the attempt of its chain.
+fn append_last<const N: usize>(line: &mut ArrayVec<u8, N>, when: &When, ending: Ending<'_>)
+    requires { array_vec_len line.old + LAST_ROOM ≤ N }
+    ensures text { line.new.items ≡ line.old.items ++ members_text (last_members when.now (ending_seen ending.entry)) }
+    ensures room { array_vec_len line.new ≤ array_vec_len line.old + LAST_ROOM }
+{
+    append_quality(line, ending.quality_text());
+    append_number(
+        line,
+        b"attempt",
+        Buffer::new().format(when.stamp.turn.attempt).as_bytes(),
+    );
+}
+
+// Appends a member for each quantity of a command's answer, or one for its items, and behind them the last members.
+fn append_more<const N: usize>(
+    line: &mut ArrayVec<u8, N>,
+    when: &When,
+    asked: &Asked,
+    ending: Ending<'_>,
+)
+    requires { array_vec_len line.old + MORE_ROOM ≤ N }
+    ensures text { line.new.items ≡ line.old.items ++ members_text (more_members when.now asked.now (ending_seen ending.entry)) }
+    ensures room { array_vec_len line.new ≤ array_vec_len line.old + MORE_ROOM }
 {
     append_quantities(line, asked, ending);
-    append_quality(line, ending.quality_text());
+    append_last(line, when, ending);
 }
 
 /// The line of JSON of a record, whose target has this name; without one the name is empty.
@@ -364,7 +414,7 @@ pub(crate) fn json_line(
     append_when(&mut line, when);
     append_what(&mut line, command, name);
     append_ending(&mut line, ending);
-    append_more(&mut line, &command.call, ending);
+    append_more(&mut line, when, &command.call, ending);
     append(&mut line, b"}\n");
     line
 }

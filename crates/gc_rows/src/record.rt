@@ -37,10 +37,10 @@ pub fn head(form: Form) -> &'static [u8]
     match form {
         Form::Lines | Form::Json => b"",
         Form::Csv => {
-            b"run,sent,time,cycle,place,target,name,procedure,outcome,fault,rc_com,rc,values,quality\n"
+            b"run,sent,time,cycle,place,target,name,procedure,outcome,fault,rc_com,rc,values,quality,attempt\n"
         }
         Form::Columns => {
-            b"run,sent,time,cycle,place,target,name,procedure,outcome,fault,rc_com,rc,values,hz_rad,v_rad,distance_m,mode,easting_m,northing_m,height_m,instrument_height_m,reflector_height_m,face,prism_type,temperature_c,places,release,version,subversion,serial,instrument,year,month,day,hour,minute,second,quality\n"
+            b"run,sent,time,cycle,place,target,name,procedure,outcome,fault,rc_com,rc,values,hz_rad,v_rad,distance_m,mode,easting_m,northing_m,height_m,instrument_height_m,reflector_height_m,face,prism_type,temperature_c,places,release,version,subversion,serial,instrument,year,month,day,hour,minute,second,quality,attempt\n"
         }
     }
 }
@@ -103,7 +103,7 @@ fn record_line(when: &When, command: &Wish, ending: Ending<'_>) -> ArrayVec<u8, 
     let mut line = ArrayVec::new();
     append(&mut line, &stamp_text(when.stamp.utc));
     append(&mut line, b" ");
-    append(&mut line, digits.format(when.stamp.place).as_bytes());
+    append(&mut line, digits.format(when.stamp.turn.place).as_bytes());
     append(&mut line, b" ");
     append(&mut line, digits.format(command.target).as_bytes());
     append(&mut line, &ending_text(ending));

@@ -8,9 +8,10 @@ ghost use Rattle.gc_texts.specs.Cuts.{before, behind};
 ghost use Rattle.gc_texts.specs.Endings.{ending_seen};
 ghost use Rattle.gc_rows.specs.Rows.{com_of, code_of, values_of, is_special, within_quotes, csv_field, field_text, behind_comma, behind_commas, fault_field, reply_fields, ending_fields, moment_text, when_fields, what_fields, answer_columns, quantity_fields, last_fields, more_fields, spread, value_text, row_of, row_fields};
 ghost use Rattle.gc_rows.specs.Quantities.{column_of, quantity_text};
+ghost use Rattle.gc_rows.specs.declared.row.TheConstants.{VALUE_ROOM, QUANTITIES_ROOM, LAST_ROOM, MORE_ROOM};
 ghost use Rattle.gc_catalogue.specs.Answers.{answer_fields};
 
-use crate::quantity::{QUANTITIES, answer_values, column_of, quantity_text};
+use crate::quantity::{QUANTITIES, QUANTITY_ROOM, answer_values, column_of, quantity_text};
 use crate::when::When;
 use arrayvec::ArrayVec;
 use gc_catalogue::{Answer, Asked, Call};
@@ -21,6 +22,20 @@ use itoa::Buffer;
 
 /// The most bytes of a row.
 pub(crate) const ROW_ROOM: usize = 24_576;
+
+// The most bytes of a value in a row: a comma, and a field of at most 64 bytes, each of which may be escaped as four, and each of
+// these be doubled, within quotes.
+const VALUE_ROOM: usize = 1 + 8 * QUANTITY_ROOM + 2;
+
+// The most bytes of the quantities of an answer in a row: six values, and a comma for each column.
+const QUANTITIES_ROOM: usize = 6 * VALUE_ROOM + QUANTITIES;
+
+// The most bytes of the fields behind all others: a comma and the word of a quality, of at most 16 bytes, and a comma and the digits
+// of an attempt, of which there are at most 20. Each of these bytes has the room of one that is escaped and doubled within quotes.
+const LAST_ROOM: usize = (1 + 8 * 16 + 2) + (1 + 8 * 20 + 2);
+
+// The most bytes of a row behind its first thirteen fields: the quantities and the last ones.
+const MORE_ROOM: usize = QUANTITIES_ROOM + LAST_ROOM;
 
 // A comma before each column of a quantity.
 const COMMAS: [u8; QUANTITIES] = [b','; QUANTITIES];
@@ -150,7 +165,7 @@ fn append_when<const N: usize>(row: &mut ArrayVec<u8, N>, when: &When)
     append_next(row, &moment_text(when.stamp.sent));
     append_next(row, &stamp_text(when.stamp.utc));
     append_next(row, digits.format(when.stamp.cycle).as_bytes());
-    append_next(row, digits.format(when.stamp.place).as_bytes());
+    append_next(row, digits.format(when.stamp.turn.place).as_bytes());
 }
 
 // Appends the target of a command, its name, and the number of the procedure.
@@ -209,9 +224,9 @@ fn append_ending<const N: usize>(row: &mut ArrayVec<u8, N>, ending: Ending<'_>)
 // Appends values as quantities, each a field behind a comma.
 fn append_values<const N: usize>(row: &mut ArrayVec<u8, N>, values: &[Value])
     requires few { length values.now ≤ 6 }
-    requires room { array_vec_len row.old + 515 * length values.now ≤ N }
+    requires room { array_vec_len row.old + VALUE_ROOM * length values.now ≤ N }
     ensures text { row.new.items ≡ row.old.items ++ flat_map value_text values.now }
-    ensures room { array_vec_len row.new ≤ array_vec_len row.old + 515 * length values.now }
+    ensures room { array_vec_len row.new ≤ array_vec_len row.old + VALUE_ROOM * length values.now }
 {
     for value in values {
         append_next(row, &quantity_text(value));
@@ -220,9 +235,9 @@ fn append_values<const N: usize>(row: &mut ArrayVec<u8, N>, values: &[Value])
 
 // Appends the quantities of an answer to a call, each in its column; the other columns are empty.
 fn append_columns<const N: usize>(row: &mut ArrayVec<u8, N>, call: &Call, answer: &Answer)
-    requires { array_vec_len row.old + 3200 ≤ N }
+    requires { array_vec_len row.old + QUANTITIES_ROOM ≤ N }
     ensures text { row.new.items ≡ row.old.items ++ behind_commas (answer_columns (Table call.now) answer.now) }
-    ensures room { array_vec_len row.new ≤ array_vec_len row.old + 3200 }
+    ensures room { array_vec_len row.new ≤ array_vec_len row.old + QUANTITIES_ROOM }
 {
     let values = answer_values(answer);
     let first = column_of(call, answer);
@@ -234,9 +249,9 @@ fn append_columns<const N: usize>(row: &mut ArrayVec<u8, N>, call: &Call, answer
 // Appends the quantities of an answer to what was asked, each in its column. All columns are empty of a procedure that isn't in
 // the table.
 fn append_answer<const N: usize>(row: &mut ArrayVec<u8, N>, asked: &Asked, answer: &Answer)
-    requires { array_vec_len row.old + 3200 ≤ N }
+    requires { array_vec_len row.old + QUANTITIES_ROOM ≤ N }
     ensures text { row.new.items ≡ row.old.items ++ behind_commas (answer_columns asked.now answer.now) }
-    ensures room { array_vec_len row.new ≤ array_vec_len row.old + 3200 }
+    ensures room { array_vec_len row.new ≤ array_vec_len row.old + QUANTITIES_ROOM }
 {
     match asked {
         Asked::Table(call) => append_columns(row, call, answer),
@@ -246,9 +261,9 @@ fn append_answer<const N: usize>(row: &mut ArrayVec<u8, N>, asked: &Asked, answe
 
 // Appends the quantities of a command's answer, each in its column. All columns are empty where it ended without one.
 fn append_quantities<const N: usize>(row: &mut ArrayVec<u8, N>, asked: &Asked, ending: Ending<'_>)
-    requires { array_vec_len row.old + 3200 ≤ N }
+    requires { array_vec_len row.old + QUANTITIES_ROOM ≤ N }
     ensures text { row.new.items ≡ row.old.items ++ behind_commas (quantity_fields asked.now (ending_seen ending.entry)) }
-    ensures room { array_vec_len row.new ≤ array_vec_len row.old + 3200 }
+    ensures room { array_vec_len row.new ≤ array_vec_len row.old + QUANTITIES_ROOM }
 {
     match ending {
         Ending::Answered(_, Some(answer), _) => append_answer(row, asked, answer),
@@ -256,41 +271,51 @@ fn append_quantities<const N: usize>(row: &mut ArrayVec<u8, N>, asked: &Asked, e
     }
 }
 
-// Appends the quality of a command's answer; an empty field where the command wasn't answered.
-fn append_last<const N: usize>(row: &mut ArrayVec<u8, N>, ending: Ending<'_>)
-    requires { array_vec_len row.old + 131 ≤ N }
-    ensures text { row.new.items ≡ row.old.items ++ behind_commas (last_fields (ending_seen ending.entry)) }
-    ensures room { array_vec_len row.new ≤ array_vec_len row.old + 131 }
+// Appends the quality of a command's answer, an empty field where the command wasn't answered, and the attempt of its chain.
+fn append_last<const N: usize>(row: &mut ArrayVec<u8, N>, when: &When, ending: Ending<'_>)
+    requires { array_vec_len row.old + LAST_ROOM ≤ N }
+    ensures text { row.new.items ≡ row.old.items ++ behind_commas (last_fields when.now (ending_seen ending.entry)) }
+    ensures room { array_vec_len row.new ≤ array_vec_len row.old + LAST_ROOM }
 {
     append_next(row, ending.quality_text());
+    append_next(
+        row,
+        Buffer::new().format(when.stamp.turn.attempt).as_bytes(),
+    );
 }
 
-// Appends the quantities of a command's answer, each in its column, and behind them the quality.
-fn append_both<const N: usize>(row: &mut ArrayVec<u8, N>, asked: &Asked, ending: Ending<'_>)
-    requires { array_vec_len row.old + 3331 ≤ N }
-    ensures text { row.new.items ≡ row.old.items ++ behind_commas (quantity_fields asked.now (ending_seen ending.entry) ++ last_fields (ending_seen ending.entry)) }
-    ensures room { array_vec_len row.new ≤ array_vec_len row.old + 3331 }
-{
-    append_quantities(row, asked, ending);
-    append_last(row, ending);
-}
-
-// Appends the quantities of a command's answer, each in its column, where `columns` is true. Then, in any case, it appends the
-// answer's quality.
-fn append_more<const N: usize>(
+// Appends the quantities of a command's answer, each in its column, and behind them the last fields.
+fn append_both<const N: usize>(
     row: &mut ArrayVec<u8, N>,
-    columns: bool,
+    when: &When,
     asked: &Asked,
     ending: Ending<'_>,
 )
-    requires { array_vec_len row.old + 3331 ≤ N }
-    ensures text { row.new.items ≡ row.old.items ++ behind_commas (more_fields columns asked.now (ending_seen ending.entry)) }
-    ensures room { array_vec_len row.new ≤ array_vec_len row.old + 3331 }
+    requires { array_vec_len row.old + MORE_ROOM ≤ N }
+    ensures text { row.new.items ≡ row.old.items ++ behind_commas (quantity_fields asked.now (ending_seen ending.entry) ++ last_fields when.now (ending_seen ending.entry)) }
+    ensures room { array_vec_len row.new ≤ array_vec_len row.old + MORE_ROOM }
+{
+    append_quantities(row, asked, ending);
+    append_last(row, when, ending);
+}
+
+// Appends the quantities of a command's answer, each in its column, where `columns` is true. Then, in any case, it appends the
+// last fields.
+fn append_more<const N: usize>(
+    row: &mut ArrayVec<u8, N>,
+    columns: bool,
+    when: &When,
+    asked: &Asked,
+    ending: Ending<'_>,
+)
+    requires { array_vec_len row.old + MORE_ROOM ≤ N }
+    ensures text { row.new.items ≡ row.old.items ++ behind_commas (more_fields columns when.now asked.now (ending_seen ending.entry)) }
+    ensures room { array_vec_len row.new ≤ array_vec_len row.old + MORE_ROOM }
 {
     if columns {
-        append_both(row, asked, ending);
+        append_both(row, when, asked, ending);
     } else {
-        append_last(row, ending);
+        append_last(row, when, ending);
     }
 }
 
@@ -310,7 +335,7 @@ pub(crate) fn csv_row(
     append_when(&mut row, when);
     append_what(&mut row, command, name);
     append_ending(&mut row, ending);
-    append_more(&mut row, columns, &command.call, ending);
+    append_more(&mut row, columns, when, &command.call, ending);
     append(&mut row, b"\n");
     row
 }

@@ -2,6 +2,7 @@ use Rattle.std.proofs.Common.{rules, ◌≡◌, ◌≤◌, ◌<◌, ◌+◌, ◌
 use Rattle.std.specs.Prelude.{nat_lt}
 use Rattle.std.proofs.lemmas.Bool.{lt-ltb}
 use Rattle.arrayvec.specs.ArrayVec.{array_vec_len}
+use Rattle.gc_rows.specs.declared.json_line.TheConstants.{STRINGS_ROOM}
 use Rattle.gc_rows.specs.JsonLines.{comma_where, string_text, strings_text}
 use Rattle.gc_rows.proofs.Items.{bytes_more, bytes_below, up_to}
 use Rattle.gc_rows.proofs.JsonLines.{strings_next}
@@ -14,7 +15,7 @@ append_comma-requires g c =
     let few = c.requires.few in
     let short = c.requires.short in
     let room = c.loop-k.invariant.room in
-    let fits : array_vec_len c.loop-k.line + 1 ≤ array_vec_len c.args.line.now + 4144 = omega (arith, lt, below, few, short, room) in
+    let fits : array_vec_len c.loop-k.line + 1 ≤ array_vec_len c.args.line.now + STRINGS_ROOM = omega (arith, lt, below, few, short, room) in
     (search rules, up_to _ _ _ fits c.requires.room)
 
 pub append_string-requires : goal.append_string-requires
@@ -26,7 +27,7 @@ append_string-requires g c =
     let room = c.loop-k.invariant.room in
     let comma = c.append_comma.ensures.room in
     let same : length c.get.result.now ≡ length (get_or c.args.texts.now c.loop-k.k []) = ap length c.get.ensures in
-    let fits : array_vec_len c.append_comma.new.line + 8 * length c.get.result.now + 2 ≤ array_vec_len c.args.line.now + 4144 =
+    let fits : array_vec_len c.append_comma.new.line + 8 * length c.get.result.now + 2 ≤ array_vec_len c.args.line.now + STRINGS_ROOM =
     omega (arith, lt, below, few, short, room, comma, same) in
     (search rules, (omega (arith, below, short, same), up_to _ _ _ fits c.requires.room))
 

@@ -1,5 +1,6 @@
 use Rattle.std.proofs.Common.{◌≡◌, ◌+◌, ◌*◌, ◌≤◌, ◌++◌, drop, length}
 use Rattle.arrayvec.specs.ArrayVec.{array_vec_len}
+use Rattle.gc_rows.specs.declared.json_line.TheConstants.{VALUE_ROOM}
 use Rattle.gc_rows.specs.JsonLines.{members_text, values_members}
 use Rattle.gc_rows.proofs.json_line.append_values.Given as goal
 
@@ -9,5 +10,5 @@ invariant-loop-value g l = record {
   short : length l.rest ≤ 512;
   written : l.line.items ++ members_text (values_members l.column (drop l.value-index l.values) l.rest)
       ≡ l.initial.line.items ++ members_text (values_members l.first l.values l.came);
-  room : array_vec_len l.line ≤ array_vec_len l.initial.line + 4736 * l.value-index;
+  room : array_vec_len l.line ≤ array_vec_len l.initial.line + VALUE_ROOM * l.value-index;
 }

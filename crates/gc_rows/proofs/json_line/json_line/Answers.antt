@@ -15,8 +15,8 @@ returns c =
     let front = codes "{\"run\":" ++ string_text (stamp_text when.run) in
     let first : c.append_string.new.line.items ≡ front = search rules in
     c.append-2.ensures ∙ ap (λ l. l ++ codes "}\n") (c.append_more.ensures.text
-    ∙ ap (λ l. l ++ members_text (more_members command.call end)) (c.append_ending.ensures.text
+    ∙ ap (λ l. l ++ members_text (more_members when command.call end)) (c.append_ending.ensures.text
     ∙ ap (λ l. l ++ members_text (ending_members end)) (c.append_what.ensures.text
     ∙ ap (λ l. l ++ members_text (what_members command name)) (c.append_when.ensures.text
     ∙ ap (λ l. l ++ members_text (when_members when)) first))))
-    ∙ all_members front (when_members when) (what_members command name) (ending_members end) (more_members command.call end)
+    ∙ all_members front (when_members when) (what_members command name) (ending_members end) (more_members when command.call end)

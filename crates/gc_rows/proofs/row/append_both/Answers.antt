@@ -9,7 +9,7 @@ returns-clause-text g c =
     let end = ending_seen c.args.ending in
     let old = c.args.row.now.items in
     let quantities = quantity_fields c.args.asked.now end in
-    let last = last_fields end in
+    let last = last_fields c.args.when.now end in
     let first : c.append_quantities.new.row.items ≡ old ++ behind_commas quantities = search rules in
     let second : c.append_last.new.row.items ≡ c.append_quantities.new.row.items ++ behind_commas last = search rules in
     second ∙ ap (λ l. l ++ behind_commas last) first ∙ append_assoc old (behind_commas quantities) (behind_commas last)

@@ -1,11 +1,12 @@
 use Rattle.std.proofs.Common.{◌≡◌, ◌+◌, ◌*◌, ◌≤◌, ◌++◌, take}
 use Rattle.std.specs.List.{flat_map}
 use Rattle.arrayvec.specs.ArrayVec.{array_vec_len}
+use Rattle.gc_rows.specs.declared.row.TheConstants.{VALUE_ROOM}
 use Rattle.gc_rows.specs.Rows.{value_text}
 use Rattle.gc_rows.proofs.row.append_values.Given as goal
 
 abbrev pub invariant-loop-value : goal.invariant-loop-value
 invariant-loop-value g l = record {
   written : l.row.items ≡ l.initial.row.items ++ flat_map value_text (take l.value-index l.values);
-  room : array_vec_len l.row ≤ array_vec_len l.initial.row + 515 * l.value-index;
+  room : array_vec_len l.row ≤ array_vec_len l.initial.row + VALUE_ROOM * l.value-index;
 }

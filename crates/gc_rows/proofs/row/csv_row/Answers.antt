@@ -12,8 +12,8 @@ returns c =
     let command = c.args.command.now in
     let end = ending_seen c.args.ending in
     c.append.ensures ∙ ap (λ l. l ++ codes "\n") (c.append_more.ensures.text
-    ∙ ap (λ l. l ++ behind_commas (more_fields c.args.columns command.call end)) (c.append_ending.ensures.text
+    ∙ ap (λ l. l ++ behind_commas (more_fields c.args.columns when command.call end)) (c.append_ending.ensures.text
     ∙ ap (λ l. l ++ behind_commas (ending_fields end)) (c.append_what.ensures.text
     ∙ ap (λ l. l ++ behind_commas (what_fields command c.args.name.now)) (c.append_when.ensures.text
     ∙ ap (λ l. l ++ behind_commas (when_fields when)) (search rules)))))
-    ∙ all_fields (stamp_text when.run) (when_fields when) (what_fields command c.args.name.now) (ending_fields end) (more_fields c.args.columns command.call end)
+    ∙ all_fields (stamp_text when.run) (when_fields when) (what_fields command c.args.name.now) (ending_fields end) (more_fields c.args.columns when command.call end)
