@@ -1,20 +1,21 @@
 -- How the proofs' logic stores acts: as numbers and bytes, from which the acts come back.
-use Rattle.std.specs.Prelude.{◌≡◌, ℕ, List, [], cond, ◌==◌, refl}
-use Rattle.std.specs.Coded.{Coded, code_by, coded×, coded_ℕ, coded_list}
+use Rattle.std.specs.Prelude.{◌≡◌, ℕ, Bool, false, List, [], cond, ◌==◌, refl}
+use Rattle.std.specs.Coded.{Coded, code_by, coded×, coded_ℕ, coded_bool, coded_list}
 use Rattle.gc_links.specs.declared.link.Moment.{Moment}
 use Rattle.gc_links.specs.Acts.{Act, Told, Untold, Put, Cut, Gave, Silent, Ended, Broke, Closed, Opened, Unopened}
 
--- the parts of an act: a number for its kind, its bytes, its count, and its moment on both clocks
+-- the parts of an act: a number for its kind, its bytes, its count, and its moment on both clocks, with whether the end of the run was asked
+-- for by then
 abbrev Parts : Type 0
-Parts = ℕ × (List ℕ × (ℕ × (ℕ × ℕ)))
+Parts = ℕ × (List ℕ × (ℕ × (ℕ × (ℕ × Bool))))
 
 -- what stands for the moment of an act that has none
 abbrev no_moment : Moment
-no_moment = record { elapsed = 0; utc = 0 }
+no_moment = record { elapsed = 0; utc = 0; stops = false }
 
 -- the parts of an act of this kind, with these bytes, this count and this moment
 abbrev parts : ℕ → List ℕ → ℕ → Moment → Parts
-parts kind bytes count m = (kind, (bytes, (count, (m.elapsed, m.utc))))
+parts kind bytes count m = (kind, (bytes, (count, (m.elapsed, (m.utc, m.stops)))))
 
 -- an act as its parts
 abbrev to_parts : Act → Parts
@@ -32,7 +33,7 @@ to_parts Unopened = parts 10 [] 0 no_moment
 
 -- the moment among the parts of an act
 abbrev moment_in : Parts → Moment
-moment_in p = record { elapsed = p.1.1.1.0; utc = p.1.1.1.1 }
+moment_in p = record { elapsed = p.1.1.1.0; utc = p.1.1.1.1.0; stops = p.1.1.1.1.1 }
 
 -- the act of these parts; a kind above 10, which no act has, counts as 10
 abbrev from_parts : Parts → Act
@@ -56,4 +57,4 @@ from_parts-to_parts Unopened = refl
 
 -- how a list of acts is stored
 abbrev pub acts_code : Coded (List Act)
-acts_code = coded_list (code_by Parts (coded× coded_ℕ (coded× (coded_list coded_ℕ) (coded× coded_ℕ (coded× coded_ℕ coded_ℕ)))) to_parts from_parts from_parts-to_parts)
+acts_code = coded_list (code_by Parts (coded× coded_ℕ (coded× (coded_list coded_ℕ) (coded× coded_ℕ (coded× coded_ℕ (coded× coded_ℕ coded_bool))))) to_parts from_parts from_parts-to_parts)

@@ -12,6 +12,7 @@ mod placed;
 mod tcp;
 mod telling;
 mod timer;
+mod watched;
 mod wire;
 
 pub use device::{DeviceLink, Unusable};
@@ -22,4 +23,5 @@ pub use place::{Place, place_of};
 pub use placed::PlacedLink;
 pub use tcp::TcpLink;
 pub use telling::Telling;
+pub use watched::Watched;
 pub use wire::{Wire, wire_on, wire_to};

@@ -12,6 +12,8 @@ pub struct Moment {
     pub elapsed: u64,
     /// Milliseconds since 1970-01-01, UTC, for time stamps.
     pub utc: u64,
+    /// Whether the end of the run was asked for by then. `false` where nobody can ask.
+    pub stops: bool,
 }
 
 /// What a read of a link came to, with the moment after it.

@@ -23,7 +23,8 @@ impl<'a, R: Clock> Timer<'a, R> {
         })
     }
 
-    /// Reads both clocks. It fails where one can't be read. A time of day before 1970 counts as the beginning of 1970.
+    /// Reads both clocks. It fails where one can't be read. A time of day before 1970 counts as the beginning of 1970. Nobody asks
+    /// for the end of a run here: `Watched` looks for that.
     pub(crate) fn moment(&self) -> io::Result<Moment> {
         let elapsed = self.start.elapsed(self.rt)?;
         let since_1970 = match SystemTime::now(self.rt)?.duration_since(UNIX_EPOCH) {
@@ -33,6 +34,7 @@ impl<'a, R: Clock> Timer<'a, R> {
         Ok(Moment {
             elapsed: millis_of(elapsed),
             utc: millis_of(since_1970),
+            stops: false,
         })
     }
 
