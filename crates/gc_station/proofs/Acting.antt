@@ -40,7 +40,7 @@ mid_fail plan commands s why other mid = (mid.0, fail_placed s.progress s.rest s
 
 -- a moment that gives requests up keeps the weaker record
 pub mid_moment : (plan : Plan) (commands : List Task) (s : Model) (m : Moment) → Mid plan commands s → Mid plan commands (with_moment m s)
-mid_moment plan commands s m mid = (sound_moment plan commands s.progress.left s.progress.unsent s.client s.marks s.records m.elapsed mid.0, mid.1)
+mid_moment plan commands s m mid = (sound_moment plan commands s.progress.left s.progress.unsent s.client s.marks s.records s.passes m.elapsed mid.0, mid.1)
 
 -- an act that reads the clock keeps the weaker record, if the change of the progress does
 pub mid_clock : (plan : Plan) (commands : List Task) (f : Moment → Progress → Progress) (s : Model) (act : Act) → Mid plan commands s
@@ -88,12 +88,14 @@ close_placed : (plan : Plan) (w : Waiting) (why : Cause) (p : Progress) (marks :
 close_placed plan w cause.Done p marks done = over_placed cause.Done p marks (λ e. done refl)
 close_placed plan w cause.Clock p marks done = over_placed cause.Clock p marks (λ e. cc)
 close_placed plan w cause.Turns p marks done = over_placed cause.Turns p marks (λ e. cc)
+close_placed plan w cause.Stale p marks done = over_placed cause.Stale p marks (λ e. cc)
+close_placed plan w cause.Stopped p marks done = over_placed cause.Stopped p marks (λ e. cc)
 close_placed plan w why p marks done = placed_again plan w.commands why p [] marks refl refl
 
 -- a close keeps `SoundAt`: it leaves the counts, the client, the marks and the records
-close_sound : (plan : Plan) (commands : List Task) (s : Model) (w : Waiting) (why : Cause) → SoundAt plan commands s.progress s.client s.marks s.records
-    → SoundAt plan commands (closed plan w why s.progress) s.client s.marks s.records
-close_sound plan commands s w why sound = closed_along (λ (q : Progress). SoundAt plan commands q s.client s.marks s.records) plan w why s.progress sound sound
+close_sound : (plan : Plan) (commands : List Task) (s : Model) (w : Waiting) (why : Cause) → SoundAt plan commands s.progress s.client s.marks s.records s.passes
+    → SoundAt plan commands (closed plan w why s.progress) s.client s.marks s.records s.passes
+close_sound plan commands s w why sound = closed_along (λ (q : Progress). SoundAt plan commands q s.client s.marks s.records s.passes) plan w why s.progress sound sound
 
 -- a close keeps the weaker record, if one for being done has nothing left to be sent
 pub mid_close : (plan : Plan) (commands : List Task) (s : Model) (why : Cause) → (why ≡ cause.Done → (s.progress.left ≡ 0) × (s.progress.unsent ≡ 0))
@@ -102,7 +104,7 @@ mid_close plan commands s why done mid = let w : Waiting = waiting_of (with_rest
 
 -- the weaker record, in a phase in which lines are heard: requests go out then
 pub record Listening (plan : Plan) (commands : List Task) (s : Model) : Type 0 where
-  pub sound : SoundAt plan commands s.progress s.client s.marks s.records
+  pub sound : SoundAt plan commands s.progress s.client s.marks s.records s.passes
   pub is_ready : s.progress.phase ≡ Ready
 
 -- hearing a line leaves the client's next id
@@ -121,7 +123,7 @@ listen_line plan commands s line l =
     let x = hears s.client line (heard line) in
     let next : x.client.next ≡ s.client.next = same_next s.client line (heard line) in
     record {
-      sound = sound_settles s.reads plan commands p.left p.unsent s.client x.client s.marks s.records p.moment.utc x.settlements
+      sound = sound_settles s.reads plan commands p.left p.unsent s.client x.client s.marks s.records s.passes p.moment.utc x.settlements
           (heard_parts s.client line (heard line)) (subst (λ (n : ℕ). n < 8) (sym next) l.sound.digit) l.sound;
       is_ready = l.is_ready;
     }
@@ -139,7 +141,7 @@ heard_ready phase e = cc
 -- lines that are heard while the station begins keep `Listening`: they change neither the counts nor the phase
 listen_asked : (plan : Plan) (commands : List Task) (s : Model) (lines : List (List ℕ)) → Listening plan commands s → Listening plan commands (with_progress (λ p. lines_asked p lines) s)
 listen_asked plan commands s lines l =
-    let it = asked_along (λ (q : Progress). SoundAt plan commands q s.client s.marks s.records × (q.phase ≡ Ready)) (λ q line h. h) s.progress lines (l.sound, l.is_ready) in
+    let it = asked_along (λ (q : Progress). SoundAt plan commands q s.client s.marks s.records s.passes × (q.phase ≡ Ready)) (λ q line h. h) s.progress lines (l.sound, l.is_ready) in
     record { sound = it.0; is_ready = it.1 }
 
 -- a piece that is heard keeps `Listening`
@@ -176,7 +178,7 @@ down_placed false phase left unsent rest marks is placed = placed
 
 -- the weaker record of a model, with this progress in place of its own
 abbrev MidAt : Plan → List Task → Model → Progress → Type 0
-MidAt plan commands s p = SoundAt plan commands p s.client s.marks s.records × PlacedAt p s.rest s.marks
+MidAt plan commands s p = SoundAt plan commands p s.client s.marks s.records s.passes × PlacedAt p s.rest s.marks
 
 -- the end of a drain keeps `MidAt`
 drained_there : (plan : Plan) (commands : List Task) (s : Model) (p : Progress) (b : Bool) → MidAt plan commands s p → MidAt plan commands s (if b then drained p else p)

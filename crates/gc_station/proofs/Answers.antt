@@ -26,12 +26,12 @@ use Rattle.gc_station.specs.Answers.{IsBefore, first_deadline, deadline_behind, 
 use Rattle.gc_station.specs.Ends.{IsTrulyLate, IsTrulyLost}
 use Rattle.gc_station.specs.Deciding.{later}
 use Rattle.gc_station.specs.Quiet.{IsAsking}
-use Rattle.gc_station.specs.Progressing.{turned, told, reckoned_early, begun, skipped, skipped_at, cleared, null_sent, renewed, sent, asking, loses_all}
+use Rattle.gc_station.specs.Progressing.{turned, told, reckoned_early, begun, skipped, passed, skipped_at, cleared, null_sent, renewed, sent, asking, loses_all}
 use Rattle.gc_station.specs.Marks.{commands_in}
 use Rattle.gc_station.specs.Reasons.{IsFor}
 use Rattle.gc_station.specs.Records.{Record}
 use Rattle.gc_station.specs.Runs.{stood}
-use Rattle.gc_station.specs.Model.{Model, opening, action_at, waiting_of, mark_next, place_next, request_text, null_text, first_text, with_progress, is_heard, client_sent, asks_null, asks_first, asks_next, is_chained_behind_next, with_records, skips, skips_first, after_clock, after_put, after_open, after_read, Puts, ReadsClock, IsOpening, IsReading, Performs, moved, Runs}
+use Rattle.gc_station.specs.Model.{Model, opening, action_at, waiting_of, mark_next, place_next, request_text, null_text, first_text, with_progress, is_heard, client_sent, asks_null, asks_first, asks_next, is_chained_behind_next, others_behind_next, is_chained_behind, others_behind, after_pass, with_passes, passes_next, with_listed, skip_listed, with_records, skips, skips_first, after_clock, after_put, after_open, after_read, Puts, ReadsClock, IsOpening, IsReading, Performs, moved, Runs}
 use Rattle.gc_station.proofs.EachRun.{fine_stood}
 use Rattle.gc_station.proofs.Facts.{action_for}
 use Rattle.gc_station.proofs.Invariant.{Invariant}
@@ -145,21 +145,21 @@ command_honest plan commands scope acts act target call fine h is room puts =
     }) (λ m its. refl) puts) h
 
 -- the act that sends the next command keeps `IsHonest`
-first_honest : (plan : Plan) (commands : List Task) (scope : Scope) (acts : List Act) (act : Act) (next_is_chained : Bool) (left : List Task)
+first_honest : (plan : Plan) (commands : List Task) (scope : Scope) (acts : List Act) (act : Act) (next_is_chained : Bool) (behind : ℕ) (left : List Task)
     → Invariant plan commands (stood plan commands scope acts) → IsHonest plan commands scope acts (acts ++ act ∷ []) (stood plan commands scope acts)
     → action_at plan (stood plan commands scope acts) ≡ actions.Send → length (stood plan commands scope acts).client.waiting < 7
     → 0 < (stood plan commands scope acts).progress.unsent
     → drop (place_next commands (stood plan commands scope acts).progress) commands ≡ left
     → Puts (first_text (stood plan commands scope acts).client left) act
     → IsHonest plan commands scope (acts ++ act ∷ []) (acts ++ act ∷ [])
-    (with_progress (sent next_is_chained) (asks_first (mark_next plan commands (stood plan commands scope acts).progress) left
+    (with_progress (sent next_is_chained behind) (asks_first (mark_next plan commands (stood plan commands scope acts).progress) left
     (with_progress turned (stood plan commands scope acts))))
-first_honest plan commands scope acts act next_is_chained [] fine h is room some at puts =
+first_honest plan commands scope acts act next_is_chained behind [] fine h is room some at puts =
     let s = stood plan commands scope acts in
     let none : length commands - place_next commands s.progress ≡ 0 = sym (length-drop (place_next commands s.progress) commands) ∙ ap length at in
     let within = fine.unsent in
     absurd (omega (arith, none, some, within))
-first_honest plan commands scope acts act next_is_chained (task ∷ others) fine h is room some at puts =
+first_honest plan commands scope acts act next_is_chained behind (task ∷ others) fine h is room some at puts =
     let s = stood plan commands scope acts in
     let d : later s.progress.moment.elapsed task.deadline ≡ deadline_behind plan commands scope acts = ap (λ (left : List Task). later s.progress.moment.elapsed (first_deadline left)) (sym at) in
     subst (λ (c : ById Asked). Honest plan commands scope (acts ++ act ∷ []) (acts ++ act ∷ []) c (s.marks ++ Some (mark_next plan commands s.progress) ∷ []) s.records)
@@ -193,7 +193,7 @@ put_honest plan commands scope acts requests f t act h = h
 
 -- the record of a command that isn't sent is true: it is neither an answer nor late nor lost
 unsent_true : (plan : Plan) (commands : List Task) (scope : Scope) (all : List Act) (b : Bool) (utc : ℕ) (mark : Mark) (command : Wish)
-    → IsTrue plan commands scope all (record { sent = None; utc = utc; cycle = mark.cycle; place = mark.place; command = command; end = if b then Missed else Skipped })
+    → IsTrue plan commands scope all (record { sent = None; utc = utc; cycle = mark.cycle; place = mark.place; turn = mark.expected.turn; command = command; end = if b then Missed else Skipped })
 unsent_true plan commands scope all true utc mark command = record { answered = λ line e. cc; late = λ e. cc; lost = λ e. cc }
 unsent_true plan commands scope all false utc mark command = record { answered = λ line e. cc; late = λ e. cc; lost = λ e. cc }
 
@@ -217,6 +217,18 @@ clock_honest : (plan : Plan) (commands : List Task) (scope : Scope) (acts : List
 clock_honest plan commands scope acts (Told m) f s h o = moment_told plan commands scope acts (Told m) m.elapsed _ _ _ (λ d low. low) (λ d past. past) h
 clock_honest plan commands scope acts Untold f s h o = still plan commands scope acts Untold _ _ _ (λ d. tt) h
 clock_honest plan commands scope acts act f s h o = absurd o
+
+-- an act that passes attempts over keeps `IsHonest`
+pass_honest : (plan : Plan) (commands : List Task) (scope : Scope) (acts : List Act) (act : Act) (s : Model)
+    → IsHonest plan commands scope acts (acts ++ act ∷ []) s → ReadsClock act
+    → IsHonest plan commands scope (acts ++ act ∷ []) (acts ++ act ∷ []) (after_pass plan commands (with_progress turned s) act)
+pass_honest plan commands scope acts (Told m) s h o =
+    let p = turned s.progress in
+    let n = p.next_others in
+    clock_honest plan commands scope acts (Told m) (λ m p'. reckoned_early plan (commands_in s.marks) (passed (is_chained_behind n commands p) (others_behind n commands p) m p'))
+    (with_passes (passes_next plan commands p) s) (record { waiting = h.waiting; written = h.written }) o
+pass_honest plan commands scope acts Untold s h o = clock_honest plan commands scope acts Untold (λ m p. p) s h o
+pass_honest plan commands scope acts act s h o = absurd o
 
 -- an attempt to connect keeps `IsHonest`
 open_honest : (plan : Plan) (commands : List Task) (scope : Scope) (acts : List Act) (act : Act) (s : Model) → IsHonest plan commands scope acts (acts ++ act ∷ []) s → IsOpening act
@@ -266,17 +278,18 @@ moved_honest plan commands scope acts actions.Ask act tail fine h is needs o end
     (still plan commands scope acts act _ _ _ (puts_still (null_text s.progress.word) act o) h)
 moved_honest plan commands scope acts actions.Send act tail fine h is needs o ends =
     let s = stood plan commands scope acts in
-    put_honest plan commands scope (acts ++ act ∷ []) _ (λ (x : Model). with_progress (sent (is_chained_behind_next commands x.progress)) (asks_next plan commands x)) (with_progress turned s) act
-    (first_honest plan commands scope acts act (is_chained_behind_next commands s.progress) (drop (place_next commands s.progress) commands) fine h is needs.3.1 needs.2 refl o)
+    put_honest plan commands scope (acts ++ act ∷ []) _ (λ (x : Model). with_progress (sent (is_chained_behind_next commands x.progress) (others_behind_next commands x.progress)) (asks_next plan commands x)) (with_progress turned s) act
+    (first_honest plan commands scope acts act (is_chained_behind_next commands s.progress) (others_behind_next commands s.progress) (drop (place_next commands s.progress) commands) fine h is needs.3.1 needs.2 refl o)
 moved_honest plan commands scope acts actions.Skip act tail fine h is needs o ends =
     let s = stood plan commands scope acts in
-    clock_honest plan commands scope acts act (λ m p. reckoned_early plan (commands_in s.marks) (skipped (is_chained_behind_next commands s.progress) m p))
-    (with_records (skips plan commands s.progress act) s)
+    clock_honest plan commands scope acts act (λ m p. reckoned_early plan (commands_in s.marks) (skipped (is_chained_behind_next commands s.progress) (others_behind_next commands s.progress) m p))
+    (with_listed (skip_listed plan commands (with_progress turned s) act) (with_records (skips plan commands s.progress act) s))
     (record {
       waiting = h.waiting;
       written = all_append (IsTrue plan commands scope (acts ++ act ∷ [])) s.records
           (skips plan commands s.progress act) h.written (skips_true plan commands scope (acts ++ act ∷ []) s.progress act);
     }) o
+moved_honest plan commands scope acts actions.Pass act tail fine h is needs o ends = pass_honest plan commands scope acts act (stood plan commands scope acts) h o
 moved_honest plan commands scope acts actions.Flush act tail fine h is needs o ends =
     let s = stood plan commands scope acts in
     put_honest plan commands scope (acts ++ act ∷ []) _ (λ (x : Model). with_progress asking (asks_null plan x)) (with_progress turned s) act

@@ -14,14 +14,14 @@ use Rattle.gc_station.specs.declared.cause.Cause.{Cause}
 use Rattle.gc_station.specs.declared.cause.Cause.TheVariants as cause
 use Rattle.gc_station.specs.declared.plan.Plan.{Plan}
 use Rattle.gc_station.specs.declared.progress.Action.{Action}
-use Rattle.gc_station.specs.declared.progress.Action.TheVariants.{Begin, Renew, Open, Send, Skip, Read, Close, Stop}
+use Rattle.gc_station.specs.declared.progress.Action.TheVariants.{Begin, Renew, Open, Send, Skip, Pass, Read, Close, Stop}
 use Rattle.gc_station.specs.declared.progress.Progress.{Progress}
 use Rattle.gc_station.specs.declared.progress.Waiting.{Waiting}
 use Rattle.gc_links.specs.Acts.{Act, Told, Cut, Opened}
 use Rattle.gc_station.specs.Answers.{IsTrueRecord, answer_of}
 use Rattle.gc_station.specs.Chains.{IsChained, IsLinked}
 use Rattle.gc_station.specs.Deciding.{has_begun}
-use Rattle.gc_station.specs.EachOnce.{Request, of_record, of_task, requests, sent_by}
+use Rattle.gc_station.specs.EachOnce.{Parted, Request, of_record, of_task, requests, sent_by, still_waiting}
 use Rattle.gc_station.specs.Marks.{commands_in, is_well, last_well}
 use Rattle.gc_station.specs.Qualities.{IsAsListed}
 use Rattle.gc_station.specs.Quiet.{KeepsOpen}
@@ -30,10 +30,11 @@ use Rattle.gc_station.specs.Reasons.{IsFor, MayGo}
 use Rattle.gc_station.specs.Records.{Record}
 use Rattle.gc_station.specs.Runs.{stood}
 use Rattle.gc_station.specs.Scopes.{Scope}
-use Rattle.gc_station.specs.Model.{Model, requests_out, Performs, Runs, opening, action_at, waiting_of, place_next, cycles_begun, is_chained, is_chained_behind_next, with_progress, with_rest, moved, after, after_all}
+use Rattle.gc_station.specs.Model.{Model, requests_out, Performs, Runs, opening, action_at, waiting_of, place_next, cycles_begun, is_chained, is_chained_behind_next, is_chained_behind, ended, with_progress, with_rest, moved, after, after_all}
 use Rattle.gc_station.proofs.Answers.{answers_true}
-use Rattle.gc_station.proofs.Counts.{ended_progress}
+use Rattle.gc_station.proofs.Counts.{ended_progress, ended_passes}
 use Rattle.gc_station.proofs.Each.{each_settled, sent_next}
+use Rattle.gc_station.proofs.Parted.{IsInFront, drop_past, parted_all, parted_last, sent_before}
 use Rattle.gc_station.proofs.EachRun.{fine_stood}
 use Rattle.gc_station.proofs.Facts.{or_true, action_for}
 use Rattle.gc_station.proofs.Invariant.{Invariant}
@@ -67,16 +68,25 @@ record Anew (count : ℕ) (q : Progress) : Type 0 where
   unsent : q.unsent ≡ count
   chain_unbroken : q.chain_unbroken ≡ false
 
+-- q has the further attempts of a chain passed over that the next command of p begins; the next one of q waits as `is_chained_behind`
+-- says
+record Past (commands : List Task) (p q : Progress) : Type 0 where
+  left : q.left ≡ p.left
+  unsent : q.unsent ≡ p.unsent - p.next_others
+  missed : q.missed ≡ p.missed
+  is_bound : q.next_is_chained ≡ is_chained_behind p.next_others commands p
+  chain_unbroken : q.chain_unbroken ≡ false
+
 -- what an act of an action does to the fields on chains, from p to q: it leaves them, breaks the chain, goes on to the next
--- command, or begins a cycle. The first two arguments are how many commands a cycle has, and whether the command after the next
--- one is chained. Where an action has two cases, the first is that the clock couldn't be read
-abbrev Steps : ℕ → Bool → Action → Progress → Progress → Type 0
-Steps count next_is_chained Begin p q = Still p q ⊎ Anew count q
-Steps count next_is_chained Renew p q = Still p q ⊎ (Still p q × (q.chain_unbroken ≡ false))
-Steps count next_is_chained Send p q = Next next_is_chained p q
-Steps count next_is_chained Skip p q = Still p q ⊎ (Next next_is_chained p q × (q.chain_unbroken ≡ false))
-Steps count next_is_chained (Close why) p q = Still p q × (q.chain_unbroken ≡ false)
-Steps count next_is_chained _ p q = Still p q
+-- command, passes over attempts, or begins a cycle. Where an action has two cases, the first is that the clock couldn't be read
+abbrev Steps : List Task → Action → Progress → Progress → Type 0
+Steps commands Begin p q = Still p q ⊎ Anew (length commands) q
+Steps commands Renew p q = Still p q ⊎ (Still p q × (q.chain_unbroken ≡ false))
+Steps commands Send p q = Next (is_chained_behind_next commands p) p q
+Steps commands Skip p q = Still p q ⊎ (Next (is_chained_behind_next commands p) p q × (q.chain_unbroken ≡ false))
+Steps commands Pass p q = Still p q ⊎ Past commands p q
+Steps commands (Close why) p q = Still p q × (q.chain_unbroken ≡ false)
+Steps commands _ p q = Still p q
 
 -- where these fields are the same, `Still` holds
 still : (p q : Progress) → q.left ≡ p.left → q.unsent ≡ p.unsent → q.missed ≡ p.missed → q.next_is_chained ≡ p.next_is_chained → q.chain_unbroken ≡ p.chain_unbroken → Still p q
@@ -98,7 +108,7 @@ broken p q left unsent missed next_is_chained chain_unbroken = (
 
 -- an act of each action does to these fields what `Steps` says
 moved_steps : (plan : Plan) (commands : List Task) (action : Action) (s : Model) (act : Act)
-    → Steps (length commands) (is_chained_behind_next commands s.progress) action s.progress (moved plan commands action s act).progress
+    → Steps commands action s.progress (moved plan commands action s act).progress
 moved_steps plan commands Begin s (Told m) = inr (record { unsent = refl; chain_unbroken = refl })
 moved_steps plan commands Begin s act = inl (still s.progress _ refl refl refl refl refl)
 moved_steps plan commands Renew s (Told m) = inr (broken s.progress _ refl refl refl refl refl)
@@ -112,6 +122,8 @@ moved_steps plan commands Send s act =
     subst (λ (x : Model). Next (is_chained_behind_next commands s.progress) s.progress x.progress) (is_sent plan commands s) (record { left = refl; unsent = refl; missed = refl; is_bound = refl })
 moved_steps plan commands Skip s (Told m) = inr (record { left = refl; unsent = refl; missed = refl; is_bound = refl }, refl)
 moved_steps plan commands Skip s act = inl (still s.progress _ refl refl refl refl refl)
+moved_steps plan commands Pass s (Told m) = inr (record { left = refl; unsent = refl; missed = refl; is_bound = refl; chain_unbroken = refl })
+moved_steps plan commands Pass s act = inl (still s.progress _ refl refl refl refl refl)
 moved_steps plan commands (Close why) s act =
     closed_along (λ (q : Progress). Still s.progress q × (q.chain_unbroken ≡ false)) plan (waiting_of (with_rest [] s)) why s.progress
     (broken s.progress _ refl refl refl refl refl) (broken s.progress _ refl refl refl refl refl)
@@ -153,6 +165,7 @@ record Whole (plan : Plan) (commands : List Task) (scope : Scope) (acts : List A
   place : place_next commands p ≡ place_next commands (stood plan commands scope before).progress + 1
   stays : AllByRecursion KeepsOpen between
   begun : has_begun p ≡ true
+  passes : (stood plan commands scope acts).passes ≡ (stood plan commands scope before).passes
   keeps : StaysBegun plan commands (stood plan commands scope before) (request ∷ between)
 
 -- where all acts (`all`) are `before` and then `behind`, and the station has begun after all of them, it has begun after
@@ -169,11 +182,26 @@ record Chain (plan : Plan) (commands : List Task) (scope : Scope) (acts : List A
   next_is_chained : 0 < place_next commands p → p.next_is_chained ≡ (p.missed || is_chained (drop (place_next commands p) commands))
   chain_unbroken : p.chain_unbroken ≡ true → Whole plan commands scope acts p
 
+-- from one model to another nothing is passed over, or no chain goes on there
+abbrev Keeps : Model → Model → Type 0
+Keeps s t = (t.passes ≡ s.passes) ⊎ (t.progress.chain_unbroken ≡ false)
+
+-- no act passes commands over, but one after which no chain goes on
+moved_keeps : (plan : Plan) (commands : List Task) (action : Action) (s : Model) (act : Act) → Keeps s (moved plan commands action s act)
+moved_keeps plan commands Pass s (Told m) = inr refl
+moved_keeps plan commands Pass s act = inl refl
+moved_keeps plan commands action s act = inl (ap (λ (x : Model). x.passes) (moved_changed plan commands action s act))
+
+-- nothing that is passed over since: where the chain goes on, no act passes commands over
+still_passes : (s t : Model) (before : List Request) → Keeps s t → t.progress.chain_unbroken ≡ true → s.passes ≡ before → t.passes ≡ before
+still_passes s t before (inl same) e is = same ∙ is
+still_passes s t before (inr none) e is = absurd (clash t.progress.chain_unbroken e none)
+
 -- `Chain` lasts over an act that leaves these fields and doesn't close the connection
 chain_still : (plan : Plan) (commands : List Task) (scope : Scope) (acts : List Act) (act : Act) (p q : Progress)
     → (stood plan commands scope (acts ++ act ∷ [])).progress ≡ q → Still p q → (has_begun p ≡ true → q.chain_unbroken ≡ true → has_begun q ≡ true)
-    → KeepsOpen act → Chain plan commands scope acts p → Chain plan commands scope (acts ++ act ∷ []) q
-chain_still plan commands scope acts act p q there k begins stays h =
+    → Keeps (stood plan commands scope acts) (stood plan commands scope (acts ++ act ∷ [])) → KeepsOpen act → Chain plan commands scope acts p → Chain plan commands scope (acts ++ act ∷ []) q
+chain_still plan commands scope acts act p q there k begins keeps stays h =
     let place_is : place_next commands q ≡ place_next commands p = ap (λ (n : ℕ). length commands - n) k.unsent in
     record {
       next_is_chained = λ above.
@@ -193,6 +221,7 @@ chain_still plan commands scope acts act p q there k begins stays h =
             place = place_is ∙ w.place;
             stays = all_append KeepsOpen w.between (act ∷ []) w.stays (stays, tt);
             begun = begun;
+            passes = still_passes (stood plan commands scope acts) (stood plan commands scope (acts ++ act ∷ [])) (stood plan commands scope w.before).passes keeps (ap (λ (x : Progress). x.chain_unbroken) there ∙ e) w.passes;
             keeps =
                 stays_more plan commands (stood plan commands scope w.before) (w.request ∷ w.between) act w.keeps
                 (begun_there plan commands scope w.before (w.request ∷ (w.between ++ act ∷ [])) (acts ++ act ∷ []) q order there begun);
@@ -235,12 +264,24 @@ chain_skipped plan commands scope acts p q n broken some within =
     let at = next_place commands p q n.unsent some within in
     record { next_is_chained = λ above. next_bound commands p q n at; chain_unbroken = λ e. absurd (clash q.chain_unbroken e broken) }
 
+-- `Chain` holds after the further attempts of a chain are passed over
+chain_past : (plan : Plan) (commands : List Task) (scope : Scope) (acts : List Act) (p q : Progress) → Past commands p q → p.unsent ≤ length commands → Chain plan commands scope acts q
+chain_past plan commands scope acts p q k within =
+    record {
+      next_is_chained = λ above.
+          k.is_bound ∙ ap (λ (b : Bool). b || is_chained (drop (place_next commands p + p.next_others) commands)) (sym k.missed)
+          ∙ ap (λ (xs : List Task). q.missed || is_chained xs) (drop_past commands p.unsent p.next_others within)
+          ∙ ap (λ (n : ℕ). q.missed || is_chained (drop (length commands - n) commands)) (sym k.unsent);
+      chain_unbroken = λ e. absurd (clash q.chain_unbroken e k.chain_unbroken);
+    }
+
 -- `Chain` holds after a command that is sent
 chain_sent : (plan : Plan) (commands : List Task) (scope : Scope) (acts : List Act) (act : Act) (p q : Progress)
     → p ≡ turned (stood plan commands scope acts).progress → (stood plan commands scope (acts ++ act ∷ [])).progress ≡ q
     → action_at plan (stood plan commands scope acts) ≡ Send → (q.chain_unbroken ≡ true → has_begun q ≡ true)
-    → Next (is_chained_behind_next commands p) p q → 0 < p.unsent → p.unsent ≤ length commands → Chain plan commands scope (acts ++ act ∷ []) q
-chain_sent plan commands scope acts act p q here there is begins n some within =
+    → Next (is_chained_behind_next commands p) p q → 0 < p.unsent → p.unsent ≤ length commands
+    → Keeps (stood plan commands scope acts) (stood plan commands scope (acts ++ act ∷ [])) → Chain plan commands scope (acts ++ act ∷ []) q
+chain_sent plan commands scope acts act p q here there is begins n some within keeps =
     let at = next_place commands p q n.unsent some within in
     record {
       next_is_chained = λ above. next_bound commands p q n at;
@@ -254,6 +295,7 @@ chain_sent plan commands scope acts act p q here there is begins n some within =
         place = at ∙ ap (λ (x : Progress). place_next commands x + 1) here;
         stays = tt;
         begun = begins e;
+        passes = still_passes (stood plan commands scope acts) (stood plan commands scope (acts ++ act ∷ [])) (stood plan commands scope acts).passes keeps (ap (λ (x : Progress). x.chain_unbroken) there ∙ e) refl;
         keeps = (begun_there plan commands scope acts (act ∷ []) (acts ++ act ∷ []) q refl there (begins e), tt);
       };
     }
@@ -263,24 +305,34 @@ chain_moved : (plan : Plan) (commands : List Task) (scope : Scope) (acts : List 
     → Invariant plan commands (stood plan commands scope acts)
     → action_at plan (stood plan commands scope acts) ≡ action → IsFor plan (stood plan commands scope acts).progress w action → Performs commands (stood plan commands scope acts) action act
     → (stood plan commands scope (acts ++ act ∷ [])).progress ≡ q → (has_begun (stood plan commands scope acts).progress ≡ true → q.chain_unbroken ≡ true → has_begun q ≡ true)
-    → Steps (length commands) (is_chained_behind_next commands (turned (stood plan commands scope acts).progress)) action (turned (stood plan commands scope acts).progress) q
+    → Steps commands action (turned (stood plan commands scope acts).progress) q
+    → Keeps (stood plan commands scope acts) (stood plan commands scope (acts ++ act ∷ []))
     → Chain plan commands scope acts (turned (stood plan commands scope acts).progress) → Chain plan commands scope (acts ++ act ∷ []) q
-chain_moved plan commands scope acts act Begin w q fine is needs o at begins (inl k) h =
-    chain_still plan commands scope acts act _ q at k begins (stays_open plan commands Begin (stood plan commands scope acts) act o (λ why e. cc)) h
-chain_moved plan commands scope acts act Begin w q fine is needs o at begins (inr a) h = chain_anew plan commands scope (acts ++ act ∷ []) q a
-chain_moved plan commands scope acts act Renew w q fine is needs o at begins (inl k) h =
-    chain_still plan commands scope acts act _ q at k begins (stays_open plan commands Renew (stood plan commands scope acts) act o (λ why e. cc)) h
-chain_moved plan commands scope acts act Renew w q fine is needs o at begins (inr k) h = chain_closed plan commands scope acts (acts ++ act ∷ []) _ q k.0 k.1 h
-chain_moved plan commands scope acts act Send w q fine is needs o at begins n h =
-    chain_sent plan commands scope acts act (turned (stood plan commands scope acts).progress) q refl at is (begins needs.1) n needs.2 fine.unsent
-chain_moved plan commands scope acts act Skip w q fine is needs o at begins (inl k) h =
-    chain_still plan commands scope acts act _ q at k begins (stays_open plan commands Skip (stood plan commands scope acts) act o (λ why e. cc)) h
-chain_moved plan commands scope acts act Skip w q fine is needs o at begins (inr n) h =
+chain_moved plan commands scope acts act Begin w q fine is needs o at begins (inl k) keeps h =
+    chain_still plan commands scope acts act _ q at k begins keeps (stays_open plan commands Begin (stood plan commands scope acts) act o (λ why e. cc)) h
+chain_moved plan commands scope acts act Begin w q fine is needs o at begins (inr a) keeps h = chain_anew plan commands scope (acts ++ act ∷ []) q a
+chain_moved plan commands scope acts act Renew w q fine is needs o at begins (inl k) keeps h =
+    chain_still plan commands scope acts act _ q at k begins keeps (stays_open plan commands Renew (stood plan commands scope acts) act o (λ why e. cc)) h
+chain_moved plan commands scope acts act Renew w q fine is needs o at begins (inr k) keeps h = chain_closed plan commands scope acts (acts ++ act ∷ []) _ q k.0 k.1 h
+chain_moved plan commands scope acts act Send w q fine is needs o at begins n keeps h =
+    chain_sent plan commands scope acts act (turned (stood plan commands scope acts).progress) q refl at is (begins needs.1) n needs.2 fine.unsent keeps
+chain_moved plan commands scope acts act Skip w q fine is needs o at begins (inl k) keeps h =
+    chain_still plan commands scope acts act _ q at k begins keeps (stays_open plan commands Skip (stood plan commands scope acts) act o (λ why e. cc)) h
+chain_moved plan commands scope acts act Skip w q fine is needs o at begins (inr n) keeps h =
     chain_skipped plan commands scope (acts ++ act ∷ []) (turned (stood plan commands scope acts).progress) q n.0 n.1 needs.2 fine.unsent
-chain_moved plan commands scope acts act (Close why) w q fine is needs o at begins k h = chain_closed plan commands scope acts (acts ++ act ∷ []) _ q k.0 k.1 h
-chain_moved plan commands scope acts act (Stop why) w q fine is needs o at begins k h = absurd o
-chain_moved plan commands scope acts act next w q fine is needs o at begins k h =
-    chain_still plan commands scope acts act _ q at k begins (stays_open plan commands next (stood plan commands scope acts) act o (λ why e. cc)) h
+chain_moved plan commands scope acts act Pass w q fine is needs o at begins (inl k) keeps h =
+    chain_still plan commands scope acts act _ q at k begins keeps (stays_open plan commands Pass (stood plan commands scope acts) act o (λ why e. cc)) h
+chain_moved plan commands scope acts act Pass w q fine is needs o at begins (inr k) keeps h =
+    chain_past plan commands scope (acts ++ act ∷ []) (turned (stood plan commands scope acts).progress) q k fine.unsent
+chain_moved plan commands scope acts act (Close why) w q fine is needs o at begins k keeps h = chain_closed plan commands scope acts (acts ++ act ∷ []) _ q k.0 k.1 h
+chain_moved plan commands scope acts act (Stop why) w q fine is needs o at begins k keeps h = absurd o
+chain_moved plan commands scope acts act next w q fine is needs o at begins k keeps h =
+    chain_still plan commands scope acts act _ q at k begins keeps (stays_open plan commands next (stood plan commands scope acts) act o (λ why e. cc)) h
+
+-- what is lost after an act leaves `Keeps`
+kept_ended : (s t : Model) → Keeps s t → Keeps s (ended t)
+kept_ended s t (inl same) = inl (ended_passes t ∙ same)
+kept_ended s t (inr none) = inr (ap (λ (p : Progress). p.chain_unbroken) (ended_progress t) ∙ none)
 
 -- `Chain` lasts over all acts of a run
 chain_along : (plan : Plan) (commands : List Task) (scope : Scope) (done acts : List Act) → Runs plan commands (stood plan commands scope done) acts
@@ -310,18 +362,20 @@ chain_along plan commands scope done (act ∷ acts) runs h =
             place = w.place;
             stays = w.stays;
             begun = w.begun;
+            passes = w.passes;
             keeps = w.keeps;
           };
     } in
     let one = chain_moved plan commands scope done act (action_at plan s) (waiting_of s) t.progress (fine_stood plan commands scope done) refl (action_for plan s.progress (waiting_of s)) runs.0 far
-    (begun_kept plan commands s (action_at plan s) act runs.0) (moved_steps plan commands (action_at plan s) (with_progress turned s) act) at_turn in
+    (begun_kept plan commands s (action_at plan s) act runs.0) (moved_steps plan commands (action_at plan s) (with_progress turned s) act)
+    (subst (λ (x : Model). Keeps s x) (sym next) (kept_ended s t (moved_keeps plan commands (action_at plan s) (with_progress turned s) act))) at_turn in
     let here = subst (λ (p : Progress). Chain plan commands scope (done ++ act ∷ []) p) (sym far) one in
     let goes_on = subst (λ (x : Model). Runs plan commands x acts) (sym next) runs.1 in
     subst (λ (xs : List Act). Chain plan commands scope xs (stood plan commands scope xs).progress) (append_assoc done (act ∷ []) acts)
     (chain_along plan commands scope (done ++ act ∷ []) acts goes_on here)
 
 -- where none is unsent, no command is left
-none_behind : (commands : List Task) → drop (length commands - 0) commands ≡ []
+pub none_behind : (commands : List Task) → drop (length commands - 0) commands ≡ []
 none_behind commands = let at : length commands - 0 ≡ length commands = omega arith in ap (λ (n : ℕ). drop n commands) at ∙ all_dropped commands where
   -- a list without as many elements as it has is empty
   all_dropped : (commands : List Task) → drop (length commands) commands ≡ []
@@ -332,6 +386,13 @@ none_behind commands = let at : length commands - 0 ≡ length commands = omega 
 chain_stood : (plan : Plan) (commands : List Task) (scope : Scope) (acts : List Act) → Runs plan commands (opening plan scope) acts
     → Chain plan commands scope acts (stood plan commands scope acts).progress
 chain_stood plan commands scope acts runs = chain_along plan commands scope [] acts runs (record { next_is_chained = λ above. sym (ap is_chained (none_behind commands)); chain_unbroken = λ e. cc })
+
+-- after every run, where the next command isn't the first of its cycle, it counts as chained as the text says, or in a missed cycle
+pub bound_stood : (plan : Plan) (commands : List Task) (scope : Scope) (acts : List Act) → Runs plan commands (opening plan scope) acts
+    → 0 < place_next commands (stood plan commands scope acts).progress
+    → (stood plan commands scope acts).progress.next_is_chained
+    ≡ ((stood plan commands scope acts).progress.missed || is_chained (drop (place_next commands (stood plan commands scope acts).progress) commands))
+bound_stood plan commands scope acts runs above = (chain_stood plan commands scope acts runs).next_is_chained above
 
 -- What the last record says.
 
@@ -387,6 +448,11 @@ last_sent : (commands : List Task) (begun place : ℕ) (left : List Task) → dr
 last_sent commands begun place [] at some many = absurd (omega (arith, some))
 last_sent commands begun place (task ∷ others) at some many = (task, sent_next commands begun place task others at many)
 
+-- a request of this very place isn't in front of it
+not_in_front : (cycle place : ℕ) (r : Request) → r.cycle ≡ cycle → r.place ≡ place → IsInFront cycle place r → ⊥
+not_in_front cycle place r at is (inl less) = omega (arith, less, at)
+not_in_front cycle place r at is (inr same) = omega (arith, same.1, is)
+
 -- where a chained command is to go out, `IsLinked` holds: the command before it went out and was answered well, and the station
 -- has begun after each act since
 pub chain_whole : (plan : Plan) (commands : List Task) (scope : Scope) (acts : List Act) → Runs plan commands (opening plan scope) acts
@@ -428,12 +494,21 @@ chain_whole plan commands scope acts runs is chained = of_may needs.4 where
       let cycle = cycles_begun plan b.progress in
       let left : 0 < length (drop place commands) = let n = length-drop place commands in omega (arith, n, some, before.unsent) in
       let sent = last_sent commands cycle place (drop place commands) refl left many in
-      let all = each_settled s.marks s.client.waiting s.records (sent_by commands (cycles_begun plan s.progress) (place_next commands s.progress)) settled fine.each in
+      let b_passes = b.passes in
       let there : sent_by commands (cycles_begun plan s.progress) (place_next commands s.progress) ≡ sent_by commands cycle (place + 1) =
       ap (λ (n : ℕ). sent_by commands n (place_next commands s.progress)) w.cycle ∙ ap (λ (n : ℕ). sent_by commands cycle n) w.place in
-      let ends : map of_record l.earlier ++ of_record l.answer ∷ [] ≡ sent_by commands cycle place ++ requests cycle place (of_task sent.0 ∷ []) =
-      sym (map-append of_record l.earlier (l.answer ∷ [])) ∙ ap (map of_record) (sym l.last) ∙ all ∙ there ∙ sym sent.1 in
-      let own = end_same (map of_record l.earlier) (sent_by commands cycle place) (of_record l.answer) (record { cycle = cycle; place = place; asked = of_task sent.0 }) ends in
+      let one : Request = record { cycle = cycle; place = place; asked = of_task sent.0 } in
+      let all : Parted (map of_record s.records) b_passes (sent_by commands cycle place ++ one ∷ []) =
+      subst (λ (xs : List Request). Parted (map of_record s.records) b_passes xs) (there ∙ sym sent.1)
+      (subst (λ (ys : List Request). Parted (map of_record s.records) ys (sent_by commands (cycles_begun plan s.progress) (place_next commands s.progress))) w.passes
+      (subst (λ (xs : List Request). Parted xs s.passes (sent_by commands (cycles_begun plan s.progress) (place_next commands s.progress)))
+      (sym (each_settled s.marks s.client.waiting s.records (map of_record s.records ++ still_waiting s.marks s.client.waiting) settled refl)) fine.each)) in
+      let front = parted_all (IsInFront cycle place) (map of_record b.records ++ still_waiting b.marks b.client.waiting) b_passes (sent_by commands cycle place) before.each (sent_before commands cycle place) in
+      let kept = parted_last one (map of_record s.records) b_passes (sent_by commands cycle place) all
+      (λ xs e. not_in_front cycle place one refl refl (all_last (IsInFront cycle place) xs one (subst (AllByRecursion (IsInFront cycle place)) e front))) in
+      let ends : map of_record l.earlier ++ of_record l.answer ∷ [] ≡ kept.0 ++ one ∷ [] =
+      sym (map-append of_record l.earlier (l.answer ∷ [])) ∙ ap (map of_record) (sym l.last) ∙ kept.1 in
+      let own = end_same (map of_record l.earlier) kept.0 (of_record l.answer) one ends in
       let true_one = all_last (IsTrueRecord plan commands scope acts) l.earlier l.answer
       (subst (λ (rs : List Record). AllByRecursion (IsTrueRecord plan commands scope acts) rs) l.last (answers_true plan commands scope acts runs)) in
       let listed = all_last (λ (r : Record). IsAsListed scope.reads commands r) l.earlier l.answer

@@ -112,6 +112,8 @@ closed_ends : (plan : Plan) (w : Waiting) (other c : Cause) (p : Progress) → (
 closed_ends plan w cause.Done c p done e = let none = done refl in (cc, none.0, none.1, none.2)
 closed_ends plan w cause.Clock c p done e = cc
 closed_ends plan w cause.Turns c p done e = cc
+closed_ends plan w cause.Stale c p done e = cc
+closed_ends plan w cause.Stopped c p done e = cc
 closed_ends plan w cause.Open c p done e = again_ends plan cause.Open c w.commands p (is_finished w.commands p) (nat_lt 0 p.tries) refl refl e
 closed_ends plan w other c p done e = again_ends plan other c w.commands p (is_finished w.commands p) (is_idle plan p || nat_lt 0 p.tries) refl refl e
 

@@ -18,8 +18,8 @@ use Rattle.gc_station.specs.declared.progress.Until.{Until}
 use Rattle.gc_links.specs.Acts.{Act, Told, Put, Gave, Silent, Opened}
 use Rattle.gc_station.specs.Deciding.{is_up, is_past, is_quiet}
 use Rattle.gc_station.specs.Marks.{commands_in}
-use Rattle.gc_station.specs.Progressing.{turned, told, begun, skipped, opened, cleared, asking, null_sent, renewed, sent, reckoned_early, time_passed, quieted, is_idle, drained}
-use Rattle.gc_station.specs.Model.{Model, requests_out, request_text, null_text, first_text, place_next, is_chained_behind_next, waiting_of, piece_at, with_progress, Performs, moved}
+use Rattle.gc_station.specs.Progressing.{turned, told, begun, skipped, passed, opened, cleared, asking, null_sent, renewed, sent, reckoned_early, time_passed, quieted, is_idle, drained}
+use Rattle.gc_station.specs.Model.{Model, requests_out, request_text, null_text, first_text, place_next, is_chained_behind_next, others_behind_next, is_chained_behind, others_behind, waiting_of, piece_at, with_progress, Performs, moved}
 use Rattle.gc_station.proofs.Turns.{again_down, closed_down}
 use Rattle.gc_station.proofs.Walk.{walk}
 
@@ -66,9 +66,12 @@ OnLine plan commands F actions.Begin s acts = (m : Moment) → F (begun plan (le
 OnLine plan commands F actions.Open s acts = (m : Moment) → F (opened s.progress) (acts ++ Opened ∷ [])
 OnLine plan commands F actions.Clear s acts = (m : Moment) → F (cleared s.progress) (acts ++ Put (10 ∷ []) ∷ [])
 OnLine plan commands F actions.Ask s acts = (m : Moment) → F (null_sent plan s.progress) (acts ++ Put (null_text s.progress.word) ∷ [])
-OnLine plan commands F actions.Send s acts = (m : Moment) → F (sent (is_chained_behind_next commands s.progress) s.progress)
+OnLine plan commands F actions.Send s acts = (m : Moment) → F (sent (is_chained_behind_next commands s.progress) (others_behind_next commands s.progress) s.progress)
     (acts ++ Put (first_text s.client (drop (place_next commands s.progress) commands)) ∷ [])
-OnLine plan commands F actions.Skip s acts = (m : Moment) → F (reckoned_early plan (commands_in s.marks) (skipped (is_chained_behind_next commands s.progress) m s.progress)) (acts ++ Told m ∷ [])
+OnLine plan commands F actions.Skip s acts = (m : Moment) → F (reckoned_early plan (commands_in s.marks) (skipped (is_chained_behind_next commands s.progress) (others_behind_next commands s.progress) m s.progress)) (acts ++ Told m ∷ [])
+OnLine plan commands F actions.Pass s acts =
+    (m : Moment) → F (reckoned_early plan (commands_in s.marks)
+    (passed (is_chained_behind s.progress.next_others commands s.progress) (others_behind s.progress.next_others commands s.progress) m s.progress)) (acts ++ Told m ∷ [])
 OnLine plan commands F actions.Flush s acts = (m : Moment) → F (asking s.progress) (acts ++ Put (request_text s.client (Table NullProc)) ∷ [])
 OnLine plan commands F (actions.Read until) s acts =
     ((bytes : List ℕ) (m : Moment) → F (piece_at plan until bytes m s).progress (acts ++ Gave bytes m ∷ []))

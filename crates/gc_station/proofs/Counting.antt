@@ -1,37 +1,111 @@
--- A tally counts the records. `count` is one of its counts, and `so` tells which endings it counts; no count exceeds 2^64 - 1
--- (`at_most`).
-use Rattle.std.proofs.Common.{◌≡◌, ℕ, suc, ◌+◌, ◌≤◌, Bool, true, false, List, [], ◌∷◌, if◌then◌else◌, refl, ap, ◌∙◌, arith}
+-- A tally counts the records of the last attempts. `count` is one of its counts, and `so` tells which endings it counts; no count
+-- exceeds 2^64 - 1 (`at_most`).
+use Rattle.std.proofs.Common.{◌||◌, ◌&&◌, not, nat_eq, nat_lt, ◌≡◌, ℕ, suc, ◌+◌, Bool, true, false, List, [], ◌∷◌, if◌then◌else◌, refl, sym, ap, ◌∙◌, arith}
 use Rattle.gc_texts.specs.Endings.{End, Answered, Unreadable, Elsewhere, Late, Lost, Skipped, Missed}
-use Rattle.gc_station.specs.Counting.{how_many, is_answered, is_unreadable, is_elsewhere, is_late, is_lost, is_skipped, is_missed, at_most, TalliesCountRecords}
+use Rattle.gc_station.specs.Counting.{is_followed, last_attempts, further_attempts, how_many, is_answered, is_unreadable, is_elsewhere, is_late, is_lost, is_skipped, is_missed, at_most, TalliesCountRecords}
 use Rattle.gc_station.specs.Records.{Record}
-use Rattle.gc_station.specs.Tallies.{none_yet, one_more, counted, tallied}
+use Rattle.gc_station.specs.Tallies.{none_yet, one_more, counted, sum, nothing_yet, tallied, total, tally_of}
+use Rattle.gc_station.specs.Deciding.{later}
+use Rattle.gc_station.specs.declared.tally.Counts.{Counts}
 use Rattle.gc_station.specs.declared.tally.Tally.{Tally}
 
--- 0 added to a number leaves it, up to the greatest that a count holds
-none_more : (n : ℕ) → at_most (0 + n) ≡ at_most n
-none_more n = omega arith
+-- where an attempt is followed (q), its commands aren't counted, and neither is the next one of it; else one with this ending (e) counts
+-- as one
+grown : (q e : Bool) (s a h : ℕ) → at_most (s + ((if q then 0 else (if e then one_more a else a)) + h)) ≡ at_most (s + ((if q then 0 else a) + (if q then h else (if e then suc h else h))))
+grown true e s a h = refl
+grown false true s a h = omega arith
+grown false false s a h = refl
 
--- a count that grows by one for each command with this ending (`so`), and stays for any other
-module _ (count : Tally → ℕ) (so : End → Bool) (step : (end : End) (t : Tally) → count (counted end t) ≡ (if so end then one_more (count t) else count t)) where
-  -- a record counts as one if it has this ending (b), up to the greatest number that a count holds
-  more : (b : Bool) (n k : ℕ) → at_most ((if b then one_more n else n) + k) ≡ at_most (n + (if b then suc k else k))
-  more true n k = omega arith
-  more false n k = refl
+-- nothing is nothing, whether an attempt is followed or not
+none_so : (q : Bool) → ◌≡◌ {A = ℕ} (if q then 0 else 0) 0
+none_so true = refl
+none_so false = refl
 
-  -- a count after records is that before, and the number of records with its ending, up to its greatest number
-  counts : (t : Tally) (records : List Record) → count t ≤ 18446744073709551615 → count (tallied t records) ≡ at_most (count t + how_many so records)
-  counts t [] few = omega (arith, few)
-  counts t (r ∷ others) few =
-      let is = step r.end t in
-      counts (counted r.end t) others (below (so r.end) is) ∙ ap (λ n. at_most (n + how_many so others)) is ∙ more (so r.end) (count t) (how_many so others) where
-        -- the count stays within the greatest number
-        below : (b : Bool) → count (counted r.end t) ≡ (if b then one_more (count t) else count t) → count (counted r.end t) ≤ 18446744073709551615
-        below true e = omega (arith, e)
-        below false e = omega (arith, e, few)
+-- 0 of an attempt leaves a count
+started_again : (q : Bool) (s k : ℕ) → at_most (s + ((if q then 0 else 0) + k)) ≡ at_most (s + (0 + k))
+started_again q s k = ap (λ n. at_most (s + (n + k))) (none_so q)
 
-  -- a count of a tally of all records is the number of records with its ending, up to its greatest number
-  pub counts_all : count none_yet ≡ 0 → (records : List Record) → count (tallied none_yet records) ≡ at_most (how_many so records)
-  counts_all none records = counts none_yet records (omega (arith, none)) ∙ ap (λ n. at_most (n + how_many so records)) none ∙ none_more (how_many so records)
+-- an attempt that isn't followed is counted once the next chain begins
+settled_then : (q : Bool) (s a k : ℕ) → at_most (later s a + ((if q then 0 else 0) + k)) ≡ at_most (s + (a + k))
+settled_then q s a k = started_again q (later s a) k ∙ omega arith
+
+-- a count that grows by one for each command with this ending (`so`), stays for any other, adds up, and doesn't hang on `again`
+module _ (count : Tally → ℕ) (so : End → Bool) (step : (end : End) (t : Tally) → count (counted end t) ≡ (if so end then one_more (count t) else count t))
+    (adds : (a b : Tally) → count (sum a b) ≡ later (count a) (count b)) (none : count none_yet ≡ 0) (stays : (t : Tally) (n : ℕ) → count (record t { again = n }) ≡ count t) where
+  -- how many of these records have this ending, with one in front that counts where its attempt isn't followed (q)
+  in_front : (q : Bool) (r : Record) (rs : List Record) → how_many so (if q then rs else r ∷ rs) ≡ (if q then how_many so rs else (if so r.end then suc (how_many so rs) else how_many so rs))
+  in_front true r rs = refl
+  in_front false r rs = refl
+
+  -- the next command of an attempt is counted in it
+  counts_next : (x s h : ℕ) (t : Tally) (r : Record) (rs : List Record) (q : Bool) → x ≡ at_most (s + ((if q then 0 else count (counted r.end t)) + how_many so rs))
+      → x ≡ at_most (s + ((if q then 0 else count t) + how_many so (if q then rs else r ∷ rs)))
+  counts_next x s h t r rs q is =
+      is ∙ ap (λ n. at_most (s + ((if q then 0 else n) + how_many so rs))) (step r.end t) ∙ grown q (so r.end) s (count t) (how_many so rs)
+      ∙ ap (λ n. at_most (s + ((if q then 0 else count t) + n))) (sym (in_front q r rs))
+
+  -- a count after records is that of the chains before, that of the attempt before where no further one follows, and the number of
+  -- records of last attempts with its ending, up to its greatest number
+  counts : (c : Counts) (rs : List Record) → count (total (tallied c rs)) ≡ at_most (count c.settled + ((if is_followed rs then 0 else count c.attempt) + how_many so (last_attempts rs)))
+  counts c [] = adds c.settled c.attempt ∙ omega arith
+  counts c (r ∷ rs) = by_tests (λ d. counts d rs) (nat_eq r.cycle 0) (nat_eq r.turn.link 0) (nat_lt 1 r.turn.attempt) where
+    -- the counts once an attempt begins: it is a further one (f), or the first one of its chain
+    begun : Bool → Counts
+    begun f = if f then record { settled = record c.settled { again = one_more c.settled.again }; attempt = none_yet } else record { settled = sum c.settled c.attempt; attempt = none_yet }
+
+    -- the lemma above, whether the record is of the set-up (z), whether an attempt begins with it (l), and whether that is a further one (f)
+    by_tests : ((d : Counts) → count (total (tallied d rs)) ≡ at_most (count d.settled + ((if is_followed rs then 0 else count d.attempt) + how_many so (last_attempts rs)))) → (z l f : Bool)
+        → count (total (tallied (if z then c else (let d = (if l then begun f else c) in record d { attempt = counted r.end d.attempt })) rs))
+        ≡ at_most (count c.settled + ((if (if z || not l then is_followed rs else f) then 0 else count c.attempt) + how_many so (if z || is_followed rs then last_attempts rs else r ∷ last_attempts rs)))
+    by_tests ih true l f = ih c
+    by_tests ih false false f = counts_next _ (count c.settled) 0 c.attempt r (last_attempts rs) (is_followed rs) (ih (record c { attempt = counted r.end c.attempt }))
+    by_tests ih false true true =
+        counts_next _ (count (record c.settled { again = one_more c.settled.again })) 0 none_yet r (last_attempts rs) (is_followed rs)
+        (ih (record { settled = record c.settled { again = one_more c.settled.again }; attempt = counted r.end none_yet }))
+        ∙ ap (λ n. at_most (n + ((if is_followed rs then 0 else count none_yet) + how_many so (if is_followed rs then last_attempts rs else r ∷ last_attempts rs)))) (stays c.settled (one_more c.settled.again))
+        ∙ ap (λ n. at_most (count c.settled + ((if is_followed rs then 0 else n) + how_many so (if is_followed rs then last_attempts rs else r ∷ last_attempts rs)))) none
+        ∙ started_again (is_followed rs) (count c.settled) _
+    by_tests ih false true false =
+        counts_next _ (count (sum c.settled c.attempt)) 0 none_yet r (last_attempts rs) (is_followed rs) (ih (record { settled = sum c.settled c.attempt; attempt = counted r.end none_yet }))
+        ∙ ap (λ n. at_most (n + ((if is_followed rs then 0 else count none_yet) + how_many so (if is_followed rs then last_attempts rs else r ∷ last_attempts rs)))) (adds c.settled c.attempt)
+        ∙ ap (λ n. at_most (later (count c.settled) (count c.attempt) + ((if is_followed rs then 0 else n) + how_many so (if is_followed rs then last_attempts rs else r ∷ last_attempts rs)))) none
+        ∙ settled_then (is_followed rs) (count c.settled) (count c.attempt) _
+
+  -- a count of a tally of all records is the number of records of last attempts with its ending, up to its greatest number
+  pub counts_all : (records : List Record) → count (tally_of records) ≡ at_most (how_many so (last_attempts records))
+  counts_all records =
+      counts nothing_yet records ∙ ap (λ n. at_most (n + ((if is_followed records then 0 else n) + how_many so (last_attempts records)))) none
+      ∙ started_again (is_followed records) 0 (how_many so (last_attempts records)) ∙ omega arith
+
+-- a command that is counted leaves how many chains went out again
+same_again : (end : End) (t : Tally) → (counted end t).again ≡ t.again
+same_again (Answered quality answer line) t = refl
+same_again (Unreadable line fault) t = refl
+same_again (Elsewhere line) t = refl
+same_again Late t = refl
+same_again Lost t = refl
+same_again Skipped t = refl
+same_again Missed t = refl
+
+-- how many chains went out again after records is that before, and the number of further attempts among them
+agains : (c : Counts) (rs : List Record) → c.attempt.again ≡ 0 → (total (tallied c rs)).again ≡ at_most (c.settled.again + further_attempts rs)
+agains c [] none = omega (arith, none)
+agains c (r ∷ rs) none = by_tests (λ d n. agains d rs n) (nat_eq r.cycle 0) (nat_eq r.turn.link 0) (nat_lt 1 r.turn.attempt) where
+  -- the counts once an attempt begins: it is a further one (f), or the first one of its chain
+  begun : Bool → Counts
+  begun f = if f then record { settled = record c.settled { again = one_more c.settled.again }; attempt = none_yet } else record { settled = sum c.settled c.attempt; attempt = none_yet }
+
+  -- the lemma above, by the tests of the record
+  by_tests : ((d : Counts) → d.attempt.again ≡ 0 → (total (tallied d rs)).again ≡ at_most (d.settled.again + further_attempts rs)) → (z l f : Bool)
+      → (total (tallied (if z then c else (let d = (if l then begun f else c) in record d { attempt = counted r.end d.attempt })) rs)).again
+      ≡ at_most (c.settled.again + (if not z && l && f then suc (further_attempts rs) else further_attempts rs))
+  by_tests ih true l f = ih c none
+  by_tests ih false false f = ih (record c { attempt = counted r.end c.attempt }) (same_again r.end c.attempt ∙ none)
+  by_tests ih false true true =
+      ih (record { settled = record c.settled { again = one_more c.settled.again }; attempt = counted r.end none_yet }) (same_again r.end none_yet) ∙ omega arith
+  by_tests ih false true false =
+      ih (record { settled = sum c.settled c.attempt; attempt = counted r.end none_yet }) (same_again r.end none_yet)
+      ∙ ap (λ n. at_most (later c.settled.again n + further_attempts rs)) none ∙ omega arith
 
 -- the count of answered commands grows by one for an answered command alone
 answered : (end : End) (t : Tally) → (counted end t).answered ≡ (if is_answered end then one_more t.answered else t.answered)
@@ -68,14 +142,15 @@ missed : (end : End) (t : Tally) → (counted end t).missed ≡ (if is_missed en
 missed Missed t = refl
 missed end t = refl
 
--- each count of a tally is the number of the records with its ending
+-- each count of a tally is the number of the records of last attempts with its ending
 pub count_records : TalliesCountRecords
 count_records = record {
-  answered = counts_all (λ (t : Tally). t.answered) is_answered answered refl;
-  unreadable = counts_all (λ (t : Tally). t.unreadable) is_unreadable unreadable refl;
-  late = counts_all (λ (t : Tally). t.late) is_late late refl;
-  lost = counts_all (λ (t : Tally). t.lost) is_lost lost refl;
-  skipped = counts_all (λ (t : Tally). t.skipped) is_skipped skipped refl;
-  missed = counts_all (λ (t : Tally). t.missed) is_missed missed refl;
-  elsewhere = counts_all (λ (t : Tally). t.elsewhere) is_elsewhere elsewhere refl;
+  answered = counts_all (λ (t : Tally). t.answered) is_answered answered (λ a b. refl) refl (λ t n. refl);
+  unreadable = counts_all (λ (t : Tally). t.unreadable) is_unreadable unreadable (λ a b. refl) refl (λ t n. refl);
+  late = counts_all (λ (t : Tally). t.late) is_late late (λ a b. refl) refl (λ t n. refl);
+  lost = counts_all (λ (t : Tally). t.lost) is_lost lost (λ a b. refl) refl (λ t n. refl);
+  skipped = counts_all (λ (t : Tally). t.skipped) is_skipped skipped (λ a b. refl) refl (λ t n. refl);
+  missed = counts_all (λ (t : Tally). t.missed) is_missed missed (λ a b. refl) refl (λ t n. refl);
+  elsewhere = counts_all (λ (t : Tally). t.elsewhere) is_elsewhere elsewhere (λ a b. refl) refl (λ t n. refl);
+  again = λ records. agains nothing_yet records refl ∙ omega arith;
 }

@@ -5,7 +5,7 @@ use Rattle.gc_texts.specs.declared.tasks.Task.{Task}
 use Rattle.gc_station.specs.declared.plan.Plan.{Plan}
 use Rattle.gc_station.specs.declared.cause.Cause.TheVariants as cause
 use Rattle.gc_station.specs.declared.progress.Action.{Action}
-use Rattle.gc_station.specs.declared.progress.Action.TheVariants.{Begin, Send, Skip}
+use Rattle.gc_station.specs.declared.progress.Action.TheVariants.{Begin, Send, Skip, Pass}
 use Rattle.gc_station.specs.declared.progress.Progress.{Progress}
 use Rattle.gc_links.specs.Acts.{Act, Told, Cut}
 use Rattle.gc_station.proofs.Walk.{moved_changed, is_sent}
@@ -30,12 +30,17 @@ counted_begun count p = record p { left = p.left - 1; unsent = count }
 abbrev pub counted_sent : Progress → Progress
 counted_sent p = record p { unsent = p.unsent - 1 }
 
+-- the progress with as many commands less unsent as the next command's attempt and those behind it have
+abbrev pub counted_passed : Progress → Progress
+counted_passed p = record p { unsent = p.unsent - p.next_others }
+
 -- what an act of an action does to these counts, from p to q: nothing, or what begins a cycle, or what sends or skips a
--- command. The first argument is how many commands a cycle has
+-- command, or passes over some. The first argument is how many commands a cycle has
 abbrev pub Counts : ℕ → Action → Progress → Progress → Type 0
 Counts count Begin p q = Kept p q ⊎ Kept (counted_begun count p) q
 Counts count Send p q = Kept (counted_sent p) q
 Counts count Skip p q = Kept p q ⊎ Kept (counted_sent p) q
+Counts count Pass p q = Kept p q ⊎ Kept (counted_passed p) q
 Counts count _ p q = Kept p q
 
 -- each act does to the counts what `Counts` says
@@ -44,6 +49,8 @@ moved_counts plan commands Begin s (Told m) = inr (kept (counted_begun (length c
 moved_counts plan commands Begin s act = inl (kept s.progress _ refl refl refl)
 moved_counts plan commands Skip s (Told m) = inr (kept (counted_sent s.progress) _ refl refl refl)
 moved_counts plan commands Skip s act = inl (kept s.progress _ refl refl refl)
+moved_counts plan commands Pass s (Told m) = inr (kept (counted_passed s.progress) _ refl refl refl)
+moved_counts plan commands Pass s act = inl (kept s.progress _ refl refl refl)
 moved_counts plan commands Send s (Cut bytes n) = subst (λ (x : Model). Kept (counted_sent s.progress)
     (failing (cause.Write (requests_out plan commands s.progress) n) x.progress)) (is_sent plan commands s) (kept (counted_sent s.progress) _ refl refl refl)
 moved_counts plan commands Send s act = subst (λ (x : Model). Kept (counted_sent s.progress) x.progress) (is_sent plan commands s) (kept (counted_sent s.progress) _ refl refl refl)
@@ -60,6 +67,15 @@ losing_progress false s = refl
 pub ended_progress : (s : Model) → (ended s).progress ≡ s.progress
 ended_progress s = losing_progress (loses_all s.progress) s
 
+-- where requests are lost, nothing is passed over
+losing_passes : (b : Bool) (s : Model) → (losing b s).passes ≡ s.passes
+losing_passes true s = refl
+losing_passes false s = refl
+
+-- what is lost after an act passes nothing over
+pub ended_passes : (s : Model) → (ended s).passes ≡ s.passes
+ended_passes s = losing_passes (loses_all s.progress) s
+
 -- what an act does, apart from the turn that it takes, leaves the number of turns
 pub turns_kept : (plan : Plan) (commands : List Task) (action : Action) (s : Model) (act : Act) → (moved plan commands action s act).progress.turns ≡ s.progress.turns
 turns_kept plan commands action s act = ap (λ (x : Model). x.progress.turns) (moved_changed plan commands action s act)
@@ -70,6 +86,8 @@ counts_within count Begin p q (inl same) h = omega (arith, same.unsent, h)
 counts_within count Begin p q (inr began) h = omega (arith, began.unsent)
 counts_within count Skip p q (inl same) h = omega (arith, same.unsent, h)
 counts_within count Skip p q (inr skipped) h = omega (arith, skipped.unsent, h)
+counts_within count Pass p q (inl same) h = omega (arith, same.unsent, h)
+counts_within count Pass p q (inr passed) h = omega (arith, passed.unsent, h)
 counts_within count action p q is h = omega (arith, is.unsent, h)
 
 -- no more commands are unsent after an act than there are, if no more were before

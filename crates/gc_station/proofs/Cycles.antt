@@ -14,7 +14,7 @@ use Rattle.gc_station.specs.Progressing.{turned, told, begun, beginning, failing
 use Rattle.gc_station.specs.Reasons.{IsFor, MayGo}
 use Rattle.gc_station.specs.Runs.{stood}
 use Rattle.gc_station.specs.Scopes.{Scope}
-use Rattle.gc_station.specs.Model.{Model, opening, action_at, waiting_of, cycles_begun, place_next, is_chained, is_chained_behind_next, is_heard, with_progress, with_moment, lines_behind, piece_at, moved, Performs, Runs}
+use Rattle.gc_station.specs.Model.{Model, opening, action_at, waiting_of, cycles_begun, place_next, is_chained, is_chained_behind_next, is_chained_behind, is_heard, with_progress, with_moment, lines_behind, piece_at, moved, Performs, Runs}
 use Rattle.gc_station.specs.declared.cause.Cause.{Cause}
 use Rattle.gc_station.specs.declared.cause.Cause.TheVariants as cause
 use Rattle.gc_station.specs.declared.plan.Plan.{Plan}
@@ -24,6 +24,7 @@ use Rattle.gc_station.specs.declared.progress.Phase.{Phase}
 use Rattle.gc_station.specs.declared.progress.Progress.{Progress}
 use Rattle.gc_station.specs.declared.progress.Until.{Until}
 use Rattle.gc_station.specs.declared.progress.Waiting.{Waiting}
+use Rattle.gc_station.proofs.Parted.{drop_past}
 use Rattle.gc_station.proofs.Closings.{runs_split, needs_of}
 use Rattle.gc_station.proofs.Always.{always, progress_behind}
 use Rattle.gc_station.proofs.EachRun.{fine_stood}
@@ -158,6 +159,40 @@ module _ (plan : Plan) (commands : List Task) (scope : Scope) (some : 0 < plan.e
         by_missed true is e at = inl (missed ∙ is)
         by_missed false is e at =
             inr (omega (arith, at), ap (λ (x : ℕ). is_chained (drop x commands)) at ∙ or_second p.missed (is_chained (drop (place_next commands p + 1) commands)) e is)
+
+  -- `Begun` lasts over an act that passes over the further attempts of a chain
+  pub begun_past : (acts : List Act) (act : Act) (p q : Progress) → q.left ≡ p.left → q.unsent ≡ p.unsent - p.next_others → q.missed ≡ p.missed → q.due ≡ p.due
+      → q.next_is_chained ≡ is_chained_behind p.next_others commands p
+      → 0 < p.next_others → (p.missed ≡ true → q.chain_unbroken ≡ false) → Ticks p act q → Rises p.moment.elapsed (act ∷ []) → 0 < p.unsent → p.unsent ≤ length commands → Begun acts p → Begun (acts ++ act ∷ []) q
+  begun_past acts act p q left unsent missed due next_is_chained more chain_unbroken t rises here within (inl none) = let nothing = none.1 in absurd (omega (arith, nothing, here))
+  begun_past acts act p q left unsent missed due next_is_chained more chain_unbroken t rises here within (inr c) =
+      let tick = ticked p q act t rises c.past in
+      let same = tick.0 in
+      let before = c.began in
+      let few = c.fewer in
+      let above : 0 < place_next commands q = omega (arith, unsent, here, within, more) in
+      let at : drop (place_next commands p + p.next_others) commands ≡ drop (place_next commands q) commands =
+      drop_past commands p.unsent p.next_others within ∙ ap (λ (x : ℕ). drop (length commands - x) commands) (sym unsent) in
+      inr (record {
+        n = c.n;
+        m = c.m;
+        late = c.late;
+        begins = late_more acts (act ∷ []) c.n c.m c.late c.begins;
+        count = ap (λ (x : ℕ). plan.cycles - x) left ∙ c.count;
+        fewer = omega (arith, few, left);
+        began = omega (arith, same, before);
+        past = tick.1;
+        missed = missed ∙ c.missed;
+        due = due ∙ c.due;
+        held = λ e. let was : p.missed ≡ true = sym missed ∙ e in (next_is_chained ∙ or_some p.missed (is_chained (drop (place_next commands p + p.next_others) commands)) was, chain_unbroken was);
+        chained = λ e. by_missed p.missed refl (sym next_is_chained ∙ e) above at;
+      }) where
+        -- what makes the new next command wait: its cycle is missed (`true`), or the text chains it
+        by_missed : (b : Bool) → p.missed ≡ b → is_chained_behind p.next_others commands p ≡ true → 0 < place_next commands q → drop (place_next commands p + p.next_others) commands ≡ drop (place_next commands q) commands
+            → (q.missed ≡ true) ⊎ ((0 < place_next commands q) × (is_chained (drop (place_next commands q) commands) ≡ true))
+        by_missed true is e above at = inl (missed ∙ is)
+        by_missed false is e above at =
+            inr (above, ap is_chained (sym at) ∙ or_second p.missed (is_chained (drop (place_next commands p + p.next_others) commands)) e is)
 
   -- `Cycling` holds after the act that begins a cycle at the moment m, if the cycle counts as begun at b and b is its due moment
   pub begins_cycle : (acts : List Act) (m : Moment) (p : Progress) (n : ℕ) (b : ℕ) → beginning plan m p ≡ b → b ≤ m.elapsed → cycles_begun plan p ≡ n → 0 < p.left → p.left ≤ plan.cycles
@@ -355,6 +390,10 @@ module _ (plan : Plan) (commands : List Task) (scope : Scope) (some : 0 < plan.e
       let s = with_progress turned (stood plan commands scope acts) in
       walk plan commands (On acts s.progress) actions.Skip s act o
       (λ m. (refl, λ rises. begun_next acts (Told m) s.progress _ refl refl refl refl refl (λ e. refl) (refl, refl) rises needs.2 fine.unsent h), λ n. fails acts s Untold cause.Clock h (refl, refl))
+  on_moved acts actions.Pass act is o fine needs h =
+      let s = with_progress turned (stood plan commands scope acts) in
+      walk plan commands (On acts s.progress) actions.Pass s act o
+      (λ m. (refl, λ rises. begun_past acts (Told m) s.progress _ refl refl refl refl refl needs.4 (λ e. refl) (refl, refl) rises needs.2 fine.unsent h), λ n. fails acts s Untold cause.Clock h (refl, refl))
   on_moved acts (actions.Read until) act is o fine needs h =
       let s = with_progress turned (stood plan commands scope acts) in
       walk plan commands (On acts s.progress) (actions.Read until) s act o (

@@ -2,7 +2,7 @@
 -- under some conditions. `BeginsDue` says of an action: if it begins a cycle, the cycle is due.
 use Rattle.std.proofs.Common.{◌≡◌, ◌&&◌, Bool, true, false, nat_lt, nat_le, nat_eq, if◌then◌else◌, not}
 use Rattle.gc_client.specs.declared.window.TheConstants.{WINDOW}
-use Rattle.gc_station.specs.Deciding.{is_up, is_idle, is_finished, has_begun, is_dead, is_due, has_room, action_of, action_in, action_on, action_told, may_go, action_ready, action_begun, action_beginning, action_sent, action_settled, action_done, action_next, action_room, action_waiting, action_up}
+use Rattle.gc_station.specs.Deciding.{is_up, is_idle, is_finished, has_begun, is_dead, is_due, has_room, action_of, action_in, action_on, action_told, may_go, waits_for_all, action_again, action_ready, action_begun, action_beginning, action_sent, action_settled, action_done, action_next, action_room, action_waiting, action_up, is_stale, is_stopping, is_held_back}
 use Rattle.gc_station.specs.declared.cause.Cause.TheVariants as cause
 use Rattle.gc_station.specs.declared.plan.Plan.{Plan}
 use Rattle.gc_station.specs.declared.progress.Action.{Action}
@@ -45,8 +45,10 @@ module _ (plan : Plan) (p : Progress) (w : Waiting) where
   -- where each command that was sent is settled, the next cycle begins only when it is due
   pub settled_due : BeginsDue plan p (action_settled plan p w)
   settled_due =
-      either (BeginsDue plan p) (action_done plan p) (if may_go p w then action_next plan p w else actions.Skip) (nat_eq p.unsent 0) (λ e. done_due)
-      (λ e. either (BeginsDue plan p) (action_next plan p w) actions.Skip (may_go p w) (λ d. next_not) (λ d b. cc))
+      either (BeginsDue plan p) (action_done plan p) _ (nat_eq p.unsent 0) (λ e. done_due)
+      (λ e. either (BeginsDue plan p) (action_again plan p w) (if may_go p w then action_next plan p w else actions.Skip) (nat_lt 0 p.next_others)
+      (λ more. either (BeginsDue plan p) (action_next plan p w) actions.Pass (w.listed && not p.next_is_chained) (λ d. next_not) (λ d b. cc))
+      (λ none. either (BeginsDue plan p) (action_next plan p w) actions.Skip (may_go p w) (λ d. next_not) (λ d b. cc)))
 
   -- where no command may go out, the next cycle begins only when it is due
   pub sent_due : BeginsDue plan p (action_sent plan p w)
@@ -57,7 +59,8 @@ module _ (plan : Plan) (p : Progress) (w : Waiting) where
   -- once the station has begun, a cycle begins only when it is due
   pub begun_due : BeginsDue plan p (action_begun plan p w)
   begun_due =
-      either (BeginsDue plan p) (action_next plan p w) (action_sent plan p w) (nat_lt 0 p.unsent && not p.next_is_chained) (λ d. next_not) (λ d. sent_due)
+      either (BeginsDue plan p) (action_waiting plan p w) _ (is_held_back p w) (λ h. waits_not)
+      (λ h. either (BeginsDue plan p) (action_next plan p w) (action_sent plan p w) (nat_lt 0 p.unsent && not (waits_for_all p)) (λ d. next_not) (λ d. sent_due))
 
   -- no cycle begins where a null procedure goes out or is waited for
   pub asks_not : BeginsDue plan p (if nat_le p.again p.moment.elapsed then actions.Ask else actions.Read Limit)
@@ -92,8 +95,10 @@ module _ (plan : Plan) (p : Progress) (w : Waiting) where
   -- a cycle begins only when it is due, where the end isn't decided yet
   pub on_due : BeginsDue plan p (action_on plan p w)
   on_due =
-      either (BeginsDue plan p) (action_up (is_up p.phase)) (if p.stale then actions.ReadClock else action_told plan p.phase p w) (nat_eq p.turns 0) (λ e. up_due (is_up p.phase))
-      (λ e. either (BeginsDue plan p) actions.ReadClock (action_told plan p.phase p w) p.stale (λ d b. cc) (λ d. told_due p.phase))
+      either (BeginsDue plan p) (action_up (is_up p.phase)) _ (nat_eq p.turns 0) (λ e. up_due (is_up p.phase))
+      (λ e. either (BeginsDue plan p) (actions.Close cause.Stale) _ (is_stale plan p w) (λ d b. cc)
+      (λ d. either (BeginsDue plan p) (actions.Close cause.Stopped) _ (is_stopping p w) (λ f b. cc)
+      (λ f. either (BeginsDue plan p) actions.ReadClock (action_told plan p.phase p w) p.stale (λ g b. cc) (λ g. told_due p.phase))))
 
   -- in each phase a cycle begins only when it is due
   pub in_due : (at : Phase) → BeginsDue plan p (action_in at plan p w)

@@ -164,24 +164,23 @@ sent_next commands (suc n) place task others at some =
 -- a command that is sent keeps `EachIs`
 pub each_sent : (commands : List Task) (begun place utc : ℕ) (expected : Expected) (ms : List (Option Mark)) (ws : List (Pending Asked)) (p : Pending Asked) (rs : List Record) (task : Task) (others : List Task)
     → length ms ≡ length ws → drop place commands ≡ task ∷ others → of_pending p ≡ of_task task → 0 < begun
-    → EachIs ms ws rs (sent_by commands begun place) → EachIs (ms ++ Some (record { cycle = begun; place = place; sent = utc; expected = expected }) ∷ []) (ws ++ p ∷ []) rs (sent_by commands begun (place + 1))
-each_sent commands begun place utc expected ms ws p rs task others paired at is some h =
+    → (kept : List Request) → EachIs ms ws rs kept
+    → EachIs (ms ++ Some (record { cycle = begun; place = place; sent = utc; expected = expected }) ∷ []) (ws ++ p ∷ []) rs (kept ++ requests begun place (of_task task ∷ []))
+each_sent commands begun place utc expected ms ws p rs task others paired at is some kept h =
     let front = map of_record rs in
     let mark : Mark = record { cycle = begun; place = place; sent = utc; expected = expected } in
     ap (λ xs. front ++ xs) (more_waiting ms ws (Some mark) p paired ∙ ap (λ a. still_waiting ms ws ++ requests begun place (a ∷ [])) is)
     ∙ sym (append_assoc front (still_waiting ms ws) (requests begun place (of_task task ∷ [])))
     ∙ ap (λ xs. xs ++ requests begun place (of_task task ∷ [])) h
-    ∙ sent_next commands begun place task others at some
 
 -- a command that isn't sent keeps `EachIs`: its record is added behind the others, and no command waits then
 pub each_skipped : (commands : List Task) (begun place : ℕ) (ms : List (Option Mark)) (ws : List (Pending Asked)) (rs : List Record) (r : Record) (task : Task) (others : List Task)
     → commands_in ms ≡ 0 → drop place commands ≡ task ∷ others → of_record r ∷ [] ≡ requests begun place (of_task task ∷ []) → 0 < begun
-    → EachIs ms ws rs (sent_by commands begun place) → EachIs ms ws (rs ++ r ∷ []) (sent_by commands begun (place + 1))
-each_skipped commands begun place ms ws rs r task others none at is some h =
-    each_nothing ms ws (rs ++ r ∷ []) (sent_by commands begun (place + 1)) none
+    → (kept : List Request) → EachIs ms ws rs kept → EachIs ms ws (rs ++ r ∷ []) (kept ++ requests begun place (of_task task ∷ []))
+each_skipped commands begun place ms ws rs r task others none at is some kept h =
+    each_nothing ms ws (rs ++ r ∷ []) (kept ++ requests begun place (of_task task ∷ [])) none
     (map-append of_record rs (r ∷ []) ∙ ap (λ xs. map of_record rs ++ xs) is
-    ∙ ap (λ xs. xs ++ requests begun place (of_task task ∷ [])) (each_settled ms ws rs (sent_by commands begun place) none h)
-    ∙ sent_next commands begun place task others at some)
+    ∙ ap (λ xs. xs ++ requests begun place (of_task task ∷ [])) (each_settled ms ws rs kept none h))
 
 -- at the end of a cycle, all commands of the cycles so far had their turn
 pub sent_whole : (commands : List Task) (begun place : ℕ) → place ≡ length commands → sent_by commands begun place ≡ all_cycles commands begun
@@ -196,10 +195,3 @@ sent_whole commands (suc n) place e = ap (λ xs. all_cycles commands n ++ reques
 pub sent_none : (commands : List Task) (begun next place : ℕ) → next ≡ suc begun → place ≡ 0 → sent_by commands next place ≡ all_cycles commands begun
 sent_none commands begun next place is none =
     ap (λ n. sent_by commands n place) is ∙ ap (λ m. all_cycles commands begun ++ requests (suc begun) 0 (map of_task (take m commands))) none ∙ append-nil (all_cycles commands begun)
-
--- the beginning of a cycle keeps `EachIs`, where all commands of the cycle before had their turn and none waits
-pub each_begun : (commands : List Task) (begun next place place' : ℕ) (ms : List (Option Mark)) (ws : List (Pending Asked)) (rs : List Record)
-    → commands_in ms ≡ 0 → place ≡ length commands → next ≡ suc begun → place' ≡ 0 → EachIs ms ws rs (sent_by commands begun place) → EachIs ms ws rs (sent_by commands next place')
-each_begun commands begun next place place' ms ws rs settled whole is none h =
-    each_nothing ms ws rs (sent_by commands next place') settled
-    (each_settled ms ws rs (sent_by commands begun place) settled h ∙ sent_whole commands begun place whole ∙ sym (sent_none commands begun next place' is none))

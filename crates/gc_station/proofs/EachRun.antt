@@ -2,7 +2,7 @@
 -- `Mid` of `Midway`: the counts, the client, the marks and the records belong together, and the phase fits them, before what
 -- waits is lost. An act is one call of the link, with what came of it. A mark says which command a waiting request is of, or
 -- `None` of a null procedure.
-use Rattle.std.proofs.Common.{◌≡◌, ℕ, ◌-◌, ◌<◌, ◌⊎◌, inl, inr, ◌||◌, ◌&&◌, Bool, true, false, not, List, [], ◌∷◌, length, drop, map, nat_eq, Option, refl, sym, ap, ◌∙◌, subst, arith, append-nil, if◌then◌else◌}
+use Rattle.std.proofs.Common.{◌≡◌, ℕ, ◌++◌, ◌-◌, ◌<◌, ◌⊎◌, inl, inr, ◌||◌, ◌&&◌, Bool, true, false, not, List, [], ◌∷◌, length, drop, map, nat_eq, Option, refl, sym, ap, ◌∙◌, subst, arith, append-nil, if◌then◌else◌}
 use Rattle.std.proofs.lemmas.List.{length-drop}
 use Rattle.gc_catalogue.specs.declared.asked.Asked.TheVariants.{Table}
 use Rattle.gc_catalogue.specs.declared.call.Call.TheVariants.{NullProc}
@@ -20,19 +20,19 @@ use Rattle.gc_station.specs.declared.progress.Progress.{Progress}
 use Rattle.gc_station.specs.declared.progress.Waiting.{Waiting}
 use Rattle.gc_links.specs.Acts.{Act, Told}
 use Rattle.gc_station.specs.Deciding.{later, has_begun, is_up}
-use Rattle.gc_station.specs.EachOnce.{EachOnce, sent_by, of_record, all_cycles}
+use Rattle.gc_station.specs.EachOnce.{EachOnce, Parted, Request, still_waiting, sent_by, of_record, all_cycles}
 use Rattle.gc_station.specs.Marks.{commands_in}
-use Rattle.gc_station.specs.Progressing.{turned, told, skipped_at, reckoned_early, begun, skipped, cleared, asking, null_sent, renewed, sent, is_over, is_over_in}
+use Rattle.gc_station.specs.Progressing.{turned, told, skipped_at, reckoned_early, begun, skipped, passed, cleared, asking, null_sent, renewed, sent, is_over, is_over_in}
 use Rattle.gc_station.specs.Reasons.{IsFor}
 use Rattle.gc_station.specs.Records.{Record}
 use Rattle.gc_station.specs.Runs.{stood}
 use Rattle.gc_texts.specs.Endings.{Skipped, Missed}
-use Rattle.gc_station.specs.Model.{Model, opening, action_at, waiting_of, place_next, expected_first, mark_next, with_progress, asks_null, asks_first, asks_next, is_chained_behind_next, with_records, skips, skips_first, after_clock, moved, after, after_all}
+use Rattle.gc_station.specs.Model.{Model, opening, action_at, waiting_of, place_next, expected_first, mark_next, with_progress, asks_null, asks_first, asks_next, is_chained_behind_next, others_behind_next, is_chained_behind, others_behind, passes_next, with_passes, with_listed, skip_listed, after_pass, with_records, skips, skips_first, after_clock, moved, after, after_all}
 use Rattle.gc_station.proofs.Acting.{mid_fail, mid_moment, mid_clock, mid_put, mid_open, mid_close, mid_read}
 use Rattle.gc_station.proofs.Each.{each_empty, sent_whole}
 use Rattle.gc_station.proofs.Facts.{action_for}
 use Rattle.gc_station.proofs.Invariant.{Invariant, is_bare, says_done}
-use Rattle.gc_station.proofs.Midway.{Placed, Mid, mid_of, clash, sound_null, sound_sent, sound_skipped, sound_begun, fine_ended}
+use Rattle.gc_station.proofs.Midway.{Placed, Mid, mid_of, clash, sound_null, sound_sent, sound_skipped, sound_passed, sound_begun, fine_ended}
 use Rattle.gc_station.specs.Scopes.{Scope}
 
 -- no records behind the others keep the weaker record
@@ -48,7 +48,7 @@ mid_begun : (plan : Plan) (commands : List Task) (s : Model) (m : Moment) → s.
     → Mid plan commands (with_progress (begun plan (length commands) m) s)
 mid_begun plan commands s m is none settled some mid =
     let p = s.progress in (
-      sound_begun plan commands p.left p.unsent s.client s.marks s.records none settled some mid.0,
+      sound_begun plan commands p.left p.unsent s.client s.marks s.records s.passes none some mid.0,
       going_placed p.phase (p.left - 1) (length commands) s.rest s.marks is,
     )
 
@@ -65,52 +65,64 @@ mid_flushed : (plan : Plan) (commands : List Task) (s : Model) → s.progress.ph
     → Mid plan commands (with_progress asking (asks_null plan s))
 mid_flushed plan commands s is room mid =
     let p = s.progress in (
-      sound_null plan commands p.left p.unsent s.client s.marks s.records 0 (Table NullProc) (later p.moment.elapsed plan.deadline) room mid.0,
+      sound_null plan commands p.left p.unsent s.client s.marks s.records s.passes 0 (Table NullProc) (later p.moment.elapsed plan.deadline) room mid.0,
       going_placed p.phase p.left p.unsent s.rest (asks_null plan s).marks is,
     )
 
 -- the first of these commands, where it is sent as the next one, keeps the weaker record
-mid_first : (plan : Plan) (commands : List Task) (next_is_chained : Bool) (s : Model) (left : List Task) → drop (place_next commands s.progress) commands ≡ left
+mid_first : (plan : Plan) (commands : List Task) (next_is_chained : Bool) (behind : ℕ) (s : Model) (left : List Task) → drop (place_next commands s.progress) commands ≡ left
     → s.progress.phase ≡ Ready → 0 < s.progress.unsent → length s.client.waiting < 7 → Mid plan commands s
-    → Mid plan commands (with_progress (sent next_is_chained) (asks_first (mark_next plan commands s.progress) left s))
-mid_first plan commands next_is_chained s [] at is some room mid =
+    → Mid plan commands (with_progress (sent next_is_chained behind) (asks_first (mark_next plan commands s.progress) left s))
+mid_first plan commands next_is_chained behind s [] at is some room mid =
     let sound = mid.0 in
     let n : length commands - place_next commands s.progress ≡ 0 = sym (length-drop (place_next commands s.progress) commands) ∙ ap length at in
     absurd (omega (arith, n, some, sound.unsents))
-mid_first plan commands next_is_chained s (task ∷ others) at is some room mid =
+mid_first plan commands next_is_chained behind s (task ∷ others) at is some room mid =
     let p = s.progress in
     let t = asks_first (mark_next plan commands p) (task ∷ others) s in (
-      sound_sent plan commands p.left p.unsent s.client s.marks s.records p.moment.utc (later p.moment.elapsed task.deadline) (expected_first (drop (place_next commands p) commands)) task others room some at mid.0,
+      sound_sent plan commands p.left p.unsent s.client s.marks s.records s.passes p.moment.utc (later p.moment.elapsed task.deadline) (expected_first (drop (place_next commands p) commands)) task others room some at mid.0,
       going_placed p.phase p.left (p.unsent - 1) s.rest t.marks is,
     )
 
 -- the next command, where it is sent, keeps the weaker record
-mid_sent : (plan : Plan) (commands : List Task) (next_is_chained : Bool) (s : Model) → s.progress.phase ≡ Ready → 0 < s.progress.unsent
-    → length s.client.waiting < 7 → Mid plan commands s → Mid plan commands (with_progress (sent next_is_chained) (asks_next plan commands s))
-mid_sent plan commands next_is_chained s is some room mid = mid_first plan commands next_is_chained s (drop (place_next commands s.progress) commands) refl is some room mid
+mid_sent : (plan : Plan) (commands : List Task) (next_is_chained : Bool) (behind : ℕ) (s : Model) → s.progress.phase ≡ Ready → 0 < s.progress.unsent
+    → length s.client.waiting < 7 → Mid plan commands s → Mid plan commands (with_progress (sent next_is_chained behind) (asks_next plan commands s))
+mid_sent plan commands next_is_chained behind s is some room mid = mid_first plan commands next_is_chained behind s (drop (place_next commands s.progress) commands) refl is some room mid
 
 -- the first of these commands, where it is passed over as the next one, keeps the weaker record
-mid_skips : (plan : Plan) (commands : List Task) (next_is_chained : Bool) (s : Model) (m : Moment) (left : List Task) → drop (place_next commands s.progress) commands ≡ left
+mid_skips : (plan : Plan) (commands : List Task) (next_is_chained : Bool) (behind : ℕ) (s : Model) (m : Moment) (left : List Task) → drop (place_next commands s.progress) commands ≡ left
     → s.progress.phase ≡ Ready → 0 < s.progress.unsent → commands_in s.marks ≡ 0 → Mid plan commands s
-    → Mid plan commands (with_progress (λ p. reckoned_early plan (commands_in s.marks) (skipped next_is_chained m p))
+    → Mid plan commands (with_progress (λ p. reckoned_early plan (commands_in s.marks) (skipped next_is_chained behind m p))
     (with_records (skips_first s.progress m (mark_next plan commands s.progress) left) s))
-mid_skips plan commands next_is_chained s m [] at is some none mid =
+mid_skips plan commands next_is_chained behind s m [] at is some none mid =
     let sound = mid.0 in
     let n : length commands - place_next commands s.progress ≡ 0 = sym (length-drop (place_next commands s.progress) commands) ∙ ap length at in
     absurd (omega (arith, n, some, sound.unsents))
-mid_skips plan commands next_is_chained s m (task ∷ others) at is some none mid =
+mid_skips plan commands next_is_chained behind s m (task ∷ others) at is some none mid =
     let p = s.progress in (
-      sound_skipped plan commands p.left p.unsent s.client s.marks s.records (skipped_at m p) (if p.missed then Missed else Skipped) task others none some at mid.0,
+      sound_skipped plan commands p.left p.unsent s.client s.marks s.records s.passes (skipped_at m p) (if p.missed then Missed else Skipped) (mark_next plan commands p).expected.turn task others none some at mid.0,
       going_placed p.phase p.left (p.unsent - 1) s.rest s.marks is,
     )
 
 -- the next command, where it isn't sent, keeps the weaker record
-mid_skip : (plan : Plan) (commands : List Task) (next_is_chained : Bool) (s : Model) (act : Act) → s.progress.phase ≡ Ready → 0 < s.progress.unsent → commands_in s.marks ≡ 0 → Mid plan commands s
-    → Mid plan commands (after_clock (λ m p. reckoned_early plan (commands_in s.marks) (skipped next_is_chained m p)) (with_records (skips plan commands s.progress act) s) act)
-mid_skip plan commands next_is_chained s (Told m) is some none mid =
-    mid_moment plan commands (with_progress (λ p. reckoned_early plan (commands_in s.marks) (skipped next_is_chained m p)) (with_records (skips plan commands s.progress (Told m)) s)) m
-    (mid_skips plan commands next_is_chained s m (drop (place_next commands s.progress) commands) refl is some none mid)
-mid_skip plan commands next_is_chained s act is some none mid = mid_fail plan commands (with_records [] s) cause.Clock refl (mid_nothing plan commands s mid)
+mid_skip : (plan : Plan) (commands : List Task) (next_is_chained : Bool) (behind : ℕ) (s : Model) (act : Act) → s.progress.phase ≡ Ready → 0 < s.progress.unsent → commands_in s.marks ≡ 0 → Mid plan commands s
+    → Mid plan commands (after_clock (λ m p. reckoned_early plan (commands_in s.marks) (skipped next_is_chained behind m p)) (with_listed (skip_listed plan commands s act) (with_records (skips plan commands s.progress act) s)) act)
+mid_skip plan commands next_is_chained behind s (Told m) is some none mid =
+    mid_moment plan commands (with_progress (λ p. reckoned_early plan (commands_in s.marks) (skipped next_is_chained behind m p)) (with_listed (skip_listed plan commands s (Told m)) (with_records (skips plan commands s.progress (Told m)) s))) m
+    (mid_skips plan commands next_is_chained behind s m (drop (place_next commands s.progress) commands) refl is some none mid)
+mid_skip plan commands next_is_chained behind s act is some none mid = mid_fail plan commands (with_records [] s) cause.Clock refl (mid_nothing plan commands s mid)
+
+-- the attempts of a chain that are passed over keep the weaker record
+mid_pass : (plan : Plan) (commands : List Task) (s : Model) (act : Act) → s.progress.phase ≡ Ready → 0 < s.progress.unsent → Mid plan commands s → Mid plan commands (after_pass plan commands s act)
+mid_pass plan commands s (Told m) is some mid =
+    let p = s.progress in
+    let n = p.next_others in
+    mid_moment plan commands (with_progress (λ q. reckoned_early plan (commands_in s.marks) (passed (is_chained_behind n commands p) (others_behind n commands p) m q))
+    (with_passes (passes_next plan commands p) s)) m (
+      sound_passed plan commands p.left p.unsent n s.client s.marks s.records s.passes some mid.0,
+      going_placed p.phase p.left (p.unsent - n) s.rest s.marks is,
+    )
+mid_pass plan commands s act is some mid = mid_fail plan commands s cause.Clock refl mid
 
 -- where a connection is closed for being done, no cycle and no command is left
 close_done : (plan : Plan) (commands : List Task) (s : Model) (w : Waiting) (why : Cause) → Invariant plan commands s
@@ -137,12 +149,13 @@ mid_moved plan commands s action.Ask act fine is = let t = with_progress turned 
     mid_put plan commands _ (with_progress (null_sent plan)) t act (let mid = mid_of plan commands s fine in (mid.0, mid.1))
 mid_moved plan commands s action.Send act fine is =
     let t = with_progress turned s in
-    mid_put plan commands _ (λ (x : Model). with_progress (sent (is_chained_behind_next commands x.progress)) (asks_next plan commands x)) t act
-    (mid_sent plan commands (is_chained_behind_next commands t.progress) t is.0 is.2 is.3.1 (mid_of plan commands s fine))
+    mid_put plan commands _ (λ (x : Model). with_progress (sent (is_chained_behind_next commands x.progress) (others_behind_next commands x.progress)) (asks_next plan commands x)) t act
+    (mid_sent plan commands (is_chained_behind_next commands t.progress) (others_behind_next commands t.progress) t is.0 is.2 is.3.1 (mid_of plan commands s fine))
 mid_moved plan commands s action.Skip act fine is =
     let t = with_progress turned s in
     let next_is_chained = is_chained_behind_next commands t.progress in
-    mid_skip plan commands next_is_chained t act is.0 is.2 is.3 (mid_of plan commands s fine)
+    mid_skip plan commands next_is_chained (others_behind_next commands t.progress) t act is.0 is.2 is.3 (mid_of plan commands s fine)
+mid_moved plan commands s action.Pass act fine is = mid_pass plan commands (with_progress turned s) act is.0 is.2 (mid_of plan commands s fine)
 mid_moved plan commands s action.Flush act fine is =
     let t = with_progress turned s in
     mid_put plan commands _ (λ (x : Model). with_progress asking (asks_null plan x)) t act (mid_flushed plan commands t is.0 is.4.1 (mid_of plan commands s fine))
@@ -175,7 +188,7 @@ fine_opening plan commands scope =
       rest = λ e. refl;
       over = λ e. refl;
       finished = λ e. cc;
-      each = sym (ap (λ n. sent_by commands n (length commands - 0)) none);
+      each = subst (λ (xs : List Request). Parted [] [] xs) (sym (ap (λ n. sent_by commands n (length commands - 0)) none)) (refl, refl);
     }
 
 -- what every run keeps holds after all acts
@@ -196,7 +209,7 @@ stop_over plan p w why (down, inr turns) = either_way (is_over_in p.phase) (is_u
 -- where a run stops nothing waits, and the records are of the commands that had their turn, in order; where it stops as done,
 -- no cycle and no command is left
 pub stopped : (plan : Plan) (commands : List Task) (s : Model) (why : Cause) → Invariant plan commands s → action_at plan s ≡ action.Stop why
-    → (s.client.waiting ≡ []) × (map of_record s.records ≡ sent_by commands (plan.cycles - s.progress.left) (place_next commands s.progress))
+    → (s.client.waiting ≡ []) × Parted (map of_record s.records) s.passes (sent_by commands (plan.cycles - s.progress.left) (place_next commands s.progress))
     × (why ≡ cause.Done → (s.progress.left ≡ 0) × (s.progress.unsent ≡ 0))
 stopped plan commands s why fine stop =
     let p = s.progress in
@@ -204,7 +217,8 @@ stopped plan commands s why fine stop =
     let is : IsFor plan p w (action.Stop why) = subst (λ (o : Action). IsFor plan p w o) stop (action_for plan p w) in
     let nothing = fine.over (stop_over plan p w why is) in (
       nothing,
-      each_empty s.marks s.client.waiting s.records (sent_by commands (plan.cycles - p.left) (place_next commands p)) nothing fine.each,
+      subst (λ (xs : List Request). Parted xs s.passes (sent_by commands (plan.cycles - p.left) (place_next commands p)))
+          (sym (each_empty s.marks s.client.waiting s.records (map of_record s.records ++ still_waiting s.marks s.client.waiting) nothing refl)) fine.each,
       by_reason is.1,
     ) where
       -- where the run stops as done nothing is left: its phase says that it is done, as it isn't for its turns
@@ -225,5 +239,5 @@ each_once plan commands scope acts =
           let none = it.2 refl in
           let cycles : plan.cycles - s.progress.left ≡ plan.cycles = omega (arith, none.0) in
           let place : place_next commands s.progress ≡ length commands = omega (arith, none.1) in
-          it.1 ∙ sent_whole commands (plan.cycles - s.progress.left) (place_next commands s.progress) place ∙ ap (all_cycles commands) cycles;
+          subst (λ (xs : List Request). Parted (map of_record s.records) s.passes xs) (sent_whole commands (plan.cycles - s.progress.left) (place_next commands s.progress) place ∙ ap (all_cycles commands) cycles) it.1;
     }

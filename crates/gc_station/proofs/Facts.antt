@@ -14,8 +14,8 @@ use Rattle.gc_station.specs.declared.progress.Action.TheVariants as action
 use Rattle.gc_station.specs.declared.progress.Progress.{Progress}
 use Rattle.gc_station.specs.declared.progress.Until.TheVariants.{Limit, Due}
 use Rattle.gc_station.specs.declared.progress.Waiting.{Waiting}
-use Rattle.gc_station.specs.Reasons.{IsFor, IsHeld, HasRoom, MayGo, NothingMayGo}
-use Rattle.gc_station.specs.Deciding.{width_of, has_begun, is_up, is_dead, is_due, is_idle, is_finished, has_room, action_of, action_in, action_on, action_told, may_go, action_ready, action_begun, action_beginning, action_sent, action_settled, action_done, action_next, action_room, action_waiting, action_up}
+use Rattle.gc_station.specs.Reasons.{IsFor, IsHeld, HasRoom, MayGo, MayRetry, NothingMayGo, IsResting, StaysInItsChain, HasOneFor}
+use Rattle.gc_station.specs.Deciding.{width_of, has_begun, is_up, is_dead, is_due, is_idle, is_finished, has_room, action_of, action_in, action_on, action_told, may_go, waits_for_all, action_again, action_ready, action_begun, action_beginning, action_sent, action_settled, action_done, action_next, action_room, action_waiting, action_up, is_stale, is_between, is_resting, is_stopping, is_held_back}
 use Rattle.gc_station.specs.Stations.{IsFitting}
 
 -- what holds of x where a test holds, and of y where it doesn't, holds of the one that the test chooses
@@ -56,6 +56,16 @@ one_false : (a b : Bool) → (a && b) ≡ false → (a ≡ false) ⊎ (b ≡ fal
 one_false true true e = cc
 one_false true false e = inr refl
 one_false false b e = inl refl
+
+-- where the negation of a test doesn't hold, the test does
+negated : (b : Bool) → not b ≡ false → b ≡ true
+negated true e = refl
+negated false e = cc
+
+-- where the negation of a test holds, the test doesn't
+free_so : (b : Bool) → not b ≡ true → b ≡ false
+free_so true e = cc
+free_so false e = refl
 
 -- where there is no room, no command may go out
 no_room : (plan : Plan) (p : Progress) (w : Waiting) → (nat_lt w.current (width_of plan) ≡ false) ⊎ (nat_lt w.all WINDOW ≡ false) → NothingMayGo plan p w
@@ -135,71 +145,176 @@ room_for plan p w o awake begun step =
     (λ e. let none = one_false (nat_lt w.current (width_of plan)) (nat_lt w.all WINDOW) e in waits plan p w awake begun (no_room plan p w none) (no_room_full plan w none))
 
 -- `Holds` is true where the next command may go out
-next_for : (plan : Plan) (p : Progress) (w : Waiting) → Awake p → has_begun p ≡ true → 0 < p.unsent → MayGo p w → Holds plan p w (action_next plan p w)
-next_for plan p w awake begun some may =
+next_for : (plan : Plan) (p : Progress) (w : Waiting) → Awake p → has_begun p ≡ true → 0 < p.unsent → MayGo p w → MayRetry p w → StaysInItsChain p → Holds plan p w (action_next plan p w)
+next_for plan p w awake begun some may retry stays =
     let P = Holds plan p w in
     either P _ _ (nat_lt p.behind WINDOW)
-    (λ near. room_for plan p w action.Send awake begun (λ room. ((awake.1, begun, some, room, may, ltb-true p.behind WINDOW near), tt, awake)))
+    (λ near. room_for plan p w action.Send awake begun (λ room. ((awake.1, begun, some, room, may, ltb-true p.behind WINDOW near, retry, stays), tt, awake)))
     (λ far. let many = ltb-false p.behind WINDOW far in either P _ _ (nat_eq w.current 0)
     (λ given. room_for plan p w action.Flush awake begun (λ room. ((awake.1, begun, inr (some, may, many), eqb-true w.current 0 given, room), tt, awake)))
     (λ current. let under = some_left w.current current in
-    waits plan p w awake begun (inr (inr (inr (inr (many, under))))) (λ none. absurd (omega (arith, none, under)))))
+    waits plan p w awake begun (inr (inr (inr (inr (inl (many, under)))))) (λ none. absurd (omega (arith, none, under)))))
+
+-- Where the end of the run was asked for.
+
+-- where the end of the run was asked for, a command is left, and it goes on with a chain that has begun
+abbrev GoesOnly : Progress → Type 0
+GoesOnly p = p.stops ≡ true → (0 < p.unsent) × (p.next_is_chained ≡ true)
+
+-- what isn't true is false
+never_true : (b : Bool) → (b ≡ true → ⊥) → b ≡ false
+never_true true never = absurd (never refl)
+never_true false never = refl
+
+-- where no command is left, the end of the run wasn't asked for
+none_asked : (p : Progress) → GoesOnly p → p.unsent ≡ 0 → p.stops ≡ false
+none_asked p only none = never_true p.stops (λ stops. let some = (only stops).0 in absurd (omega (arith, none, some)))
+
+-- where there is a connection, the station has begun, the end of the run was asked for, and neither does the run end nor is a
+-- further chain held back, the station isn't between two chains
+not_between : (stops up begun none between some : Bool) → up ≡ true → begun ≡ true → (stops && ((not up || not begun) || (none && between))) ≡ false
+    → ((stops && between) && some) ≡ false → (none ≡ false → some ≡ true) → stops ≡ true → between ≡ false
+not_between stops up begun none false some u b e f g is = refl
+not_between true true true true true some u b e f g is = cc
+not_between true true true false true true u b e f g is = cc
+not_between true true true false true false u b e f g is = let other = g refl in cc
+not_between true true false none true some u b e f g is = cc
+not_between true false begun none true some u b e f g is = cc
+not_between false up begun none true some u b e f g is = cc
+
+-- a number that isn't 0, by its test, is above 0, by its test
+above_none : (n : ℕ) → nat_eq n 0 ≡ false → nat_lt 0 n ≡ true
+above_none n e = grind (arith, nat_tests, e)
+
+-- where the station isn't between two chains, a command is left, and it is chained
+midway : (n : ℕ) (chained : Bool) → (nat_eq n 0 || not chained) ≡ false → (0 < n) × (chained ≡ true)
+midway n chained e = by_test (nat_eq n 0) chained refl e where
+  -- the lemma above, by whether a command is left
+  by_test : (none c : Bool) → nat_eq n 0 ≡ none → (none || not c) ≡ false → (0 < n) × (c ≡ true)
+  by_test true c is f = cc
+  by_test false true is f = (some_left n is, refl)
+  by_test false false is f = cc
+
+-- where the run doesn't end, and no further chain is held back, `GoesOnly` holds
+goes_only : (p : Progress) (w : Waiting) → is_up p.phase ≡ true → has_begun p ≡ true → is_stopping p w ≡ false → is_held_back p w ≡ false → GoesOnly p
+goes_only p w up begun goes free stops =
+    midway p.unsent p.next_is_chained
+    (not_between p.stops (is_up p.phase) (has_begun p) (nat_eq w.current 0) (is_between p) (nat_lt 0 w.current) up begun goes free (above_none w.current) stops)
+
+-- a station that is between two chains, by its test, is
+between_so : (n : ℕ) (chained : Bool) → (nat_eq n 0 || not chained) ≡ true → (n ≡ 0) ⊎ (chained ≡ false)
+between_so n chained e = by_test (nat_eq n 0) chained refl e where
+  -- the lemma above, by whether a command is left
+  by_test : (none c : Bool) → nat_eq n 0 ≡ none → (none || not c) ≡ true → (n ≡ 0) ⊎ (c ≡ false)
+  by_test true c is f = inl (eqb-true n 0 is)
+  by_test false true is f = cc
+  by_test false false is f = inr refl
+
+-- where the test says that the run may end, it may
+resting_so : (p : Progress) (w : Waiting) → is_resting p w ≡ true → IsResting p w
+resting_so p w e = by_tests (is_up p.phase) (has_begun p) (nat_eq w.current 0) (is_between p) refl refl refl refl e where
+  -- the lemma above, by each of its four tests
+  by_tests : (up begun none between : Bool) → is_up p.phase ≡ up → has_begun p ≡ begun → nat_eq w.current 0 ≡ none → is_between p ≡ between
+      → ((not up || not begun) || (none && between)) ≡ true → IsResting p w
+  by_tests false begun none between u b n t f = inl u
+  by_tests true false none between u b n t f = inr (inl b)
+  by_tests true true true true u b n t f = inr (inr (eqb-true w.current 0 n, between_so p.unsent p.next_is_chained t))
+  by_tests true true true false u b n t f = cc
+  by_tests true true false between u b n t f = cc
+
+-- where there is a connection, there is one to be closed for any cause
+has_one : (why : Cause) (p : Progress) → is_up p.phase ≡ true → HasOneFor why p
+has_one cause.Stale p up = tt
+has_one cause.Stopped p up = tt
+has_one why p up = up
+
+-- `Holds` is true where a further chain is held back
+held_back_for : (plan : Plan) (p : Progress) (w : Waiting) → Awake p → has_begun p ≡ true → is_held_back p w ≡ true → Holds plan p w (action_waiting plan p w)
+held_back_for plan p w awake begun held =
+    let it = both_true (p.stops && is_between p) (nat_lt 0 w.current) held in
+    let asked = both_true p.stops (is_between p) it.0 in
+    let under : 0 < w.current = ltb-true 0 w.current it.1 in
+    waits plan p w awake begun (inr (inr (inr (inr (inr (asked.0, between_so p.unsent p.next_is_chained asked.1, under)))))) (λ none. absurd (omega (arith, none, under)))
 
 -- `Holds` is true where each command of the cycle is settled
-done_for : (plan : Plan) (p : Progress) (w : Waiting) → Awake p → has_begun p ≡ true → p.unsent ≡ 0 → w.commands ≡ 0 → Holds plan p w (action_done plan p)
-done_for plan p w awake begun sent settled =
+done_for : (plan : Plan) (p : Progress) (w : Waiting) → Awake p → has_begun p ≡ true → p.unsent ≡ 0 → w.commands ≡ 0 → p.stops ≡ false → Holds plan p w (action_done plan p)
+done_for plan p w awake begun sent settled unasked =
     let P = Holds plan p w in
     either P (action.Close cause.Done) _ (nat_eq p.left 0) (λ e. ((awake_up p awake, inr (eqb-true p.left 0 e, sent, settled)), tt, tt))
-    (λ e. either P action.Begin (action.Read Due) (is_due plan p) (λ d. ((awake.1, begun, sent, settled, some_left p.left e), tt, tt)) (λ d. (tt, awake_reads p awake, tt)))
+    (λ e. either P action.Begin (action.Read Due) (is_due plan p) (λ d. ((awake.1, begun, sent, settled, some_left p.left e, unasked), tt, tt)) (λ d. (tt, awake_reads p awake, tt)))
 
--- where no command may go out before those that wait are settled (`IsHeld`), and one is unsent, that one is chained
-chained : (p : Progress) → IsHeld p → nat_eq p.unsent 0 ≡ false → p.next_is_chained ≡ true
-chained p (inl none) e = let some : 0 < p.unsent = some_left p.unsent e in absurd (omega (arith, none, some))
-chained p (inr next_is_chained) e = next_is_chained
+-- where no command may go out before those that wait are settled (`IsHeld`), one is unsent, and it begins no further attempt, that
+-- one is chained
+chained : (p : Progress) → IsHeld p → nat_eq p.unsent 0 ≡ false → p.next_others ≡ 0 → p.next_is_chained ≡ true
+chained p (inl none) e first = let some : 0 < p.unsent = some_left p.unsent e in absurd (omega (arith, none, some))
+chained p (inr (inl next_is_chained)) e first = next_is_chained
+chained p (inr (inr more)) e first = absurd (omega (arith, more, first))
+
+-- `Holds` is true where the next command begins a further attempt, and each command that was sent is settled
+again_for : (plan : Plan) (p : Progress) (w : Waiting) → Awake p → has_begun p ≡ true → 0 < p.unsent → w.commands ≡ 0 → 0 < p.next_others → StaysInItsChain p → Holds plan p w (action_again plan p w)
+again_for plan p w awake begun some settled more stays =
+    either (Holds plan p w) _ action.Pass (w.listed && not p.next_is_chained)
+    (λ e. let it = both_true w.listed (not p.next_is_chained) e in
+    next_for plan p w awake begun some (inl (free_so p.next_is_chained it.1)) (inr (settled, it.0)) stays)
+    (λ e. ((awake.1, begun, some, settled, more, by_test (one_false w.listed (not p.next_is_chained) e)), tt, tt)) where
+      -- why the attempt is passed over, by which of the two tests fails
+      by_test : ((w.listed ≡ false) ⊎ (not p.next_is_chained ≡ false)) → (w.listed ≡ false) ⊎ (p.next_is_chained ≡ true)
+      by_test (inl none) = inl none
+      by_test (inr bound) = inr (negated p.next_is_chained bound)
 
 -- `Holds` is true where each command that was sent is settled
-settled_for : (plan : Plan) (p : Progress) (w : Waiting) → Awake p → has_begun p ≡ true → IsHeld p → w.commands ≡ 0 → Holds plan p w (action_settled plan p w)
-settled_for plan p w awake begun held settled =
+settled_for : (plan : Plan) (p : Progress) (w : Waiting) → Awake p → has_begun p ≡ true → IsHeld p → w.commands ≡ 0 → GoesOnly p → Holds plan p w (action_settled plan p w)
+settled_for plan p w awake begun held settled only =
     let P = Holds plan p w in
-    either P _ _ (nat_eq p.unsent 0) (λ e. done_for plan p w awake begun (eqb-true p.unsent 0 e) settled)
-    (λ e. either P _ action.Skip (may_go p w)
-    (λ well. let it = both_true w.well p.chain_unbroken well in next_for plan p w awake begun (some_left p.unsent e) (inr (settled, it.0, it.1)))
-    (λ broken. ((awake.1, begun, some_left p.unsent e, settled, chained p held e, broken), tt, tt)))
+    either P _ _ (nat_eq p.unsent 0) (λ e. done_for plan p w awake begun (eqb-true p.unsent 0 e) settled (none_asked p only (eqb-true p.unsent 0 e)))
+    (λ e. either P _ _ (nat_lt 0 p.next_others) (λ more. again_for plan p w awake begun (some_left p.unsent e) settled (ltb-true 0 p.next_others more) (λ stops. (only stops).1))
+    (λ first. let none = none_left p.next_others first in either P _ action.Skip (may_go p w)
+    (λ well. let it = both_true w.well p.chain_unbroken well in next_for plan p w awake begun (some_left p.unsent e) (inr (settled, it.0, it.1)) (inl none) (λ stops. (only stops).1))
+    (λ broken. ((awake.1, begun, some_left p.unsent e, settled, chained p held e none, broken), tt, tt))))
 
 -- `Holds` is true where no command may go out before those that wait are settled
-sent_for : (plan : Plan) (p : Progress) (w : Waiting) → Awake p → has_begun p ≡ true → IsHeld p → Holds plan p w (action_sent plan p w)
-sent_for plan p w awake begun held =
+sent_for : (plan : Plan) (p : Progress) (w : Waiting) → Awake p → has_begun p ≡ true → IsHeld p → GoesOnly p → Holds plan p w (action_sent plan p w)
+sent_for plan p w awake begun held only =
     let P = Holds plan p w in
-    either P _ _ (nat_eq w.commands 0) (λ e. settled_for plan p w awake begun held (eqb-true w.commands 0 e))
+    either P _ _ (nat_eq w.commands 0) (λ e. settled_for plan p w awake begun held (eqb-true w.commands 0 e) only)
     (λ e. either P _ _ (nat_eq w.current 0)
     (λ given. room_for plan p w action.Flush awake begun (λ room. ((awake.1, begun, inl (held, some_left w.commands e), eqb-true w.current 0 given, room), tt, awake)))
     (λ some. let many = some_left w.current some in waits plan p w awake begun (inr (inr (inr (inl (held, some_left w.commands e, many))))) (λ none. absurd (omega (arith, none, many)))))
 
 -- a command that may not go out at once waits for those before it (`IsHeld`)
-held_so : (p : Progress) → (nat_lt 0 p.unsent && not p.next_is_chained) ≡ false → IsHeld p
-held_so p e = by_half (one_false (nat_lt 0 p.unsent) (not p.next_is_chained) e) where
-  -- where the negation of a test doesn't hold, the test does
-  negated : (b : Bool) → not b ≡ false → b ≡ true
-  negated true e = refl
-  negated false e = cc
+held_so : (p : Progress) → (nat_lt 0 p.unsent && not (waits_for_all p)) ≡ false → IsHeld p
+held_so p e = by_half (one_false (nat_lt 0 p.unsent) (not (waits_for_all p)) e) where
+  -- the lemma above for a command that waits for all, by which of the two tests holds: that it is chained, or that it begins a
+  -- further attempt
+  by_test : (b c : Bool) → p.next_is_chained ≡ b → nat_lt 0 p.next_others ≡ c → (b || c) ≡ true → IsHeld p
+  by_test true c bound more e = inr (inl bound)
+  by_test false true bound more e = inr (inr (ltb-true 0 p.next_others more))
+  by_test false false bound more e = cc
 
-  -- the lemma above, by which of the two tests fails: that a command is unsent, or that it isn't chained
-  by_half : ((nat_lt 0 p.unsent ≡ false) ⊎ (not p.next_is_chained ≡ false)) → IsHeld p
+  -- the lemma above, by which of the two tests fails: that a command is unsent, or that it needn't wait
+  by_half : ((nat_lt 0 p.unsent ≡ false) ⊎ (not (waits_for_all p) ≡ false)) → IsHeld p
   by_half (inl none) = inl (none_left p.unsent none)
-  by_half (inr next_is_chained) = inr (negated p.next_is_chained next_is_chained)
+  by_half (inr waits) = by_test p.next_is_chained (nat_lt 0 p.next_others) refl refl (negated (waits_for_all p) waits)
 
--- where the negation of a test holds, the test doesn't
-free_so : (b : Bool) → not b ≡ true → b ≡ false
-free_so true e = cc
-free_so false e = refl
+-- a command that needn't wait for all isn't chained, and begins no further attempt
+free_both : (p : Progress) → not (waits_for_all p) ≡ true → (p.next_is_chained ≡ false) × (p.next_others ≡ 0)
+free_both p e = by_test p.next_is_chained (nat_lt 0 p.next_others) refl refl e where
+  -- the lemma above, by both tests
+  by_test : (b c : Bool) → p.next_is_chained ≡ b → nat_lt 0 p.next_others ≡ c → not (b || c) ≡ true → (p.next_is_chained ≡ false) × (p.next_others ≡ 0)
+  by_test true c bound more e = cc
+  by_test false true bound more e = cc
+  by_test false false bound more e = (bound, none_left p.next_others more)
 
 -- `Holds` is true once the station has begun
-begun_for : (plan : Plan) (p : Progress) (w : Waiting) → Awake p → has_begun p ≡ true → Holds plan p w (action_begun plan p w)
-begun_for plan p w awake begun =
-    either (Holds plan p w) _ _ (nat_lt 0 p.unsent && not p.next_is_chained)
-    (λ some. let it = both_true (nat_lt 0 p.unsent) (not p.next_is_chained) some in
-    next_for plan p w awake begun (ltb-true 0 p.unsent it.0) (inl (free_so p.next_is_chained it.1)))
-    (λ none. sent_for plan p w awake begun (held_so p none))
+begun_for : (plan : Plan) (p : Progress) (w : Waiting) → Awake p → has_begun p ≡ true → is_stopping p w ≡ false → Holds plan p w (action_begun plan p w)
+begun_for plan p w awake begun goes =
+    either (Holds plan p w) (action_waiting plan p w) _ (is_held_back p w) (λ held. held_back_for plan p w awake begun held) (λ free.
+    let only = goes_only p w (awake_up p awake) begun goes free in
+    either (Holds plan p w) _ _ (nat_lt 0 p.unsent && not (waits_for_all p))
+    (λ some. let it = both_true (nat_lt 0 p.unsent) (not (waits_for_all p)) some in
+    let free = free_both p it.1 in
+    next_for plan p w awake begun (ltb-true 0 p.unsent it.0) (inl free.0) (inl free.1) (λ stops. (only stops).1))
+    (λ none. sent_for plan p w awake begun (held_so p none) only))
 
 -- what `is_finished` says: no cycle and no command is left, and none waits
 pub finished_so : (commands : ℕ) (p : Progress) → is_finished commands p ≡ true → (p.left ≡ 0) × (p.unsent ≡ 0) × (commands ≡ 0)
@@ -219,8 +334,8 @@ beginning_for plan p w awake begun =
     (λ e. ((awake.1, begun, leb-true p.again p.moment.elapsed e, busy), tt, awake)) (λ e. (tt, awake_reads p awake, tt)))))
 
 -- `Holds` is true in the phase `Ready`
-ready : (plan : Plan) (p : Progress) (w : Waiting) → Awake p → Holds plan p w (action_ready plan p w)
-ready plan p w awake = either (Holds plan p w) _ _ (has_begun p) (λ begun. begun_for plan p w awake begun) (λ begun. beginning_for plan p w awake begun)
+ready : (plan : Plan) (p : Progress) (w : Waiting) → Awake p → is_stopping p w ≡ false → Holds plan p w (action_ready plan p w)
+ready plan p w awake goes = either (Holds plan p w) _ _ (has_begun p) (λ begun. begun_for plan p w awake begun goes) (λ begun. beginning_for plan p w awake begun)
 
 -- a close for which the phase is set already is as `Wakes` says
 closing_wakes : (p : Progress) (why : Cause) → p.phase ≡ Closing why → Wakes p (action.Close why)
@@ -228,14 +343,14 @@ closing_wakes p cause.Dead is = inl is
 closing_wakes p why is = tt
 
 -- `Holds` is true in each phase, where turns are left and the moment was told
-told_for : (plan : Plan) (phase : Phase) (p : Progress) (w : Waiting) → p.phase ≡ phase → p.stale ≡ false → Holds plan p w (action_told plan phase p w)
-told_for plan Down p w is now = (is, now, tt)
-told_for plan Pausing p w is now = (tt, (now, λ c. let other : Pausing ≡ Clearing = sym is ∙ c in cc), tt)
-told_for plan Clearing p w is now = (is, tt, tt)
-told_for plan Draining p w is now = (tt, (now, λ c. let other : Draining ≡ Clearing = sym is ∙ c in cc), tt)
-told_for plan Ready p w is now = ready plan p w (now, is)
-told_for plan (Closing why) p w is now = ((ap is_up is, inl is), tt, closing_wakes p why is)
-told_for plan (Over why) p w is now = ((ap is_up is, inl is), tt, tt)
+told_for : (plan : Plan) (phase : Phase) (p : Progress) (w : Waiting) → p.phase ≡ phase → p.stale ≡ false → is_stopping p w ≡ false → Holds plan p w (action_told plan phase p w)
+told_for plan Down p w is now goes = (is, now, tt)
+told_for plan Pausing p w is now goes = (tt, (now, λ c. let other : Pausing ≡ Clearing = sym is ∙ c in cc), tt)
+told_for plan Clearing p w is now goes = (is, tt, tt)
+told_for plan Draining p w is now goes = (tt, (now, λ c. let other : Draining ≡ Clearing = sym is ∙ c in cc), tt)
+told_for plan Ready p w is now goes = ready plan p w (now, is) goes
+told_for plan (Closing why) p w is now goes = ((has_one why p (ap is_up is), inl is), tt, closing_wakes p why is)
+told_for plan (Over why) p w is now goes = ((ap is_up is, inl is), tt, tt)
 
 -- `Holds` is true where all turns are used up
 up_for : (plan : Plan) (p : Progress) (w : Waiting) (up : Bool) → is_up p.phase ≡ up → p.turns ≡ 0 → Holds plan p w (action_up up)
@@ -247,11 +362,14 @@ on_for : (plan : Plan) (p : Progress) (w : Waiting) → Holds plan p w (action_o
 on_for plan p w =
     let P = Holds plan p w in
     either P _ _ (nat_eq p.turns 0) (λ e. up_for plan p w (is_up p.phase) refl (eqb-true p.turns 0 e))
-    (λ e. either P action.ReadClock _ p.stale (λ old. (tt, old, tt)) (λ now. told_for plan p.phase p w refl now))
+    (λ e. either P (action.Close cause.Stale) _ (is_stale plan p w) (λ old. ((tt, inr old), tt, tt))
+    (λ some. either P (action.Close cause.Stopped) _ (is_stopping p w)
+    (λ asked. let it = both_true p.stops (is_resting p w) asked in ((tt, inr (it.0, resting_so p w it.1)), tt, tt))
+    (λ goes. either P action.ReadClock _ p.stale (λ old. (tt, old, tt)) (λ now. told_for plan p.phase p w refl now goes))))
 
 -- `Holds` is true in each phase
 in_for : (plan : Plan) (phase : Phase) (p : Progress) (w : Waiting) → p.phase ≡ phase → Holds plan p w (action_in phase plan p w)
-in_for plan (Closing why) p w is = ((ap is_up is, inl is), tt, closing_wakes p why is)
+in_for plan (Closing why) p w is = ((has_one why p (ap is_up is), inl is), tt, closing_wakes p why is)
 in_for plan (Over why) p w is = ((ap is_up is, inl is), tt, tt)
 in_for plan phase p w is = on_for plan p w
 

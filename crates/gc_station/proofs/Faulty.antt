@@ -10,7 +10,7 @@ use Rattle.gc_station.specs.Records.{Record}
 use Rattle.gc_station.specs.Runs.{Ran, RanTo}
 use Rattle.gc_station.specs.Scopes.{Scope}
 use Rattle.gc_station.specs.declared.cause.Cause.{Cause}
-use Rattle.gc_station.specs.declared.cause.Cause.TheVariants.{Done, Dead, Read, End, Write, Clock, Open, Turns}
+use Rattle.gc_station.specs.declared.cause.Cause.TheVariants.{Done, Dead, Read, End, Write, Clock, Open, Turns, Stale, Stopped}
 use Rattle.gc_station.specs.declared.plan.Plan.{Plan}
 use Rattle.gc_station.specs.declared.tally.Tally.{Tally}
 
@@ -33,3 +33,5 @@ module _ (plan : Plan) (commands : List Task) (scope : Scope) (text : Record →
   faulty Clock why e ran = let same : fault.Clock ≡ why = cc in subst With same (Clock, tally, ran, refl)
   faulty Open why e ran = let same : fault.Socket ≡ why = cc in subst With same (Open, tally, ran, refl)
   faulty Turns why e ran = let same : fault.TooManyReads ≡ why = cc in subst With same (Turns, tally, ran, refl)
+  faulty Stale why e ran = let same : fault.Stale ≡ why = cc in subst With same (Stale, tally, ran, refl)
+  faulty Stopped why e ran = absurd (cc)

@@ -35,6 +35,8 @@ counts_on plan count w action.Begin p t q left unsent needs (inr k) = inl (omega
 counts_on plan count w action.Send p t q left unsent needs k = inr (k.left ∙ left, omega (arith, k.unsent, unsent))
 counts_on plan count w action.Skip p t q left unsent needs (inl k) = kept_there p t q left unsent k
 counts_on plan count w action.Skip p t q left unsent needs (inr k) = inr (k.left ∙ left, omega (arith, k.unsent, unsent))
+counts_on plan count w action.Pass p t q left unsent needs (inl k) = kept_there p t q left unsent k
+counts_on plan count w action.Pass p t q left unsent needs (inr k) = inr (k.left ∙ left, omega (arith, k.unsent, unsent))
 counts_on plan count w o p t q left unsent needs k = kept_there p t q left unsent k
 
 -- no act goes back

@@ -8,8 +8,6 @@ use Rattle.gc_lines.proofs.Known.{Appends-nil}
 use Rattle.gc_texts.specs.declared.tasks.Task.{Task}
 use Rattle.gc_station.specs.declared.plan.Plan.{Plan}
 use Rattle.gc_station.specs.declared.cause.Cause.{Cause}
-use Rattle.gc_station.specs.declared.cause.Cause.TheVariants as causes
-use Rattle.gc_station.specs.Causes.{fault_of}
 use Rattle.gc_station.specs.declared.progress.Action.{Action}
 use Rattle.gc_station.specs.declared.progress.Action.TheVariants.{Stop}
 use Rattle.gc_station.specs.declared.progress.Progress.{Progress}
@@ -57,6 +55,8 @@ stands_turned station p s e stands = record {
   assembles = stands.assembles;
   tally = stands.tally;
   well = stands.well;
+  listed = stands.listed;
+  fresh = stands.fresh;
 }
 
 -- a turn is an act and then, where the station has to, the loss of what waits. Where the act was made (`Makes`), and the loss
@@ -264,8 +264,3 @@ went_nearer plan commands text told told' taken taken' station new action is som
           (subst (λ (q : Progress). left_to_do (stepped plan commands (action_of plan s.progress w) s makes.act).progress < left_to_do q)
           (sym some.1.progress) (less_stepped plan commands s w makes.act obeys));
     }
-
--- a run that stops for a cause without a fault is done
-pub none_done : (why : Cause) → fault_of why ≡ None → why ≡ causes.Done
-none_done causes.Done e = refl
-none_done why e = cc

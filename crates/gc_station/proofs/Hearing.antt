@@ -4,7 +4,7 @@
 -- `left` is what is not heard yet of the piece, `rest` the bytes since the last line feed. A piece is the bytes that one read
 -- gave, and a frame what a line feed ends. `Refines station s`: the station stands for the model s. `Hearing` and `Asking` say
 -- how far a piece was heard, once the station has begun and while it begins.
-use Rattle.std.proofs.Common.{◌≡◌, ℕ, zero, suc, ◌+◌, ◌-◌, List, [], ◌∷◌, ◌++◌, Bool, true, false, length, drop, map, Option, Some, None, Result, Ok, Err, OnOk, refl, sym, ap, ◌∙◌, subst, append_assoc, length-drop, arith}
+use Rattle.std.proofs.Common.{◌≡◌, ℕ, zero, suc, ◌+◌, ◌-◌, min, List, [], ◌∷◌, ◌++◌, Bool, true, false, length, drop, map, Option, Some, None, Result, Ok, Err, OnOk, refl, sym, ap, ◌∙◌, subst, append_assoc, length-drop, arith}
 use Rattle.std.specs.List.{filter_map}
 use Rattle.std.specs.Option.{option_to_list}
 use Rattle.std.specs.Io.KnownBytes.{Appends}
@@ -32,14 +32,15 @@ use Rattle.gc_station.specs.declared.progress.Progress.{Progress}
 use Rattle.gc_station.specs.declared.progress.Until.{Until}
 use Rattle.gc_station.specs.declared.progress.Waiting.{Waiting}
 use Rattle.gc_station.specs.declared.station.Station.{Station}
-use Rattle.gc_station.specs.Marks.{commands_in, records_of, last_well}
+use Rattle.gc_station.specs.Attempts.{listed_by}
+use Rattle.gc_station.specs.Marks.{commands_in, records_of, last_well, fresh_behind}
 use Rattle.gc_station.specs.Deciding.{is_none_left}
 use Rattle.gc_station.specs.Progressing.{caught_up, noted, gave, reckoned_early, again, closed, lines_asked, line_asked}
 use Rattle.gc_station.specs.Records.{Record, texts_of, WritesPart, WritesAll}
 use Rattle.gc_station.specs.Model.{Model, line_came, lines_came, lines_behind, with_rest, with_progress, with_moment, waiting_of, settles, piece_came, piece_asked, came}
 use Rattle.gc_station.specs.Stations.{waiting_in, Refines, Took, TookPart, ComesTo}
 use Rattle.gc_station.specs.Scopes.{AreReadings}
-use Rattle.gc_station.specs.Tallies.{none_yet, tallied}
+use Rattle.gc_station.specs.Tallies.{nothing_yet, tallied}
 use Rattle.gc_station.proofs.Growing.{lines_records}
 use Rattle.gc_station.proofs.Readings.{lines_reads, are_same}
 use Rattle.gc_station.proofs.Records.{Grew, grew_then, part_grew, part_grows, tallied-append, last-append}
@@ -142,6 +143,8 @@ with_kept station kept rest s stands is = record {
   assembles = is;
   tally = stands.tally;
   well = stands.well;
+  listed = stands.listed;
+  fresh = stands.fresh;
 }
 
 -- As many marks are taken out as requests are settled.
@@ -188,6 +191,8 @@ pub record Between (old mid : Station) (ids : ById Asked) : Type 0 where
   pub progress : mid.progress ≡ old.progress
   pub tally : mid.tally ≡ old.tally
   pub well : mid.well ≡ old.well
+  pub listed : mid.listed ≡ old.listed
+  pub fresh : mid.fresh ≡ old.fresh
 
 -- the records that a station is to write (`Between`) are those that the model has for these settlements
 records_same : (old mid : Station) (s : Model) (ids : ById Asked) (xs ys : List (Settlement Asked)) → Refines old s → Between old mid ids → xs ≡ ys
@@ -205,14 +210,23 @@ Counts mid new xs = (reads : Asked → List ℕ → Reading) → AreReadings rea
 abbrev pub Minds : Station → Station → List (Settlement Asked) → Type 0
 Minds mid new xs = (reads : Asked → List ℕ → Reading) → AreReadings reads → new.well ≡ last_well mid.well (records_of reads mid.progress.moment.utc mid.marks.items xs)
 
+-- between these two stations `listed` becomes whether a command of the attempt that was settled last ended as its rule names
+abbrev pub Lists : Station → Station → List (Settlement Asked) → Type 0
+Lists mid new xs = (reads : Asked → List ℕ → Reading) → AreReadings reads → new.listed ≡ listed_by reads mid.listed mid.marks.items xs
+
+-- between these two stations `fresh` becomes the moment told last, if a command of these settlements was answered well
+abbrev pub Freshens : Station → Station → List (Settlement Asked) → Type 0
+Freshens mid new xs = (reads : Asked → List ℕ → Reading) → AreReadings reads
+    → new.fresh ≡ fresh_behind mid.progress.moment.elapsed mid.fresh (records_of reads mid.progress.moment.utc mid.marks.items xs)
+
 -- where the records of settlements were written, the station is as the model after them
 pub settles_ok : (text : Record → List ℕ) (old mid new : Station) (s : Model) (x : Settled Asked (ById Asked)) (xs : List (Settlement Asked)) (n : ℕ) (start taken' : Option (List ℕ))
     → Refines old s → Between old mid x.client → xs ≡ x.settlements → n ≡ length x.settlements → StayPaired s.marks x
     → (AreReadings s.reads → Appends start taken' (texts_of text (s.records ++ records_of s.reads mid.progress.moment.utc mid.marks.items xs)))
-    → new ≡ record mid { marks = record { items = drop n mid.marks.items }; tally = new.tally; well = new.well }
-    → Counts mid new xs → Minds mid new xs
+    → new ≡ record mid { marks = record { items = drop n mid.marks.items }; tally = new.tally; well = new.well; listed = new.listed; fresh = new.fresh }
+    → Counts mid new xs → Minds mid new xs → Lists mid new xs → Freshens mid new xs
     → Refines new (settles x s) × Took text start taken' (settles x s)
-settles_ok text old mid new s x xs n start taken' stands between e many paired wrote is counts minds =
+settles_ok text old mid new s x xs n start taken' stands between e many paired wrote is counts minds lists freshens =
     let added : List Record = records_of s.reads mid.progress.moment.utc mid.marks.items xs in
     let records = records_same old mid s x.client xs x.settlements stands between e in (
       record {
@@ -222,10 +236,15 @@ settles_ok text old mid new s x xs n start taken' stands between e many paired w
         marks = ap (λ (n : Station). n.marks.items) is ∙ ap (λ k. drop k mid.marks.items) many ∙ ap (λ ms. drop (length x.settlements) ms) (ap (λ ms. ms.items) between.marks ∙ stands.marks);
         paired = paired;
         assembles = subst (λ (k : Kept). StandsFor k s.rest) (sym (ap (λ (n : Station). n.assembler) is ∙ between.assembler)) stands.assembles;
-        tally = λ are. counts s.reads are ∙ ap (λ t. tallied t added) (between.tally ∙ stands.tally are) ∙ sym (tallied-append none_yet s.records added)
-            ∙ ap (λ rs. tallied none_yet (s.records ++ rs)) records;
+        tally = λ are. counts s.reads are ∙ ap (λ t. tallied t added) (between.tally ∙ stands.tally are) ∙ sym (tallied-append nothing_yet s.records added)
+            ∙ ap (λ rs. tallied nothing_yet (s.records ++ rs)) records;
         well = λ are. minds s.reads are ∙ ap (λ b. last_well b added) (between.well ∙ stands.well are)
             ∙ sym (last-append false s.records added) ∙ ap (λ rs. last_well false (s.records ++ rs)) records;
+        listed = λ are. lists s.reads are ∙ ap (λ b. listed_by s.reads b mid.marks.items xs) (between.listed ∙ stands.listed are)
+            ∙ ap (λ (ms : List (Option Mark)). listed_by s.reads s.listed ms xs) (ap (λ ms. ms.items) between.marks ∙ stands.marks) ∙ ap (listed_by s.reads s.listed s.marks) e;
+        fresh = λ are. freshens s.reads are ∙ ap (λ f. fresh_behind mid.progress.moment.elapsed f added) (between.fresh ∙ stands.fresh are)
+            ∙ ap (λ (p : Progress). fresh_behind p.moment.elapsed s.fresh added) (between.progress ∙ stands.progress)
+            ∙ ap (fresh_behind s.progress.moment.elapsed s.fresh) records;
       },
       λ are. subst (λ (rs : List Record). Appends start taken' (texts_of text (s.records ++ rs))) records (wrote are),
     )
@@ -243,12 +262,12 @@ pub settles_either : {X E : Type 0} (text : Record → List ℕ) (old mid new : 
     (start taken' : Option (List ℕ)) (result : Result X E)
     → Refines old s → Between old mid x.client → xs ≡ x.settlements → n ≡ length x.settlements → StayPaired s.marks x
     → (AreReadings s.reads → WritesAll text s.records (s.records ++ records_of s.reads mid.progress.moment.utc mid.marks.items xs) start taken' result)
-    → OnOk result (new ≡ record mid { marks = record { items = drop n mid.marks.items }; tally = new.tally; well = new.well })
-    → OnOk result (Counts mid new xs) → OnOk result (Minds mid new xs)
+    → OnOk result (new ≡ record mid { marks = record { items = drop n mid.marks.items }; tally = new.tally; well = new.well; listed = new.listed; fresh = new.fresh })
+    → OnOk result (Counts mid new xs) → OnOk result (Minds mid new xs) → OnOk result (Lists mid new xs) → OnOk result (Freshens mid new xs)
     → ComesTo text s.records new start taken' (settles x s) result
-settles_either text old mid new s x xs n start taken' (Ok r) stands between e many paired wrote is counts minds =
-    settles_ok text old mid new s x xs n start taken' stands between e many paired wrote is counts minds
-settles_either text old mid new s x xs n start taken' (Err r) stands between e many paired wrote is counts minds = settles_part text old mid s x xs start taken' stands between e wrote
+settles_either text old mid new s x xs n start taken' (Ok r) stands between e many paired wrote is counts minds lists freshens =
+    settles_ok text old mid new s x xs n start taken' stands between e many paired wrote is counts minds lists freshens
+settles_either text old mid new s x xs n start taken' (Err r) stands between e many paired wrote is counts minds lists freshens = settles_part text old mid s x xs start taken' stands between e wrote
 
 -- a link that told the acts `xs` and then the acts `ys` told `xs ++ ys`
 pub tells_more : (a b c : Option (List Act)) (xs ys : List Act) → Tells a b xs → Tells b c ys → Tells a c (xs ++ ys)
@@ -268,6 +287,8 @@ with_noted mid p b b' s stands e is = record {
   assembles = stands.assembles;
   tally = stands.tally;
   well = stands.well;
+  listed = stands.listed;
+  fresh = stands.fresh;
 }
 
 -- a station that noted what a line settled is as the model that noted it
@@ -282,13 +303,16 @@ with_caught mid p t t' n n' s stands e f is = record {
   assembles = stands.assembles;
   tally = stands.tally;
   well = stands.well;
+  listed = stands.listed;
+  fresh = stands.fresh;
 }
 
 -- a station that gave up requests at a moment is as the model at that moment
-pub stands_expired : (station : Station) (p q : Progress) (client : Windowed Asked) (m : Moment) (s : Model) → Refines station s → p ≡ q
+pub stands_expired : (station : Station) (p q : Progress) (client : Windowed Asked) (fresh : ℕ) (m : Moment) (s : Model) → Refines station s → p ≡ q
     → client ≡ record station.client { ids = expires station.client.ids m.elapsed }
-    → Refines (record station { progress = p; client = client }) (with_moment m (with_progress (λ x. q) s))
-stands_expired station p q client m s stands e is = record {
+    → fresh ≡ min station.fresh m.elapsed
+    → Refines (record station { progress = p; client = client; fresh = fresh }) (with_moment m (with_progress (λ x. q) s))
+stands_expired station p q client fresh m s stands e is less = record {
   progress = e;
   ids = ap (λ (w : Windowed Asked). w.ids) is ∙ ap (λ ids. expires ids m.elapsed) stands.ids;
   width = ap (λ (w : Windowed Asked). w.width) is ∙ stands.width;
@@ -297,6 +321,8 @@ stands_expired station p q client m s stands e is = record {
   assembles = stands.assembles;
   tally = stands.tally;
   well = stands.well;
+  listed = stands.listed;
+  fresh = λ are. less ∙ ap (λ f. min f m.elapsed) (stands.fresh are);
 }
 
 -- as many requests wait at a station as in its model
@@ -315,7 +341,7 @@ reckoned_same plan until b b' w w' p p' eb ea ec ep =
       -- the progress once what a piece settled was counted, by how many commands waited before the piece, and how many requests
       -- and commands wait after it
       early : ℕ → ℕ → ℕ → Progress → Progress
-      early before all commands p = reckoned_early plan commands (gave plan until before (record { all = all; current = 0; commands = commands; well = false }) p)
+      early before all commands p = reckoned_early plan commands (gave plan until before (record { all = all; current = 0; commands = commands; well = false; listed = false; fresh = 0 }) p)
 
 -- a close makes equal progresses of equal ones, where as many commands wait
 pub closed_same : (plan : Plan) (w w' : Waiting) (why : Cause) (p p' : Progress) → w.commands ≡ w'.commands → p ≡ p' → closed plan w why p ≡ closed plan w' why p'
@@ -325,6 +351,8 @@ closed_same plan w w' why p p' ec ep = kept why ∙ ap (closed plan w' why) ep w
   kept cause.Done = refl
   kept cause.Clock = refl
   kept cause.Turns = refl
+  kept cause.Stale = refl
+  kept cause.Stopped = refl
   kept why = ap (λ n. again plan n why p) ec
 
 -- While the station begins.
@@ -376,6 +404,8 @@ asking_on station station' s piece left used frame kept h t is =
         assembles = there.assembles;
         tally = there.tally;
         well = there.well;
+        listed = there.listed;
+        fresh = there.fresh;
       });
       goes = sym (asked_first h.now left (drop used left) t.now frame t.seen t.rests) ∙ h.goes;
     }

@@ -8,6 +8,7 @@ mod Closings
 mod Connected
 mod Counts
 pub mod Each
+mod Parted
 pub mod EachRun
 pub mod Facts
 mod Fieldless
@@ -40,6 +41,7 @@ pub mod Turns
 mod Used
 mod Waiting
 mod Walk
+mod Retrying
 pub mod Words
 pub mod Asked
 pub mod SentAt
@@ -57,3 +59,5 @@ pub mod Nearly
 pub mod Behind
 pub mod GoesBehind
 mod HeldUp
+mod Stopping
+mod Unbroken

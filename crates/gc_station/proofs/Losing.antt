@@ -28,7 +28,7 @@ use Rattle.gc_station.specs.Progressing.{turned, sent, failing, is_over, is_over
 use Rattle.gc_station.specs.Reasons.{IsFor}
 use Rattle.gc_station.specs.Records.{Record}
 use Rattle.gc_station.specs.Runs.{stood}
-use Rattle.gc_station.specs.Model.{Model, opening, action_at, waiting_of, request_text, Puts, Performs, with_progress, asks_next, is_chained_behind_next, after_put, moved, losing, ended, after}
+use Rattle.gc_station.specs.Model.{Model, opening, action_at, waiting_of, request_text, Puts, Performs, with_progress, asks_next, is_chained_behind_next, others_behind_next, after_put, moved, losing, ended, after}
 use Rattle.gc_station.proofs.Counts.{ended_progress}
 use Rattle.gc_station.proofs.Facts.{action_for}
 use Rattle.gc_station.proofs.Invariant.{Invariant}
@@ -136,7 +136,7 @@ send_loses_none : (plan : Plan) (commands : List Task) (s : Model) (act : Act) �
     → loses_all (moved plan commands actions.Send (with_progress turned s) act).progress ≡ false
 send_loses_none plan commands s act fine needs =
     let t = with_progress turned s in
-    let f = λ (x : Model). with_progress (sent (is_chained_behind_next commands x.progress)) (asks_next plan commands x) in
+    let f = λ (x : Model). with_progress (sent (is_chained_behind_next commands x.progress) (others_behind_next commands x.progress)) (asks_next plan commands x) in
     neither (has_begun (moved plan commands actions.Send t act).progress) _ (ap (λ (x : Model). has_begun x.progress) (moved_changed plan commands actions.Send t act) ∙ needs.1)
     (put_goes _ f t act (sym (ap (λ (x : Model). x.progress.phase) (is_sent plan commands t)) ∙ needs.0))
 

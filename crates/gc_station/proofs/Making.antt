@@ -25,9 +25,10 @@ use Rattle.gc_station.specs.Deciding.{later}
 use Rattle.gc_station.specs.Marks.{is_well, last_well}
 use Rattle.gc_station.specs.Progressing.{failing, skipped_at}
 use Rattle.gc_station.specs.Records.{Record}
-use Rattle.gc_station.specs.Model.{Model, Puts, IsReading, client_sent, asks, asks_first, skips_first, with_progress, with_records, after_put, after_read, moved}
+use Rattle.gc_station.specs.Model.{Model, Puts, IsReading, client_sent, asks, asks_first, skips_first, with_progress, with_listed, with_records, after_put, after_read, moved}
 use Rattle.gc_station.specs.Stations.{Refines, Took, Makes, Made, ComesTo, cut_progress, seen}
-use Rattle.gc_station.specs.Tallies.{none_yet, tallied}
+use Rattle.gc_station.specs.Scopes.{AreReadings}
+use Rattle.gc_station.specs.Tallies.{nothing_yet, tallied}
 use Rattle.gc_station.proofs.Records.{tallied-append, last-append}
 
 -- a station whose progress changes is as the model whose progress changes so
@@ -41,6 +42,8 @@ stands_with station p f s stands is = record {
   assembles = stands.assembles;
   tally = stands.tally;
   well = stands.well;
+  listed = stands.listed;
+  fresh = stands.fresh;
 }
 
 -- Bytes are put.
@@ -103,6 +106,8 @@ asks_stands old new s wait command other mark stands room e is =
       assembles = subst (λ (x : Station). StandsFor x.assembler s.rest) (sym is) stands.assembles;
       tally = λ are. ap (λ (n : Station). n.tally) is ∙ stands.tally are;
       well = λ are. ap (λ (n : Station). n.well) is ∙ stands.well are;
+      listed = λ are. ap (λ (n : Station). n.listed) is ∙ stands.listed are;
+      fresh = λ are. ap (λ (n : Station). n.fresh) is ∙ stands.fresh are;
     }
 
 -- without its first i elements a list begins with the one at place i
@@ -134,11 +139,11 @@ first_took text start taken s mark (task ∷ others) so = so
 -- adds (`skips_first`)
 pub skips_as : (p : Progress) (m : Moment) (mark mark' : Mark) (utc : ℕ) (end : End) (list : List Task) (task : Task) (others : List Task)
     → list ≡ task ∷ others → mark ≡ mark' → utc ≡ skipped_at m p → end ≡ (if p.missed then Missed else Skipped)
-    → record { sent = None; utc = utc; cycle = mark.cycle; place = mark.place; command = task.command; end = end } ∷ [] ≡ skips_first p m mark' list
+    → record { sent = None; utc = utc; cycle = mark.cycle; place = mark.place; turn = mark.expected.turn; command = task.command; end = end } ∷ [] ≡ skips_first p m mark' list
 skips_as p m mark mark' utc end list task others is e at ends =
-    ap (λ (u : ℕ). record { sent = None; utc = u; cycle = mark.cycle; place = mark.place; command = task.command; end = end } ∷ []) at
-    ∙ ap (λ (x : Mark). record { sent = None; utc = skipped_at m p; cycle = x.cycle; place = x.place; command = task.command; end = end } ∷ []) e
-    ∙ ap (λ (x : End). record { sent = None; utc = skipped_at m p; cycle = mark'.cycle; place = mark'.place; command = task.command; end = x } ∷ []) ends
+    ap (λ (u : ℕ). record { sent = None; utc = u; cycle = mark.cycle; place = mark.place; turn = mark.expected.turn; command = task.command; end = end } ∷ []) at
+    ∙ ap (λ (x : Mark). record { sent = None; utc = skipped_at m p; cycle = x.cycle; place = x.place; turn = x.expected.turn; command = task.command; end = end } ∷ []) e
+    ∙ ap (λ (x : End). record { sent = None; utc = skipped_at m p; cycle = mark'.cycle; place = mark'.place; turn = mark'.expected.turn; command = task.command; end = x } ∷ []) ends
     ∙ sym (ap (skips_first p m mark') is)
 
 -- a command that isn't sent wasn't answered well
@@ -152,17 +157,19 @@ pub skips_unwell : (b : Bool) (p : Progress) (m : Moment) (mark : Mark) (list : 
 skips_unwell b p m mark list task others is = ap (λ ts. last_well b (skips_first p m mark ts)) is ∙ unwell_end p.missed
 
 -- a station that counted the record of a command that isn't sent is as the model with that record
-pub skipped_stands : (old new : Station) (s : Model) (rs : List Record) → Refines old s → ((b : Bool) → last_well b rs ≡ false)
-    → new ≡ record old { tally = tallied old.tally rs; well = false } → Refines new (with_records rs s)
-skipped_stands old new s rs stands unwell is = record {
+pub skipped_stands : (old new : Station) (s : Model) (rs : List Record) (b b' : Bool) → Refines old s → ((b : Bool) → last_well b rs ≡ false) → (AreReadings s.reads → b ≡ b')
+    → new ≡ record old { tally = tallied old.tally rs; well = false; listed = b } → Refines new (with_listed b' (with_records rs s))
+skipped_stands old new s rs b b' stands unwell same is = record {
   progress = ap (λ (n : Station). n.progress) is ∙ stands.progress;
   ids = ap (λ (n : Station). n.client.ids) is ∙ stands.ids;
   width = ap (λ (n : Station). n.client.width) is ∙ stands.width;
   marks = ap (λ (n : Station). n.marks.items) is ∙ stands.marks;
   paired = stands.paired;
   assembles = subst (λ (x : Station). StandsFor x.assembler s.rest) (sym is) stands.assembles;
-  tally = λ are. ap (λ (n : Station). n.tally) is ∙ ap (λ t. tallied t rs) (stands.tally are) ∙ sym (tallied-append none_yet s.records rs);
+  tally = λ are. ap (λ (n : Station). n.tally) is ∙ ap (λ t. tallied t rs) (stands.tally are) ∙ sym (tallied-append nothing_yet s.records rs);
   well = λ are. ap (λ (n : Station). n.well) is ∙ sym (last-append false s.records rs ∙ unwell (last_well false s.records));
+  listed = λ are. ap (λ (n : Station). n.listed) is ∙ same are;
+  fresh = λ are. ap (λ (n : Station). n.fresh) is ∙ stands.fresh are;
 }
 
 -- no records added to a model leave it as it is

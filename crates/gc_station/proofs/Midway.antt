@@ -1,6 +1,6 @@
 -- What holds in the midst of an act, before what waits is lost: `Mid`, the weaker record, which has the counts and the records,
 -- and what the phase says. At the end of an act it gives what every run keeps (`Invariant`).
-use Rattle.std.proofs.Common.{◌≡◌, ℕ, ◌+◌, ◌-◌, ◌%◌, ◌<◌, ◌≤◌, ◌⊎◌, inl, inr, ◌&&◌, ◌||◌, Bool, true, false, not, List, [], ◌∷◌, ◌++◌, length, drop, map, nat_eq, Option, Some, None, refl, sym, ap, ◌∙◌, subst, arith, length-append}
+use Rattle.std.proofs.Common.{◌≡◌, ℕ, nat_lt, ltb-true, ltb-false, take, ◌+◌, ◌-◌, ◌%◌, ◌<◌, ◌≤◌, ◌⊎◌, inl, inr, ◌&&◌, ◌||◌, Bool, true, false, not, List, [], ◌∷◌, ◌++◌, length, drop, map, nat_eq, Option, Some, None, refl, sym, ap, ◌∙◌, subst, arith, length-append}
 use Rattle.std.proofs.Math.Nat.{mod-lt}
 use Rattle.std.proofs.lemmas.Bool.Decides.{nat_tests}
 use Rattle.std.proofs.lemmas.List.{length-map, length-drop, nil_from_length}
@@ -11,6 +11,7 @@ use Rattle.gc_client.specs.declared.pending.Pending.{Pending}
 use Rattle.gc_client.specs.Rule.{ById, Settlement, expires, expired, fresh, lost, pending_of, id_send, sends}
 use Rattle.gc_client.specs.OneForOne.{of_settled, of_pending}
 use Rattle.gc_client.proofs.OneForOne.{lost_parts}
+use Rattle.gc_texts.specs.declared.turn.Turn.{Turn}
 use Rattle.gc_texts.specs.declared.near.Expected.{Expected}
 use Rattle.gc_texts.specs.declared.tasks.Task.{Task}
 use Rattle.gc_texts.specs.Endings.{End}
@@ -19,25 +20,26 @@ use Rattle.gc_station.specs.declared.plan.Plan.{Plan}
 use Rattle.gc_station.specs.declared.progress.Phase.{Phase}
 use Rattle.gc_station.specs.declared.progress.Progress.{Progress}
 use Rattle.gc_station.specs.Deciding.{has_begun, is_up}
-use Rattle.gc_station.specs.EachOnce.{sent_by}
+use Rattle.gc_station.specs.EachOnce.{Parted, Request, requests, of_task, of_record, still_waiting, sent_by}
+use Rattle.gc_station.proofs.Parted.{parted_more, parted_past, sent_past}
 use Rattle.gc_station.specs.Marks.{commands_in, records_of}
 use Rattle.gc_station.specs.Progressing.{is_over_in, is_over, loses_all}
 use Rattle.gc_station.specs.Records.{Record}
 use Rattle.gc_station.specs.Model.{Model, client_sent, losing, ended}
-use Rattle.gc_station.proofs.Each.{EachIs, each_moment, each_settles, each_null, each_sent, each_skipped, each_begun}
+use Rattle.gc_station.proofs.Each.{each_moment, each_settles, each_null, each_sent, each_skipped, sent_next, sent_whole, sent_none}
 use Rattle.gc_station.proofs.Invariant.{Invariant, is_bare, says_done}
 
 -- where `left` cycles haven't begun, and `unsent` commands of the present one haven't had their turn: the records, and after
 -- them the commands that wait, are the commands that had their turn, sent or not, in order. Each request that waits has its
 -- mark, at most 7 wait, and the next id is below 8
-pub record Sound (plan : Plan) (commands : List Task) (left unsent : ℕ) (client : ById Asked) (marks : List (Option Mark)) (records : List Record) : Type 0 where
+pub record Sound (plan : Plan) (commands : List Task) (left unsent : ℕ) (client : ById Asked) (marks : List (Option Mark)) (records : List Record) (passes : List Request) : Type 0 where
   pub unsents : unsent ≤ length commands
   pub lefts : left ≤ plan.cycles
   pub begun : 0 < unsent → left < plan.cycles
   pub paired : length marks ≡ length client.waiting
   pub window : length client.waiting ≤ 7
   pub digit : client.next < 8
-  pub each : EachIs marks client.waiting records (sent_by commands (plan.cycles - left) (length commands - unsent))
+  pub each : Parted (map of_record records ++ still_waiting marks client.waiting) passes (sent_by commands (plan.cycles - left) (length commands - unsent))
 
 -- what a phase says of the counts, the bytes that are kept and the marks
 pub record Placed (phase : Phase) (left unsent : ℕ) (rest : List ℕ) (marks : List (Option Mark)) : Type 0 where
@@ -45,8 +47,8 @@ pub record Placed (phase : Phase) (left unsent : ℕ) (rest : List ℕ) (marks :
   pub finished : says_done phase ≡ true → (left ≡ 0) × (unsent ≡ 0) × ((is_over_in phase ≡ true) ⊎ (commands_in marks ≡ 0))
 
 -- `Sound` by the counts of this progress
-abbrev pub SoundAt : Plan → List Task → Progress → ById Asked → List (Option Mark) → List Record → Type 0
-SoundAt plan commands p client marks records = Sound plan commands p.left p.unsent client marks records
+abbrev pub SoundAt : Plan → List Task → Progress → ById Asked → List (Option Mark) → List Record → List Request → Type 0
+SoundAt plan commands p client marks records passes = Sound plan commands p.left p.unsent client marks records passes
 
 -- `Placed` by the phase and the counts of this progress
 abbrev pub PlacedAt : Progress → List ℕ → List (Option Mark) → Type 0
@@ -54,7 +56,7 @@ PlacedAt p rest marks = Placed p.phase p.left p.unsent rest marks
 
 -- the weaker record of a model: `Sound` of its counts, and `Placed` of its phase
 abbrev pub Mid : Plan → List Task → Model → Type 0
-Mid plan commands s = SoundAt plan commands s.progress s.client s.marks s.records × PlacedAt s.progress s.rest s.marks
+Mid plan commands s = SoundAt plan commands s.progress s.client s.marks s.records s.passes × PlacedAt s.progress s.rest s.marks
 
 -- what every run keeps gives the weaker record
 pub mid_of : (plan : Plan) (commands : List Task) (s : Model) → Invariant plan commands s → Mid plan commands s
@@ -80,11 +82,15 @@ clash b e g = cc
 
 -- What holds of the counts and the records.
 
+-- what had its turn is parted alike where what was kept is the same
+as_kept : (xs xs' ys zs : List Request) → xs' ≡ xs → Parted xs ys zs → Parted xs' ys zs
+as_kept xs xs' ys zs e h = subst (λ (l : List Request). Parted l ys zs) (sym e) h
+
 -- a moment that gives requests up keeps `Sound`
-pub sound_moment : (plan : Plan) (commands : List Task) (left unsent : ℕ) (client : ById Asked) (marks : List (Option Mark)) (records : List Record) (m : ℕ)
-    → Sound plan commands left unsent client marks records
-    → Sound plan commands left unsent (expires client m) marks records
-sound_moment plan commands left unsent client marks records m sound =
+pub sound_moment : (plan : Plan) (commands : List Task) (left unsent : ℕ) (client : ById Asked) (marks : List (Option Mark)) (records : List Record) (passes : List Request) (m : ℕ)
+    → Sound plan commands left unsent client marks records passes
+    → Sound plan commands left unsent (expires client m) marks records passes
+sound_moment plan commands left unsent client marks records passes m sound =
     let same : length (map (expired m) client.waiting) ≡ length client.waiting = length-map client.waiting (expired m) in
     record {
       unsents = sound.unsents;
@@ -93,15 +99,15 @@ sound_moment plan commands left unsent client marks records m sound =
       paired = sound.paired ∙ sym same;
       window = omega (arith, same, sound.window);
       digit = sound.digit;
-      each = each_moment marks client.waiting records (sent_by commands (plan.cycles - left) (length commands - unsent)) m sound.each;
+      each = as_kept _ _ _ _ (each_moment marks client.waiting records (map of_record records ++ still_waiting marks client.waiting) m refl) sound.each;
     }
 
 -- settlements of the oldest requests keep `Sound`
 pub sound_settles : (reads : Asked → List ℕ → Reading) (plan : Plan) (commands : List Task) (left unsent : ℕ) (client next : ById Asked) (marks : List (Option Mark))
-    (records : List Record) (utc : ℕ) (ss : List (Settlement Asked))
-    → map of_settled ss ++ map of_pending next.waiting ≡ map of_pending client.waiting → next.next < 8 → Sound plan commands left unsent client marks records
-    → Sound plan commands left unsent next (drop (length ss) marks) (records ++ records_of reads utc marks ss)
-sound_settles reads plan commands left unsent client next marks records utc ss parts low sound =
+    (records : List Record) (passes : List Request) (utc : ℕ) (ss : List (Settlement Asked))
+    → map of_settled ss ++ map of_pending next.waiting ≡ map of_pending client.waiting → next.next < 8 → Sound plan commands left unsent client marks records passes
+    → Sound plan commands left unsent next (drop (length ss) marks) (records ++ records_of reads utc marks ss) passes
+sound_settles reads plan commands left unsent client next marks records passes utc ss parts low sound =
     let ended = map of_settled ss in
     let waits = map of_pending next.waiting in
     let ends : length ended ≡ length ss = length-map ss of_settled in
@@ -115,7 +121,7 @@ sound_settles reads plan commands left unsent client next marks records utc ss p
       paired = omega (arith, ends, behind, count, fewer, sound.paired);
       window = omega (arith, ends, behind, count, sound.window);
       digit = low;
-      each = each_settles reads utc marks client.waiting next.waiting ss records (sent_by commands (plan.cycles - left) (length commands - unsent)) parts sound.each;
+      each = as_kept _ _ _ _ (each_settles reads utc marks client.waiting next.waiting ss records (map of_record records ++ still_waiting marks client.waiting) parts refl) sound.each;
     }
 
 -- where there is room, the client after a send has the next id, and one request more that waits
@@ -132,28 +138,28 @@ one_more : (marks : List (Option Mark)) (ws : List (Pending Asked)) (m : Option 
 one_more marks ws m p paired = length-append marks (m ∷ []) ∙ ap (λ n. n + 1) paired ∙ sym (length-append ws (p ∷ []))
 
 -- a null procedure that is sent keeps `Sound`
-pub sound_null : (plan : Plan) (commands : List Task) (left unsent : ℕ) (client : ById Asked) (marks : List (Option Mark)) (records : List Record) (target : ℕ) (call : Asked) (deadline : ℕ)
-    → length client.waiting < 7 → Sound plan commands left unsent client marks records
-    → Sound plan commands left unsent (client_sent client (sends WINDOW client target call deadline)) (marks ++ None ∷ []) records
-sound_null plan commands left unsent client marks records target call deadline room sound =
+pub sound_null : (plan : Plan) (commands : List Task) (left unsent : ℕ) (client : ById Asked) (marks : List (Option Mark)) (records : List Record) (passes : List Request) (target : ℕ) (call : Asked) (deadline : ℕ)
+    → length client.waiting < 7 → Sound plan commands left unsent client marks records passes
+    → Sound plan commands left unsent (client_sent client (sends WINDOW client target call deadline)) (marks ++ None ∷ []) records passes
+sound_null plan commands left unsent client marks records passes target call deadline room sound =
     let p = pending_of target call deadline in
     let more : length (client.waiting ++ p ∷ []) ≡ length client.waiting + 1 = length-append client.waiting (p ∷ []) in
-    subst (λ (c : ById Asked). Sound plan commands left unsent c (marks ++ None ∷ []) records) (sym (client_behind client target call deadline room)) (record {
+    subst (λ (c : ById Asked). Sound plan commands left unsent c (marks ++ None ∷ []) records passes) (sym (client_behind client target call deadline room)) (record {
       unsents = sound.unsents;
       lefts = sound.lefts;
       begun = sound.begun;
       paired = one_more marks client.waiting None p sound.paired;
       window = omega (arith, more, room);
       digit = mod-lt (client.next + 1) (omega arith);
-      each = each_null marks client.waiting p records (sent_by commands (plan.cycles - left) (length commands - unsent)) sound.paired sound.each;
+      each = as_kept _ _ _ _ (each_null marks client.waiting p records (map of_record records ++ still_waiting marks client.waiting) sound.paired refl) sound.each;
     })
 
 -- a command that is sent keeps `Sound`, with one command less unsent
-pub sound_sent : (plan : Plan) (commands : List Task) (left unsent : ℕ) (client : ById Asked) (marks : List (Option Mark)) (records : List Record) (utc deadline : ℕ) (expected : Expected) (task : Task) (others : List Task)
-    → length client.waiting < 7 → 0 < unsent → drop (length commands - unsent) commands ≡ task ∷ others → Sound plan commands left unsent client marks records
+pub sound_sent : (plan : Plan) (commands : List Task) (left unsent : ℕ) (client : ById Asked) (marks : List (Option Mark)) (records : List Record) (passes : List Request) (utc deadline : ℕ) (expected : Expected) (task : Task) (others : List Task)
+    → length client.waiting < 7 → 0 < unsent → drop (length commands - unsent) commands ≡ task ∷ others → Sound plan commands left unsent client marks records passes
     → Sound plan commands left (unsent - 1) (client_sent client (sends WINDOW client task.command.target task.command.call deadline))
-    (marks ++ Some (record { cycle = plan.cycles - left; place = length commands - unsent; sent = utc; expected = expected }) ∷ []) records
-sound_sent plan commands left unsent client marks records utc deadline expected task others room some at sound =
+    (marks ++ Some (record { cycle = plan.cycles - left; place = length commands - unsent; sent = utc; expected = expected }) ∷ []) records passes
+sound_sent plan commands left unsent client marks records passes utc deadline expected task others room some at sound =
     let p = pending_of task.command.target task.command.call deadline in
     let begun = plan.cycles - left in
     let place = length commands - unsent in
@@ -162,26 +168,30 @@ sound_sent plan commands left unsent client marks records utc deadline expected 
     let below = sound.begun some in
     let many : 0 < begun = omega (arith, below) in
     let place_is : length commands - (unsent - 1) ≡ place + 1 = omega (arith, some, sound.unsents) in
-    let each = each_sent commands begun place utc expected marks client.waiting p records task others sound.paired at refl many sound.each in
-    subst (λ (c : ById Asked). Sound plan commands left (unsent - 1) c (marks ++ Some mark ∷ []) records) (sym (client_behind client task.command.target task.command.call deadline room)) (record {
+    let kept = map of_record records ++ still_waiting marks client.waiting in
+    let one = requests begun place (of_task task ∷ []) in
+    let each : Parted (map of_record records ++ still_waiting (marks ++ Some mark ∷ []) (client.waiting ++ p ∷ [])) passes (sent_by commands begun (place + 1)) =
+    subst (λ (xs : List Request). Parted (map of_record records ++ still_waiting (marks ++ Some mark ∷ []) (client.waiting ++ p ∷ [])) passes xs) (sent_next commands begun place task others at many)
+    (as_kept _ _ _ _ (each_sent commands begun place utc expected marks client.waiting p records task others sound.paired at refl many kept refl) (parted_more kept passes (sent_by commands begun place) one sound.each)) in
+    subst (λ (c : ById Asked). Sound plan commands left (unsent - 1) c (marks ++ Some mark ∷ []) records passes) (sym (client_behind client task.command.target task.command.call deadline room)) (record {
       unsents = omega (arith, sound.unsents);
       lefts = sound.lefts;
       begun = λ e. below;
       paired = one_more marks client.waiting (Some mark) p sound.paired;
       window = omega (arith, more, room);
       digit = mod-lt (client.next + 1) (omega arith);
-      each = subst (λ (n : ℕ). EachIs (marks ++ Some mark ∷ []) (client.waiting ++ p ∷ []) records (sent_by commands begun n)) (sym place_is) each;
+      each = subst (λ (n : ℕ). Parted (map of_record records ++ still_waiting (marks ++ Some mark ∷ []) (client.waiting ++ p ∷ [])) passes (sent_by commands begun n)) (sym place_is) each;
     })
 
 -- a command that isn't sent keeps `Sound`, with one command less unsent
-pub sound_skipped : (plan : Plan) (commands : List Task) (left unsent : ℕ) (client : ById Asked) (marks : List (Option Mark)) (records : List Record) (utc : ℕ) (end : End) (task : Task) (others : List Task)
-    → commands_in marks ≡ 0 → 0 < unsent → drop (length commands - unsent) commands ≡ task ∷ others → Sound plan commands left unsent client marks records
+pub sound_skipped : (plan : Plan) (commands : List Task) (left unsent : ℕ) (client : ById Asked) (marks : List (Option Mark)) (records : List Record) (passes : List Request) (utc : ℕ) (end : End) (turn : Turn) (task : Task) (others : List Task)
+    → commands_in marks ≡ 0 → 0 < unsent → drop (length commands - unsent) commands ≡ task ∷ others → Sound plan commands left unsent client marks records passes
     → Sound plan commands left (unsent - 1) client marks (records ++ record
-    { sent = None; utc = utc; cycle = plan.cycles - left; place = length commands - unsent; command = task.command; end = end } ∷ [])
-sound_skipped plan commands left unsent client marks records utc end task others none some at sound =
+    { sent = None; utc = utc; cycle = plan.cycles - left; place = length commands - unsent; turn = turn; command = task.command; end = end } ∷ []) passes
+sound_skipped plan commands left unsent client marks records passes utc end turn task others none some at sound =
     let begun = plan.cycles - left in
     let place = length commands - unsent in
-    let r : Record = record { sent = None; utc = utc; cycle = begun; place = place; command = task.command; end = end } in
+    let r : Record = record { sent = None; utc = utc; cycle = begun; place = place; turn = turn; command = task.command; end = end } in
     let below = sound.begun some in
     let many : 0 < begun = omega (arith, below) in
     let place_is : length commands - (unsent - 1) ≡ place + 1 = omega (arith, some, sound.unsents) in
@@ -192,14 +202,46 @@ sound_skipped plan commands left unsent client marks records utc end task others
       paired = sound.paired;
       window = sound.window;
       digit = sound.digit;
-      each = subst (λ (n : ℕ). EachIs marks client.waiting (records ++ r ∷ []) (sent_by commands begun n)) (sym place_is)
-          (each_skipped commands begun place marks client.waiting records r task others none at refl many sound.each);
+      each =
+          let kept = map of_record records ++ still_waiting marks client.waiting in
+          let one = requests begun place (of_task task ∷ []) in
+          subst (λ (xs : List Request). Parted (map of_record (records ++ r ∷ []) ++ still_waiting marks client.waiting) passes xs)
+          (sent_next commands begun place task others at many ∙ ap (λ (n : ℕ). sent_by commands begun n) (sym place_is))
+          (as_kept _ _ _ _ (each_skipped commands begun place marks client.waiting records r task others none at refl many kept refl) (parted_more kept passes (sent_by commands begun place) one sound.each));
     }
 
+-- the attempts of a chain that are passed over keep `Sound`, with so many commands less unsent
+pub sound_passed : (plan : Plan) (commands : List Task) (left unsent count : ℕ) (client : ById Asked) (marks : List (Option Mark)) (records : List Record) (passes : List Request)
+    → 0 < unsent → Sound plan commands left unsent client marks records passes
+    → Sound plan commands left (unsent - count) client marks records
+    (passes ++ requests (plan.cycles - left) (length commands - unsent) (map of_task (take count (drop (length commands - unsent) commands))))
+sound_passed plan commands left unsent count client marks records passes some sound =
+    let begun = plan.cycles - left in
+    let place = length commands - unsent in
+    let below = sound.begun some in
+    let many : 0 < begun = omega (arith, below) in
+    let kept = map of_record records ++ still_waiting marks client.waiting in
+    let past = requests begun place (map of_task (take count (drop place commands))) in
+    record {
+      unsents = omega (arith, sound.unsents);
+      lefts = sound.lefts;
+      begun = λ e. below;
+      paired = sound.paired;
+      window = sound.window;
+      digit = sound.digit;
+      each = subst (λ (xs : List Request). Parted kept (passes ++ past) xs) (sent_past commands begun place count (length commands - (unsent - count)) (omega (arith, sound.unsents)) many
+          (by_count (nat_lt unsent count) refl)) (parted_past kept passes (sent_by commands begun place) past sound.each);
+    } where
+      -- the new place is so many places behind, or at the end, where fewer are unsent
+      by_count : (b : Bool) → nat_lt unsent count ≡ b → (length commands - (unsent - count) ≡ (length commands - unsent) + count)
+          ⊎ ((length commands - (unsent - count) ≡ length commands) × (length commands ≤ (length commands - unsent) + count))
+      by_count true e = let more = ltb-true unsent count e in inr (omega (arith, more), omega (arith, more, sound.unsents))
+      by_count false e = let few = ltb-false unsent count e in inl (omega (arith, few, sound.unsents))
+
 -- the beginning of a cycle keeps `Sound`
-pub sound_begun : (plan : Plan) (commands : List Task) (left unsent : ℕ) (client : ById Asked) (marks : List (Option Mark)) (records : List Record)
-    → unsent ≡ 0 → commands_in marks ≡ 0 → 0 < left → Sound plan commands left unsent client marks records → Sound plan commands (left - 1) (length commands) client marks records
-sound_begun plan commands left unsent client marks records none settled some sound =
+pub sound_begun : (plan : Plan) (commands : List Task) (left unsent : ℕ) (client : ById Asked) (marks : List (Option Mark)) (records : List Record) (passes : List Request)
+    → unsent ≡ 0 → 0 < left → Sound plan commands left unsent client marks records passes → Sound plan commands (left - 1) (length commands) client marks records passes
+sound_begun plan commands left unsent client marks records passes none some sound =
     let lefts = sound.lefts in
     record {
       unsents = omega arith;
@@ -208,8 +250,9 @@ sound_begun plan commands left unsent client marks records none settled some sou
       paired = sound.paired;
       window = sound.window;
       digit = sound.digit;
-      each = each_begun commands (plan.cycles - left) (plan.cycles - (left - 1)) (length commands - unsent) (length commands - length commands) marks client.waiting records settled
-          (omega (arith, none)) (omega (arith, some, lefts)) (omega arith) sound.each;
+      each = subst (λ (xs : List Request). Parted (map of_record records ++ still_waiting marks client.waiting) passes xs)
+          (sent_whole commands (plan.cycles - left) (length commands - unsent) (omega (arith, none))
+          ∙ sym (sent_none commands (plan.cycles - left) (plan.cycles - (left - 1)) (length commands - length commands) (omega (arith, some, lefts)) (omega arith))) sound.each;
     }
 
 -- The end of what waits.
@@ -230,7 +273,7 @@ fine_losing : (plan : Plan) (commands : List Task) (s : Model) (b : Bool) → lo
 fine_losing plan commands s true is (sound, placed) =
     let p = s.progress in
     let ss = map lost s.client.waiting in
-    let x = sound_settles s.reads plan commands p.left p.unsent s.client fresh s.marks s.records p.moment.utc ss (append_none (map of_settled ss) ∙ lost_parts s.client.waiting) (omega arith) sound in
+    let x = sound_settles s.reads plan commands p.left p.unsent s.client fresh s.marks s.records s.passes p.moment.utc ss (append_none (map of_settled ss) ∙ lost_parts s.client.waiting) (omega arith) sound in
     let nothing : drop (length ss) s.marks ≡ [] = nil_from_length (drop (length ss) s.marks) x.paired in
     record {
       unsent = x.unsents;

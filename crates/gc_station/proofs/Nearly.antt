@@ -41,7 +41,7 @@ use Rattle.gc_station.proofs.Walk.{lines_along, moved_changed}
 
 -- what is expected of a task's answer
 abbrev expects : Task → Expected
-expects task = record { near = task.near; accepted = task.accepted }
+expects task = record { near = task.near; accepted = task.accepted; again = task.again; turn = task.turn }
 
 -- what is expected of the command at a place is what its task says
 expected_there : (commands : List Task) (k : ℕ) (task : Task) → slice_get commands k ≡ Some task → expected_first (drop k commands) ≡ expects task

@@ -7,13 +7,14 @@ use Rattle.gc_station.specs.declared.plan.Plan.{Plan}
 use Rattle.gc_station.specs.declared.cause.Cause.{Cause}
 use Rattle.gc_station.specs.declared.cause.Cause.TheVariants as cause
 use Rattle.gc_station.specs.declared.progress.Phase.TheVariants as phase
+use Rattle.gc_station.specs.declared.progress.Progress.{Progress}
 use Rattle.gc_station.specs.declared.progress.Action.{Action}
 use Rattle.gc_station.specs.declared.progress.Action.TheVariants as actions
 use Rattle.gc_links.specs.Acts.{Act, Closed, Unopened}
 use Rattle.gc_station.specs.Deciding.{has_begun, is_up}
 use Rattle.gc_station.specs.Marks.{commands_in}
 use Rattle.gc_station.specs.Progressing.{failing, turned, told, cleared, time_passed, closed}
-use Rattle.gc_station.specs.Reasons.{IsFor}
+use Rattle.gc_station.specs.Reasons.{IsFor, HasOneFor}
 use Rattle.gc_station.specs.Model.{Model, requests_out, waiting_of, with_progress, with_moment, is_heard, after_open, Performs, moved}
 use Rattle.gc_station.specs.Tries.{ends_in, opens_in}
 use Rattle.gc_station.proofs.Closings.{came_phase}
@@ -47,14 +48,26 @@ failed s why = let up = is_up s.progress.phase in calm up (is_up (if up then pha
 close_counted : (before behind : Bool) → before ≡ true → behind ≡ false → Counted before Closed behind
 close_counted before behind up down = let a : up_count before ≡ 1 = ap up_count up in let b : up_count behind ≡ 0 = ap up_count down in omega (arith, a, b)
 
--- an act of each action is `Counted`
-pub counted_moved : (plan : Plan) (commands : List Task) (next : Action) (s : Model) (act : Act) → Performs commands s next act → IsFor plan s.progress (waiting_of s) next
+-- an action ends the run whether there is a connection or not: it closes it for `Stale` or `Stopped`
+abbrev pub Quits : Action → Type 0
+Quits (actions.Close cause.Stale) = Unit {0}
+Quits (actions.Close cause.Stopped) = Unit {0}
+Quits next = ⊥
+
+-- where a connection is closed for a cause that doesn't end a run without one, there is one
+up_for : (why : Cause) (p : Progress) → HasOneFor why p → (Quits (actions.Close why) → ⊥) → is_up p.phase ≡ true
+up_for cause.Stale p has never = absurd (never tt)
+up_for cause.Stopped p has never = absurd (never tt)
+up_for why p has never = has
+
+-- an act of each action is `Counted`, but for those that end a run whether there is a connection or not
+pub counted_moved : (plan : Plan) (commands : List Task) (next : Action) (s : Model) (act : Act) → Performs commands s next act → IsFor plan s.progress (waiting_of s) next → (Quits next → ⊥)
     → Counted (is_up s.progress.phase) act (is_up (moved plan commands next (with_progress turned s) act).progress.phase)
-counted_moved plan commands actions.Open s act o needs =
+counted_moved plan commands actions.Open s act o needs never =
     let down : up_count (is_up s.progress.phase) ≡ 0 = ap (λ at. up_count (is_up at)) needs in
     let again : up_count (is_up (after_open plan (with_progress turned s) Unopened).progress.phase) ≡ 0 = ap up_count (again_down plan (commands_in s.marks) cause.Open (turned s.progress)) in
     walk plan commands (Counts s) actions.Open (with_progress turned s) act o (λ m. omega (arith, down), λ n. omega (arith, down, again))
-counted_moved plan commands actions.Clear s act o needs =
+counted_moved plan commands actions.Clear s act o needs never =
     let at = (cleared (turned s.progress)).phase in
     let up : is_up at ≡ is_up s.progress.phase = cleared_up (has_begun s.progress) ∙ sym (ap is_up needs) in
     walk plan commands (Counts s) actions.Clear (with_progress turned s) act o
@@ -63,13 +76,13 @@ counted_moved plan commands actions.Clear s act o needs =
       cleared_up : (begun : Bool) → is_up (if begun then phase.Draining else phase.Ready) ≡ true
       cleared_up true = refl
       cleared_up false = refl
-counted_moved plan commands actions.Ask s act o needs =
+counted_moved plan commands actions.Ask s act o needs never =
     walk plan commands (Counts s) actions.Ask (with_progress turned s) act o (λ m. refl, λ n. failed s (cause.Write (requests_out plan commands (turned s.progress)) n))
-counted_moved plan commands actions.Send s act o needs =
+counted_moved plan commands actions.Send s act o needs never =
     walk plan commands (Counts s) actions.Send (with_progress turned s) act o (λ m. refl, λ n. failed s (cause.Write (requests_out plan commands (turned s.progress)) n))
-counted_moved plan commands actions.Flush s act o needs =
+counted_moved plan commands actions.Flush s act o needs never =
     walk plan commands (Counts s) actions.Flush (with_progress turned s) act o (λ m. refl, λ n. failed s (cause.Write (requests_out plan commands (turned s.progress)) n))
-counted_moved plan commands (actions.Read until) s act o needs =
+counted_moved plan commands (actions.Read until) s act o needs never =
     walk plan commands (Counts s) (actions.Read until) (with_progress turned s) act o (
       λ bytes m. calm (is_up s.progress.phase) _ (ap is_up (came_phase (is_heard s.progress.phase) s.progress.word bytes (with_moment m (with_progress (told m) (with_progress turned s))))),
       λ m. calm (is_up s.progress.phase) _ (quieted_up plan s.progress.phase (time_passed until m (turned s.progress)) refl),
@@ -77,8 +90,8 @@ counted_moved plan commands (actions.Read until) s act o needs =
       failed s cause.Read,
       failed s cause.Clock,
     )
-counted_moved plan commands (actions.Close why) s act o needs =
+counted_moved plan commands (actions.Close why) s act o needs never =
     walk plan commands (Counts s) (actions.Close why) (with_progress turned s) act o
-    (close_counted (is_up s.progress.phase) (is_up (closed plan (waiting_of s) why (turned s.progress)).phase) needs.0 (closed_down plan (waiting_of s) why (turned s.progress)))
-counted_moved plan commands (actions.Stop why) s act o needs = absurd o
-counted_moved plan commands next s act o needs = walk plan commands (Counts s) next (with_progress turned s) act o (λ m. refl, λ n. failed s cause.Clock)
+    (close_counted (is_up s.progress.phase) (is_up (closed plan (waiting_of s) why (turned s.progress)).phase) (up_for why s.progress needs.0 never) (closed_down plan (waiting_of s) why (turned s.progress)))
+counted_moved plan commands (actions.Stop why) s act o needs never = absurd o
+counted_moved plan commands next s act o needs never = walk plan commands (Counts s) next (with_progress turned s) act o (λ m. refl, λ n. failed s cause.Clock)

@@ -110,7 +110,7 @@ module _ (plan : Plan) (commands : List Task) where
   skips_first_unsent p m mark [] = refl
   skips_first_unsent p m mark (task ∷ others) = by_case p.missed where
     -- the lemma above, whether its cycle is missed (`true`) or it is skipped
-    by_case : (b : Bool) → sent_of (record { sent = None; utc = skipped_at m p; cycle = mark.cycle; place = mark.place; command = task.command; end = if b then Missed else Skipped } ∷ []) ≡ []
+    by_case : (b : Bool) → sent_of (record { sent = None; utc = skipped_at m p; cycle = mark.cycle; place = mark.place; turn = mark.expected.turn; command = task.command; end = if b then Missed else Skipped } ∷ []) ≡ []
     by_case true = refl
     by_case false = refl
 
@@ -185,6 +185,7 @@ module _ (plan : Plan) (commands : List Task) where
   keeps_action s action.Begin act is obeys begins new = absurd (clash (has_begun s.progress) is.1 begins)
   keeps_action s action.Send act is obeys begins new = absurd (clash (has_begun s.progress) is.1 begins)
   keeps_action s action.Skip act is obeys begins new = absurd (clash (has_begun s.progress) is.1 begins)
+  keeps_action s action.Pass act is obeys begins new = absurd (clash (has_begun s.progress) is.1 begins)
   keeps_action s action.Flush act is obeys begins new = absurd (clash (has_begun s.progress) is.1 begins)
   keeps_action s action.ReadClock act is obeys begins new = walk plan commands (Keeps s) action.ReadClock (with_progress turned s) act obeys
       (λ m. (new_told s m new, refl, refl), λ n. (new, refl, refl))

@@ -14,10 +14,11 @@ use Rattle.gc_client.specs.Rule
 use Rattle.gc_client.specs.Settlements.{settlement_seen}
 use Rattle.gc_station.specs.declared.mark.Mark.{Mark}
 use Rattle.gc_texts.specs.Endings.{End}
-use Rattle.gc_station.specs.Marks.{commands_in, command_of, end_of, record_of, records_of, is_well, last_well}
+use Rattle.gc_station.specs.Attempts.{code_of, listed_behind, listed_by}
+use Rattle.gc_station.specs.Marks.{commands_in, command_of, end_of, record_of, records_of, is_well, last_well, fresh_behind}
 use Rattle.gc_station.specs.Records.{Record, texts_of, WritesPart}
-use Rattle.gc_station.specs.Tallies.{counted, tallied}
-use Rattle.gc_station.specs.declared.tally.Tally.{Tally}
+use Rattle.gc_station.specs.Tallies.{counted_in, tallied}
+use Rattle.gc_station.specs.declared.tally.Counts.{Counts}
 
 -- Marks.
 
@@ -101,6 +102,46 @@ front_left reads utc marks ss i =
     ∙ ap (records_of reads utc marks) (map-append settlement_seen (take i ss) (drop i ss))
     ∙ records-append reads utc marks (map settlement_seen (take i ss)) (map settlement_seen (drop i ss))
 
+-- no settlements leave whether a command of the attempt ended as its rule names
+pub listed-none : (reads : Asked → List ℕ → Reading) (b : Bool) (marks : List (Option Mark)) → listed_by reads b marks [] ≡ b
+listed-none reads b [] = refl
+listed-none reads b (mark ∷ marks) = refl
+
+-- what one settlement of the oldest request lists hangs on the first mark alone
+listed_here : (reads : Asked → List ℕ → Reading) (b : Bool) (mark : Option Mark) (marks : List (Option Mark)) (x : Rule.Settlement Asked)
+    → listed_by reads b (mark ∷ marks) (x ∷ []) ≡ listed_by reads b (mark ∷ []) (x ∷ [])
+listed_here reads b None marks x = listed-none reads b marks
+listed_here reads b (Some mark) marks x = listed-none reads _ marks
+
+-- what one settlement of the oldest request lists hangs on the first mark alone, where that mark is given by its place, 0
+pub listed_first : (reads : Asked → List ℕ → Reading) (b : Bool) (marks : List (Option Mark)) (mark : Option Mark) (x : Rule.Settlement Asked)
+    → Some mark ≡ slice_get marks 0 → listed_by reads b marks (x ∷ []) ≡ listed_by reads b (mark ∷ []) (x ∷ [])
+listed_first reads b [] mark x e = cc
+listed_first reads b (m ∷ marks) mark x e = let same : m ≡ mark = cc in listed_here reads b m marks x ∙ ap (λ k. listed_by reads b (k ∷ []) (x ∷ [])) same
+
+-- what settlements and others behind them list is what the others do, behind the first, by the marks that are left
+listed-append : (reads : Asked → List ℕ → Reading) (marks : List (Option Mark)) (xs ys : List (Rule.Settlement Asked)) (b : Bool)
+    → listed_by reads b marks (xs ++ ys) ≡ listed_by reads (listed_by reads b marks xs) (drop (length xs) marks) ys
+listed-append reads [] [] ys b = refl
+listed-append reads [] (x ∷ xs) ys b = refl
+listed-append reads (mark ∷ marks) [] ys b = refl
+listed-append reads (None ∷ marks) (x ∷ xs) ys b = listed-append reads marks xs ys b
+listed-append reads (Some mark ∷ marks) (x ∷ xs) ys b =
+    listed-append reads marks xs ys (listed_behind b mark.expected (code_of reads x.call x.outcome) (end_of reads mark.expected x.call x.outcome))
+
+-- what the first i + 1 settlements list is what s does, the one at place i, behind the first i, by its mark
+pub listed_more : (reads : Asked → List ℕ → Reading) (a b c : Bool) (marks : List (Option Mark)) (ss : List (Settlement Asked)) (i : ℕ) (s : Settlement Asked) (mark : Option Mark)
+    → i < length ss → s ≡ get_or ss i s → b ≡ listed_by reads a marks (map settlement_seen (take i ss)) → c ≡ listed_by reads b (mark ∷ []) (settlement_seen s ∷ [])
+    → ((x : Bool) → listed_by reads x (drop i marks) (settlement_seen s ∷ []) ≡ listed_by reads x (mark ∷ []) (settlement_seen s ∷ []))
+    → c ≡ listed_by reads a marks (map settlement_seen (take (i + 1) ss))
+listed_more reads a b c marks ss i s mark below is so more here =
+    let front = map settlement_seen (take i ss) in
+    let len : length front ≡ i = length-map (take i ss) settlement_seen ∙ omega (arith, length-take i ss, below) in
+    more ∙ ap (λ x. listed_by reads x (mark ∷ []) (settlement_seen s ∷ [])) so ∙ sym (here (listed_by reads a marks front))
+    ∙ ap (λ n. listed_by reads (listed_by reads a marks front) (drop n marks) (settlement_seen s ∷ [])) (sym len)
+    ∙ sym (listed-append reads marks front (settlement_seen s ∷ []) a)
+    ∙ sym (ap (listed_by reads a marks) (map_more settlement_seen ss i s below ∙ ap (λ x. front ++ settlement_seen x ∷ []) (sym is)))
+
 -- Texts.
 
 -- where `next` is `front` and `more` behind it, the texts are the same, whether `front` is joined to `more` first or to `before`
@@ -180,13 +221,13 @@ part_behind text before front next more all later start new is whole w =
     part_since text before front (before ++ all) start new (part_grows text (before ++ front) ((before ++ front) ++ more) (before ++ all) start new (later, order) w)
 
 -- records that are counted, and then others, are counted in all
-pub tallied-append : (t : Tally) (xs ys : List Record) → tallied t (xs ++ ys) ≡ tallied (tallied t xs) ys
+pub tallied-append : (t : Counts) (xs ys : List Record) → tallied t (xs ++ ys) ≡ tallied (tallied t xs) ys
 tallied-append t [] ys = refl
-tallied-append t (x ∷ xs) ys = tallied-append (counted x.end t) xs ys
+tallied-append t (x ∷ xs) ys = tallied-append (counted_in x.cycle x.turn x.end t) xs ys
 
 -- a tally that counted records, and then one more, counted all of them
-pub tallied_more : (t u v : Tally) (front one next : List Record) → u ≡ tallied t front → v ≡ tallied u one → next ≡ front ++ one → v ≡ tallied t next
-tallied_more t u v front one next so more is = more ∙ ap (λ (x : Tally). tallied x one) so ∙ sym (tallied-append t front one) ∙ sym (ap (tallied t) is)
+pub tallied_more : (t u v : Counts) (front one next : List Record) → u ≡ tallied t front → v ≡ tallied u one → next ≡ front ++ one → v ≡ tallied t next
+tallied_more t u v front one next so more is = more ∙ ap (λ (x : Counts). tallied x one) so ∙ sym (tallied-append t front one) ∙ sym (ap (tallied t) is)
 
 -- whether the last of two lists of records was answered well, is known from the second list or, where that is empty, from the
 -- first
@@ -199,9 +240,21 @@ pub last_more : (a b c : Bool) (front one next : List Record) → b ≡ last_wel
     → next ≡ front ++ one → c ≡ last_well a next
 last_more a b c front one next so more is = more ∙ ap (λ x. last_well x one) so ∙ sym (last-append a front one) ∙ sym (ap (last_well a) is)
 
+-- when a command was answered well last, among two lists of records that are written down at one moment, is known from the first
+-- list, and then from the second
+pub fresh-append : (now fresh : ℕ) (xs ys : List Record) → fresh_behind now fresh (xs ++ ys) ≡ fresh_behind now (fresh_behind now fresh xs) ys
+fresh-append now fresh [] ys = refl
+fresh-append now fresh (x ∷ xs) ys = fresh-append now (if is_well x.end then now else fresh) xs ys
+
+-- when a command was answered well last, with the records `next`, is known from those in front, and from those behind them (`one`)
+pub fresh_more : (now a b c : ℕ) (front one next : List Record) → b ≡ fresh_behind now a front → c ≡ fresh_behind now b one
+    → next ≡ front ++ one → c ≡ fresh_behind now a next
+fresh_more now a b c front one next so more is =
+    more ∙ ap (λ x. fresh_behind now x one) so ∙ sym (fresh-append now a front one) ∙ sym (ap (fresh_behind now a) is)
+
 -- the record of a settlement, with this ending in place of its own
 abbrev pub record_as : ℕ → Mark → Rule.Settlement Asked → End → Record
-record_as utc mark settlement end = record { sent = Some mark.sent; utc = utc; cycle = mark.cycle; place = mark.place; command = command_of settlement; end = end }
+record_as utc mark settlement end = record { sent = Some mark.sent; utc = utc; cycle = mark.cycle; place = mark.place; turn = mark.expected.turn; command = command_of settlement; end = end }
 
 -- the record with the ending that a settlement gives is the record of the settlement
 pub record_same : (reads : Asked → List ℕ → Reading) (utc : ℕ) (mark : Mark) (x : Rule.Settlement Asked) (end : End) → end ≡ end_of reads mark.expected x.call x.outcome

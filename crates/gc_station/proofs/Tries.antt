@@ -22,7 +22,7 @@ use Rattle.gc_station.specs.declared.progress.Action.TheVariants as actions
 use Rattle.gc_station.specs.declared.progress.Progress.{Progress}
 use Rattle.gc_station.specs.declared.progress.Until.{Until}
 use Rattle.gc_station.specs.declared.progress.Waiting.{Waiting}
-use Rattle.gc_links.specs.Acts.{Act, Gave, Closed, Opened, Unopened}
+use Rattle.gc_links.specs.Acts.{Told, Untold, Act, Gave, Closed, Opened, Unopened}
 use Rattle.gc_station.specs.Closing.{Shows, EndsDone, EndsBehind}
 use Rattle.gc_station.specs.Deciding.{has_begun, is_up}
 use Rattle.gc_station.specs.EachOnce.{still_waiting, of_record, sent_by}
@@ -32,15 +32,17 @@ use Rattle.gc_station.specs.Records.{Record}
 use Rattle.gc_station.specs.Runs.{stood}
 use Rattle.gc_station.specs.Model.{Model, opening, action_at, waiting_of, place_next, with_progress, with_moment, lines_behind, came, is_heard, piece_at, Performs, moved, losing, after, after_all, Runs}
 use Rattle.gc_station.specs.Tries.{IsTried, IsEnding, ends_in, opens_in, SettlesNone, NoneSettled, EndsSettled, AllTried}
+use Rattle.gc_station.proofs.Parted.{parted_length}
 use Rattle.gc_station.proofs.Closings.{runs_split, needs_of, end_of, Decided, after_decided, done_sent}
-use Rattle.gc_station.proofs.Counts.{ended_progress}
+use Rattle.gc_station.proofs.Counts.{ended_passes, ended_progress}
 use Rattle.gc_station.proofs.Always.{always}
 use Rattle.gc_station.proofs.EachRun.{fine_after, fine_stood}
 use Rattle.gc_station.proofs.Facts.{either_true, action_for}
 use Rattle.gc_station.proofs.Invariant.{Invariant}
 use Rattle.gc_station.proofs.Going.{after_all-append}
 use Rattle.gc_station.proofs.Growing.{losing_records, moved_grew}
-use Rattle.gc_station.proofs.Opens.{Counted, counted_moved}
+use Rattle.gc_station.proofs.Opens.{Counted, Quits, counted_moved}
+use Rattle.gc_station.proofs.Ticking.{clash}
 use Rattle.gc_station.proofs.Records.{Grew}
 use Rattle.gc_station.proofs.Turns.{over_stays, up_count}
 use Rattle.gc_station.proofs.Words.{begins_before}
@@ -131,24 +133,27 @@ waiting_count (mark ∷ marks) [] e = absurd (omega (arith, e))
 waiting_count (None ∷ marks) (w ∷ waits) e = waiting_count marks waits (omega (arith, e))
 waiting_count (Some mark ∷ marks) (w ∷ waits) e = ap suc (waiting_count marks waits (omega (arith, e)))
 
--- the records and the commands that wait are as many as the commands that had their turn
+-- the records, the commands that wait and those that were passed over are as many as the commands that had their turn
 counted_out : (plan : Plan) (commands : List Task) (s : Model) → Invariant plan commands s
-    → length s.records + commands_in s.marks ≡ length (sent_by commands (plan.cycles - s.progress.left) (place_next commands s.progress))
+    → length s.records + commands_in s.marks + length s.passes ≡ length (sent_by commands (plan.cycles - s.progress.left) (place_next commands s.progress))
 counted_out plan commands s fine =
     let a = length-append (map of_record s.records) (still_waiting s.marks s.client.waiting) in
     let b = length-map s.records of_record in
     let c = waiting_count s.marks s.client.waiting fine.paired in
-    let d = ap length fine.each in
+    let d = parted_length (map of_record s.records ++ still_waiting s.marks s.client.waiting) s.passes (sent_by commands (plan.cycles - s.progress.left) (place_next commands s.progress)) fine.each in
     omega (arith, a, b, c, d)
 
 -- where as many commands had their turn in two models, the records and the commands that wait are as many in both
-same_out : (plan : Plan) (commands : List Task) (s t : Model) → Invariant plan commands s → Invariant plan commands t → t.progress.left ≡ s.progress.left → t.progress.unsent ≡ s.progress.unsent
+same_out : (plan : Plan) (commands : List Task) (s t : Model) → Invariant plan commands s → Invariant plan commands t → t.progress.left ≡ s.progress.left → t.progress.unsent ≡ s.progress.unsent → t.passes ≡ s.passes
     → length t.records + commands_in t.marks ≡ length s.records + commands_in s.marks
-same_out plan commands s t fine fine' left unsent =
+same_out plan commands s t fine fine' left unsent passes =
+    let as_many = ap length passes in
+    let same =
     counted_out plan commands t fine'
     ∙ ap (λ n. length (sent_by commands (plan.cycles - n) (place_next commands t.progress))) left
     ∙ ap (λ n. length (sent_by commands (plan.cycles - s.progress.left) (length commands - n))) unsent
-    ∙ sym (counted_out plan commands s fine)
+    ∙ sym (counted_out plan commands s fine) in
+    omega (arith, as_many, same)
 
 -- records that grew, and aren't more, are the same
 grew_none : (old new more : List Record) → new ≡ old ++ more → length new ≤ length old → new ≡ old
@@ -193,11 +198,11 @@ kept_marks plan commands s t true e goes begins fine =
       negated false e = refl
 
 -- a read that gave bytes does what `Settling` says
-gave_settles : (plan : Plan) (commands : List Task) (s t u : Model) → Invariant plan commands s → Invariant plan commands u → Hears plan s t → Grew s.records u.records → u.progress ≡ t.progress
+gave_settles : (plan : Plan) (commands : List Task) (s t u : Model) → Invariant plan commands s → Invariant plan commands u → Hears plan s t → Grew s.records u.records → u.progress ≡ t.progress → u.passes ≡ s.passes
     → (commands_in u.marks ≡ commands_in t.marks) ⊎ (commands_in s.marks ≡ 0) → Settling plan s u
-gave_settles plan commands s t u fine fine' h grew same kept =
+gave_settles plan commands s t u fine fine' h grew same passes kept =
     settling_by plan s u (commands_in t.marks) (commands_in s.marks) grew
-    (same_out plan commands s u fine fine' (ap (λ (p : Progress). p.left) same ∙ h.left) (ap (λ (p : Progress). p.unsent) same ∙ h.unsent)) kept
+    (same_out plan commands s u fine fine' (ap (λ (p : Progress). p.left) same ∙ h.left) (ap (λ (p : Progress). p.unsent) same ∙ h.unsent) passes) kept
     (subst (λ n. ((commands_in t.marks < commands_in s.marks) × (n ≡ plan.retries)) ⊎ ((commands_in s.marks ≤ commands_in t.marks) × (n ≡ s.progress.tries)))
     (sym (ap (λ (p : Progress). p.tries) same)) h.tries)
 
@@ -335,10 +340,24 @@ try_step plan commands scope acts act s u t before behind does same took counted
     (subst (λ (p : Progress). s.progress.tries ≤ p.tries + ends_in (act ∷ [])) (sym same) took)
     (subst (λ (p : Progress). Counted (is_up s.progress.phase) act (is_up p.phase)) (sym same) counted) tt trying
 
+-- a read that gave bytes passes nothing over
+gave_passes : (plan : Plan) (commands : List Task) (action : Action) (s : Model) (act : Act) → Performs commands s action act → ((bytes : List ℕ) × (m : Moment) × (act ≡ Gave bytes m))
+    → (moved plan commands action s act).passes ≡ s.passes
+gave_passes plan commands actions.Pass s (Told m) o gave = let other = gave.2 in cc
+gave_passes plan commands actions.Pass s Untold o gave = refl
+gave_passes plan commands actions.Pass s act o gave = absurd o
+gave_passes plan commands action s act o gave = ap (λ (x : Model). x.passes) (moved_changed plan commands action s act)
+
 -- the model after one act more is the one after that act
 behind_one : (plan : Plan) (commands : List Task) (scope : Scope) (done : List Act) (act : Act)
     → stood plan commands scope (done ++ act ∷ []) ≡ after plan commands (stood plan commands scope done) act
 behind_one plan commands scope done act = after_all-append plan commands (opening plan scope) done (act ∷ [])
+
+-- after an act that ends a run whether there is a connection or not, the run is over
+quits_over : (plan : Plan) (commands : List Task) (next : Action) (s : Model) (act : Act) → Quits next → is_over (moved plan commands next (with_progress turned s) act).progress ≡ true
+quits_over plan commands (actions.Close cause.Stale) s act quits = refl
+quits_over plan commands (actions.Close cause.Stopped) s act quits = refl
+quits_over plan commands next s act quits = absurd quits
 
 -- `Try` lasts over one act of a run more
 try_after : (plan : Plan) (commands : List Task) (scope : Scope) (done : List Act) (act : Act)
@@ -354,8 +373,10 @@ try_after plan commands scope done act o trying not_over =
     let fine = fine_stood plan commands scope done in
     let not_over_mid : is_over t.progress ≡ false = sym (ap is_over same) ∙ not_over in
     try_step plan commands scope done act s u t refl (behind_one plan commands scope done act) refl same (untook plan s t act (took_moved plan commands (action_at plan s) s act o))
-    (counted_moved plan commands (action_at plan s) s act o (action_for plan s.progress (waiting_of s)))
+    (counted_moved plan commands (action_at plan s) s act o (action_for plan s.progress (waiting_of s))
+    (λ quits. absurd (clash (is_over t.progress) (quits_over plan commands (action_at plan s) s act quits) not_over_mid)))
     (λ gave h. gave_settles plan commands s t u fine (fine_after plan commands s act fine) h (after_grew plan commands s act) same
+    (ended_passes t ∙ gave_passes plan commands (action_at plan s) (with_progress turned s) act o gave)
     (kept_marks plan commands s t (loses_all t.progress) refl not_over_mid h.begins fine))
     (trying goes)
 
@@ -395,8 +416,22 @@ no_try : (plan : Plan) (p : Progress) (n : ℕ) (other why : Cause) → IsTried 
 no_try plan p n cause.Done why tried ends = absurd (not_done p n why tried ends)
 no_try plan p n cause.Clock why tried ends = absurd (subst IsTried ends tried)
 no_try plan p n cause.Turns why tried ends = absurd (subst IsTried ends tried)
+no_try plan p n cause.Stale why tried ends = absurd (subst IsTried ends tried)
+no_try plan p n cause.Stopped why tried ends = absurd (subst IsTried ends tried)
 no_try plan p n other why tried (inl done) = absurd (not_done p n why tried done)
 no_try plan p n other why tried (inr used) = used.3
+
+-- an action that ends a run whether there is a connection or not is for a cause that isn't one of `IsTried`
+quits_not : (plan : Plan) (p : Progress) (n : ℕ) (other why : Cause) → IsTried why → EndsBehind plan p n other why → Quits (actions.Close other) → ⊥
+quits_not plan p n cause.Stale why tried ends quits = absurd (subst IsTried ends tried)
+quits_not plan p n cause.Stopped why tried ends quits = absurd (subst IsTried ends tried)
+quits_not plan p n other why tried ends quits = quits
+
+-- an action that ends a run whether there is a connection or not opens none
+unopened_not : (commands : List Task) (s : Model) (next : Action) → Performs commands s next Unopened → Quits next → ⊥
+unopened_not commands s (actions.Close cause.Stale) o quits = let other : Unopened ≡ Closed = o in cc
+unopened_not commands s (actions.Close cause.Stopped) o quits = let other : Unopened ≡ Closed = o in cc
+unopened_not commands s next o quits = quits
 
 -- an act that ends a connection settles no command
 settles_none : (s t : Model) (act : Act) → IsEnding act → SettlesNone s act t
@@ -479,15 +514,19 @@ stop_tried plan commands scope acts last why runs stop tried ending = by_decided
   goes = goes_on (is_over s.progress) (λ gone. over_stays plan commands s last gone split.1)
 
   -- the connection that the last act ends, or couldn't make, is counted
-  counted : Counted (is_up s.progress.phase) last false
-  counted = subst (λ (b : Bool). Counted (is_up s.progress.phase) last b) down (counted_moved plan commands (action_at plan s) s last split.1 (action_for plan s.progress (waiting_of s)))
+  counted : (Quits (action_at plan s) → ⊥) → Counted (is_up s.progress.phase) last false
+  counted never = subst (λ (b : Bool). Counted (is_up s.progress.phase) last b) down
+      (counted_moved plan commands (action_at plan s) s last split.1 (action_for plan s.progress (waiting_of s)) never)
 
   -- where no try was left before the last act, all tries are used up
-  used : s.progress.tries ≡ 0 → AllTried plan commands scope (acts ++ last ∷ [])
-  used none = all_tried plan commands scope acts last ending counted (subst (λ n. Trying plan commands scope n (is_up s.progress.phase) acts) none (try_stood plan commands scope acts split.0 goes))
+  used : (Quits (action_at plan s) → ⊥) → s.progress.tries ≡ 0 → AllTried plan commands scope (acts ++ last ∷ [])
+  used never none = all_tried plan commands scope acts last ending (counted never) (subst (λ n. Trying plan commands scope n (is_up s.progress.phase) acts) none (try_stood plan commands scope acts split.0 goes))
 
   -- the last act ended a connection or could make none, so no try was left
   by_decided : Decided plan s (after plan commands s last).progress.phase why last → AllTried plan commands scope (acts ++ last ∷ [])
   by_decided (inl failed) = absurd (ending_shows why last ending failed.1)
-  by_decided (inr (down, inl (other, closes, next, ends))) = used (no_try plan s.progress (commands_in s.marks) other why tried ends)
-  by_decided (inr (down, inr (unopened, ends))) = used (no_try plan s.progress (commands_in s.marks) cause.Open why tried ends)
+  by_decided (inr (down, inl (other, closes, next, ends))) =
+      used (λ quits. quits_not plan s.progress (commands_in s.marks) other why tried ends (subst Quits next quits)) (no_try plan s.progress (commands_in s.marks) other why tried ends)
+  by_decided (inr (down, inr (unopened, ends))) =
+      used (λ quits. unopened_not commands s (action_at plan s) (subst (λ (a : Act). Performs commands s (action_at plan s) a) unopened split.1) quits)
+      (no_try plan s.progress (commands_in s.marks) cause.Open why tried ends)

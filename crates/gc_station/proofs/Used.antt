@@ -42,6 +42,8 @@ close_used plan commands scope acts runs is =
 turns_only : (plan : Plan) (p : Progress) (n : ℕ) (other : Cause) → EndsBehind plan p n other cause.Turns → other ≡ cause.Turns
 turns_only plan p n cause.Done ends = let done = ends.0 in cc
 turns_only plan p n cause.Clock ends = cc
+turns_only plan p n cause.Stale ends = cc
+turns_only plan p n cause.Stopped ends = cc
 turns_only plan p n cause.Turns ends = refl
 turns_only plan p n other (inl done) = let is = done.0 in cc
 turns_only plan p n other (inr used) = sym used.0

@@ -14,7 +14,7 @@ use Rattle.gc_station.specs.declared.cause.Cause.TheVariants as cause
 use Rattle.gc_station.specs.declared.progress.Phase.{Phase}
 use Rattle.gc_station.specs.declared.progress.Phase.TheVariants.{Pausing, Draining}
 use Rattle.gc_station.specs.declared.progress.Action.{Action}
-use Rattle.gc_station.specs.declared.progress.Action.TheVariants.{ReadClock, Renew, Begin, Open, Clear, Ask, Send, Skip, Flush, Read, Close, Stop}
+use Rattle.gc_station.specs.declared.progress.Action.TheVariants.{ReadClock, Renew, Begin, Open, Clear, Ask, Send, Skip, Pass, Flush, Read, Close, Stop}
 use Rattle.gc_station.specs.declared.progress.Progress.{Progress}
 use Rattle.gc_station.specs.declared.progress.Until.{Until}
 use Rattle.gc_station.specs.declared.progress.Waiting.{Waiting}
@@ -22,7 +22,7 @@ use Rattle.gc_links.specs.Acts.{Act, Told, Untold, Put, Cut, Gave, Silent, Ended
 use Rattle.gc_station.specs.Deciding.{is_quiet}
 use Rattle.gc_station.specs.Marks.{commands_in}
 use Rattle.gc_station.specs.Progressing.{told, begun, skipped, failing, opened, again, cleared, asking, null_sent, renewed, sent, line_asked, lines_asked, pause_ended, drained, quieted, time_passed, reckoned_early, ended_for, closed}
-use Rattle.gc_station.specs.Model.{Model, waiting_of, place_next, mark_next, requests_out, request_text, null_text, first_text, is_chained_behind_next, Puts, Performs, is_heard, with_progress, with_moment, with_rest, with_records, asks_null, asks_first, asks_next, skips, line_came, lines_came, lines_behind, piece_asked, came, reckoned, piece_at, after_read, after_put, after_close, moved}
+use Rattle.gc_station.specs.Model.{Model, waiting_of, place_next, mark_next, requests_out, request_text, null_text, first_text, is_chained_behind_next, others_behind_next, skip_listed, with_listed, after_pass, Puts, Performs, is_heard, with_progress, with_moment, with_rest, with_records, asks_null, asks_first, asks_next, skips, line_came, lines_came, lines_behind, piece_asked, came, reckoned, piece_at, after_read, after_put, after_close, moved}
 
 -- Parts of an act.
 
@@ -59,30 +59,32 @@ pub closed_along : (P : Progress → Type 0) (plan : Plan) (w : Waiting) (why : 
 closed_along P plan w cause.Done p ends on = ends
 closed_along P plan w cause.Clock p ends on = ends
 closed_along P plan w cause.Turns p ends on = ends
+closed_along P plan w cause.Stale p ends on = ends
+closed_along P plan w cause.Stopped p ends on = ends
 closed_along P plan w why p ends on = on
 
 -- The next command was sent, whatever it is.
 
 -- the model that sent the next command, by its fields
 abbrev pub sending : Plan → List Task → Model → Model
-sending plan commands s = record s { progress = sent (is_chained_behind_next commands s.progress) s.progress; client = (asks_next plan commands s).client; marks = (asks_next plan commands s).marks }
+sending plan commands s = record s { progress = sent (is_chained_behind_next commands s.progress) (others_behind_next commands s.progress) s.progress; client = (asks_next plan commands s).client; marks = (asks_next plan commands s).marks }
 
 -- the model that sent the first of these commands, by its fields, is that after the send
-first_sent : (next_is_chained : Bool) (mark : Mark) (left : List Task) (s : Model)
-    → record s { progress = sent next_is_chained s.progress; client = (asks_first mark left s).client; marks = (asks_first mark left s).marks }
-    ≡ with_progress (sent next_is_chained) (asks_first mark left s)
-first_sent next_is_chained mark [] s = refl
-first_sent next_is_chained mark (task ∷ others) s = refl
+first_sent : (next_is_chained : Bool) (behind : ℕ) (mark : Mark) (left : List Task) (s : Model)
+    → record s { progress = sent next_is_chained behind s.progress; client = (asks_first mark left s).client; marks = (asks_first mark left s).marks }
+    ≡ with_progress (sent next_is_chained behind) (asks_first mark left s)
+first_sent next_is_chained behind mark [] s = refl
+first_sent next_is_chained behind mark (task ∷ others) s = refl
 
 -- the model that sent the next command, by its fields (`sending`), is that after the act that sends
-pub is_sent : (plan : Plan) (commands : List Task) (s : Model) → sending plan commands s ≡ with_progress (sent (is_chained_behind_next commands s.progress)) (asks_next plan commands s)
-is_sent plan commands s = first_sent (is_chained_behind_next commands s.progress) (mark_next plan commands s.progress) (drop (place_next commands s.progress) commands) s
+pub is_sent : (plan : Plan) (commands : List Task) (s : Model) → sending plan commands s ≡ with_progress (sent (is_chained_behind_next commands s.progress) (others_behind_next commands s.progress)) (asks_next plan commands s)
+is_sent plan commands s = first_sent (is_chained_behind_next commands s.progress) (others_behind_next commands s.progress) (mark_next plan commands s.progress) (drop (place_next commands s.progress) commands) s
 
 -- Which fields change.
 
 -- the progress p with those fields of q that a moment changes
 abbrev told_of : Progress → Progress → Progress
-told_of p q = record p { phase = q.phase; moment = q.moment; since = q.since; alive = q.alive; began = q.began; stale = q.stale; early = q.early }
+told_of p q = record p { phase = q.phase; moment = q.moment; since = q.since; alive = q.alive; began = q.began; stale = q.stale; stops = q.stops; early = q.early }
 
 -- the progress p with those fields of q that a request changes
 abbrev asking_of : Progress → Progress → Progress
@@ -92,12 +94,13 @@ asking_of p q = record p { phase = q.phase; alive = q.alive; asked = q.asked; st
 abbrev progress_of : Action → Progress → Progress → Progress
 progress_of ReadClock p q = told_of p q
 progress_of Renew p q = record (told_of p q) { word = q.word; again = q.again; asked = q.asked; chain_unbroken = q.chain_unbroken; behind = q.behind }
-progress_of Begin p q = record (told_of p q) { due = q.due; missed = q.missed; left = q.left; unsent = q.unsent; next_is_chained = q.next_is_chained; chain_unbroken = q.chain_unbroken }
+progress_of Begin p q = record (told_of p q) { due = q.due; missed = q.missed; left = q.left; unsent = q.unsent; next_is_chained = q.next_is_chained; next_others = q.next_others; chain_unbroken = q.chain_unbroken }
 progress_of Open p q = record p { phase = q.phase; stale = q.stale; tries = q.tries; pause = q.pause; chain_unbroken = q.chain_unbroken }
 progress_of Clear p q = record p { phase = q.phase; again = q.again; asked = q.asked; stale = q.stale }
 progress_of Ask p q = record (asking_of p q) { again = q.again }
-progress_of Send p q = record (asking_of p q) { unsent = q.unsent; next_is_chained = q.next_is_chained; chain_unbroken = q.chain_unbroken }
-progress_of Skip p q = record (told_of p q) { unsent = q.unsent; next_is_chained = q.next_is_chained; chain_unbroken = q.chain_unbroken }
+progress_of Send p q = record (asking_of p q) { unsent = q.unsent; next_is_chained = q.next_is_chained; next_others = q.next_others; chain_unbroken = q.chain_unbroken }
+progress_of Skip p q = record (told_of p q) { unsent = q.unsent; next_is_chained = q.next_is_chained; next_others = q.next_others; chain_unbroken = q.chain_unbroken }
+progress_of Pass p q = record (told_of p q) { unsent = q.unsent; next_is_chained = q.next_is_chained; next_others = q.next_others; chain_unbroken = q.chain_unbroken }
 progress_of Flush p q = asking_of p q
 progress_of (Read until) p q = record (told_of p q) { word = q.word; again = q.again; asked = q.asked; tries = q.tries; pause = q.pause; behind = q.behind }
 progress_of (Close why) p q = record p { phase = q.phase; stale = q.stale; tries = q.tries; pause = q.pause; chain_unbroken = q.chain_unbroken }
@@ -105,16 +108,17 @@ progress_of (Stop why) p q = p
 
 -- the model s with those fields of t that an act of this action changes, but for the progress
 abbrev changed_by : Action → Model → Model → Model
-changed_by ReadClock s t = record s { client = t.client }
-changed_by Renew s t = record s { client = t.client }
-changed_by Begin s t = record s { client = t.client }
+changed_by ReadClock s t = record s { client = t.client; fresh = t.fresh }
+changed_by Renew s t = record s { client = t.client; fresh = t.fresh }
+changed_by Begin s t = record s { client = t.client; fresh = t.fresh }
 changed_by Open s t = s
 changed_by Clear s t = s
 changed_by Ask s t = s
 changed_by Send s t = record s { client = t.client; marks = t.marks }
-changed_by Skip s t = record s { client = t.client; records = t.records }
+changed_by Skip s t = record s { client = t.client; records = t.records; listed = t.listed; fresh = t.fresh }
+changed_by Pass s t = record s { client = t.client; passes = t.passes; fresh = t.fresh }
 changed_by Flush s t = record s { client = t.client; marks = t.marks }
-changed_by (Read until) s t = record s { rest = t.rest; client = t.client; marks = t.marks; records = t.records }
+changed_by (Read until) s t = record s { rest = t.rest; client = t.client; marks = t.marks; records = t.records; listed = t.listed; fresh = t.fresh }
 changed_by (Close why) s t = record s { rest = t.rest }
 changed_by (Stop why) s t = s
 
@@ -133,7 +137,7 @@ lines_changed p lines = asked_along (λ (q : Progress). q ≡ asked_of p q) (λ 
 
 -- the model s with those fields of t that a piece changes
 abbrev piece_of : Model → Model → Model
-piece_of s t = record s { progress = asked_of s.progress t.progress; rest = t.rest; client = t.client; marks = t.marks; records = t.records }
+piece_of s t = record s { progress = asked_of s.progress t.progress; rest = t.rest; client = t.client; marks = t.marks; records = t.records; listed = t.listed; fresh = t.fresh }
 
 -- a read that gave bytes changes what `changed` says
 gave_changed : (plan : Plan) (until : Until) (s : Model) (bytes : List ℕ) (m : Moment) → piece_at plan until bytes m s ≡ changed (Read until) s (piece_at plan until bytes m s)
@@ -180,6 +184,8 @@ moved_changed plan commands Send s (Cut bytes n) =
 moved_changed plan commands Send s act = subst (λ (u : Model). u ≡ changed Send s u) (is_sent plan commands s) refl
 moved_changed plan commands Skip s (Told m) = refl
 moved_changed plan commands Skip s act = refl
+moved_changed plan commands Pass s (Told m) = refl
+moved_changed plan commands Pass s act = refl
 moved_changed plan commands Flush s (Cut bytes n) = refl
 moved_changed plan commands Flush s act = refl
 moved_changed plan commands (Read until) s (Gave bytes m) = gave_changed plan until s bytes m
@@ -209,8 +215,9 @@ Behind plan commands P Ask s = Putting P (requests_out plan commands s.progress)
 Behind plan commands P Send s = Putting P (requests_out plan commands s.progress) (first_text s.client (drop (place_next commands s.progress) commands)) (sending plan commands s)
 Behind plan commands P Skip s =
     ((m : Moment) → P (Told m) (with_moment m (with_progress (λ p. reckoned_early plan (commands_in s.marks)
-    (skipped (is_chained_behind_next commands s.progress) m p)) (with_records (skips plan commands s.progress (Told m)) s))))
+    (skipped (is_chained_behind_next commands s.progress) (others_behind_next commands s.progress) m p)) (with_listed (skip_listed plan commands s (Told m)) (with_records (skips plan commands s.progress (Told m)) s)))))
     × ((n : ℕ) → P Untold (with_progress (failing cause.Clock) (with_records [] s)))
+Behind plan commands P Pass s = ((m : Moment) → P (Told m) (after_pass plan commands s (Told m))) × ((n : ℕ) → P Untold (with_progress (failing cause.Clock) s))
 Behind plan commands P Flush s = Putting P (requests_out plan commands s.progress) (request_text s.client (Table NullProc)) (with_progress asking (asks_null plan s))
 Behind plan commands P (Read until) s =
     ((bytes : List ℕ) (m : Moment) → P (Gave bytes m) (piece_at plan until bytes m s)) × ((m : Moment) → P (Silent m) (after_read plan until s (Silent m)))
@@ -220,7 +227,7 @@ Behind plan commands P (Stop why) s = Unit {0}
 
 -- `Putting` gives P after an act that puts the bytes
 put_walk : (P : Act → Model → Type 0) (requests : ℕ) (bytes : List ℕ) (f : Model → Model) (s : Model) (act : Act) → Puts bytes act → Putting P requests bytes (f s) → P act (after_put requests f s act)
-put_walk P requests bytes f s (Put out) o h = subst (λ (xs : List ℕ). P (Put xs) (f s)) (sym o) (h.0 (record { elapsed = 0; utc = 0 }))
+put_walk P requests bytes f s (Put out) o h = subst (λ (xs : List ℕ). P (Put xs) (f s)) (sym o) (h.0 (record { elapsed = 0; utc = 0; stops = false }))
 put_walk P requests bytes f s (Cut out n) o h = subst (λ (xs : List ℕ). P (Cut xs n) (with_progress (failing (cause.Write requests n)) (f s))) (sym o.0) (h.1 n)
 put_walk P requests bytes f s act o h = absurd o
 
@@ -236,7 +243,7 @@ walk plan commands P Renew s act o h = absurd o
 walk plan commands P Begin s (Told m) o h = h.0 m
 walk plan commands P Begin s Untold o h = h.1 0
 walk plan commands P Begin s act o h = absurd o
-walk plan commands P Open s Opened o h = h.0 (record { elapsed = 0; utc = 0 })
+walk plan commands P Open s Opened o h = h.0 (record { elapsed = 0; utc = 0; stops = false })
 walk plan commands P Open s Unopened o h = h.1 0
 walk plan commands P Open s act o h = absurd o
 walk plan commands P Clear s act o h = put_walk P (requests_out plan commands s.progress) (10 ∷ []) (with_progress cleared) s act o h
@@ -244,11 +251,14 @@ walk plan commands P Ask s act o h = put_walk P (requests_out plan commands s.pr
 walk plan commands P Send s act o h =
     let requests = requests_out plan commands s.progress in
     let text = first_text s.client (drop (place_next commands s.progress) commands) in
-    put_walk P requests text (λ (x : Model). with_progress (sent (is_chained_behind_next commands s.progress)) (asks_next plan commands x)) s act o
+    put_walk P requests text (λ (x : Model). with_progress (sent (is_chained_behind_next commands s.progress) (others_behind_next commands s.progress)) (asks_next plan commands x)) s act o
     (subst (λ (u : Model). Putting P requests text u) (is_sent plan commands s) h)
 walk plan commands P Skip s (Told m) o h = h.0 m
 walk plan commands P Skip s Untold o h = h.1 0
 walk plan commands P Skip s act o h = absurd o
+walk plan commands P Pass s (Told m) o h = h.0 m
+walk plan commands P Pass s Untold o h = h.1 0
+walk plan commands P Pass s act o h = absurd o
 walk plan commands P Flush s act o h = put_walk P (requests_out plan commands s.progress) (request_text s.client (Table NullProc)) (λ (x : Model). with_progress asking (asks_null plan x)) s act o h
 walk plan commands P (Read until) s (Gave bytes m) o h = h.0 bytes m
 walk plan commands P (Read until) s (Silent m) o h = h.1 m

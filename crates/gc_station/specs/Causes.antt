@@ -3,9 +3,9 @@ use Rattle.std.specs.Prelude.{Option, Some, None}
 use Rattle.gc_texts.specs.declared.fault.RunFault.{RunFault}
 use Rattle.gc_texts.specs.declared.fault.RunFault.TheVariants as fault
 use Rattle.gc_station.specs.declared.cause.Cause.{Cause}
-use Rattle.gc_station.specs.declared.cause.Cause.TheVariants.{Done, Dead, Read, End, Write, Clock, Open, Turns}
+use Rattle.gc_station.specs.declared.cause.Cause.TheVariants.{Done, Dead, Read, End, Write, Clock, Open, Turns, Stale, Stopped}
 
--- the fault of a run that stopped for this cause; none where the run is done
+-- the fault of a run that stopped for this cause; none where the run is done, or its end was asked for
 abbrev pub fault_of : Cause → Option RunFault
 fault_of Done = None
 fault_of Dead = Some fault.Mute
@@ -15,3 +15,5 @@ fault_of (Write requests bytes) = Some (fault.Write requests bytes)
 fault_of Clock = Some fault.Clock
 fault_of Open = Some fault.Socket
 fault_of Turns = Some fault.TooManyReads
+fault_of Stale = Some fault.Stale
+fault_of Stopped = None

@@ -48,13 +48,15 @@ abbrev pub EndsDone : Progress → ℕ → Cause → Type 0
 EndsDone p commands why = (why ≡ cause.Done) × (p.left ≡ 0) × (p.unsent ≡ 0) × (commands ≡ 0)
 
 -- a connection was closed, or couldn't be made, for the first of these causes, while `commands` commands waited; and then the
--- run ends for the cause `why`. After `Clock` (the clock can't be read) and `Turns` (all turns are used up), `why` is that same
--- cause. After `Done` it is `Done`: no command is left to be sent, and none waits. After any other cause the run is done in the
+-- run ends for the cause `why`. After `Clock` (the clock can't be read), `Turns` (all turns are used up), `Stale` and `Stopped`, `why`
+-- is that same cause. After `Done` it is `Done`: no command is left to be sent, and none waits. After any other cause the run is done in the
 -- same way; or `why` is that other cause, a new connection would take a try, and no try is left
 abbrev pub EndsBehind : Plan → Progress → ℕ → Cause → Cause → Type 0
 EndsBehind plan p commands cause.Done why = EndsDone p commands why
 EndsBehind plan p commands cause.Clock why = why ≡ cause.Clock
 EndsBehind plan p commands cause.Turns why = why ≡ cause.Turns
+EndsBehind plan p commands cause.Stale why = why ≡ cause.Stale
+EndsBehind plan p commands cause.Stopped why = why ≡ cause.Stopped
 EndsBehind plan p commands other why =
     EndsDone p commands why ⊎ ((why ≡ other) × (is_finished commands p ≡ false) × (is_spared plan other p ≡ false) × (p.tries ≡ 0))
 

@@ -1,8 +1,8 @@
--- A tally counts the records: this project's own.
-use Rattle.std.specs.Prelude.{◌≡◌, ℕ, suc, Bool, true, false, List, [], ◌∷◌, if◌then◌else◌, min}
+-- A tally counts the records of the last attempts: this project's own.
+use Rattle.std.specs.Prelude.{◌≡◌, ℕ, suc, Bool, true, false, List, [], ◌∷◌, if◌then◌else◌, min, ◌||◌, ◌&&◌, not, nat_eq, nat_lt}
 use Rattle.gc_texts.specs.Endings.{End, Answered, Unreadable, Elsewhere, Late, Lost, Skipped, Missed}
 use Rattle.gc_station.specs.Records.{Record}
-use Rattle.gc_station.specs.Tallies.{none_yet, tallied}
+use Rattle.gc_station.specs.Tallies.{tally_of}
 
 -- how many of these records have an ending of this kind
 abbrev pub how_many : (End → Bool) → List Record → ℕ
@@ -48,12 +48,30 @@ is_missed _ = false
 abbrev pub at_most : ℕ → ℕ
 at_most n = min n 18446744073709551615
 
--- each count of a tally is the number of the records with its ending
+-- whether the attempt of a chain that stands in front of these records is followed by a further one: the next attempt that begins among
+-- them does so with an attempt above 1. Records of cycle 0, of the set-up, belong to no chain
+abbrev pub is_followed : List Record → Bool
+is_followed [] = false
+is_followed (r ∷ others) = if nat_eq r.cycle 0 || not (nat_eq r.turn.link 0) then is_followed others else nat_lt 1 r.turn.attempt
+
+-- those of these records that are of a cycle, and of the last attempt of their chain
+abbrev pub last_attempts : List Record → List Record
+last_attempts [] = []
+last_attempts (r ∷ others) = if nat_eq r.cycle 0 || is_followed others then last_attempts others else r ∷ last_attempts others
+
+-- how many further attempts of a chain begin among these records
+abbrev pub further_attempts : List Record → ℕ
+further_attempts [] = 0
+further_attempts (r ∷ others) =
+    if not (nat_eq r.cycle 0) && nat_eq r.turn.link 0 && nat_lt 1 r.turn.attempt then suc (further_attempts others) else further_attempts others
+
+-- each count of a tally is the number of the records of last attempts with its ending; `again` is how many chains went out again
 pub record TalliesCountRecords : Type 0 where
-  pub answered : (records : List Record) → (tallied none_yet records).answered ≡ at_most (how_many is_answered records)
-  pub unreadable : (records : List Record) → (tallied none_yet records).unreadable ≡ at_most (how_many is_unreadable records)
-  pub late : (records : List Record) → (tallied none_yet records).late ≡ at_most (how_many is_late records)
-  pub lost : (records : List Record) → (tallied none_yet records).lost ≡ at_most (how_many is_lost records)
-  pub skipped : (records : List Record) → (tallied none_yet records).skipped ≡ at_most (how_many is_skipped records)
-  pub missed : (records : List Record) → (tallied none_yet records).missed ≡ at_most (how_many is_missed records)
-  pub elsewhere : (records : List Record) → (tallied none_yet records).elsewhere ≡ at_most (how_many is_elsewhere records)
+  pub answered : (records : List Record) → (tally_of records).answered ≡ at_most (how_many is_answered (last_attempts records))
+  pub unreadable : (records : List Record) → (tally_of records).unreadable ≡ at_most (how_many is_unreadable (last_attempts records))
+  pub late : (records : List Record) → (tally_of records).late ≡ at_most (how_many is_late (last_attempts records))
+  pub lost : (records : List Record) → (tally_of records).lost ≡ at_most (how_many is_lost (last_attempts records))
+  pub skipped : (records : List Record) → (tally_of records).skipped ≡ at_most (how_many is_skipped (last_attempts records))
+  pub missed : (records : List Record) → (tally_of records).missed ≡ at_most (how_many is_missed (last_attempts records))
+  pub elsewhere : (records : List Record) → (tally_of records).elsewhere ≡ at_most (how_many is_elsewhere (last_attempts records))
+  pub again : (records : List Record) → (tally_of records).again ≡ at_most (further_attempts records)

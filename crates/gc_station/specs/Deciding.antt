@@ -6,11 +6,11 @@
 use Rattle.std.specs.Prelude.{ℕ, ◌+◌, ◌-◌, ◌&&◌, ◌||◌, Bool, true, false, not, if◌then◌else◌, nat_lt, nat_le, nat_eq, min, max, List, [], ◌∷◌}
 use Rattle.gc_client.specs.declared.window.TheConstants.{WINDOW}
 use Rattle.gc_station.specs.declared.plan.Plan.{Plan}
-use Rattle.gc_station.specs.declared.cause.Cause.TheVariants.{Done, Dead, Turns}
+use Rattle.gc_station.specs.declared.cause.Cause.TheVariants.{Done, Dead, Turns, Stale, Stopped}
 use Rattle.gc_station.specs.declared.progress.Phase.{Phase}
 use Rattle.gc_station.specs.declared.progress.Phase.TheVariants as phase
 use Rattle.gc_station.specs.declared.progress.Action.{Action}
-use Rattle.gc_station.specs.declared.progress.Action.TheVariants.{ReadClock, Renew, Begin, Open, Clear, Ask, Send, Skip, Flush, Read, Close, Stop}
+use Rattle.gc_station.specs.declared.progress.Action.TheVariants.{ReadClock, Renew, Begin, Open, Clear, Ask, Send, Skip, Pass, Flush, Read, Close, Stop}
 use Rattle.gc_station.specs.declared.progress.Progress.{Progress}
 use Rattle.gc_station.specs.declared.progress.Until.TheVariants.{Limit, Due}
 use Rattle.gc_station.specs.declared.progress.Waiting.{Waiting}
@@ -58,6 +58,28 @@ patience_of plan = later plan.deadline plan.deadline
 -- `patience_of` no reply line came, since the last one or since the first request after it
 abbrev pub is_dead : Plan → Progress → Waiting → Bool
 is_dead plan p w = (nat_lt 0 w.all || nat_lt 0 p.again) && nat_le (patience_of plan) (p.moment.elapsed - p.alive)
+
+-- whether the run is stale: no answer of a good quality was written down for as long as the plan allows
+abbrev pub is_stale : Plan → Progress → Waiting → Bool
+is_stale plan p w = nat_lt 0 plan.stale && nat_le plan.stale (p.moment.elapsed - w.fresh)
+
+-- whether the station is between two chains: no command of the cycle is left, or the next one begins a chain. In a missed cycle
+-- all commands count as one chain
+abbrev pub is_between : Progress → Bool
+is_between p = nat_eq p.unsent 0 || not p.next_is_chained
+
+-- whether the run may end here where that is asked for: there is no connection, or the station begins, or it is between two chains
+-- and nothing is under way that isn't given up
+abbrev pub is_resting : Progress → Waiting → Bool
+is_resting p w = (not (is_up p.phase) || not (has_begun p)) || (nat_eq w.current 0 && is_between p)
+
+-- whether the run ends now because that was asked for
+abbrev pub is_stopping : Progress → Waiting → Bool
+is_stopping p w = p.stops && is_resting p w
+
+-- whether no further chain begins, because the end of the run was asked for, though something is under way that isn't given up
+abbrev pub is_held_back : Progress → Waiting → Bool
+is_held_back p w = (p.stops && is_between p) && nat_lt 0 w.current
 
 -- the next action where nothing may go out: to read, as a reply may still come; to close a dead line; or to begin anew,
 -- where all requests that wait are given up
@@ -117,25 +139,39 @@ action_next plan p w =
 abbrev pub may_go : Progress → Waiting → Bool
 may_go p w = w.well && p.chain_unbroken
 
+-- whether the next command goes out only once all that went out are settled: it is chained, or begins a further attempt of its chain
+abbrev pub waits_for_all : Progress → Bool
+waits_for_all p = p.next_is_chained || nat_lt 0 p.next_others
+
+-- the next action where the next command begins a further attempt of its chain, and each command that was sent is settled: the
+-- command goes out where a command of the attempt before ended as its rule names; else this attempt and those behind it are passed
+-- over, as they are in a missed cycle, where each command counts as chained
+abbrev pub action_again : Plan → Progress → Waiting → Action
+action_again plan p w = if w.listed && not p.next_is_chained then action_next plan p w else Pass
+
 -- the next action where each command that was sent is settled
 abbrev pub action_settled : Plan → Progress → Waiting → Action
 action_settled plan p w =
     if nat_eq p.unsent 0 then action_done plan p
+    else if nat_lt 0 p.next_others then action_again plan p w
     else if may_go p w then action_next plan p w
     else Skip
 
 -- the next action where no command may go out before those that wait are settled: each of the cycle was sent, or the next
--- one is chained. Where some wait, and all that wait are given up, a null procedure goes out, whose reply settles them
+-- one is chained or begins a further attempt. Where some wait, and all that wait are given up, a null procedure goes out, whose reply settles them
 abbrev pub action_sent : Plan → Progress → Waiting → Action
 action_sent plan p w =
     if nat_eq w.commands 0 then action_settled plan p w
     else if nat_eq w.current 0 then action_room plan p w Flush
     else action_waiting plan p w
 
--- the next action once the station has begun: that of `action_next`, if there is a command that needn't wait for the answer of
--- the command before it; else that of `action_sent`
+-- the next action once the station has begun: to wait, where the end of the run was asked for, and only what is under way is left;
+-- that of `action_next`, if there is a command that needn't wait for those before it; else that of `action_sent`
 abbrev pub action_begun : Plan → Progress → Waiting → Action
-action_begun plan p w = if nat_lt 0 p.unsent && not p.next_is_chained then action_next plan p w else action_sent plan p w
+action_begun plan p w =
+    if is_held_back p w then action_waiting plan p w
+    else if nat_lt 0 p.unsent && not (waits_for_all p) then action_next plan p w
+    else action_sent plan p w
 
 -- the next action on a connection that is ready: the beginning's until its eighth null procedure is answered, then the
 -- commands'
@@ -161,6 +197,8 @@ action_up false = Stop Turns
 abbrev pub action_on : Plan → Progress → Waiting → Action
 action_on plan p w =
     if nat_eq p.turns 0 then action_up (is_up p.phase)
+    else if is_stale plan p w then Close Stale
+    else if is_stopping p w then Close Stopped
     else if p.stale then ReadClock
     else action_told plan p.phase p w
 

@@ -1,9 +1,9 @@
--- Each command once, this project's own: the records of a run, and after them the commands that wait, are the commands that had
--- their turn, sent or not, cycle by cycle and in order, each once. An act is one call of the link, with what came of it.
-use Rattle.std.specs.Prelude.{◌≡◌, ◌⊎◌, ◌<◌, ℕ, zero, suc, ◌+◌, List, [], ◌∷◌, ◌++◌, take, map, Option, Some, None}
+-- Each command once, this project's own: the commands that had their turn, cycle by cycle and in order, are the records of a run,
+-- and after them the commands that wait, but for those of attempts that were passed over, each once. An act is one call of the link, with what came of it.
+use Rattle.std.specs.Prelude.{◌≡◌, ◌⊎◌, ◌<◌, ℕ, zero, suc, List, [], ◌∷◌, ◌++◌, take, map, Option, Some, None}
 use Rattle.gc_catalogue.specs.declared.asked.Asked.{Asked}
 use Rattle.gc_client.specs.declared.pending.Pending.{Pending}
-use Rattle.gc_client.specs.OneForOne.{Wanted, of_pending}
+use Rattle.gc_client.specs.OneForOne.{of_pending}
 use Rattle.gc_texts.specs.declared.tasks.Task.{Task}
 use Rattle.gc_station.specs.declared.plan.Plan.{Plan}
 use Rattle.gc_station.specs.declared.cause.Cause.{Cause}
@@ -12,29 +12,10 @@ use Rattle.gc_station.specs.declared.mark.Mark.{Mark}
 use Rattle.gc_station.specs.declared.progress.Action.TheVariants.{Stop}
 use Rattle.gc_links.specs.Acts.{Act}
 use Rattle.gc_station.specs.Records.{Record}
+pub use Rattle.gc_station.specs.Requests.{Request, requests, of_command, of_task}
 use Rattle.gc_station.specs.Runs.{stood}
 use Rattle.gc_station.specs.Model.{Model, action_at, cycles_begun, place_next}
 use Rattle.gc_station.specs.Scopes.{Scope}
-use Rattle.gc_texts.specs.declared.wish.Wish.{Wish}
-
--- a request of a run: of which cycle and place it is, whom it is for, and what it asks for
-pub record Request : Type 0 where
-  pub cycle : ℕ
-  pub place : ℕ
-  pub asked : Wanted Asked
-
--- the requests of one cycle, of which the first has this place
-abbrev pub requests : ℕ → ℕ → List (Wanted Asked) → List Request
-requests cycle place [] = []
-requests cycle place (a ∷ others) = record { cycle = cycle; place = place; asked = a } ∷ requests cycle (place + 1) others
-
--- what a command asks, and whom
-abbrev pub of_command : Wish → Wanted Asked
-of_command c = record { target = c.target; call = c.call }
-
--- what the command of a task asks, and whom
-abbrev pub of_task : Task → Wanted Asked
-of_task task = of_command task.command
 
 -- all commands of the first `n` cycles, which are counted from 1
 abbrev pub all_cycles : List Task → ℕ → List Request
@@ -62,19 +43,25 @@ still_waiting (mark ∷ marks) [] = []
 still_waiting (None ∷ marks) (p ∷ others) = still_waiting marks others
 still_waiting (Some mark ∷ marks) (p ∷ others) = of_waiting mark p ∷ still_waiting marks others
 
--- the records, and after them the commands that wait, are the commands that had their turn, sent or not
+-- a list has these elements and those, in order: each of its elements is of the first list or of the second one
+abbrev pub Parted : {A : Type 0} → List A → List A → List A → Type 0
+Parted xs ys [] = (xs ≡ []) × (ys ≡ [])
+Parted {A} xs ys (z ∷ zs) = ((others : List A) × (xs ≡ z ∷ others) × Parted others ys zs) ⊎ ((others : List A) × (ys ≡ z ∷ others) × Parted xs others zs)
+
+-- each command that had its turn, in order, either has its record, or after the records waits; or it is of an attempt that was passed over
 abbrev pub IsEachOnce : Plan → List Task → Model → Type 0
 IsEachOnce plan commands s =
-    map of_record s.records ++ still_waiting s.marks s.client.waiting ≡ sent_by commands (cycles_begun plan s.progress) (place_next commands s.progress)
+    Parted (map of_record s.records ++ still_waiting s.marks s.client.waiting) s.passes (sent_by commands (cycles_begun plan s.progress) (place_next commands s.progress))
 
--- after these acts of a run `IsEachOnce` holds. If the run stopped there, the records alone are the commands that had their
--- turn; and if it is done, they are all commands of all cycles
+-- after these acts of a run `IsEachOnce` holds. If the run stopped there, the records and the attempts that were passed over are the
+-- commands that had their turn; and if it is done, they are all commands of all cycles
 pub record EachOnce (plan : Plan) (commands : List Task) (scope : Scope) (acts : List Act) : Type 0 where
   pub each : IsEachOnce plan commands (stood plan commands scope acts)
   pub settled : (cause : Cause) → action_at plan (stood plan commands scope acts) ≡ Stop cause
-      → map of_record (stood plan commands scope acts).records ≡ sent_by commands (cycles_begun plan (stood plan commands scope acts).progress)
-      (place_next commands (stood plan commands scope acts).progress)
-  pub done : action_at plan (stood plan commands scope acts) ≡ Stop Done → map of_record (stood plan commands scope acts).records ≡ all_cycles commands plan.cycles
+      → Parted (map of_record (stood plan commands scope acts).records) (stood plan commands scope acts).passes
+      (sent_by commands (cycles_begun plan (stood plan commands scope acts).progress) (place_next commands (stood plan commands scope acts).progress))
+  pub done : action_at plan (stood plan commands scope acts) ≡ Stop Done
+      → Parted (map of_record (stood plan commands scope acts).records) (stood plan commands scope acts).passes (all_cycles commands plan.cycles)
 
 -- a station is further than it was: in a later cycle, or at a later place in the same cycle
 abbrev pub IsFurther : Plan → List Task → Model → Model → Type 0

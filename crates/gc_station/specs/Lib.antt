@@ -11,12 +11,15 @@ pub mod Tallies
 pub mod Runs
 pub mod Keeping
 pub mod EachOnce
+pub mod Requests
+pub mod Attempts
 pub mod Reasons
 pub mod Closing
 pub mod Answers
 pub mod Quiet
 pub mod Ends
 pub mod Chains
+pub mod Retries
 pub mod Silences
 pub mod Tries
 pub mod Given
@@ -34,3 +37,4 @@ pub mod Cycles
 pub mod Pauses
 pub mod Nearness
 pub mod Qualities
+pub mod Stopping

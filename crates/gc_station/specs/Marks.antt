@@ -1,6 +1,6 @@
 -- Marks, this project's own: for each request that waits, which command of which cycle it is; a null procedure of the station's own
 -- has none.
-use Rattle.std.specs.Prelude.{ℕ, suc, Bool, true, false, List, [], ◌∷◌, Option, Some, None}
+use Rattle.std.specs.Prelude.{ℕ, suc, Bool, true, false, if◌then◌else◌, List, [], ◌∷◌, Option, Some, None}
 use Rattle.gc_catalogue.specs.declared.answer.Answer.{Answer}
 use Rattle.gc_catalogue.specs.declared.answer.Reading.{Reading}
 use Rattle.gc_catalogue.specs.declared.answer.Reading.TheVariants as reading
@@ -74,6 +74,7 @@ record_of reads utc mark settlement = record {
   utc = utc;
   cycle = mark.cycle;
   place = mark.place;
+  turn = mark.expected.turn;
   command = command_of settlement;
   end = end_of reads mark.expected settlement.call settlement.outcome;
 }
@@ -101,3 +102,9 @@ is_well end.Missed = false
 abbrev pub last_well : Bool → List Record → Bool
 last_well well [] = well
 last_well well (r ∷ others) = last_well (is_well r.end) others
+
+-- the moment at which a command that was answered well was written down last: `now`, where one of these records, which are written
+-- down at that moment, is of such a command; else `fresh`
+abbrev pub fresh_behind : ℕ → ℕ → List Record → ℕ
+fresh_behind now fresh [] = fresh
+fresh_behind now fresh (r ∷ others) = fresh_behind now (if is_well r.end then now else fresh) others

@@ -1,6 +1,6 @@
 -- What a station is after the acts of its link, this project's own: the client's rule over what really happened, and how far the
 -- station is. Each act is the one that the station was to make next. An act is one call of the link, with what came of it.
-use Rattle.std.specs.Prelude.{◌≡◌, ℕ, ◌+◌, ◌-◌, ◌<◌, ◌||◌, Bool, true, false, List, [], ◌∷◌, ◌++◌, length, drop, Option, Some, None, if◌then◌else◌, nat_eq, slice_get}
+use Rattle.std.specs.Prelude.{◌≡◌, ℕ, ◌+◌, ◌-◌, ◌<◌, ◌||◌, Bool, true, false, List, [], ◌∷◌, ◌++◌, length, drop, take, map, Option, Some, None, if◌then◌else◌, nat_eq, slice_get, min}
 use Rattle.std.specs.List.{filter_map}
 use Rattle.gc_lines.specs.Frames.{line_in, rest_behind}
 use Rattle.gc_lines.specs.Lines.{with_end}
@@ -13,9 +13,11 @@ use Rattle.gc_catalogue.specs.Texts.{request_line}
 use Rattle.gc_catalogue.specs.Asked.{asked_line, is_of_table}
 use Rattle.gc_client.specs.declared.window.TheConstants.{WINDOW}
 use Rattle.gc_client.specs.Rule.{ById, Settlement, Settled, Sending, fresh, sends, hears, heard, expires, restarts, deadlines}
+use Rattle.gc_texts.specs.Again.{no_again}
 use Rattle.gc_texts.specs.Codes.{no_codes}
 use Rattle.gc_texts.specs.declared.near.Expected.{Expected}
 use Rattle.gc_texts.specs.declared.tasks.Task.{Task}
+use Rattle.gc_texts.specs.declared.turn.Turn.{Turn}
 use Rattle.gc_links.specs.declared.link.Moment.{Moment}
 use Rattle.gc_station.specs.declared.plan.Plan.{Plan}
 use Rattle.gc_station.specs.declared.cause.Cause.{Cause}
@@ -23,7 +25,7 @@ use Rattle.gc_station.specs.declared.cause.Cause.TheVariants as cause
 use Rattle.gc_station.specs.declared.progress.Phase.{Phase}
 use Rattle.gc_station.specs.declared.progress.Phase.TheVariants as phase
 use Rattle.gc_station.specs.declared.progress.Action.{Action}
-use Rattle.gc_station.specs.declared.progress.Action.TheVariants.{ReadClock, Renew, Begin, Open, Clear, Ask, Send, Skip, Flush, Read, Close, Stop}
+use Rattle.gc_station.specs.declared.progress.Action.TheVariants.{ReadClock, Renew, Begin, Open, Clear, Ask, Send, Skip, Pass, Flush, Read, Close, Stop}
 use Rattle.gc_station.specs.declared.progress.Progress.{Progress}
 use Rattle.gc_station.specs.declared.progress.Until.{Until}
 use Rattle.gc_station.specs.declared.progress.Waiting.{Waiting}
@@ -31,34 +33,44 @@ use Rattle.gc_station.specs.declared.mark.Mark.{Mark}
 use Rattle.gc_links.specs.Acts.{Act, Told, Untold, Put, Cut, Gave, Silent, Ended, Broke, Closed, Opened, Unopened}
 use Rattle.gc_station.specs.Deciding.{later, action_of}
 pub use Rattle.gc_station.specs.Lines.{is_ok, is_reply}
-use Rattle.gc_station.specs.Marks.{commands_in, records_of, last_well}
-use Rattle.gc_station.specs.Progressing.{at_start, turned, told, begun, skipped, skipped_at, failing, opened, again, cleared, asking, null_sent, renewed, sent, caught_up, noted, lines_asked, gave, silent, reckoned_early, closed, loses_all}
+use Rattle.gc_station.specs.Attempts.{listed_behind, listed_by}
+use Rattle.gc_station.specs.Marks.{commands_in, records_of, last_well, fresh_behind}
+use Rattle.gc_station.specs.Progressing.{at_start, turned, told, begun, skipped, passed, skipped_at, failing, opened, again, cleared, asking, null_sent, renewed, sent, caught_up, noted, lines_asked, gave, silent, reckoned_early, closed, loses_all}
 use Rattle.gc_station.specs.Records.{Record}
+use Rattle.gc_station.specs.Requests.{Request, requests, of_task}
 use Rattle.gc_station.specs.Scopes.{Scope}
 use Rattle.gc_texts.specs.Endings.{Skipped, Missed}
 
 -- where a station stands: how far it is, the bytes since the last line feed that it heard on this connection, the client, which command
--- each request that waits is of, the records so far, and what replies say
+-- each request that waits is of, the records so far, whether a command of the attempt that was settled last ended as its rule names
+-- (`listed`), the commands that were passed over, the moment at which a command that was answered well was written down last (0 where
+-- none was; an earlier moment where the clock went back since), and what replies say
 pub record Model : Type 0 where
   pub progress : Progress
   pub rest : List ℕ
   pub client : ById Asked
   pub marks : List (Option Mark)
   pub records : List Record
+  pub listed : Bool
+  pub passes : List Request
+  pub fresh : ℕ
   pub reads : Asked → List ℕ → Reading
 
 -- the model of a station that has done nothing
 abbrev pub opening : Plan → Scope → Model
-opening plan scope = record { progress = at_start plan scope.turns; rest = []; client = fresh; marks = []; records = []; reads = scope.reads }
+opening plan scope =
+    record { progress = at_start plan scope.turns; rest = []; client = fresh; marks = []; records = []; listed = false; passes = []; fresh = 0; reads = scope.reads }
 
--- how many requests wait: in all, of those that aren't given up, and of commands; and whether the command that was written down last
--- was answered well
+-- how many requests wait: in all, of those that aren't given up, and of commands; whether the command that was written down last was
+-- answered well, and whether one of its attempt ended as its rule names; and when one was answered well last
 abbrev pub waiting_of : Model → Waiting
 waiting_of s = record {
   all = length s.client.waiting;
   current = length (deadlines s.client.waiting);
   commands = commands_in s.marks;
   well = last_well false s.records;
+  listed = s.listed;
+  fresh = s.fresh;
 }
 
 -- the next action
@@ -73,11 +85,15 @@ place_next commands p = length commands - p.unsent
 abbrev pub cycles_begun : Plan → Progress → ℕ
 cycles_begun plan p = plan.cycles - p.left
 
+-- the turn where there is no command
+abbrev pub no_turn : Turn
+no_turn = record { place = 0; attempt = 1; link = 0 }
+
 -- what is expected of the answer of the first of these commands: where its target stands, if the text says so, and which return codes
 -- are accepted
 abbrev pub expected_first : List Task → Expected
-expected_first [] = record { near = None; accepted = no_codes }
-expected_first (task ∷ others) = record { near = task.near; accepted = task.accepted }
+expected_first [] = record { near = None; accepted = no_codes; again = no_again; turn = no_turn }
+expected_first (task ∷ others) = record { near = task.near; accepted = task.accepted; again = task.again; turn = task.turn }
 
 -- the mark of the next command: its cycle, its place, the moment told last, and what is expected of its answer
 abbrev pub mark_next : Plan → List Task → Progress → Mark
@@ -108,10 +124,28 @@ abbrev pub is_chained : List Task → Bool
 is_chained [] = false
 is_chained (task ∷ others) = task.chained
 
--- whether the command after the next one goes out only once the next one was answered well. In a missed cycle, where none goes
--- out, this holds of each command
+-- how many commands the attempt that the first of these commands begins and those behind it have, where that is a further attempt;
+-- else 0
+abbrev pub others_in : List Task → ℕ
+others_in [] = 0
+others_in (task ∷ others) = task.others
+
+-- whether the command that stands this many places behind the next one goes out only once the one before it was answered well. In a
+-- missed cycle, where none goes out, this holds of each command
+abbrev pub is_chained_behind : ℕ → List Task → Progress → Bool
+is_chained_behind count commands p = p.missed || is_chained (drop (place_next commands p + count) commands)
+
+-- `others_in` from the command that stands this many places behind the next one
+abbrev pub others_behind : ℕ → List Task → Progress → ℕ
+others_behind count commands p = others_in (drop (place_next commands p + count) commands)
+
+-- whether the command after the next one goes out only once the next one was answered well
 abbrev pub is_chained_behind_next : List Task → Progress → Bool
-is_chained_behind_next commands p = p.missed || is_chained (drop (place_next commands p + 1) commands)
+is_chained_behind_next commands p = is_chained_behind 1 commands p
+
+-- `others_in` from the command after the next one
+abbrev pub others_behind_next : List Task → Progress → ℕ
+others_behind_next commands p = others_behind 1 commands p
 
 -- an act puts these bytes, whole or in part
 abbrev pub Puts : List ℕ → Act → Type 0
@@ -150,6 +184,7 @@ Performs commands s Clear act = Puts (10 ∷ []) act
 Performs commands s Ask act = Puts (null_text s.progress.word) act
 Performs commands s Send act = Puts (first_text s.client (drop (place_next commands s.progress) commands)) act
 Performs commands s Skip act = ReadsClock act
+Performs commands s Pass act = ReadsClock act
 Performs commands s Flush act = Puts (request_text s.client (Table NullProc)) act
 Performs commands s (Read until) act = IsReading act
 Performs commands s (Close cause) act = act ≡ Closed
@@ -163,7 +198,7 @@ with_progress f s = record s { progress = f s.progress }
 
 -- the model at a later moment: requests whose deadline has come are given up
 abbrev pub with_moment : Moment → Model → Model
-with_moment m s = record s { client = expires s.client m.elapsed }
+with_moment m s = record s { client = expires s.client m.elapsed; fresh = min s.fresh m.elapsed }
 
 -- the client after a send; where the send was refused (`None`), the client as it was
 abbrev pub client_sent : ById Asked → Option (Sending (ById Asked)) → ById Asked
@@ -199,12 +234,31 @@ with_client client s = record s { client = client }
 abbrev pub skips_first : Progress → Moment → Mark → List Task → List Record
 skips_first p m mark [] = []
 skips_first p m mark (task ∷ others) =
-    record { sent = None; utc = skipped_at m p; cycle = mark.cycle; place = mark.place; command = task.command; end = if p.missed then Missed else Skipped } ∷ []
+    record { sent = None; utc = skipped_at m p; cycle = mark.cycle; place = mark.place; turn = mark.expected.turn; command = task.command; end = if p.missed then Missed else Skipped } ∷ []
 
 -- the record of the next command, which isn't sent, where the act read the clock; else none
 abbrev pub skips : Plan → List Task → Progress → Act → List Record
 skips plan commands p (Told m) = skips_first p m (mark_next plan commands p) (drop (place_next commands p) commands)
 skips plan commands p _ = []
+
+-- whether a command of the attempt ended as its rule names, once the next command isn't sent: as before, where the clock couldn't be
+-- read
+abbrev pub skip_listed : Plan → List Task → Model → Act → Bool
+skip_listed plan commands s (Told m) = listed_behind s.listed (mark_next plan commands s.progress).expected None (if s.progress.missed then Missed else Skipped)
+skip_listed plan commands s _ = s.listed
+
+-- the commands that are passed over where the next one begins a further attempt: those of this attempt and of those behind it
+abbrev pub passes_next : Plan → List Task → Progress → List Request
+passes_next plan commands p =
+    requests (cycles_begun plan p) (place_next commands p) (map of_task (take p.next_others (drop (place_next commands p) commands)))
+
+-- the model with these commands passed over besides
+abbrev pub with_passes : List Request → Model → Model
+with_passes passes s = record s { passes = s.passes ++ passes }
+
+-- the model with `listed` as given
+abbrev pub with_listed : Bool → Model → Model
+with_listed listed s = record s { listed = listed }
 
 -- the model with these records after those that it has
 abbrev pub with_records : List Record → Model → Model
@@ -214,7 +268,9 @@ with_records records s = record s { records = s.records ++ records }
 abbrev pub with_settled : List (Settlement Asked) → Model → Model
 with_settled settlements s = record s {
   records = s.records ++ records_of s.reads s.progress.moment.utc s.marks settlements;
+  listed = listed_by s.reads s.listed s.marks settlements;
   marks = drop (length settlements) s.marks;
+  fresh = fresh_behind s.progress.moment.elapsed s.fresh (records_of s.reads s.progress.moment.utc s.marks settlements);
 }
 
 -- the model after what a client settled: with the records of these settlements, and the client as it then is
@@ -303,6 +359,15 @@ abbrev pub after_clock : (Moment → Progress → Progress) → Model → Act �
 after_clock f s (Told m) = with_moment m (with_progress (f m) s)
 after_clock f s _ = with_progress (failing cause.Clock) s
 
+-- the model after the clock was read to pass over the further attempts of a chain; where it couldn't be read, none is passed over
+abbrev pub after_pass : Plan → List Task → Model → Act → Model
+after_pass plan commands s (Told m) =
+    let n = s.progress.next_others in
+    let is_chained = is_chained_behind n commands s.progress in
+    let others = others_behind n commands s.progress in
+    with_moment m (with_progress (λ p. reckoned_early plan (commands_in s.marks) (passed is_chained others m p)) (with_passes (passes_next plan commands s.progress) s))
+after_pass plan commands s _ = with_progress (failing cause.Clock) s
+
 -- the model after a write, changed by `f`. Where the bytes were cut, the connection is to be closed besides, for a cause that names
 -- this number of requests
 abbrev pub after_put : ℕ → (Model → Model) → Model → Act → Model
@@ -326,9 +391,11 @@ moved plan commands Begin s act = after_clock (begun plan (length commands)) s a
 moved plan commands Open s act = after_open plan s act
 moved plan commands Clear s act = after_put (requests_out plan commands s.progress) (with_progress cleared) s act
 moved plan commands Ask s act = after_put (requests_out plan commands s.progress) (with_progress (null_sent plan)) s act
-moved plan commands Send s act = after_put (requests_out plan commands s.progress) (λ (s : Model). with_progress (sent (is_chained_behind_next commands s.progress)) (asks_next plan commands s)) s act
+moved plan commands Send s act = after_put (requests_out plan commands s.progress) (λ (s : Model). with_progress (sent (is_chained_behind_next commands s.progress) (others_behind_next commands s.progress)) (asks_next plan commands s)) s act
 moved plan commands Skip s act =
-    after_clock (λ m p. reckoned_early plan (commands_in s.marks) (skipped (is_chained_behind_next commands s.progress) m p)) (with_records (skips plan commands s.progress act) s) act
+    after_clock (λ m p. reckoned_early plan (commands_in s.marks) (skipped (is_chained_behind_next commands s.progress) (others_behind_next commands s.progress) m p))
+    (with_listed (skip_listed plan commands s act) (with_records (skips plan commands s.progress act) s)) act
+moved plan commands Pass s act = after_pass plan commands s act
 moved plan commands Flush s act = after_put (requests_out plan commands s.progress) (λ (s : Model). with_progress asking (asks_null plan s)) s act
 moved plan commands (Read until) s act = after_read plan until s act
 moved plan commands (Close cause) s act = after_close plan cause s

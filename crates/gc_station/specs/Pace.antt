@@ -22,6 +22,15 @@ due_at plan p = later p.began plan.every
 abbrev pub retry_at : Plan → Progress → ℕ
 retry_at plan p = if is_idle plan p then max (later p.since p.pause) (due_at plan p) else later p.since p.pause
 
+-- the moment from which on the run is stale, if no answer of a good quality is written down until then; the greatest `u64` where it
+-- never is
+abbrev pub stale_at : Plan → ℕ → ℕ
+stale_at plan fresh = if nat_lt 0 plan.stale then later fresh plan.stale else 18446744073709551615
+
+-- how long a read waits at most: a second where somebody may ask for the end of the run, else a minute
+abbrev pub longest : Plan → ℕ
+longest plan = if plan.watched then 1000 else 60000
+
 -- the moment at which a read in this phase ends if nothing comes, leaving out the deadlines of the requests that wait: at the end of a pause
 -- or a drain, when the line is dead, or when a null procedure of the beginning goes out again
 abbrev pub ends_in : Phase → Plan → Progress → ℕ
@@ -39,9 +48,10 @@ abbrev pub ends_at : Plan → Progress → Until → Option ℕ → ℕ
 ends_at plan p until (Some deadline) = min deadline (ends_without_deadline plan p until)
 ends_at plan p until None = ends_without_deadline plan p until
 
--- how many milliseconds a read waits: until `ends_at`, but at least one and at most a minute
-abbrev pub patience : Plan → Progress → Until → Option ℕ → ℕ
-patience plan p until deadline = min (max (ends_at plan p until deadline - p.moment.elapsed) 1) 60000
+-- how many milliseconds a read waits: until `ends_at`, or until the run is stale if that is earlier, but at least one and at most
+-- `longest`
+abbrev pub patience : Plan → Progress → ℕ → Until → Option ℕ → ℕ
+patience plan p fresh until deadline = min (max (min (ends_at plan p until deadline) (stale_at plan fresh) - p.moment.elapsed) 1) (longest plan)
 
 -- the number of the cycle that began last, counted from 1; 0 before the first
 abbrev pub cycle_of : Plan → Progress → ℕ

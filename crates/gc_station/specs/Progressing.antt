@@ -26,7 +26,7 @@ at_start plan turns = record {
   word = the_word;
   again = 0;
   stale = false;
-  moment = record { elapsed = 0; utc = 0 };
+  moment = record { elapsed = 0; utc = 0; stops = false };
   since = 0;
   alive = 0;
   asked = false;
@@ -37,11 +37,13 @@ at_start plan turns = record {
   left = plan.cycles;
   unsent = 0;
   next_is_chained = false;
+  next_others = 0;
   chain_unbroken = false;
   tries = plan.retries;
   pause = 0;
   turns = turns;
   behind = 0;
+  stops = false;
 }
 
 -- the progress after a turn
@@ -52,7 +54,7 @@ turned p = record p { turns = p.turns - 1 }
 -- clock went back, so that the cycle's beginning (`began`) or the moment from which a dead line counts (`alive`) lies after
 -- `m`, it becomes `m`: so the next cycle isn't put off
 abbrev pub told : Moment → Progress → Progress
-told m p = record p { moment = m; since = m.elapsed; alive = min p.alive m.elapsed; began = min p.began m.elapsed; stale = false }
+told m p = record p { moment = m; since = m.elapsed; alive = min p.alive m.elapsed; began = min p.began m.elapsed; stale = false; stops = p.stops || m.stops }
 
 -- the moment that counts as the beginning of a cycle that is begun at the moment `m`. For the first cycle, and where cycles
 -- have no due moment, it is `m`; for any other cycle the moment at which it was due, or `m` where that is earlier
@@ -79,6 +81,7 @@ begun plan count m p =
       left = p.left - 1;
       unsent = count;
       next_is_chained = is_missing plan m p;
+      next_others = 0;
       chain_unbroken = false;
     }
 
@@ -88,9 +91,16 @@ abbrev pub skipped_at : Moment → Progress → ℕ
 skipped_at m p = if p.missed then p.due else m.utc
 
 -- the progress after a command that isn't sent. `next_is_chained`: the one after it goes out only once this one was
--- answered well
-abbrev pub skipped : Bool → Moment → Progress → Progress
-skipped next_is_chained m p = let q = told m p in record q { unsent = p.unsent - 1; next_is_chained = next_is_chained; chain_unbroken = false }
+-- answered well; `others`: how many commands that one's attempt and those behind it have, where it begins a further attempt, else 0
+abbrev pub skipped : Bool → ℕ → Moment → Progress → Progress
+skipped next_is_chained others m p =
+    let q = told m p in record q { unsent = p.unsent - 1; next_is_chained = next_is_chained; next_others = others; chain_unbroken = false }
+
+-- the progress after the further attempts of a chain that the next command begins are passed over: all their commands are, and what is
+-- said of the next command is of the one behind them
+abbrev pub passed : Bool → ℕ → Moment → Progress → Progress
+passed next_is_chained others m p =
+    let q = told m p in record q { unsent = p.unsent - p.next_others; next_is_chained = next_is_chained; next_others = others; chain_unbroken = false }
 
 -- the progress after a failure for this cause: the connection is to be closed, and without a connection the run is over
 abbrev pub failing : Cause → Progress → Progress
@@ -150,9 +160,9 @@ null_sent plan p = let q = asking p in record q { again = later p.moment.elapsed
 abbrev pub renewed : Plan → Moment → Progress → Progress
 renewed plan m p = let q = told m p in record q { word = the_word; again = 0; asked = p.asked && goes_on plan q; chain_unbroken = false; behind = 0 }
 
--- the progress after the next command. `next_is_chained`: the one after it goes out only once this one was answered well
-abbrev pub sent : Bool → Progress → Progress
-sent next_is_chained p = let q = asking p in record q { unsent = p.unsent - 1; next_is_chained = next_is_chained; chain_unbroken = true }
+-- the progress after the next command. `next_is_chained` and `others` are of the one after it, as of `skipped`
+abbrev pub sent : Bool → ℕ → Progress → Progress
+sent next_is_chained others p = let q = asking p in record q { unsent = p.unsent - 1; next_is_chained = next_is_chained; next_others = others; chain_unbroken = true }
 
 -- the progress after a line that was heard: a reply line shows that the line is alive
 abbrev pub noted : Bool → Progress → Progress
@@ -216,6 +226,7 @@ time_passed until m p = record p {
   alive = min p.alive m.elapsed;
   began = min p.began m.elapsed;
   stale = false;
+  stops = p.stops || m.stops;
   early = early_behind until p.early;
 }
 
@@ -232,11 +243,14 @@ reckoned_early plan commands p = record p { early = p.early || (nat_eq commands 
 abbrev pub ended_for : Cause → Progress → Progress
 ended_for why p = record p { phase = phase.Over why; chain_unbroken = false }
 
--- the progress after a close: for `Done`, `Clock` and `Turns` no other connection is made; for any other cause `again` says whether
+-- the progress after a close: for `Done`, `Clock`, `Turns`, `Stale` and `Stopped` no other connection is made; for any other cause `again`
+-- says whether
 abbrev pub closed : Plan → Waiting → Cause → Progress → Progress
 closed plan w cause.Done p = ended_for cause.Done p
 closed plan w cause.Clock p = ended_for cause.Clock p
 closed plan w cause.Turns p = ended_for cause.Turns p
+closed plan w cause.Stale p = ended_for cause.Stale p
+closed plan w cause.Stopped p = ended_for cause.Stopped p
 closed plan w why p = again plan w.commands why p
 
 -- whether the run is over in a phase

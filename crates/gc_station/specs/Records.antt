@@ -3,6 +3,7 @@ use Rattle.std.specs.Prelude.{◌≡◌, ℕ, ◌<◌, List, ◌∷◌, ◌++◌
 use Rattle.std.specs.List.{flat_map}
 use Rattle.std.specs.Io.KnownBytes.{Appends}
 use Rattle.gc_texts.specs.declared.stamp.Stamp.{Stamp}
+use Rattle.gc_texts.specs.declared.turn.Turn.{Turn}
 use Rattle.gc_texts.specs.declared.wish.Wish.{Wish}
 use Rattle.gc_texts.specs.declared.ending.Ending.{Ending}
 use Rattle.gc_texts.specs.Endings.{End, ending_seen}
@@ -11,18 +12,20 @@ use Rattle.gc_catalogue.specs.declared.asked.Asked.{Asked}
 use Rattle.gc_station.specs.Scopes.{AreReadings}
 
 -- how a command ended: the moment told last before its request went out, if it did (`sent`); the moment of its end (`utc`),
--- both by the clock of time stamps; its cycle, and its place in the cycle; what it asked, and whom; and its ending
+-- both by the clock of time stamps; its cycle, and its place among the tasks of the station; which command of the text it is, and in which
+-- attempt; what it asked, and whom; and its ending
 pub record Record : Type 0 where
   pub sent : Option ℕ
   pub utc : ℕ
   pub cycle : ℕ
   pub place : ℕ
+  pub turn : Turn
   pub command : Wish
   pub end : End
 
 -- a record as contracts see it: a command and its ending by their bytes
 abbrev pub record_seen : Stamp → Wish → Ending → Record
-record_seen stamp command ending = record { sent = stamp.sent; utc = stamp.utc; cycle = stamp.cycle; place = stamp.place; command = command; end = ending_seen ending }
+record_seen stamp command ending = record { sent = stamp.sent; utc = stamp.utc; cycle = stamp.cycle; place = stamp.place; turn = stamp.turn; command = command; end = ending_seen ending }
 
 -- a text was written whole, or where the write failed (`Err`) a first part of it, which isn't all
 abbrev pub Writes : {X E : Type 0} → Option (List ℕ) → Option (List ℕ) → List ℕ → Result X E → Type 0

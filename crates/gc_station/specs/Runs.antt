@@ -1,11 +1,10 @@
 -- Whole runs of a station, this project's own: each act was the one that was to be made next, and the book has what they write
 -- down. An act is one call of the link, with what came of it. The book is what takes the texts of the records.
-use Rattle.std.specs.Prelude.{◌≡◌, ◌⊎◌, ℕ, Bool, true, List, [], ◌∷◌, ◌++◌, Option, Some, Result, Ok, Err}
+use Rattle.std.specs.Prelude.{◌≡◌, ◌⊎◌, ℕ, Bool, true, List, [], ◌∷◌, ◌++◌, Option, Some, None, Result, Ok, Err}
 use Rattle.std.specs.Io.KnownBytes.{Appends}
 use Rattle.gc_texts.specs.declared.tasks.Task.{Task}
 use Rattle.gc_texts.specs.declared.fault.RunFault.{RunFault}
 use Rattle.gc_texts.specs.declared.fault.RunFault.TheVariants.{Output}
-use Rattle.gc_station.specs.declared.cause.Cause.TheVariants.{Done}
 use Rattle.gc_station.specs.Causes.{fault_of}
 use Rattle.gc_station.specs.declared.plan.Plan.{Plan}
 use Rattle.gc_station.specs.declared.cause.Cause.{Cause}
@@ -14,7 +13,7 @@ use Rattle.gc_station.specs.declared.tally.Tally.{Tally}
 use Rattle.gc_links.specs.Acts.{Act, Closed, Tells}
 use Rattle.gc_station.specs.Records.{Record, texts_of, WritesPart}
 use Rattle.gc_station.specs.Model.{Model, opening, action_at, after_all, Runs}
-use Rattle.gc_station.specs.Tallies.{none_yet, tallied}
+use Rattle.gc_station.specs.Tallies.{tally_of}
 use Rattle.gc_station.specs.Scopes.{Scope}
 
 -- the model of a station after these acts, from the start on
@@ -30,7 +29,7 @@ pub record RanTo (plan : Plan) (commands : List Task) (scope : Scope) (text : Re
   pub runs : Runs plan commands (opening plan scope) acts
   pub stops : action_at plan (stood plan commands scope acts) ≡ Stop cause
   pub took : Appends taken taken' (texts_of text (stood plan commands scope acts).records)
-  pub counts : tally ≡ tallied none_yet (stood plan commands scope acts).records
+  pub counts : tally ≡ tally_of (stood plan commands scope acts).records
 
 -- a link told these acts, each the one that was to be made next, and after the last one that the connection was closed, and nothing
 -- else; the book took the records of the acts before the last one whole, and of those that this one writes down a part, from the front
@@ -56,9 +55,11 @@ EndsAs plan commands scope text told told' taken taken' (Ok end) = RanTo plan co
 EndsAs plan commands scope text told told' taken taken' (Err _) =
     BrokeAt plan commands scope text told told' taken taken' ⊎ LeftAt plan commands scope text told told' taken taken'
 
--- a run came to this result: it is done, or it stopped for a cause with this fault, or the book failed
+-- a run came to this result: it stopped for a cause without a fault, because it is done or its end was asked for, or for a cause with
+-- this fault, or the book failed
 abbrev pub Ran : Plan → List Task → Scope → (Record → List ℕ) → Option (List Act) → Option (List Act) → Option (List ℕ) → Option (List ℕ) → Result Tally RunFault → Type 0
-Ran plan commands scope text told told' taken taken' (Ok tally) = RanTo plan commands scope text told told' taken taken' Done tally
+Ran plan commands scope text told told' taken taken' (Ok tally) =
+    (cause : Cause) × RanTo plan commands scope text told told' taken taken' cause tally × (fault_of cause ≡ None)
 Ran plan commands scope text told told' taken taken' (Err Output) =
     BrokeAt plan commands scope text told told' taken taken' ⊎ LeftAt plan commands scope text told told' taken taken'
 Ran plan commands scope text told told' taken taken' (Err fault) =

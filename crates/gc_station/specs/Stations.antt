@@ -20,9 +20,9 @@ use Rattle.gc_station.specs.Scopes.{AreReadings}
 use Rattle.gc_station.specs.Progressing.{turned, failing}
 use Rattle.gc_station.specs.Records.{Record, texts_of, WritesPart}
 use Rattle.gc_station.specs.Model.{Model, Performs, moved, ended, with_progress}
-use Rattle.gc_station.specs.Tallies.{none_yet, tallied}
+use Rattle.gc_station.specs.Tallies.{nothing_yet, tallied}
 
--- how many requests of a station wait, and whether the command that was written down last was answered well
+-- how many requests of a station wait, whether the command that was written down last was answered well, and when one was last
 abbrev pub waiting_in : Station → Waiting
 waiting_in station =
     record {
@@ -30,13 +30,15 @@ waiting_in station =
       current = length (deadlines station.client.ids.waiting);
       commands = commands_in station.marks.items;
       well = station.well;
+      listed = station.listed;
+      fresh = station.fresh;
     }
 
 -- each request that waits has a mark
 abbrev pub IsPaired : Station → Type 0
 IsPaired station = length station.marks.items ≡ length station.client.ids.waiting
 
--- a station is as this model says; so are its tally, and whether the last command was answered well, where the model's `reads` gives each
+-- a station is as this model says; so are its tally, whether the last command was answered well, and when one was last, where the model's `reads` gives each
 -- reply's reading for its call
 pub record Refines (station : Station) (s : Model) : Type 0 where
   pub progress : station.progress ≡ s.progress
@@ -45,8 +47,10 @@ pub record Refines (station : Station) (s : Model) : Type 0 where
   pub marks : station.marks.items ≡ s.marks
   pub paired : length s.marks ≡ length s.client.waiting
   pub assembles : StandsFor station.assembler s.rest
-  pub tally : AreReadings s.reads → station.tally ≡ tallied none_yet s.records
+  pub tally : AreReadings s.reads → station.tally ≡ tallied nothing_yet s.records
   pub well : AreReadings s.reads → station.well ≡ last_well false s.records
+  pub listed : AreReadings s.reads → station.listed ≡ s.listed
+  pub fresh : AreReadings s.reads → station.fresh ≡ s.fresh
 
 -- a book took the records of a model, where the model's `reads` gives each reply's reading for its call
 abbrev pub Took : (Record → List ℕ) → Option (List ℕ) → Option (List ℕ) → Model → Type 0

@@ -16,6 +16,8 @@ abbrev pub IsTried : Cause → Type 0
 IsTried cause.Done = ⊥
 IsTried cause.Clock = ⊥
 IsTried cause.Turns = ⊥
+IsTried cause.Stale = ⊥
+IsTried cause.Stopped = ⊥
 IsTried _ = Unit {0}
 
 -- an act ends a connection, or fails to make one

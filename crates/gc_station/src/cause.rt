@@ -26,10 +26,14 @@ pub enum Cause {
     Open,
     /// All turns are used up.
     Turns,
+    /// No answer of a good quality was written down for as long as the plan allows.
+    Stale,
+    /// The end of the run was asked for.
+    Stopped,
 }
 
 impl Cause {
-    /// The fault of a run that stopped for this cause; `None` where the run is done.
+    /// The fault of a run that stopped for this cause; `None` where the run is done, or its end was asked for.
     pub fn fault(self) -> Option<RunFault>
         ensures { result ≡ fault_of self }
     {
@@ -45,6 +49,8 @@ impl Cause {
             Cause::Clock => Some(RunFault::Clock),
             Cause::Open => Some(RunFault::Socket),
             Cause::Turns => Some(RunFault::TooManyReads),
+            Cause::Stale => Some(RunFault::Stale),
+            Cause::Stopped => None,
         }
     }
 }

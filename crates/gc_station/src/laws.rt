@@ -22,6 +22,7 @@ ghost use Rattle.gc_station.specs.Codes.{WellIsAnAcceptedCode};
 ghost use Rattle.gc_station.specs.Counting.{TalliesCountRecords};
 ghost use Rattle.gc_station.specs.Cycles.{CyclesBeginWhenDue, SentOnlyInTime, UnsentForACause};
 ghost use Rattle.gc_station.specs.Pauses.{TriesAndPausesAreCounted};
+ghost use Rattle.gc_station.specs.Retries.{GoesOutAgainForACause, TurnsAreTheTexts};
 ghost use Rattle.gc_station.specs.Room.{RequestsHaveRoom};
 ghost use Rattle.gc_station.specs.Chains.{IsChained, IsLinked};
 ghost use Rattle.gc_station.specs.EachOnce.{EachOnce, IsFurther};
@@ -34,12 +35,13 @@ ghost use Rattle.gc_station.specs.Quiet.{IsRequest};
 ghost use Rattle.gc_station.specs.Runs.{stood};
 ghost use Rattle.gc_station.specs.Scopes.{Scope, OneReadingForALine, SomeReadings};
 ghost use Rattle.gc_station.specs.Silences.{IsMuteFor};
+ghost use Rattle.gc_station.specs.Stopping.{ClosesStale, StopsAtItsClose, EndsOnceStale, GoesOnInItsChain, ClosesBetweenChains};
 ghost use Rattle.gc_station.specs.Model.{opening, action_at, Runs};
 ghost use Rattle.gc_station.specs.Tries.{IsTried, IsEnding, AllTried};
 
-/// The records of a run, and behind them the commands that wait, are the commands that had their turn, sent or not: cycle by
-/// cycle, in order, each once. Where the run stopped, the records alone are these, and where the run is done they are all
-/// commands of all cycles.
+/// The commands that had their turn, sent or not, cycle by cycle and in order, are the records of a run, and behind them the commands
+/// that wait, each once, but for those of further attempts that were passed over, which are the passes, in order. Where the run
+/// stopped, none waits; and where the run is done, records and passes are all commands of all cycles.
 pub fn each_command_once()
     ensures { (plan : Plan) (commands : List Task) (scope : Scope) (acts : List Act) → EachOnce plan commands scope acts }
 {}
@@ -65,7 +67,8 @@ pub fn each_act_is_due()
 {}
 
 /// A connection is closed only for a cause: nothing was left to be done; or no command could go out, and the line was dead; or
-/// all turns were used up; or the act before it shows that a call failed or that the other end closed.
+/// all turns were used up; or the run was stale; or its end was asked for, and it could end there; or the act before it shows that a
+/// call failed or that the other end closed.
 pub fn closes_for_a_cause()
     ensures { (plan : Plan) (commands : List Task) (scope : Scope) (earlier later : List Act)
         → Runs plan commands (opening plan scope) (earlier ++ Closed ∷ later) → ClosesForACause plan commands scope earlier }
@@ -123,9 +126,9 @@ pub fn lost_ones_are_lost_for_a_cause()
 
 /// A run stops without a connection, and only for one of these causes. All turns are used up. Or the last act is a call that
 /// failed while there was no connection. Or the last act closed the connection, or could make none, and no further one is made:
-/// because nothing was left to be sent and no command waited (`Done`); because the connection was closed for an unreadable clock
-/// or for used up turns; or because a further attempt would take a try, and none was left. By `each_command_once` all is settled
-/// then.
+/// because nothing was left to be sent and no command waited (`Done`); because it was closed for an unreadable clock, for used up
+/// turns, because the run was stale, or because its end was asked for; or because a further attempt would take a try, and none was
+/// left. By `each_command_once` all is settled then.
 pub fn stops_for_a_cause()
     ensures { (plan : Plan) (commands : List Task) (scope : Scope) (acts : List Act) (why : Cause) → Runs plan commands (opening plan scope) acts
         → action_at plan (stood plan commands scope acts) ≡ Stop why → StopsForACause plan commands scope acts why }
@@ -223,7 +226,19 @@ pub fn good_without_accept_is_an_answer()
     ensures { GoodIsAnAnswer }
 {}
 
-/// Each count of a tally is the number of the records that ended in its way, up to 2^64 - 1.
+/// A further attempt of a chain goes out only once all commands that went out are settled, and one of the attempt before ended as its
+/// rule names. Further attempts are passed over only where none of the attempt before did, or the cycle is missed.
+pub fn each_further_attempt_has_a_cause()
+    ensures { GoesOutAgainForACause }
+{}
+
+/// Each record says which command of the text it is of, and in which attempt, as the task at its place does.
+pub fn each_record_has_its_turn()
+    ensures { TurnsAreTheTexts }
+{}
+
+/// Each count of a tally is the number of the records that ended in its way, of those of the last attempt of their chain, up to
+/// 2^64 - 1; and one more is how many times a chain went out again.
 pub fn tallies_count_the_records()
     ensures { TalliesCountRecords }
 {}
@@ -274,4 +289,24 @@ pub fn commands_go_out_behind_the_table()
 /// as soon as there is room.
 pub fn the_table_is_never_held_up()
     ensures { TheTableIsNeverHeldUp }
+{}
+
+/// A run ends because it is stale only where it is. Take the acts behind the last one that wrote down an answer of a good quality, or
+/// all acts where none did: none of their records is of such an answer, and the moment told last lies as long as the plan allows, or
+/// longer, behind that one, or behind the start; where the clock went back since, behind the least moment that was told since. And
+/// the first moment told at which a run with turns left is stale ends it: no act is behind it but one close.
+pub fn ends_stale_only_without_a_good_answer()
+    ensures closes { ClosesStale }
+    ensures stops { StopsAtItsClose cause.Stale }
+    ensures ends { EndsOnceStale }
+{}
+
+/// Once a moment was told at which the end of the run was asked for, no cycle begins, and each command that goes out goes on with a
+/// chain that has begun. The run ends for that only where there is no connection, or the station begins, so that nothing waits, or it
+/// is between two chains and nothing is under way that isn't given up; no command of a chain that has begun is left that may go out.
+/// The close for it is the last act.
+pub fn stops_between_chains()
+    ensures goes { GoesOnInItsChain }
+    ensures closes { ClosesBetweenChains }
+    ensures stops { StopsAtItsClose cause.Stopped }
 {}

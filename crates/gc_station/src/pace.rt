@@ -5,13 +5,32 @@ ghost use Rattle.std.specs.Prelude.{◌≡◌, ℕ, Option};
 ghost use Rattle.std.specs.Option.{option_to_list};
 ghost use Rattle.std.specs.Io.KnownBytes.{Appends};
 ghost use Rattle.gc_client.specs.Rule.{IsEarliest, deadlines};
-ghost use Rattle.gc_station.specs.Pace.{dead_at, due_at, retry_at, ends_in, ends_without_deadline, ends_at, patience, cycle_of, overrun, told_then};
+ghost use Rattle.gc_station.specs.Pace.{dead_at, due_at, retry_at, stale_at, longest, ends_in, ends_without_deadline, ends_at, patience, cycle_of, overrun, told_then};
 
 use crate::book::{Book, LinkHealth};
 use crate::plan::Plan;
 use crate::progress::{Phase, Progress, Until, patience_of};
 use crate::progressing::later;
 use crate::station::Station;
+
+// The moment from which on the run is stale, if no answer of a good quality is written down until then; `u64::MAX` where it never
+// is.
+fn stale_at(plan: &Plan, fresh: u64) -> u64
+    ensures { result ≡ stale_at plan.now fresh }
+{
+    if plan.stale > 0 {
+        later(fresh, plan.stale)
+    } else {
+        u64::MAX
+    }
+}
+
+// How long a read waits at most: a second where somebody may ask for the end of the run, else a minute.
+fn longest(plan: &Plan) -> u64
+    ensures { result ≡ longest plan.now }
+{
+    if plan.watched { 1_000 } else { 60_000 }
+}
 
 impl Progress {
     // The moment from which on the line counts as dead, if no reply line comes until then.
@@ -106,17 +125,19 @@ impl Progress {
 }
 
 impl Station {
-    // How many milliseconds the next read waits for bytes: until `ends_at`, but at least 1 and at most a minute.
+    // How many milliseconds the next read waits for bytes: until `ends_at`, or until the run is stale if that is earlier, but at
+    // least 1 and at most `longest`.
     pub(crate) fn patience(&self, plan: &Plan, until: Until) -> u64
         ensures { (deadline : Option ℕ) × IsEarliest (deadlines self.now.client.ids.waiting) deadline
-            × (result ≡ patience plan.now self.now.progress until deadline) }
+            × (result ≡ patience plan.now self.now.progress self.now.fresh until deadline) }
     {
         let deadline = self.client.next_deadline();
         self.progress
             .ends_at(plan, until, deadline)
+            .min(stale_at(plan, self.fresh))
             .saturating_sub(self.progress.moment.elapsed)
             .max(1)
-            .min(60_000)
+            .min(longest(plan))
     }
 
     // The health of the link, which a book takes note of before each act.

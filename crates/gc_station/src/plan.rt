@@ -20,4 +20,9 @@ pub struct Plan {
     /// connection that ends once a cycle is done and before the next is due takes no try, and the next connection is made when that
     /// cycle is due. An attempt that failed always takes one.
     pub retries: u32,
+    /// How long the run goes on without an answer of a good quality, counted from the start or the last one that was written down.
+    /// 0: for as long as it takes.
+    pub stale: u64,
+    /// Whether somebody may ask for the end of the run. Then no read waits longer than a second, so that the station sees it.
+    pub watched: bool,
 }

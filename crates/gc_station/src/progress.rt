@@ -3,7 +3,9 @@
 //! The table lists the actions that may be next in each phase, of which the first that fits is taken, and the phase after each.
 //! In all phases but `Closing` and `Over` two come first: where no turn is left, `Close(Turns)`, or without a connection
 //! `Stop(Turns)`; and where something went out, or a connection was closed or couldn't be made, since a moment was told
-//! (`stale`), `ReadClock`, which gives up the requests whose deadline has come, and changes no phase.
+//! (`stale`), `ReadClock`, which gives up the requests whose deadline has come, and changes no phase. Between these two, with or
+//! without a connection: where no answer of a good quality was written down for as long as the plan allows, `Close(Stale)`; and
+//! where the end of the run was asked for and the station rests (`is_resting`), `Close(Stopped)`.
 //!
 //! | Phase | Where | Action | What the action does | Next phase |
 //! |---|---|---|---|---|
@@ -16,9 +18,12 @@
 //! | | the line is dead | `Close(Dead)` | closes the connection | as below |
 //! | | the null procedure of the first id that isn't answered is to go out, for the first time or again at its deadline | `Ask` | sends it | `Ready` |
 //! | | else | `Read(Limit)` | hears what comes | `Ready`; the station has begun once the eighth is answered |
-//! | `Ready`: the station has begun | a command is unsent, and not `next_is_chained` | as where the next command may go out | | |
+//! | `Ready`: the station has begun | the end of the run was asked for, the station is between two chains, and something isn't given up | as where the station waits | | |
+//! | | a command is unsent, which isn't `next_is_chained` and begins no further attempt | as where the next command may go out | | |
 //! | | commands wait, and all that waits is given up | with room `Flush`, else as where the station waits | sends a null procedure after them | `Ready` |
 //! | | commands wait, and something isn't given up | as where the station waits | | |
+//! | | no command waits, the next one begins a further attempt of its chain, and a command of the attempt before ended as its rule names | as where the next command may go out | | |
+//! | | no command waits, and the next one begins a further attempt otherwise, or in a missed cycle | `Pass` | reads the clock, and passes over this attempt and those behind it | `Ready` |
 //! | | no command waits, one is unsent, and may go | as where the next command may go out | | |
 //! | | no command waits, one is unsent, and may not go | `Skip` | reads the clock, and writes the command down | `Ready` |
 //! | | no command waits or is unsent, and no cycle is left | `Close(Done)` | closes the connection | `Over(Done)` |
@@ -30,13 +35,13 @@
 //! | the station waits | the line is dead | `Close(Dead)` | closes the connection | as below |
 //! | | all that wait are given up | `Renew` | reads the clock, and begins anew: all that wait are lost | the same |
 //! | | else | `Read(Limit)` | hears what comes | the same |
-//! | `Closing` | | `Close` for its cause | closes the connection | for `Done`, `Clock` and `Turns`: `Over` for that cause. Else `Over(Done)` where nothing is left to be sent and no command waits, `Pausing` where a try is left or none is needed, and else `Over` for that cause |
+//! | `Closing` | | `Close` for its cause | closes the connection | for `Done`, `Clock`, `Turns`, `Stale` and `Stopped`: `Over` for that cause. Else `Over(Done)` where nothing is left to be sent and no command waits, `Pausing` where a try is left or none is needed, and else `Over` for that cause |
 //! | `Over` | | `Stop` for its cause | does nothing: the run is over | |
 //!
 //! Where a call of the link fails, or a write is cut, `Closing` for that cause follows, and without a connection `Over`.
 
 ghost use Rattle.std.specs.Prelude.{◌≡◌};
-ghost use Rattle.gc_station.specs.Deciding.{width_of, is_up, is_past, is_quiet, has_begun, patience_of, is_dead, is_due, goes_on, is_finished, has_room, may_go, action_of, action_on, action_ready, action_begun, action_beginning, action_next, action_room, action_sent, action_settled, action_done, action_waiting};
+ghost use Rattle.gc_station.specs.Deciding.{width_of, is_up, is_past, is_quiet, has_begun, patience_of, is_dead, is_due, goes_on, is_finished, has_room, may_go, waits_for_all, action_again, action_of, action_on, action_ready, action_begun, action_beginning, action_next, action_room, action_sent, action_settled, action_done, action_waiting, is_stale, is_between, is_resting, is_stopping, is_held_back};
 ghost use Rattle.gc_station.specs.Progressing.{at_start};
 ghost use Rattle.gc_station.specs.Model.{is_heard};
 
@@ -84,12 +89,14 @@ pub(crate) enum Action {
     Send,
     /// To read the clock, and to write the next command down without sending it.
     Skip,
+    /// To read the clock, and to pass over the further attempts of a chain that the next command begins.
+    Pass,
     /// To send a null procedure after requests that are all given up: its reply settles them. Or before a command, where none of
     /// the seven requests before that is a call of the table that a reply ended.
     Flush,
     /// To read.
     Read(Until),
-    /// To close the connection.
+    /// To close the connection. For `Stale` and `Stopped` also where there is none: then only the run ends.
     Close(Cause),
     /// To do nothing any more.
     Stop(Cause),
@@ -105,7 +112,7 @@ pub(crate) enum Until {
     Due,
 }
 
-/// How many requests wait, and whether the command that was written down last was answered well.
+/// How many requests wait, how the commands that were written down last ended, and when one was answered well last.
 #[derive(Clone, Copy)]
 pub(crate) struct Waiting {
     /// All requests that wait.
@@ -116,6 +123,11 @@ pub(crate) struct Waiting {
     pub commands: usize,
     /// Whether the command that was written down last was answered well, as `is_well` says.
     pub well: bool,
+    /// Whether it, or a command before it of the same attempt, ended as its rule names.
+    pub listed: bool,
+    /// The moment at which a command that was answered well was written down last, by the clock for deadlines; 0 where none was;
+    /// an earlier one where the clock went back since.
+    pub fresh: u64,
 }
 
 /// How far a station is.
@@ -155,6 +167,8 @@ pub(crate) struct Progress {
     pub unsent: usize,
     /// Whether the next of them goes out only once the command before it was answered well.
     pub next_is_chained: bool,
+    /// Where it begins a further attempt of its chain: how many commands this attempt and those behind it have. Else 0.
+    pub next_others: usize,
     /// Whether the command before it went out, and since then no connection was closed and the station didn't begin anew.
     pub chain_unbroken: bool,
     /// How many tries to connect anew are left.
@@ -166,6 +180,8 @@ pub(crate) struct Progress {
     /// How many requests went out behind the last call of the table that a reply ended, answered or late, and behind the
     /// beginning. Seven where they are more.
     pub behind: usize,
+    /// Whether the end of the run was asked for by a moment that was told.
+    pub stops: bool,
 }
 
 // How many requests that aren't given up may be under way: the plan's width, brought into 1 to 7.
@@ -224,7 +240,11 @@ impl Progress {
             word: Beginning::new(),
             again: 0,
             stale: false,
-            moment: Moment { elapsed: 0, utc: 0 },
+            moment: Moment {
+                elapsed: 0,
+                utc: 0,
+                stops: false,
+            },
             since: 0,
             alive: 0,
             asked: false,
@@ -235,11 +255,13 @@ impl Progress {
             left: plan.cycles,
             unsent: 0,
             next_is_chained: false,
+            next_others: 0,
             chain_unbroken: false,
             tries: plan.retries,
             pause: 0,
             turns: max_turns,
             behind: 0,
+            stops: false,
         }
     }
 
@@ -271,6 +293,43 @@ impl Progress {
     {
         (waiting.all > 0 || self.again > 0)
             && patience_of(plan) <= self.moment.elapsed.saturating_sub(self.alive)
+    }
+
+    // Whether no answer of a good quality was written down for as long as the plan allows.
+    fn is_stale(&self, plan: &Plan, waiting: Waiting) -> bool
+        ensures { result ≡ is_stale plan.now self.now waiting }
+    {
+        plan.stale > 0 && plan.stale <= self.moment.elapsed.saturating_sub(waiting.fresh)
+    }
+
+    // Whether the station is between two chains: no command of the cycle is left, or the next one begins a chain.
+    fn is_between(&self) -> bool
+        ensures { result ≡ is_between self.now }
+    {
+        self.unsent == 0 || !self.next_is_chained
+    }
+
+    // Whether the run may end here where that is asked for: there is no connection, or the station begins, or it is between two
+    // chains and nothing is under way that isn't given up.
+    fn is_resting(&self, waiting: Waiting) -> bool
+        ensures { result ≡ is_resting self.now waiting }
+    {
+        !self.phase.is_up() || !self.has_begun() || (waiting.current == 0 && self.is_between())
+    }
+
+    // Whether the run ends now because that was asked for.
+    fn is_stopping(&self, waiting: Waiting) -> bool
+        ensures { result ≡ is_stopping self.now waiting }
+    {
+        self.stops && self.is_resting(waiting)
+    }
+
+    // Whether no further chain begins, because the end of the run was asked for, though something is under way that isn't given
+    // up.
+    fn is_held_back(&self, waiting: Waiting) -> bool
+        ensures { result ≡ is_held_back self.now waiting }
+    {
+        (self.stops && self.is_between()) && waiting.current > 0
     }
 
     // Whether the next cycle is due: the first at once, and each other one `every` milliseconds after the one before it began.
@@ -311,6 +370,12 @@ impl Progress {
             } else {
                 Action::Stop(Cause::Turns)
             };
+        }
+        if self.is_stale(plan, waiting) {
+            return Action::Close(Cause::Stale);
+        }
+        if self.is_stopping(waiting) {
+            return Action::Close(Cause::Stopped);
         }
         if self.stale {
             return Action::ReadClock;
@@ -378,12 +443,14 @@ impl Progress {
         }
     }
 
-    // The next action once the station has begun: that of `action_next`, if there is a command that needn't wait for the answer
-    // of the command before it; else that of `action_sent`.
+    // The next action once the station has begun: to wait, where the end of the run was asked for, and only what is under way is
+    // left; that of `action_next`, if there is a command that needn't wait for those before it; else that of `action_sent`.
     fn action_begun(&self, plan: &Plan, waiting: Waiting) -> Action
         ensures { result ≡ action_begun plan.now self.now waiting }
     {
-        if self.unsent > 0 && !self.next_is_chained {
+        if self.is_held_back(waiting) {
+            self.action_waiting(plan, waiting)
+        } else if self.unsent > 0 && !self.waits_for_all() {
             self.action_next(plan, waiting)
         } else {
             self.action_sent(plan, waiting)
@@ -391,7 +458,7 @@ impl Progress {
     }
 
     // The next action where no command may go out before those that wait are settled: all of the cycle have gone out, or the next
-    // one is chained. Where commands wait, and all requests that wait are given up, a null procedure goes out, whose reply
+    // one is chained or begins a further attempt. Where commands wait, and all requests that wait are given up, a null procedure goes out, whose reply
     // settles them.
     fn action_sent(&self, plan: &Plan, waiting: Waiting) -> Action
         ensures { result ≡ action_sent plan.now self.now waiting }
@@ -411,10 +478,32 @@ impl Progress {
     {
         if self.unsent == 0 {
             self.action_done(plan)
+        } else if self.next_others > 0 {
+            self.action_again(plan, waiting)
         } else if self.may_go(waiting) {
             self.action_next(plan, waiting)
         } else {
             Action::Skip
+        }
+    }
+
+    // Whether the next command goes out only once all that went out are settled: it is chained, or begins a further attempt.
+    fn waits_for_all(&self) -> bool
+        ensures { result ≡ waits_for_all self.now }
+    {
+        self.next_is_chained || self.next_others > 0
+    }
+
+    // The next action where the next command begins a further attempt of its chain, and all that went out are settled: it goes out
+    // where a command of the attempt before ended as its rule names. Else, and in a missed cycle, where each command counts as
+    // chained, this attempt and those behind it are passed over.
+    fn action_again(&self, plan: &Plan, waiting: Waiting) -> Action
+        ensures { result ≡ action_again plan.now self.now waiting }
+    {
+        if waiting.listed && !self.next_is_chained {
+            self.action_next(plan, waiting)
+        } else {
+            Action::Pass
         }
     }
 

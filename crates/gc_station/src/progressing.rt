@@ -6,7 +6,7 @@ ghost use Rattle.gc_client.specs.Hearing.{HearsInto};
 ghost use Rattle.gc_client.specs.Rule.{ById};
 ghost use Rattle.gc_client.specs.declared.settlement.Settlement.{Settlement};
 ghost use Rattle.gc_station.specs.Deciding.{later};
-ghost use Rattle.gc_station.specs.Progressing.{turned, told, beginning, is_missing, due_of, begun, skipped, skipped_at, failing, opened, is_finished, is_idle, is_spared, phase_again, pause_again, again, cleared, asking, null_sent, renewed, line_asked, sent, caught_up, noted, early_behind, gave, pause_ended, drained, quieted, time_passed, silent, reckoned_early, ended_for, closed, is_over, loses_all};
+ghost use Rattle.gc_station.specs.Progressing.{turned, told, beginning, is_missing, due_of, begun, skipped, passed, skipped_at, failing, opened, is_finished, is_idle, is_spared, phase_again, pause_again, again, cleared, asking, null_sent, renewed, line_asked, sent, caught_up, noted, early_behind, gave, pause_ended, drained, quieted, time_passed, silent, reckoned_early, ended_for, closed, is_over, loses_all};
 ghost use Rattle.gc_station.specs.Lines.{is_reply};
 
 use crate::cause::Cause;
@@ -74,6 +74,7 @@ impl Progress {
         self.alive = self.alive.min(moment.elapsed);
         self.began = self.began.min(moment.elapsed);
         self.stale = false;
+        self.stops = self.stops || moment.stops;
     }
 
     // The moment that counts as the beginning of a cycle that is begun at `moment`: that moment for the first cycle, and where
@@ -119,6 +120,7 @@ impl Progress {
         self.left = self.left.saturating_sub(1);
         self.unsent = count;
         self.next_is_chained = missed;
+        self.next_others = 0;
         self.chain_unbroken = false;
     }
 
@@ -130,14 +132,28 @@ impl Progress {
         if self.missed { self.due } else { moment.utc }
     }
 
-    // Passes over the next command, which isn't sent. `next_is_chained`: the command after it goes out only once this one was
-    // answered well.
-    pub(crate) fn skip(&mut self, next_is_chained: bool, moment: Moment)
-        ensures { self.new ≡ skipped next_is_chained moment self.old }
+    // Skips the next command, which isn't sent. `next_is_chained`: the command after it goes out only once this one was answered
+    // well. `others`: where that one begins a further attempt of its chain, how many commands this attempt and those behind it
+    // have; else 0.
+    pub(crate) fn skip(&mut self, next_is_chained: bool, others: usize, moment: Moment)
+        ensures { self.new ≡ skipped next_is_chained others moment self.old }
     {
         self.tell(moment);
         self.unsent = self.unsent.saturating_sub(1);
         self.next_is_chained = next_is_chained;
+        self.next_others = others;
+        self.chain_unbroken = false;
+    }
+
+    // Passes over the further attempts of a chain that the next command begins. `next_is_chained` and `others` are of the command
+    // behind them, as of `skip`.
+    pub(crate) fn pass(&mut self, next_is_chained: bool, others: usize, moment: Moment)
+        ensures { self.new ≡ passed next_is_chained others moment self.old }
+    {
+        self.tell(moment);
+        self.unsent = self.unsent.saturating_sub(self.next_others);
+        self.next_is_chained = next_is_chained;
+        self.next_others = others;
         self.chain_unbroken = false;
     }
 
@@ -282,14 +298,14 @@ impl Progress {
         self.note(reads(line));
     }
 
-    // Notes that the next command went out. `next_is_chained`: the command after it goes out only once this one was answered
-    // well.
-    pub(crate) fn send(&mut self, next_is_chained: bool)
-        ensures { self.new ≡ sent next_is_chained self.old }
+    // Notes that the next command went out. `next_is_chained` and `others` are of the command after it, as of `skip`.
+    pub(crate) fn send(&mut self, next_is_chained: bool, others: usize)
+        ensures { self.new ≡ sent next_is_chained others self.old }
     {
         self.ask();
         self.unsent = self.unsent.saturating_sub(1);
         self.next_is_chained = next_is_chained;
+        self.next_others = others;
         self.chain_unbroken = true;
     }
 
@@ -368,6 +384,7 @@ impl Progress {
         self.alive = self.alive.min(moment.elapsed);
         self.began = self.began.min(moment.elapsed);
         self.stale = false;
+        self.stops = self.stops || moment.stops;
         self.early = early_behind(until, self.early);
     }
 
@@ -387,13 +404,15 @@ impl Progress {
         self.early = self.early || (commands == 0 && self.unsent == 0 && !self.is_due(plan));
     }
 
-    // Notes that the connection was closed: for `Done`, `Clock` and `Turns` the run is over, and for any other cause goes on as
-    // `try_again` says.
+    // Notes that the connection was closed: for `Done`, `Clock`, `Turns`, `Stale` and `Stopped` the run is over, and for any other
+    // cause goes on as `try_again` says.
     pub(crate) fn close(&mut self, plan: &Plan, waiting: Waiting, cause: Cause)
         ensures { self.new ≡ closed plan.now waiting cause self.old }
     {
         match cause {
-            Cause::Done | Cause::Clock | Cause::Turns => self.end(cause),
+            Cause::Done | Cause::Clock | Cause::Turns | Cause::Stale | Cause::Stopped => {
+                self.end(cause);
+            }
             _ => self.try_again(plan, waiting.commands, cause),
         }
     }

@@ -49,7 +49,7 @@ pub(crate) fn run<L: Link, B: Book>(
         }
         let action = station.action(plan);
         if let Action::Stop(cause) = action {
-            return Ok((cause, station.tally));
+            return Ok((cause, station.tally.total()));
         }
         told = station.tell_overrun(book, plan, told);
         *kept = kept.and(link, book);
@@ -83,10 +83,13 @@ pub(crate) fn run<L: Link, B: Book>(
 /// seven requests wait that are all given up: all of them are lost, and the null procedures go out on the same connection. A
 /// beginning whose connection was lost goes on with the next one.
 ///
-/// `Ok`: each command of each cycle is settled, and the tally counts how. The run fails with `Clock` as soon as the clock can't
+/// `Ok`: each command of each cycle is settled, and the tally counts how; or the end of the run was asked for, and each command that
+/// went out is settled or lost. Between two chains nothing more goes out then: what is under way is waited for until it is settled or
+/// given up, the connection is closed, and commands that had no turn aren't written. The run fails with `Clock` as soon as the clock can't
 /// be read; and, once no try is left, with `Read` where a read failed, `Mute` where the line was dead, `Write` where a write was
 /// cut (with the number of the cycle's commands before it, 0 before the first cycle), `LinkClosed` where the other end closed the
-/// connection, and `Socket` where no connection could be made. It fails with `TooManyReads` where `max_turns` acts were made; a
+/// connection, and `Socket` where no connection could be made. It fails with `Stale` at the first moment at or past `stale` since the
+/// start or the last answer of a good quality, and with `TooManyReads` where `max_turns` acts were made; a
 /// connection that is open then is closed by one act more. In all of these cases the connection is closed, and the commands that
 /// waited are written as lost. The run fails with `Output` where the book failed. Where it failed at a record of the last act, it
 /// has all records of the acts before, those of the last act in front of that record, and a first part of that record. Where the

@@ -1,6 +1,6 @@
 //! A station's steps: each makes the one call of the link that is next, and does by the client what came of it.
 
-ghost use Rattle.std.specs.Prelude.{◌≡◌, ℕ, ◌<◌, ◌≤◌, ◌++◌, List, length, drop, map, Option, OnOk, All, true, false};
+ghost use Rattle.std.specs.Prelude.{◌≡◌, ℕ, ◌<◌, ◌≤◌, ◌++◌, List, length, drop, map, Option, None, OnOk, All, true, false, if◌then◌else◌};
 ghost use Rattle.std.specs.Io.KnownBytes.{Appends};
 ghost use Rattle.gc_lines.specs.Ports.{FailsWith};
 ghost use Rattle.gc_catalogue.specs.declared.answer.Reading.{Reading};
@@ -9,13 +9,15 @@ ghost use Rattle.gc_catalogue.specs.Asked.{IsAskedReading};
 ghost use Rattle.gc_client.specs.Settlements.{settlement_seen, IsReadBy};
 ghost use Rattle.gc_station.specs.Deciding.{action_of};
 ghost use Rattle.gc_links.specs.Acts.{Told};
-ghost use Rattle.gc_station.specs.Marks.{commands_in, records_of, last_well};
+ghost use Rattle.gc_station.specs.Attempts.{listed_behind, listed_by};
+ghost use Rattle.gc_texts.specs.Endings.{Missed, Skipped};
+ghost use Rattle.gc_station.specs.Marks.{commands_in, records_of, last_well, fresh_behind};
 ghost use Rattle.gc_station.specs.Scopes.{AreReadings};
 ghost use Rattle.gc_station.specs.Records.{Record, texts_of, WritesAll, WritesNews};
-ghost use Rattle.gc_station.specs.Model.{Model, opening, action_at, place_next, expected_first, mark_next, requests_out, is_chained, is_chained_behind_next, skips, moved, ended};
+ghost use Rattle.gc_station.specs.Model.{Model, opening, action_at, place_next, expected_first, mark_next, requests_out, is_chained, others_in, is_chained_behind, others_behind, skips, skip_listed, moved, ended};
 ghost use Rattle.gc_station.specs.Stations.{waiting_in, IsPaired, Refines, Took, Does, Made, stepped, OnCall, ComesTo, IsFitting, seen};
 ghost use Rattle.gc_station.specs.Tallies.{tallied};
-ghost use Rattle.gc_station.specs.declared.progress.Action.TheVariants.{ReadClock, Renew, Begin, Open, Skip, Close};
+ghost use Rattle.gc_station.specs.declared.progress.Action.TheVariants.{ReadClock, Renew, Begin, Open, Skip, Pass, Close};
 ghost use Rattle.gc_texts.specs.declared.tasks.Task.{Task};
 
 mod hearing;
@@ -26,14 +28,14 @@ use crate::cause::Cause;
 use crate::mark::{Mark, commands_in};
 use crate::plan::Plan;
 use crate::progress::{Action, Progress, Waiting};
-use crate::tally::Tally;
-use crate::writing::write_settlements;
+use crate::tally::Counts;
+use crate::writing::{is_listed, write_settlements};
 use arrayvec::ArrayVec;
 use gc_catalogue::Asked;
 use gc_client::{Client, Settlement, SlotsOf, WINDOW};
 use gc_lines::{Assembler, PortFailed};
 use gc_links::{Link, Moment};
-use gc_texts::{Codes, Ending, Expected, Stamp, Task};
+use gc_texts::{Again, Codes, Ending, Expected, Stamp, Task, Turn};
 
 // Whether a command at this place goes out only once the one before it was answered well.
 fn is_chained(commands: &[Task], place: usize) -> bool
@@ -45,6 +47,17 @@ fn is_chained(commands: &[Task], place: usize) -> bool
     }
 }
 
+// Of a command at this place that begins a further attempt of its chain: how many commands this attempt and those behind it have.
+// 0 of any other.
+fn others_at(commands: &[Task], place: usize) -> usize
+    ensures { result ≡ others_in (drop place commands.now) }
+{
+    match commands.get(place) {
+        Some(task) => task.others,
+        None => 0,
+    }
+}
+
 /// What a station keeps from one act to the next.
 #[derive(Drop)]
 pub(crate) struct Station {
@@ -53,9 +66,14 @@ pub(crate) struct Station {
     pub(crate) marks: ArrayVec<Option<Mark>, WINDOW>,
     pub(crate) assembler: Assembler,
     pub(crate) progress: Progress,
-    pub(crate) tally: Tally,
+    pub(crate) tally: Counts,
     // Whether the command that was written down last was answered well.
     pub(crate) well: bool,
+    // Whether it, or a command before it of the same attempt, ended as its rule names.
+    pub(crate) listed: bool,
+    // When a command that was answered well was written down last, by the clock for deadlines; 0 where none was; an earlier moment
+    // where the clock went back since.
+    pub(crate) fresh: u64,
     // The settlements of the last line or restart, which `write` writes down.
     pub(crate) settled: ArrayVec<Settlement<Asked>, WINDOW>,
 }
@@ -70,13 +88,15 @@ impl Station {
             marks: ArrayVec::new(),
             assembler: Assembler::new(),
             progress: Progress::at_start(plan, max_turns),
-            tally: Tally::new(),
+            tally: Counts::new(),
             well: false,
+            listed: false,
+            fresh: 0,
             settled: ArrayVec::new(),
         }
     }
 
-    // How many requests wait, and whether the command that was written down last was answered well.
+    // How many requests wait, whether the command that was written down last was answered well, and when one was last.
     fn waiting(&self) -> Waiting
         ensures { result ≡ waiting_in self.now }
     {
@@ -85,6 +105,8 @@ impl Station {
             current: self.client.current(),
             commands: self.commands(),
             well: self.well,
+            listed: self.listed,
+            fresh: self.fresh,
         }
     }
 
@@ -119,10 +141,18 @@ impl Station {
             Some(task) => Expected {
                 near: task.near,
                 accepted: task.accepted,
+                again: task.again,
+                turn: task.turn,
             },
             None => Expected {
                 near: None,
                 accepted: Codes::none(),
+                again: Again::none(),
+                turn: Turn {
+                    place: 0,
+                    attempt: 1,
+                    link: 0,
+                },
             },
         }
     }
@@ -139,12 +169,20 @@ impl Station {
         }
     }
 
-    // Whether the command after the next one goes out only once the next one was answered well. In a missed cycle the result is
-    // true for each command, because none goes out.
-    fn is_chained_behind_next(&self, commands: &[Task]) -> bool
-        ensures { result ≡ is_chained_behind_next commands.now self.now.progress }
+    // Whether the command `count` places behind the next one goes out only once the one before it was answered well. In a missed
+    // cycle the result is true for each command, because none goes out.
+    fn is_chained_behind(&self, count: usize, commands: &[Task]) -> bool
+        ensures { result ≡ is_chained_behind count commands.now self.now.progress }
     {
-        self.progress.missed || is_chained(commands, self.place(commands).saturating_add(1))
+        self.progress.missed || is_chained(commands, self.place(commands).saturating_add(count))
+    }
+
+    // Where the command `count` places behind the next one begins a further attempt of its chain: how many commands this attempt
+    // and those behind it have. Else 0.
+    fn others_behind(&self, count: usize, commands: &[Task]) -> usize
+        ensures { result ≡ others_behind count commands.now self.now.progress }
+    {
+        others_at(commands, self.place(commands).saturating_add(count))
     }
 
     // How many commands of the cycle were sent or passed over: 0 before the first cycle. The fault of a cut write has this
@@ -170,6 +208,7 @@ impl Station {
                 self.progress.tell(moment);
                 self.progress.reckon_early(plan, commands);
                 self.client.expire(moment.elapsed);
+                self.fresh = self.fresh.min(moment.elapsed);
             }
             Err(_) => self.progress.fail(Cause::Clock),
         }
@@ -186,6 +225,7 @@ impl Station {
                 self.progress.renew(plan, moment);
                 self.progress.reckon_early(plan, 0);
                 self.client.expire(moment.elapsed);
+                self.fresh = self.fresh.min(moment.elapsed);
             }
             Err(_) => self.progress.fail(Cause::Clock),
         }
@@ -200,6 +240,7 @@ impl Station {
             Ok(moment) => {
                 self.progress.begin(plan, commands.len(), moment);
                 self.client.expire(moment.elapsed);
+                self.fresh = self.fresh.min(moment.elapsed);
             }
             Err(_) => self.progress.fail(Cause::Clock),
         }
@@ -238,16 +279,39 @@ impl Station {
                     return Err(failed);
                 }
                 let waiting = self.commands();
-                let next_is_chained = self.is_chained_behind_next(commands);
-                self.progress.skip(next_is_chained, moment);
+                let next_is_chained = self.is_chained_behind(1, commands);
+                let others = self.others_behind(1, commands);
+                self.progress.skip(next_is_chained, others, moment);
                 self.progress.reckon_early(plan, waiting);
                 self.client.expire(moment.elapsed);
+                self.fresh = self.fresh.min(moment.elapsed);
                 Ok(())
             }
             Err(_) => {
                 self.progress.fail(Cause::Clock);
                 Ok(())
             }
+        }
+    }
+
+    // Reads the clock, and passes over the further attempts of a chain that the next command begins. A clock that can't be read is
+    // noted, as by `read_clock`, and nothing is passed over.
+    fn pass<L: Link>(&mut self, link: &mut L, plan: &Plan, commands: &[Task])
+        ensures { (text : Record → List ℕ) (known : Option (List ℕ))
+            → Does plan.now commands.now Pass (seen (L.acts link.old) text known self.old) (seen (L.acts link.new) text known self.new) }
+    {
+        match link.now() {
+            Ok(moment) => {
+                let waiting = self.commands();
+                let count = self.progress.next_others;
+                let next_is_chained = self.is_chained_behind(count, commands);
+                let others = self.others_behind(count, commands);
+                self.progress.pass(next_is_chained, others, moment);
+                self.progress.reckon_early(plan, waiting);
+                self.client.expire(moment.elapsed);
+                self.fresh = self.fresh.min(moment.elapsed);
+            }
+            Err(_) => self.progress.fail(Cause::Clock),
         }
     }
 
@@ -266,6 +330,7 @@ impl Station {
         ensures after { OnOk result (self.new ≡ record self.old {
           tally = tallied self.old.tally (skips plan.now commands.now self.old.progress (Told moment));
           well = false;
+          listed = listed_behind self.old.listed (mark_next plan.now commands.now self.old.progress).expected None (if self.old.progress.missed then Missed else Skipped);
         }) }
         ensures fails { FailsWith result (B.failed book.old) (B.failed book.new) }
         ensures form { B.text book.new ≡ B.text book.old }
@@ -277,6 +342,7 @@ impl Station {
             utc: self.progress.skipped_at(moment),
             cycle: mark.cycle,
             place: mark.place,
+            turn: mark.expected.turn,
         };
         let ending = if self.progress.missed {
             Ending::Missed
@@ -286,8 +352,9 @@ impl Station {
         if let Err(failed) = book.write(stamp, &task.command, ending) {
             return Err(failed);
         }
-        self.tally.count(ending);
+        self.tally.count(mark.cycle, mark.expected.turn, ending);
         self.well = false;
+        self.listed = is_listed(self.listed, &mark.expected, None, ending);
         Ok(())
     }
 
@@ -299,21 +366,29 @@ impl Station {
           marks = record { items = drop (length self.old.settled.items) self.old.marks.items };
           tally = self.new.tally;
           well = self.new.well;
+          listed = self.new.listed;
+          fresh = self.new.fresh;
         }) }
         ensures tally { OnOk result ((reads : Asked → List ℕ → Reading) → AreReadings reads
             → self.new.tally ≡ tallied self.old.tally (records_of reads self.old.progress.moment.utc self.old.marks.items (map settlement_seen self.old.settled.items))) }
         ensures well { OnOk result ((reads : Asked → List ℕ → Reading) → AreReadings reads
             → self.new.well ≡ last_well self.old.well (records_of reads self.old.progress.moment.utc self.old.marks.items (map settlement_seen self.old.settled.items))) }
+        ensures listed { OnOk result ((reads : Asked → List ℕ → Reading) → AreReadings reads
+            → self.new.listed ≡ listed_by reads self.old.listed self.old.marks.items (map settlement_seen self.old.settled.items)) }
+        ensures fresh { OnOk result ((reads : Asked → List ℕ → Reading) → AreReadings reads
+            → self.new.fresh ≡ fresh_behind self.old.progress.moment.elapsed self.old.fresh (records_of reads self.old.progress.moment.utc self.old.marks.items (map settlement_seen self.old.settled.items))) }
         ensures fails { FailsWith result (B.failed book.old) (B.failed book.new) }
         ensures form { B.text book.new ≡ B.text book.old }
     {
-        let utc = self.progress.moment.utc;
+        let now = self.progress.moment;
         write_settlements(
             book,
             &mut self.tally,
             &mut self.well,
+            &mut self.listed,
+            &mut self.fresh,
             &mut self.marks,
-            utc,
+            now,
             self.settled.as_slice(),
         )
     }
@@ -377,6 +452,10 @@ impl Station {
                 Ok(())
             }
             Action::Skip => self.skip(link, book, plan, commands),
+            Action::Pass => {
+                self.pass(link, plan, commands);
+                Ok(())
+            }
             Action::Flush => {
                 self.flush(link, plan, commands);
                 Ok(())

@@ -1,12 +1,13 @@
-//! A tally: how many commands ended how.
+//! A tally: how many commands ended how, and how many chains went out again.
 
 ghost use Rattle.std.specs.Prelude.{◌≡◌};
-ghost use Rattle.gc_station.specs.Tallies.{none_yet, counted};
+ghost use Rattle.gc_station.specs.Tallies.{none_yet, counted, sum, nothing_yet, started, turned_to, counted_in, total};
 ghost use Rattle.gc_texts.specs.Endings.{ending_seen};
 
-use gc_texts::Ending;
+use crate::progressing::later;
+use gc_texts::{Ending, Turn};
 
-/// How many commands ended how. A count stops at 2^64 - 1.
+/// How many commands ended how, of the last attempt of each chain. A count stops at 2^64 - 1.
 #[derive(Clone, Copy, Debug, PartialEq, Eq)]
 pub struct Tally {
     /// A reply came in time, and it is neither `unreadable` nor `elsewhere`.
@@ -23,6 +24,8 @@ pub struct Tally {
     pub missed: u64,
     /// A reply came in time, with both codes 0 or an accepted return code, whose direction isn't near where its target stands.
     pub elsewhere: u64,
+    /// How many times a chain went out again.
+    pub again: u64,
 }
 
 impl Tally {
@@ -38,6 +41,7 @@ impl Tally {
             unreadable: 0,
             missed: 0,
             elsewhere: 0,
+            again: 0,
         }
     }
 
@@ -54,5 +58,81 @@ impl Tally {
             Ending::Skipped => self.skipped = self.skipped.saturating_add(1),
             Ending::Missed => self.missed = self.missed.saturating_add(1),
         }
+    }
+
+    // The tally of the commands of both tallies.
+    fn sum(&self, other: &Tally) -> Tally
+        ensures { result ≡ sum self.now other.now }
+    {
+        Tally {
+            answered: later(self.answered, other.answered),
+            late: later(self.late, other.late),
+            lost: later(self.lost, other.lost),
+            skipped: later(self.skipped, other.skipped),
+            unreadable: later(self.unreadable, other.unreadable),
+            missed: later(self.missed, other.missed),
+            elsewhere: later(self.elsewhere, other.elsewhere),
+            again: later(self.again, other.again),
+        }
+    }
+}
+
+/// The tallies of a run: of the chains that are over, and of the attempt that is under way, which a further one may replace.
+#[derive(Clone, Copy, Debug, PartialEq, Eq)]
+pub(crate) struct Counts {
+    /// Of the last attempts of the chains that are over.
+    pub settled: Tally,
+    /// Of the attempt that is under way.
+    pub attempt: Tally,
+}
+
+impl Counts {
+    // No command ended yet.
+    pub(crate) fn new() -> Counts
+        ensures { result ≡ nothing_yet }
+    {
+        Counts {
+            settled: Tally::new(),
+            attempt: Tally::new(),
+        }
+    }
+
+    // Begins an attempt, in this turn: where it is a further one, the attempt before isn't counted.
+    fn start(&mut self, turn: Turn)
+        ensures { self.new ≡ started turn self.old }
+    {
+        if turn.attempt > 1 {
+            self.settled.again = later(self.settled.again, 1);
+        } else {
+            self.settled = self.settled.sum(&self.attempt);
+        }
+        self.attempt = Tally::new();
+    }
+
+    // Begins an attempt where a command has the turn of its first.
+    fn turn_to(&mut self, turn: Turn)
+        ensures { self.new ≡ turned_to turn self.old }
+    {
+        if turn.link == 0 {
+            self.start(turn);
+        }
+    }
+
+    // Counts a command of this cycle and turn by its ending. One of the set-up, whose cycle is 0, isn't counted.
+    pub(crate) fn count(&mut self, cycle: u64, turn: Turn, ending: Ending<'_>)
+        ensures { self.new ≡ counted_in cycle turn (ending_seen ending.entry) self.old }
+    {
+        if cycle == 0 {
+            return;
+        }
+        self.turn_to(turn);
+        self.attempt.count(ending);
+    }
+
+    // The tally of all commands that ended, of the last attempts so far.
+    pub(crate) fn total(&self) -> Tally
+        ensures { result ≡ total self.now }
+    {
+        self.settled.sum(&self.attempt)
     }
 }

@@ -1,6 +1,6 @@
 //! Writing settlements into a book, and counting them.
 
-ghost use Rattle.std.specs.Prelude.{◌≡◌, ◌++◌, ℕ, List, [], ◌∷◌, length, drop, map, Option, OnOk, All};
+ghost use Rattle.std.specs.Prelude.{◌≡◌, ◌++◌, ℕ, Bool, List, [], ◌∷◌, length, drop, map, Option, OnOk, All};
 ghost use Rattle.std.specs.Io.KnownBytes.{Appends};
 ghost use Rattle.gc_lines.specs.Ports.{FailsWith};
 ghost use Rattle.gc_client.specs.Rule;
@@ -8,7 +8,8 @@ ghost use Rattle.gc_catalogue.specs.declared.answer.Reading.{Reading};
 ghost use Rattle.gc_catalogue.specs.declared.asked.Asked.{Asked};
 ghost use Rattle.gc_catalogue.specs.Asked.{IsAskedReading};
 ghost use Rattle.gc_client.specs.Settlements.{settlement_seen, outcome_seen, IsReadBy};
-ghost use Rattle.gc_station.specs.Marks.{records_of, value_as, refused_as, end_of, last_well, is_well};
+ghost use Rattle.gc_station.specs.Attempts.{code_in, code_of, listed_behind, listed_by};
+ghost use Rattle.gc_station.specs.Marks.{records_of, value_as, refused_as, end_of, last_well, is_well, fresh_behind};
 ghost use Rattle.gc_station.specs.Model.{ends_with_table};
 ghost use Rattle.gc_station.specs.Zeros.{IsZeroOf};
 ghost use Rattle.gc_station.specs.Scopes.{AreReadings};
@@ -20,16 +21,19 @@ ghost use Rattle.gc_station.specs.Tallies.{tallied};
 
 use crate::book::Book;
 use crate::mark::Mark;
-use crate::tally::Tally;
+use crate::tally::Counts;
 use arrayvec::ArrayVec;
 use gc_catalogue::{Answer, Asked, Reading};
 use gc_client::{Outcome, Settlement, WINDOW};
 use gc_lines::{Line, PortFailed};
+use gc_links::Moment;
 use gc_texts::{Ending, Expected, Near, Quality, Stamp, Wish, is_elsewhere, reading_as_zero};
 
 // Takes out the mark of the oldest request that waits. `None`: that request is a null procedure, or none waits.
 fn take_mark(marks: &mut ArrayVec<Option<Mark>, WINDOW>) -> Option<Mark>
     ensures goes { marks.new.items ≡ drop 1 marks.old.items }
+    ensures listed { (reads : Asked → List ℕ → Reading) (listed : Bool) (settlement : Rule.Settlement Asked)
+        → listed_by reads listed marks.old.items (settlement ∷ []) ≡ listed_by reads listed (result ∷ []) (settlement ∷ []) }
     ensures records { (reads : Asked → List ℕ → Reading) (utc : ℕ) (settlement : Rule.Settlement Asked)
         → records_of reads utc marks.old.items (settlement ∷ []) ≡ records_of reads utc (result ∷ []) (settlement ∷ []) }
 {
@@ -122,22 +126,54 @@ fn is_well(ending: Ending<'_>) -> bool
     }
 }
 
-// Writes how a request with this mark ended, counts its ending, and notes in `well` whether it was answered well. A null
-// procedure has no mark: nothing is written or counted of it. `Err`: the book failed.
+// The return code other than 0 of the reply that a request had, if it had one, with communication code 0.
+fn code_of(outcome: &Outcome) -> Option<u16>
+    ensures { (reads : Asked → List ℕ → Reading) (call : Asked) → AreReadings reads → IsReadBy IsAskedReading call outcome.now → result ≡ code_of reads call (outcome_seen outcome.now) }
+{
+    match outcome {
+        Outcome::Answered(Reading::Refused(code), _) => Some(*code),
+        Outcome::Answered(..) => None,
+        Outcome::Late => None,
+        Outcome::Lost => None,
+    }
+}
+
+// Whether a command of an attempt ended as its rule names, where this is expected of the one that ended last, and its reply has this
+// return code other than 0: it did, or one before it (`listed`), unless the attempt begins with it.
+pub(crate) fn is_listed(
+    listed: bool,
+    expected: &Expected,
+    code: Option<u16>,
+    ending: Ending<'_>,
+) -> bool
+    ensures { result ≡ listed_behind listed expected.now code (ending_seen ending.entry) }
+{
+    (expected.turn.link != 0 && listed) || expected.again.names(code, ending)
+}
+
+// Writes how a request with this mark ended, and counts its ending. Notes in `well` whether it was answered well, and if so in `fresh`
+// that it is written down at the moment `now`; and in `listed` whether it or one before it of its attempt ended as its rule names. A
+// null procedure has no mark: nothing is written or counted of it. `Err`: the book failed.
 fn write_one<B: Book>(
     book: &mut B,
-    tally: &mut Tally,
+    tally: &mut Counts,
     well: &mut bool,
-    utc: u64,
+    listed: &mut bool,
+    fresh: &mut u64,
+    now: Moment,
     mark: Option<Mark>,
     settlement: &Settlement<Asked>,
 ) -> Result<(), PortFailed>
     requires { IsReadBy IsAskedReading settlement.now.call settlement.now.outcome }
-    ensures wrote { WritesNews (B.text book.old) (B.taken book.old) (B.taken book.new) (λ reads. records_of reads utc (mark ∷ []) (settlement_seen settlement.now ∷ [])) result }
+    ensures wrote { WritesNews (B.text book.old) (B.taken book.old) (B.taken book.new) (λ reads. records_of reads now.utc (mark ∷ []) (settlement_seen settlement.now ∷ [])) result }
     ensures tally { OnOk result ((reads : Asked → List ℕ → Reading) → AreReadings reads
-        → tally.new ≡ tallied tally.old (records_of reads utc (mark ∷ []) (settlement_seen settlement.now ∷ []))) }
+        → tally.new ≡ tallied tally.old (records_of reads now.utc (mark ∷ []) (settlement_seen settlement.now ∷ []))) }
     ensures well { OnOk result ((reads : Asked → List ℕ → Reading) → AreReadings reads
-        → well.new ≡ last_well well.old (records_of reads utc (mark ∷ []) (settlement_seen settlement.now ∷ []))) }
+        → well.new ≡ last_well well.old (records_of reads now.utc (mark ∷ []) (settlement_seen settlement.now ∷ []))) }
+    ensures listed { OnOk result ((reads : Asked → List ℕ → Reading) → AreReadings reads
+        → listed.new ≡ listed_by reads listed.old (mark ∷ []) (settlement_seen settlement.now ∷ [])) }
+    ensures fresh { OnOk result ((reads : Asked → List ℕ → Reading) → AreReadings reads
+        → fresh.new ≡ fresh_behind now.elapsed fresh.old (records_of reads now.utc (mark ∷ []) (settlement_seen settlement.now ∷ []))) }
     ensures fails { FailsWith result (B.failed book.old) (B.failed book.new) }
     ensures form { B.text book.new ≡ B.text book.old }
 {
@@ -146,9 +182,10 @@ fn write_one<B: Book>(
     };
     let stamp = Stamp {
         sent: Some(mark.sent),
-        utc,
+        utc: now.utc,
         cycle: mark.cycle,
         place: mark.place,
+        turn: mark.expected.turn,
     };
     let command = Wish {
         target: settlement.target,
@@ -159,8 +196,11 @@ fn write_one<B: Book>(
     if let Err(failed) = book.write(stamp, &command, ending) {
         return Err(failed);
     }
-    tally.count(ending);
+    tally.count(mark.cycle, mark.expected.turn, ending);
     *well = is_well(ending);
+    let code = code_of(&settlement.outcome);
+    *listed = is_listed(*listed, &mark.expected, code, ending);
+    *fresh = if is_well(ending) { now.elapsed } else { *fresh };
     Ok(())
 }
 
@@ -176,28 +216,35 @@ pub(crate) fn ends_with_table(settlements: &[Settlement<Asked>]) -> bool
 
 // Writes and counts the records of these settlements, which are those of the oldest requests that wait, and takes out the marks
 // of these requests. `well` becomes whether the command written last was answered well, and stays as it is where none was
-// written. `Err`: the book failed at a record, and no record after it was written.
+// written. Where one was answered well, `fresh` becomes the moment `now`. `listed` becomes whether one of the attempt that was settled
+// last ended as its rule names. `Err`: the book failed at a record, and no record after it was written.
 pub(crate) fn write_settlements<B: Book>(
     book: &mut B,
-    tally: &mut Tally,
+    tally: &mut Counts,
     well: &mut bool,
+    listed: &mut bool,
+    fresh: &mut u64,
     marks: &mut ArrayVec<Option<Mark>, WINDOW>,
-    utc: u64,
+    now: Moment,
     settlements: &[Settlement<Asked>],
 ) -> Result<(), PortFailed>
     requires { All (λ s. IsReadBy IsAskedReading s.call s.outcome) settlements.now }
-    ensures wrote { WritesNews (B.text book.old) (B.taken book.old) (B.taken book.new) (λ reads. records_of reads utc marks.old.items (map settlement_seen settlements.now)) result }
+    ensures wrote { WritesNews (B.text book.old) (B.taken book.old) (B.taken book.new) (λ reads. records_of reads now.utc marks.old.items (map settlement_seen settlements.now)) result }
     ensures tally { OnOk result ((reads : Asked → List ℕ → Reading) → AreReadings reads
-        → tally.new ≡ tallied tally.old (records_of reads utc marks.old.items (map settlement_seen settlements.now))) }
+        → tally.new ≡ tallied tally.old (records_of reads now.utc marks.old.items (map settlement_seen settlements.now))) }
     ensures well { OnOk result ((reads : Asked → List ℕ → Reading) → AreReadings reads
-        → well.new ≡ last_well well.old (records_of reads utc marks.old.items (map settlement_seen settlements.now))) }
+        → well.new ≡ last_well well.old (records_of reads now.utc marks.old.items (map settlement_seen settlements.now))) }
+    ensures listed { OnOk result ((reads : Asked → List ℕ → Reading) → AreReadings reads
+        → listed.new ≡ listed_by reads listed.old marks.old.items (map settlement_seen settlements.now)) }
+    ensures fresh { OnOk result ((reads : Asked → List ℕ → Reading) → AreReadings reads
+        → fresh.new ≡ fresh_behind now.elapsed fresh.old (records_of reads now.utc marks.old.items (map settlement_seen settlements.now))) }
     ensures marks { OnOk result (marks.new.items ≡ drop (length settlements.now) marks.old.items) }
     ensures fails { FailsWith result (B.failed book.old) (B.failed book.new) }
     ensures form { B.text book.new ≡ B.text book.old }
 {
     for settlement in settlements {
         let mark = take_mark(marks);
-        if let Err(failed) = write_one(book, tally, well, utc, mark, settlement) {
+        if let Err(failed) = write_one(book, tally, well, listed, fresh, now, mark, settlement) {
             return Err(failed);
         }
     }

@@ -8,6 +8,7 @@ use crate::telling::run_telling;
 use crate::words::push_words;
 use gc_cases::{Case, Told};
 use gc_links::Telling;
+use gc_station::Tally;
 use gc_texts::{RunFault, Task, read_tasks};
 use std::alloc::Global;
 
@@ -39,6 +40,8 @@ pub struct Outcome {
     end: Told,
     // The log, if there is one.
     log: Told,
+    // How many commands ended how, where the case tells it.
+    counts: Told,
     is_log_lost: bool,
 }
 
@@ -50,6 +53,7 @@ impl Outcome {
             ends: Told::new(alloc),
             end: Told::new(alloc),
             log: Told::new(alloc),
+            counts: Told::new(alloc),
             is_log_lost: false,
         }
     }
@@ -59,6 +63,15 @@ impl Outcome {
         tell_words(script.text.as_slice(), &mut self.put);
         tell_words(book.text.as_slice(), &mut self.ends);
         tell_end(fault, script.gone, &mut self.end);
+    }
+
+    /// Takes the counts of a run that is done: of answered, late, skipped and missed commands, and how many chains went out again.
+    pub fn take_counts(&mut self, tally: &Tally) {
+        self.counts.titled("answered ", &tally.answered);
+        self.counts.titled(" late ", &tally.late);
+        self.counts.titled(" skipped ", &tally.skipped);
+        self.counts.titled(" missed ", &tally.missed);
+        self.counts.titled(" again ", &tally.again);
     }
 
     /// Takes the log, and whether it couldn't be written.
@@ -93,6 +106,7 @@ impl Outcome {
         case.tell_told("ends", &self.ends, wrong);
         case.tell_told("end", &self.end, wrong);
         case.tell_told("log", &self.log, wrong);
+        case.tell_told("counts", &self.counts, wrong);
     }
 
     /// Tells what was put and written, and the fault, as a row has them.
@@ -175,7 +189,17 @@ fn play_told(tasks: &[Task], steps: &[Step<'_>], setting: &Setting, outcome: &mu
     let mut link = Telling::new(Script::new(steps, setting));
     let mut book = Ends::new(setting.fails, setting.keeps);
     let result = run_telling(&mut link, &mut book, tasks, &setting.plan, setting.turns);
+    if setting.counted {
+        tell_counts(&result, outcome);
+    }
     outcome.take(&link.link, &book, result.err());
+}
+
+// Tells the counts of a run that is done.
+fn tell_counts(end: &Result<Tally, RunFault>, outcome: &mut Outcome) {
+    if let Ok(tally) = end {
+        outcome.take_counts(tally);
+    }
 }
 
 // Tells words without the blank behind the last one.

@@ -62,6 +62,8 @@ pub struct Script<'a> {
     clock: u64,
     // Whether there is a connection.
     up: bool,
+    // From when on the end of the run is asked for, in milliseconds since the start.
+    until: u64,
     // Whether the clock can't be read.
     blind: bool,
     // Whether each call is kept with its time since the start, and of a request its id alone.
@@ -94,6 +96,7 @@ impl<'a> Script<'a> {
             calls: 0,
             clock: START,
             up: false,
+            until: setting.until,
             blind: setting.blind,
             timed: setting.timed,
             nulls: 0,
@@ -182,6 +185,7 @@ impl<'a> Script<'a> {
         Moment {
             elapsed: self.clock,
             utc: self.clock,
+            stops: self.until <= self.clock.saturating_sub(START),
         }
     }
 

@@ -28,10 +28,14 @@ pub struct Setting {
     pub first: u64,
     /// Behind how many bytes the line of a step `<<` is cut in two.
     pub split: u64,
+    /// From when on the end of the run is asked for, in milliseconds since the start.
+    pub until: u64,
     /// Whether the clock can't be read.
     pub blind: bool,
     /// Whether what is put is told with its time since the start, and of a request its id alone.
     pub timed: bool,
+    /// Whether the counts of a run are told, where it is done.
+    pub counted: bool,
 }
 
 impl Setting {
@@ -46,6 +50,8 @@ impl Setting {
                 cycles: 1,
                 quiet: 10,
                 retries: 1,
+                stale: 0,
+                watched: false,
             },
             turns: 300,
             shut: 0,
@@ -57,8 +63,10 @@ impl Setting {
             writes: u64::MAX,
             first: u64::MAX,
             split: 0,
+            until: u64::MAX,
             blind: false,
             timed: false,
+            counted: false,
         }
     }
 
@@ -94,6 +102,8 @@ impl Setting {
             "every" => self.plan.every = value,
             "cycles" => self.plan.cycles = value,
             "quiet" => self.plan.quiet = value,
+            "stale" => self.plan.stale = value,
+            "watched" => self.plan.watched = value > 0,
             "retries" => self.plan.retries = u32::try_from(value).unwrap_or(u32::MAX),
             _ => return false,
         }
@@ -113,8 +123,10 @@ impl Setting {
             "writes" => self.writes = value,
             "first" => self.first = value,
             "split" => self.split = value,
+            "until" => self.until = value,
             "blind" => self.blind = true,
             "timed" => self.timed = true,
+            "counted" => self.counted = true,
             _ => return false,
         }
         true

@@ -9,6 +9,7 @@
 //!     ends 10a 11x 2!             cycle, place and a letter for each record: answered, a warning, unreadable and elsewhere (each
 //!                                 with its values after it), late, lost (x), skipped or missed; `!` behind a cycle that overran
 //!     end fault 46                the fault, if there is one
+//!     counts answered 3 ..        how many commands ended how, where `with` says `counted`
 //!     log ..                      what the log has, over a link with one; without tasks the link only hears
 //!     row cut=3: PUT | ENDS | END the same once more with this word behind the others, in place of the three lines
 //!     each kept=11                once for each number below this one: all come to the same

@@ -122,6 +122,7 @@ impl Station {
         let before = self.commands();
         self.progress.tell(now);
         self.client.expire(now.elapsed);
+        self.fresh = self.fresh.min(now.elapsed);
         if let Err(failed) = self.take_lines(book, piece) {
             return Err(failed);
         }
@@ -151,6 +152,7 @@ impl Station {
             Came::Bytes(n, moment) => self.take_piece(book, plan, until, &buf[..n], moment),
             Came::Silence(moment) => {
                 self.client.expire(moment.elapsed);
+                self.fresh = self.fresh.min(moment.elapsed);
                 self.progress.be_silent(plan, until, moment);
                 Ok(())
             }

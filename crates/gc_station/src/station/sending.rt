@@ -132,9 +132,10 @@ impl Station {
         let requests = self.requests_out(plan, commands);
         let mark = self.mark(plan, commands);
         let task = &commands[self.place(commands)];
-        let next_is_chained = self.is_chained_behind_next(commands);
+        let next_is_chained = self.is_chained_behind(1, commands);
+        let others = self.others_behind(1, commands);
         let put = self.ask(link, &task.command, task.deadline, Some(mark));
-        self.progress.send(next_is_chained);
+        self.progress.send(next_is_chained, others);
         self.cut(put, requests);
     }
 

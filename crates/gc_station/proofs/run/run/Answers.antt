@@ -2,6 +2,7 @@ use Rattle.std.proofs.Common.{◌≡◌, ℕ, List, inl, inr, refl, ap, sym, ◌
 use Rattle.gc_catalogue.specs.declared.answer.Reading.{Reading}
 use Rattle.gc_catalogue.specs.declared.answer.Reading.TheVariants.{Refused}
 use Rattle.gc_catalogue.specs.declared.asked.Asked.{Asked}
+use Rattle.gc_station.specs.Tallies.{total}
 use Rattle.gc_station.specs.declared.progress.Progress.{Progress}
 use Rattle.gc_station.specs.Runs.{stood}
 use Rattle.gc_station.specs.Scopes.{Scope}
@@ -172,7 +173,7 @@ returns-in-Stop-clause-ran g c reads are =
       runs = w.runs;
       stops = sym (c.action-action.ensures.action s w.stands same) ∙ c.in-Stop.is;
       took = w.took;
-      counts = w.stands.tally same;
+      counts = c.total.ensures ∙ ap total (w.stands.tally same);
     }
 
 pub returns-in-Stop-clause-keeps : goal.returns-in-Stop-clause-keeps

@@ -10,6 +10,6 @@ returns-in-Err-clause-wrote g c reads start before are so =
     let w = c.in-Err.ensures.writes in
     let x = settlement_seen c.args.settlement.now in
     let end = ending_seen c.ending_of-ending.result in
-    let same = record_same reads c.args.utc c.in-Some.mark x end (c.ending_of-ending.ensures reads x.call are c.requires c.zero_of-zero.ensures) in
+    let same = record_same reads c.args.now.utc c.in-Some.mark x end (c.ending_of-ending.ensures reads x.call are c.requires c.zero_of-zero.ensures) in
     rw c.in-Some.is (subst (λ (r : Record). WritesPart (g.B.Book.text c.args.book.now) before (before ++ r ∷ []) start (g.B.Book.taken c.write.new.self)) same
-    (part_one (g.B.Book.text c.args.book.now) before (record_as c.args.utc c.in-Some.mark x end) start (g.B.Book.taken c.args.book.now) (g.B.Book.taken c.write.new.self) w.0 so w.1 w.2))
+    (part_one (g.B.Book.text c.args.book.now) before (record_as c.args.now.utc c.in-Some.mark x end) start (g.B.Book.taken c.args.book.now) (g.B.Book.taken c.write.new.self) w.0 so w.1 w.2))

@@ -1,21 +1,24 @@
 use Rattle.std.proofs.Common.{[], ◌∷◌, ◌+◌, ◌++◌, take, drop, map, refl, ap, sym, ◌∙◌, append-nil, drop-drop}
 use Rattle.gc_lines.proofs.Known.{Appends-is}
 use Rattle.gc_client.specs.Settlements.{settlement_seen}
-use Rattle.gc_station.specs.Marks.{records_of, last_well}
+use Rattle.gc_station.specs.Attempts.{listed_by}
+use Rattle.gc_station.specs.Marks.{records_of, last_well, fresh_behind}
 use Rattle.gc_station.specs.Records.{texts_of}
 use Rattle.gc_station.specs.Tallies.{tallied}
-use Rattle.gc_station.proofs.Records.{records-none, front_more, front_left, texts_more, part_behind, tallied_more, last_more}
+use Rattle.gc_station.proofs.Records.{listed-none, listed_more, records-none, front_more, front_left, texts_more, part_behind, tallied_more, last_more, fresh_more}
 use Rattle.gc_station.proofs.writing.write_settlements.Goals as goal
 
 pub loop-settlement-init : goal.loop-settlement-init
 loop-settlement-init g c =
     record {
       wrote = λ reads start before are so.
-          let none = records-none reads c.args.utc c.args.marks.now.items in
+          let none = records-none reads c.args.now.utc c.args.marks.now.items in
           Appends-is start (g.B.Book.taken c.args.book.now) _ _ (sym (ap
           (λ rs. texts_of (g.B.Book.text c.args.book.now) (before ++ rs)) none ∙ ap (texts_of (g.B.Book.text c.args.book.now)) (append-nil before))) so;
-      tally = λ reads are. sym (ap (tallied c.args.tally.now) (records-none reads c.args.utc c.args.marks.now.items));
-      well = λ reads are. sym (ap (last_well c.args.well.now) (records-none reads c.args.utc c.args.marks.now.items));
+      tally = λ reads are. sym (ap (tallied c.args.tally.now) (records-none reads c.args.now.utc c.args.marks.now.items));
+      well = λ reads are. sym (ap (last_well c.args.well.now) (records-none reads c.args.now.utc c.args.marks.now.items));
+      listed = λ reads are. sym (listed-none reads c.args.listed.now c.args.marks.now.items);
+      fresh = λ reads are. sym (ap (fresh_behind c.args.now.elapsed c.args.fresh.now) (records-none reads c.args.now.utc c.args.marks.now.items));
       marks = refl;
       form = refl;
       failed = refl;
@@ -23,7 +26,7 @@ loop-settlement-init g c =
 
 pub returns-in-Err-clause-wrote : goal.returns-in-Err-clause-wrote
 returns-in-Err-clause-wrote g c reads start before are so =
-    let utc = c.args.utc in
+    let utc = c.args.now.utc in
     let marks = c.args.marks.now.items in
     let ss = c.args.settlements.now in
     let i = c.loop-settlement.settlement-index in
@@ -37,7 +40,7 @@ returns-in-Err-clause-wrote g c reads start before are so =
 
 pub loop-settlement-preserved : goal.loop-settlement-preserved
 loop-settlement-preserved g c =
-    let utc = c.args.utc in
+    let utc = c.args.now.utc in
     let marks = c.args.marks.now.items in
     let ss = c.args.settlements.now in
     let i = c.loop-settlement.settlement-index in
@@ -62,6 +65,16 @@ loop-settlement-preserved g c =
           let front = records_of reads utc marks (map settlement_seen (take i ss)) in
           let one = records_of reads utc (c.take_mark-mark.result ∷ []) (settlement_seen s ∷ []) in
           last_more c.args.well.now c.loop-settlement.well c.write_one.new.well front one _ (b.well reads are) (c.in_default.ensures.well reads are) more;
+      listed = λ reads are.
+          listed_more reads c.args.listed.now c.loop-settlement.listed c.write_one.new.listed marks ss i s c.take_mark-mark.result c.loop-settlement-test.true c.settlement-item.is
+          (b.listed reads are) (c.in_default.ensures.listed reads are)
+          (λ x. ap (λ ms. listed_by reads x ms (settlement_seen s ∷ [])) (sym b.marks) ∙ c.take_mark-mark.ensures.listed reads x (settlement_seen s));
+      fresh = λ reads are.
+          let here = ap (λ ms. records_of reads utc ms (settlement_seen s ∷ [])) (sym b.marks) ∙ c.take_mark-mark.ensures.records reads utc (settlement_seen s) in
+          let more = front_more reads utc marks ss i s c.take_mark-mark.result c.loop-settlement-test.true c.settlement-item.is here in
+          let front = records_of reads utc marks (map settlement_seen (take i ss)) in
+          let one = records_of reads utc (c.take_mark-mark.result ∷ []) (settlement_seen s ∷ []) in
+          fresh_more c.args.now.elapsed c.args.fresh.now c.loop-settlement.fresh c.write_one.new.fresh front one _ (b.fresh reads are) (c.in_default.ensures.fresh reads are) more;
       marks = c.take_mark-mark.ensures.goes ∙ ap (drop 1) b.marks ∙ drop-drop 1 i marks;
       form = c.in_default.ensures.form ∙ b.form;
       failed = c.in_default.ensures.fails ∙ b.failed;

@@ -3,7 +3,8 @@ use Rattle.std.specs.Io.KnownBytes.{Appends}
 use Rattle.gc_catalogue.specs.declared.answer.Reading.{Reading}
 use Rattle.gc_catalogue.specs.declared.asked.Asked.{Asked}
 use Rattle.gc_client.specs.Settlements.{settlement_seen}
-use Rattle.gc_station.specs.Marks.{records_of, last_well}
+use Rattle.gc_station.specs.Attempts.{listed_by}
+use Rattle.gc_station.specs.Marks.{records_of, last_well, fresh_behind}
 use Rattle.gc_station.specs.Records.{Record, texts_of}
 use Rattle.gc_station.specs.Scopes.{AreReadings}
 use Rattle.gc_station.specs.Tallies.{tallied}
@@ -14,11 +15,14 @@ invariant-loop-settlement g l = record {
   wrote : (reads : Asked → List ℕ → Reading) (start : Option (List ℕ)) (before : List Record) → AreReadings reads
       → Appends start (g.B.Book.taken l.initial.book) (texts_of (g.B.Book.text l.initial.book) before)
       → Appends start (g.B.Book.taken l.book) (texts_of (g.B.Book.text l.initial.book)
-      (before ++ records_of reads l.utc l.initial.marks.items (map settlement_seen (take l.settlement-index l.settlements))));
+      (before ++ records_of reads l.now.utc l.initial.marks.items (map settlement_seen (take l.settlement-index l.settlements))));
   tally : (reads : Asked → List ℕ → Reading) → AreReadings reads → l.tally ≡ tallied l.initial.tally
-      (records_of reads l.utc l.initial.marks.items (map settlement_seen (take l.settlement-index l.settlements)));
+      (records_of reads l.now.utc l.initial.marks.items (map settlement_seen (take l.settlement-index l.settlements)));
   well : (reads : Asked → List ℕ → Reading) → AreReadings reads → l.well ≡ last_well l.initial.well
-      (records_of reads l.utc l.initial.marks.items (map settlement_seen (take l.settlement-index l.settlements)));
+      (records_of reads l.now.utc l.initial.marks.items (map settlement_seen (take l.settlement-index l.settlements)));
+  listed : (reads : Asked → List ℕ → Reading) → AreReadings reads → l.listed ≡ listed_by reads l.initial.listed l.initial.marks.items (map settlement_seen (take l.settlement-index l.settlements));
+  fresh : (reads : Asked → List ℕ → Reading) → AreReadings reads → l.fresh ≡ fresh_behind l.now.elapsed l.initial.fresh
+      (records_of reads l.now.utc l.initial.marks.items (map settlement_seen (take l.settlement-index l.settlements)));
   marks : l.marks.items ≡ drop l.settlement-index l.initial.marks.items;
   form : g.B.Book.text l.book ≡ g.B.Book.text l.initial.book;
   failed : g.B.Book.failed l.book ≡ g.B.Book.failed l.initial.book;

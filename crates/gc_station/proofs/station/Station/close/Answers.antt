@@ -25,6 +25,8 @@ returns g c commands text known =
           assembles = c.new-self.ensures;
           tally = stands.tally;
           well = stands.well;
+          listed = stands.listed;
+          fresh = stands.fresh;
         },
         so,
       );

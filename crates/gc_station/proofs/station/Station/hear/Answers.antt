@@ -21,11 +21,12 @@ returns-clause-hears g c s start stands so =
     let reply = c.is_reply.ensures _ _ line _ (c.hear-hearing.ensures.heard short) in
     let t = settles_ok (g.B.Book.text c.args.book.now) c.args.self.now _ c.write.new.self s x (map settlement_seen items) (length items) start (g.B.Book.taken c.write.new.book)
     stands
-    (record { ids_are = ap (λ w. w.ids) client ∙ ap (λ y. y.client) seen; width = ap (λ w. w.width) client; marks = refl; assembler = refl; progress = refl; tally = refl; well = refl })
+    (record { ids_are = ap (λ w. w.ids) client ∙ ap (λ y. y.client) seen; width = ap (λ w. w.width) client; marks = refl; assembler = refl; progress = refl; tally = refl; well = refl; listed = refl; fresh = refl })
     same
     (sym (length-map items settlement_seen) ∙ ap length same)
     (hears_paired s.marks s.client line (heard line) stands.paired)
-    (λ are. c.in_default-write.ensures.wrote s.reads start s.records are (so are)) c.in_default-write.ensures.after c.in_default-write.ensures.tally c.in_default-write.ensures.well in
+    (λ are. c.in_default-write.ensures.wrote s.reads start s.records are (so are)) c.in_default-write.ensures.after c.in_default-write.ensures.tally c.in_default-write.ensures.well
+    c.in_default-write.ensures.listed c.in_default-write.ensures.fresh in
     let after = c.in_default-write.ensures.after in
     let table = c.ends_with_table-of_table.ensures ∙ ap (λ l. ends_with_table (map settlement_seen l)) c.as_slice.ensures.value ∙ ap (λ (st : Station). ends_with_table (map settlement_seen st.settled.items)) after ∙ ap ends_with_table same in
     let waits = c.waiting.ensures.waiting ∙ ap (λ (st : Station). length st.client.ids.waiting) after ∙ ap (λ w. length w.ids.waiting) client ∙ ap (λ y. length y.client.waiting) seen in
@@ -46,7 +47,7 @@ returns-in-Err-clause-hears g c s start stands so =
     (record c.args.self.now { client = c.hear-hearing.new.self; settled = c.hear-hearing.new.settled }) s x (map settlement_seen items) start
     (g.B.Book.taken c.write.new.book)
     stands
-    (record { ids_are = ap (λ w. w.ids) client ∙ ap (λ y. y.client) seen; width = ap (λ w. w.width) client; marks = refl; assembler = refl; progress = refl; tally = refl; well = refl })
+    (record { ids_are = ap (λ w. w.ids) client ∙ ap (λ y. y.client) seen; width = ap (λ w. w.width) client; marks = refl; assembler = refl; progress = refl; tally = refl; well = refl; listed = refl; fresh = refl })
     same
     (λ are. c.in-Err.ensures.wrote s.reads start s.records are (so are)) in
     rw c.in-Line.is t

@@ -10,7 +10,7 @@ pub returns-in-Err-clause-takes : goal.returns-in-Err-clause-takes
 returns-in-Err-clause-takes g c s start stands so =
     let m = c.args.now in
     c.in-Err.ensures.takes (with_moment m (with_progress (told m) s)) start
-    (stands_expired c.args.self.now c.tell.new.self (told m s.progress) c.expire.new.self m s stands (c.tell.ensures ∙ ap (told m) stands.progress) c.expire.ensures.client) so
+    (stands_expired c.args.self.now c.tell.new.self (told m s.progress) c.expire.new.self c.min-self.result m s stands (c.tell.ensures ∙ ap (told m) stands.progress) c.expire.ensures.client c.min-self.ensures) so
 
 pub returns-clause-takes : goal.returns-clause-takes
 returns-clause-takes g c s start stands so =
@@ -19,7 +19,7 @@ returns-clause-takes g c s start stands so =
     let until = c.args.until in
     let t =
     c.in_default.ensures.takes (with_moment m (with_progress (told m) s)) start
-    (stands_expired c.args.self.now c.tell.new.self (told m s.progress) c.expire.new.self m s stands (c.tell.ensures ∙ ap (told m) stands.progress) c.expire.ensures.client) so in
+    (stands_expired c.args.self.now c.tell.new.self (told m s.progress) c.expire.new.self c.min-self.result m s stands (c.tell.ensures ∙ ap (told m) stands.progress) c.expire.ensures.client c.min-self.ensures) so in
     let heard : Model = came (is_heard s.progress.phase) s.progress.word c.args.piece.now (with_moment m (with_progress (told m) s)) in
     let before = c.commands-before.ensures ∙ ap commands_in stands.marks in
     let all = ap (λ (w : Waiting). w.all) c.waiting-after.ensures ∙ all_same c.take_lines.new.self heard t.0 in
@@ -35,6 +35,8 @@ returns-clause-takes g c s start stands so =
         assembles = t.0.assembles;
         tally = t.0.tally;
         well = t.0.well;
+        listed = t.0.listed;
+        fresh = t.0.fresh;
       },
       t.1,
     )

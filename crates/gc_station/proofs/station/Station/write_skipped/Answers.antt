@@ -30,6 +30,7 @@ returns-in-Err-clause-wrote g c start before so =
       utc = c.skipped_at.result;
       cycle = c.mark-mark.result.cycle;
       place = c.mark-mark.result.place;
+      turn = c.mark-mark.result.expected.turn;
       command =
           task.command;
       end = ending_seen c.if-self.ending;

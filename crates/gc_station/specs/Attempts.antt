@@ -1,0 +1,36 @@
+-- Further attempts of a chain, this project's own: whether a command of an attempt ended as its rule names, so that the chain goes
+-- out again. An attempt begins with a command whose link is 0.
+use Rattle.std.specs.Prelude.{ℕ, ◌||◌, Bool, false, List, [], ◌∷◌, Option, Some, None, if◌then◌else◌, nat_eq}
+use Rattle.gc_catalogue.specs.declared.answer.Reading.{Reading}
+use Rattle.gc_catalogue.specs.declared.answer.Reading.TheVariants as reading
+use Rattle.gc_catalogue.specs.declared.asked.Asked.{Asked}
+use Rattle.gc_client.specs.Rule.{Settlement, Outcome, Answered, Late, Lost}
+use Rattle.gc_texts.specs.Again.{is_named}
+use Rattle.gc_texts.specs.Endings.{End}
+use Rattle.gc_texts.specs.declared.near.Expected.{Expected}
+use Rattle.gc_station.specs.Marks.{end_of}
+use Rattle.gc_station.specs.declared.mark.Mark.{Mark}
+
+-- the return code other than 0 of a reply with communication code 0, by what it says
+abbrev pub code_in : Reading → Option ℕ
+code_in (reading.Refused code) = Some code
+code_in _ = None
+
+-- the return code other than 0 of the reply that a request had, if it had one
+abbrev pub code_of : (Asked → List ℕ → Reading) → Asked → Outcome → Option ℕ
+code_of reads call (Answered line) = code_in (reads call line)
+code_of reads call Late = None
+code_of reads call Lost = None
+
+-- whether a command of an attempt ended as its rule names, where this is the one that ended last: it did, or one before it, unless
+-- the attempt begins with it
+abbrev pub listed_behind : Bool → Expected → Option ℕ → End → Bool
+listed_behind listed expected code end = (if nat_eq expected.turn.link 0 then false else listed) || is_named expected.again code end
+
+-- whether a command of an attempt ended as its rule names, after these settlements of the requests with these marks, the oldest first
+abbrev pub listed_by : (Asked → List ℕ → Reading) → Bool → List (Option Mark) → List (Settlement Asked) → Bool
+listed_by reads listed [] settlements = listed
+listed_by reads listed (mark ∷ marks) [] = listed
+listed_by reads listed (None ∷ marks) (settlement ∷ others) = listed_by reads listed marks others
+listed_by reads listed (Some mark ∷ marks) (x ∷ others) =
+    listed_by reads (listed_behind listed mark.expected (code_of reads x.call x.outcome) (end_of reads mark.expected x.call x.outcome)) marks others

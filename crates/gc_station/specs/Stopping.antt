@@ -1,0 +1,119 @@
+-- How a run ends that is stale, and one whose end was asked for: this project's own. An act is one call of the link, with what came
+-- of it.
+use Rattle.std.specs.Prelude.{◌≡◌, ◌⊎◌, ℕ, ◌-◌, ◌<◌, ◌≤◌, ◌||◌, min, Bool, true, false, List, [], ◌∷◌, ◌++◌}
+use Rattle.std.specs.List.{AllByRecursion}
+use Rattle.gc_texts.specs.declared.tasks.Task.{Task}
+use Rattle.gc_links.specs.Acts.{Act, Told, Gave, Silent, Closed}
+use Rattle.gc_links.specs.declared.link.Moment.{Moment}
+use Rattle.gc_station.specs.declared.cause.Cause.{Cause}
+use Rattle.gc_station.specs.declared.cause.Cause.TheVariants.{Stale, Stopped}
+use Rattle.gc_station.specs.declared.plan.Plan.{Plan}
+use Rattle.gc_station.specs.declared.progress.Action.TheVariants.{Begin, Send, Close, Stop}
+use Rattle.gc_station.specs.Deciding.{is_stale, may_go}
+use Rattle.gc_station.specs.Marks.{is_well}
+use Rattle.gc_station.specs.Model.{opening, action_at, waiting_of, Runs}
+use Rattle.gc_station.specs.Reasons.{IsResting}
+use Rattle.gc_station.specs.Records.{Record}
+use Rattle.gc_station.specs.Runs.{stood}
+use Rattle.gc_station.specs.Scopes.{Scope}
+
+-- an act tells a moment
+abbrev pub IsTelling : Act → Type 0
+IsTelling (Told m) = Unit {0}
+IsTelling (Gave bytes m) = Unit {0}
+IsTelling (Silent m) = Unit {0}
+IsTelling _ = ⊥
+
+-- the least of a number and the moments that these acts tell, by the clock for deadlines: where that clock doesn't go back, and the
+-- number was told before them, it is the number
+abbrev pub least_told : ℕ → List Act → ℕ
+least_told n [] = n
+least_told n (Told m ∷ acts) = least_told (min n m.elapsed) acts
+least_told n (Gave bytes m ∷ acts) = least_told (min n m.elapsed) acts
+least_told n (Silent m ∷ acts) = least_told (min n m.elapsed) acts
+least_told n (act ∷ acts) = least_told n acts
+
+-- whether `asked`, or one of the moments that these acts tell says that the end of the run was asked for
+abbrev pub asked_behind : Bool → List Act → Bool
+asked_behind asked [] = asked
+asked_behind asked (Told m ∷ acts) = asked_behind (asked || m.stops) acts
+asked_behind asked (Gave bytes m ∷ acts) = asked_behind (asked || m.stops) acts
+asked_behind asked (Silent m ∷ acts) = asked_behind (asked || m.stops) acts
+asked_behind asked (act ∷ acts) = asked_behind asked acts
+
+-- a record is of a command that wasn't answered well
+abbrev pub IsUnwell : Record → Type 0
+IsUnwell r = is_well r.end ≡ false
+
+-- the last of these acts is a read at this moment, and wrote down a command that was answered well
+pub record EndsWell (plan : Plan) (commands : List Task) (scope : Scope) (acts : List Act) (now : ℕ) : Type 0 where
+  pub earlier : List Act
+  pub piece : List ℕ
+  pub moment : Moment
+  pub order : acts ≡ earlier ++ Gave piece moment ∷ []
+  pub at : now ≡ moment.elapsed
+  pub front : List Record
+  pub answer : Record
+  pub later : List Record
+  pub written : (stood plan commands scope acts).records ≡ (stood plan commands scope earlier).records ++ (front ++ answer ∷ later)
+  pub well : is_well answer.end ≡ true
+
+-- the acts behind the last one that wrote down a command that was answered well, or all acts where none did: from which moment on the run
+-- may become stale (`from`, 0 at the start), and the records of these acts, none of which is of such a command
+pub record UnwellSince (plan : Plan) (commands : List Task) (scope : Scope) (acts : List Act) : Type 0 where
+  pub before : List Act
+  pub behind : List Act
+  pub order : acts ≡ before ++ behind
+  pub from : ℕ
+  pub start : ((before ≡ []) × (from ≡ 0)) ⊎ EndsWell plan commands scope before from
+  pub records : List Record
+  pub written : (stood plan commands scope acts).records ≡ (stood plan commands scope before).records ++ records
+  pub unwell : AllByRecursion IsUnwell records
+  pub fresh : (stood plan commands scope acts).fresh ≡ least_told from behind
+
+-- after these acts the moment told last lies `stale` milliseconds or more behind the start, or behind the last act that wrote down a
+-- command that was answered well; where the clock went back since, behind the least moment that was told since
+pub record IsStaleAt (plan : Plan) (commands : List Task) (scope : Scope) (acts : List Act) : Type 0 where
+  pub since : UnwellSince plan commands scope acts
+  pub wanted : 0 < plan.stale
+  pub long : plan.stale ≤ (stood plan commands scope acts).progress.moment.elapsed - least_told since.from since.behind
+
+-- where a connection is closed, or a run ends, because it is stale, it is (`IsStaleAt`)
+abbrev pub ClosesStale : Type 0
+ClosesStale =
+    (plan : Plan) (commands : List Task) (scope : Scope) (acts : List Act) → Runs plan commands (opening plan scope) acts
+    → action_at plan (stood plan commands scope acts) ≡ Close Stale → IsStaleAt plan commands scope acts
+
+-- where a run stops for this cause, its last act is the close that was next for that cause
+abbrev pub StopsAtItsClose : Cause → Type 0
+StopsAtItsClose why =
+    (plan : Plan) (commands : List Task) (scope : Scope) (acts : List Act) → Runs plan commands (opening plan scope) acts
+    → action_at plan (stood plan commands scope acts) ≡ Stop why
+    → (earlier : List Act) × (acts ≡ earlier ++ Closed ∷ []) × (action_at plan (stood plan commands scope earlier) ≡ Close why)
+
+-- the first moment told at which a run with turns left is stale ends it: no act is behind it but one close
+abbrev pub EndsOnceStale : Type 0
+EndsOnceStale =
+    (plan : Plan) (commands : List Task) (scope : Scope) (earlier behind : List Act) (telling : Act) → Runs plan commands (opening plan scope) (earlier ++ telling ∷ behind) → IsTelling telling
+    → 0 < (stood plan commands scope (earlier ++ telling ∷ [])).progress.turns
+    → is_stale plan (stood plan commands scope (earlier ++ telling ∷ [])).progress (waiting_of (stood plan commands scope (earlier ++ telling ∷ []))) ≡ true
+    → (behind ≡ []) ⊎ (behind ≡ Closed ∷ [])
+
+-- once a moment was told at which the end of the run was asked for, no cycle begins, and each command that goes out goes on with a chain
+-- that has begun
+abbrev pub GoesOnInItsChain : Type 0
+GoesOnInItsChain =
+    (plan : Plan) (commands : List Task) (scope : Scope) (acts : List Act) → Runs plan commands (opening plan scope) acts → asked_behind false acts ≡ true
+    → (action_at plan (stood plan commands scope acts) ≡ Send → (stood plan commands scope acts).progress.next_is_chained ≡ true)
+    × (action_at plan (stood plan commands scope acts) ≡ Begin → ⊥)
+
+-- where a connection is closed, or a run ends, because that was asked for, a moment was told at which it was; and there is no connection,
+-- or the station begins, or it is between two chains and nothing is under way that isn't given up. No command of a chain that has begun
+-- is left that may go out
+abbrev pub ClosesBetweenChains : Type 0
+ClosesBetweenChains =
+    (plan : Plan) (commands : List Task) (scope : Scope) (acts : List Act) → Runs plan commands (opening plan scope) acts
+    → action_at plan (stood plan commands scope acts) ≡ Close Stopped
+    → (asked_behind false acts ≡ true) × IsResting (stood plan commands scope acts).progress (waiting_of (stood plan commands scope acts))
+    × (0 < (stood plan commands scope acts).progress.unsent → (stood plan commands scope acts).progress.next_is_chained ≡ true
+    → may_go (stood plan commands scope acts).progress (waiting_of (stood plan commands scope acts)) ≡ false)
