@@ -199,7 +199,8 @@ taken_line a b (Some line) settled t = (line, refl, t.0, t.1, t.2)
 -- Reading on.
 
 -- reading goes on: behind the bytes `start`, which were left from before, `given` came. Of all these, `heard_so` were heard and
--- settle nothing, and `ahead` weren't heard yet
+-- settle nothing, and `ahead` weren't heard yet. `kept` is what the assembler keeps now. The client is `from` before and
+-- `to` after, which are the same
 pub record Reading (rest start given ahead : List ℕ) (kept : Kept) (from to : ById Call) : Type 0 where
   pub heard_so : List ℕ
   pub order : start ++ given ≡ heard_so ++ ahead

@@ -3,6 +3,7 @@ use Rattle.std.specs.Prelude.{◌≡◌, false, ℕ, ◌+◌, ◌*◌, ◌-◌, 
 use Rattle.std.specs.Io.KnownBytes.{Consumes}
 use Rattle.gc_lines.specs.Answering.{Ports}
 use Rattle.gc_ask.specs.Asking.{Taken, Written, Asks, LinkEnds, EndsWith}
+use Rattle.gc_ask.specs.declared.unheard.TheConstants.{ROOM}
 use Rattle.gc_texts.specs.Texts.{end_reads}
 use Rattle.gc_texts.specs.WholeTexts.{Input, GivesCommands, RefusesCommands}
 use Rattle.gc_texts.specs.declared.commands.Command.{Command}
@@ -22,7 +23,7 @@ written old new = record { link_old = old.link.taken; link_new = new.link.taken;
 pub record AsksOver (commands : List Command) (most : ℕ) (old new : Seen) (result : Result (Unit {0}) RunFault) : Type 0 where
   pub given : List ℕ
   pub gave : Consumes old.link.remaining new.link.remaining given
-  pub few : length given ≤ 256 * (new.link.reads - old.link.reads)
+  pub few : length given ≤ ROOM * (new.link.reads - old.link.reads)
   pub asks : Asks commands given (written old new) (LinkEnds old.link new.link) result
   pub bound : new.link.reads ≤ old.link.reads + most
   pub too_many : result ≡ Err TooManyReads → new.link.reads ≡ old.link.reads + most

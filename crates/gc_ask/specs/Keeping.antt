@@ -1,5 +1,5 @@
 -- A port that is kept: how its connections ended, and what is written of them. This project's own.
-use Rattle.std.specs.Prelude.{◌≡◌, ℕ, ◌+◌, Bool, true, List, [], ◌∷◌, ◌++◌, length, Option, Some, None, Result, Ok, Err, codes}
+use Rattle.std.specs.Prelude.{◌≡◌, ℕ, ◌+◌, ◌-◌, ◌^◌, Bool, true, List, [], ◌∷◌, ◌++◌, length, Option, Some, None, Result, Ok, Err, codes}
 use Rattle.std.specs.Fmt.{decimal}
 use Rattle.std.specs.Io.KnownBytes.{Appends}
 use Rattle.gc_lines.specs.Answering.{numbered, how_far}
@@ -61,5 +61,5 @@ end_of_caller (Err (serving.TooManyReads _)) = Err TooManyReads
 
 -- how many callers a kept port serves: the number that was asked for, or else the greatest u64
 abbrev pub most_callers : Option ℕ → ℕ
-most_callers None = 18446744073709551615
+most_callers None = 2 ^ 64 - 1
 most_callers (Some connections) = connections

@@ -15,6 +15,7 @@ use Rattle.gc_client.specs.Rule.{ById, heard, fits, hears}
 use Rattle.gc_client.specs.Settlements.{AreSettlements, settlement_seen}
 use Rattle.gc_texts.specs.Settlements.{lines_from, settlement_lines, ToldPart}
 use Rattle.gc_ask.specs.declared.client_end.ClientEnd.{ClientEnd}
+use Rattle.gc_ask.specs.declared.unheard.TheConstants.{ROOM}
 use Rattle.gc_ask.specs.Asking.{Written, LinkEnd, first_reply, asked, waiting_for, request_text, request_texts, lost_of, AsksAll, TellsPart, EndsWith}
 use Rattle.gc_ask.specs.Links.{TakesRequest}
 use Rattle.gc_ask.specs.Looping.{BothEnd, SeenAtBoth, written_there}
@@ -67,12 +68,12 @@ heard_by end rest bytes left =
 abbrev pub took_meanwhile : (old new : Ports) → (sink_old sink_new : Option (List ℕ)) → Written
 took_meanwhile old new sink_old sink_new = record { link_old = old.taken; link_new = new.taken; sink_old = sink_old; sink_new = sink_new }
 
--- a link gave some bytes, at most 256 at each read; and whatever rest of a line the assembler had kept, `claim` holds of that
+-- a link gave some bytes, at most `ROOM` at each read; and whatever rest of a line the assembler had kept, `claim` holds of that
 -- rest and these bytes
 abbrev pub Gives : (old new : Ports) → Kept → ((rest given : List ℕ) → Type 0) → Type 0
 Gives old new assembler claim =
     (given : List ℕ) × Consumes old.remaining new.remaining given
-    × (length given ≤ 256 * (new.reads - old.reads)) × ((rest : List ℕ) → StandsFor assembler rest → claim rest given)
+    × (length given ≤ ROOM * (new.reads - old.reads)) × ((rest : List ℕ) → StandsFor assembler rest → claim rest given)
 
 -- of the lines that came, `line` is the first to settle a request of this client; `front` are those before it, and what is left
 -- of the bytes stands after it. The settlements and the client then are those of the client's rule, and the assembler keeps
@@ -197,7 +198,7 @@ AsksOn alone commands given w over (Err _) = ⊥
 pub record AsksAt (alone : Bool) (commands : List Command) (most : ℕ) (old new : SeenAtBoth) (result : LinkEnd) : Type 0 where
   pub given : List ℕ
   pub gave : Consumes old.client.remaining new.client.remaining given
-  pub few : length given ≤ 256 * (new.client.reads - old.client.reads)
+  pub few : length given ≤ ROOM * (new.client.reads - old.client.reads)
   pub asks : AsksOn alone commands given (written_there old new) (BothEnd old.client new.client old.instrument new.instrument) result
   pub ends : EndsWith (BothEnd old.client new.client old.instrument new.instrument) old.sink.failed new.sink.failed result
   pub bound : new.client.reads + new.instrument.reads ≤ old.client.reads + old.instrument.reads + most

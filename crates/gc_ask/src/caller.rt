@@ -3,14 +3,13 @@
 
 ghost use Rattle.std.specs.Prelude.{◌≡◌, Result};
 ghost use Rattle.gc_ask.specs.Keeping.{end_of_caller};
-ghost use Rattle.gc_instrument.specs.Serving.{IsServing};
-ghost use Rattle.gc_instrument.specs.State.{restarted};
 ghost use Rattle.gc_lines.specs.declared.served.Served.{Served};
 ghost use Rattle.gc_lines.specs.declared.served.ServeFault.{ServeFault};
 ghost use Rattle.gc_lines.specs.Answering.{ports_of};
 
 use crate::callers::CallerFault;
-use gc_instrument::{Instrument, ServeFault, serve};
+use crate::simulated::Simulates;
+use gc_instrument::ServeFault;
 use gc_lines::{Sink, Source};
 use std::io::{self, ErrorKind, Read};
 use std::net::TcpStream;
@@ -66,20 +65,19 @@ fn is_time_out(kind: ErrorKind) -> bool {
 
 /// Restarts an instrument, and serves one connection with it: `source` and `sink` are its two directions. The faults are those
 /// of `serve`.
-pub(crate) fn serve_caller<S: Source, K: Sink>(
-    instrument: &mut Instrument,
+pub(crate) fn serve_caller<I: Simulates, S: Source, K: Sink>(
+    instrument: &mut I,
     source: &mut S,
     sink: &mut K,
     max_reads: u32,
 ) -> Result<(), CallerFault>
-    ensures { (end : Result Served ServeFault) × IsServing (restarted instrument.old) instrument.new
+    ensures { (end : Result Served ServeFault) × I.served instrument.old instrument.new
         (ports_of S.Source source.old K.Sink sink.old)
         (ports_of S.Source source.new K.Sink sink.new)
         max_reads end
         × (result ≡ end_of_caller end) }
 {
-    instrument.restart();
-    match serve(instrument, source, sink, max_reads) {
+    match instrument.serve_anew(source, sink, max_reads) {
         Ok(_) => Ok(()),
         Err(ServeFault::Read { .. }) => Err(CallerFault::Read),
         Err(ServeFault::Write { replies, bytes }) => Err(CallerFault::Write { replies, bytes }),

@@ -3,8 +3,6 @@
 ghost use Rattle.std.specs.Prelude.{◌≡◌, ◌≤◌, Option, Result};
 ghost use Rattle.gc_lines.specs.declared.served.Served.{Served};
 ghost use Rattle.gc_lines.specs.declared.served.ServeFault.{ServeFault};
-ghost use Rattle.gc_instrument.specs.Serving.{IsServing};
-ghost use Rattle.gc_instrument.specs.State.{restarted};
 ghost use Rattle.gc_ask.specs.AskRuns.{AskRunsAt, AsksOverOne};
 ghost use Rattle.gc_ask.specs.Asking.{taken_by};
 ghost use Rattle.gc_ask.specs.Looping.{LoopRunsAt, LoopsOverOne};
@@ -19,7 +17,8 @@ use crate::ask::ask_all;
 use crate::instrument_end::InstrumentEnd;
 use crate::link::Alone;
 use crate::looped::Loop;
-use gc_instrument::{Instrument, ServeFault, serve};
+use crate::simulated::Simulates;
+use gc_instrument::{Instrument, ServeFault};
 use gc_lines::{FromReader, Sink, Source, ToWriter};
 use gc_links::{Place, Unusable, accept, both_ends, connect_here, listen, wire_to};
 use gc_texts::{Command, RunFault, read_command_text};
@@ -117,11 +116,11 @@ pub fn loop_tcp<R: Net<Listener = TcpListener, Stream = TcpStream>, S: Source, K
 ///
 /// `Socket` comes where a bind or an accept failed. A fault of a connection ends the call with it: `Read`, `Write` and
 /// `TooManyReads` as `serve` has them. The instrument is left in the state after the lines that it answered last.
-pub fn serve_tcp<R: Net<Listener = TcpListener, Stream = TcpStream>>(
+pub fn serve_tcp<R: Net<Listener = TcpListener, Stream = TcpStream>, I: Simulates>(
     rt: &R,
     port: u16,
     connections: u32,
-    instrument: &mut Instrument,
+    instrument: &mut I,
     max_reads: u32,
 ) -> Result<(), RunFault>
     requires port { 1 ≤ port }
@@ -139,10 +138,10 @@ pub fn serve_tcp<R: Net<Listener = TcpListener, Stream = TcpStream>>(
 ///
 /// `Socket` comes where an accept failed. A fault of a connection ends the call with it: `Read`, `Write` and `TooManyReads` as
 /// `serve` has them.
-pub fn serve_on(
+pub fn serve_on<I: Simulates>(
     listener: &TcpListener,
     connections: u32,
-    instrument: &mut Instrument,
+    instrument: &mut I,
     max_reads: u32,
 ) -> Result<(), RunFault>
     requires { connections ≤ 1000 }
@@ -251,20 +250,19 @@ pub fn fault_of(reason: Option<Unusable>) -> RunFault
 
 /// Restarts an instrument, and serves one connection with it: `source` and `sink` are its two directions. It fails with `Read`,
 /// `Write` or `TooManyReads` as `serve` does.
-pub(crate) fn serve_connection<S: Source, K: Sink>(
-    instrument: &mut Instrument,
+pub(crate) fn serve_connection<I: Simulates, S: Source, K: Sink>(
+    instrument: &mut I,
     source: &mut S,
     sink: &mut K,
     max_reads: u32,
 ) -> Result<(), RunFault>
-    ensures { (end : Result Served ServeFault) × IsServing (restarted instrument.old) instrument.new
+    ensures { (end : Result Served ServeFault) × I.served instrument.old instrument.new
         (ports_of S.Source source.old K.Sink sink.old)
         (ports_of S.Source source.new K.Sink sink.new)
         max_reads end
         × (result ≡ end_of_serving end) }
 {
-    instrument.restart();
-    match serve(instrument, source, sink, max_reads) {
+    match instrument.serve_anew(source, sink, max_reads) {
         Ok(_) => Ok(()),
         Err(ServeFault::Read { .. }) => Err(RunFault::Read),
         Err(ServeFault::Write { replies, bytes }) => Err(RunFault::Write { replies, bytes }),

@@ -9,7 +9,7 @@ use crate::caller::serve_caller;
 use crate::callers::{CallerFault, Callers, keep};
 use crate::connections::{fault_of, serve_connection};
 use crate::kept_port::Keeping;
-use gc_instrument::Instrument;
+use crate::simulated::Simulates;
 use gc_lines::{FromReader, ToWriter};
 use gc_links::{Unusable, Wire, wire_on};
 use gc_texts::RunFault;
@@ -27,11 +27,11 @@ const REST: u64 = 1;
 ///
 /// A fault ends the call: one of `fault_of` where the device couldn't be opened, else `Read`, `Write` or `TooManyReads` as `serve`
 /// has them.
-pub fn serve_device<R: Files<File = File> + Clock>(
+pub fn serve_device<R: Files<File = File> + Clock, I: Simulates>(
     rt: &R,
     path: &str,
     connections: u32,
-    instrument: &mut Instrument,
+    instrument: &mut I,
     max_reads: u32,
 ) -> Result<(), RunFault>
     requires { connections ≤ 1000 }
@@ -57,11 +57,11 @@ pub fn serve_device<R: Files<File = File> + Clock>(
 ///
 /// Where the device is there at first and can't be used, the call fails as `fault_of` says, and nothing was written. A device that
 /// isn't there, or that ended, is looked for each second.
-pub fn keep_device<R: Files<File = File> + Clock, E: Write>(
+pub fn keep_device<R: Files<File = File> + Clock, I: Simulates, E: Write>(
     rt: &R,
     path: &str,
     keeping: Keeping,
-    instrument: &mut Instrument,
+    instrument: &mut I,
     messages: &mut E,
 ) -> Result<bool, RunFault>
     ensures kept { IfOk result (λ told. Kept (most_callers keeping.connections) told None None (E.contents messages.old) (E.contents messages.new)) }
@@ -84,16 +84,16 @@ pub fn keep_device<R: Files<File = File> + Clock, E: Write>(
 
 // Those who call over a device, and the instrument that serves them.
 #[derive(Drop)]
-struct DeviceCallers<'a, R> {
+struct DeviceCallers<'a, R, I> {
     rt: &'a R,
     path: &'a str,
     // The device as it was opened already, for the first caller.
     first: Option<Wire<'a, R>>,
-    instrument: &'a mut Instrument,
+    instrument: &'a mut I,
     max_reads: u32,
 }
 
-impl<'a, R: Files<File = File> + Clock> DeviceCallers<'a, R> {
+impl<'a, R: Files<File = File> + Clock, I> DeviceCallers<'a, R, I> {
     // Opens the device, which is looked for each second until it is there. `Socket`: it is there and can't be used.
     fn wait(&mut self) -> Result<Wire<'a, R>, CallerFault> {
         if let Some(first) = self.first.take() {
@@ -115,7 +115,7 @@ impl<'a, R: Files<File = File> + Clock> DeviceCallers<'a, R> {
     }
 }
 
-impl<'a, R: Files<File = File> + Clock> Callers for DeviceCallers<'a, R> {
+impl<'a, R: Files<File = File> + Clock, I: Simulates> Callers for DeviceCallers<'a, R, I> {
     ghost served = { λ _. None };
 
     // Serves the device until its end, once it is there, and then rests for a second, however that ended.

@@ -6,7 +6,7 @@ ghost use Rattle.gc_texts.specs.declared.fault.RunFault.{RunFault};
 
 use crate::caller::{Caller, serve_caller};
 use crate::callers::{CallerFault, Callers, keep};
-use gc_instrument::Instrument;
+use crate::simulated::Simulates;
 use gc_lines::{FromReader, ToWriter};
 use gc_links::{accept, listen};
 use gc_texts::RunFault;
@@ -46,11 +46,11 @@ impl Keeping {
 ///
 /// `Socket` comes where the bind failed, and nothing was written. A connection that couldn't be accepted counts as one, with this
 /// fault, and a rest of a second follows it. The instrument is left in the state after the lines that it answered last.
-pub fn keep_tcp<R: Net<Listener = TcpListener, Stream = TcpStream> + Clock, E: Write>(
+pub fn keep_tcp<R: Net<Listener = TcpListener, Stream = TcpStream> + Clock, I: Simulates, E: Write>(
     rt: &R,
     port: u16,
     keeping: Keeping,
-    instrument: &mut Instrument,
+    instrument: &mut I,
     messages: &mut E,
 ) -> Result<bool, RunFault>
     requires { 1 ≤ port }
@@ -65,11 +65,11 @@ pub fn keep_tcp<R: Net<Listener = TcpListener, Stream = TcpStream> + Clock, E: W
 
 /// Serves the connections of a port that is bound, as `keep_tcp` does. Further callers wait in the system's queue. Returns
 /// whether the lines of all faults were written.
-pub fn keep_on<R: Clock, E: Write>(
+pub fn keep_on<R: Clock, I: Simulates, E: Write>(
     rt: &R,
     listener: &TcpListener,
     keeping: Keeping,
-    instrument: &mut Instrument,
+    instrument: &mut I,
     messages: &mut E,
 ) -> bool
     ensures { Kept (most_callers keeping.connections) result None None (E.contents messages.old) (E.contents messages.new) }
@@ -86,15 +86,15 @@ pub fn keep_on<R: Clock, E: Write>(
 
 // The callers of a port, and the instrument that serves them.
 #[derive(Drop)]
-struct PortCallers<'a, R> {
+struct PortCallers<'a, R, I> {
     rt: &'a R,
     listener: &'a TcpListener,
-    instrument: &'a mut Instrument,
+    instrument: &'a mut I,
     idle: Duration,
     max_reads: u32,
 }
 
-impl<'a, R: Clock> Callers for PortCallers<'a, R> {
+impl<'a, R: Clock, I: Simulates> Callers for PortCallers<'a, R, I> {
     ghost served = { λ _. None };
 
     // Waits for the next connection and serves it. `Socket`: no connection could be accepted, and then this sleeps for `REST`

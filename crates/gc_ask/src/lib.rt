@@ -12,6 +12,7 @@ mod kept_port;
 pub mod laws;
 mod link;
 mod looped;
+mod simulated;
 mod unheard;
 
 pub use ask::run_ask;
@@ -22,3 +23,4 @@ pub use connections::{
 pub use devices::{keep_device, serve_device};
 pub use kept_port::{Keeping, keep_on, keep_tcp};
 pub use looped::{Duplex, run_loop, run_loop_on};
+pub use simulated::Simulates;

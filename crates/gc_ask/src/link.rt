@@ -16,6 +16,7 @@ pub(crate) trait Link {
     ghost use Rattle.std.specs.Prelude.{Bool};
     ghost use Rattle.gc_lines.specs.Answering.{Ports};
     ghost use Rattle.gc_ask.specs.Links.{Held};
+    ghost use Rattle.gc_ask.specs.declared.unheard.TheConstants.{ROOM};
 
     /// Whether somebody other than this program answers at the other end.
     ghost alone: { Bool };
@@ -41,7 +42,7 @@ pub(crate) trait Link {
 
     /// Reads the client's end once into `ahead`, in place of what was left there. Returns false at the end of the stream.
     fn read(&mut self, ahead: &mut Unheard) -> Result<bool, PortFailed>
-        ensures few { length ahead.new ≤ 256 }
+        ensures few { length ahead.new ≤ ROOM }
         ensures end { result ≡ Ok false → ahead.new ≡ [] }
         ensures bytes { ReadsOnce (source_of (client self.old)) (source_of (client self.new)) ahead.new result }
         ensures only { OnlyReads (client self.old) (client self.new) (instrument self.old) (instrument self.new) (held self.old) (held self.new) };

@@ -2,13 +2,14 @@
 
 ghost use Rattle.std.specs.Prelude.{◌≡◌, ◌+◌, ◌≤◌, [], drop, length, true, false, not, Ok, MatchResult};
 ghost use Rattle.gc_ask.specs.Links.{ReadsOnce};
+ghost use Rattle.gc_ask.specs.declared.unheard.TheConstants.{ROOM};
 ghost use Rattle.gc_texts.specs.WholeTexts.{input_of};
 
 use gc_lines::{PortFailed, Source};
 use std::marker::Model;
 
-// The most bytes of one read.
-const ROOM: usize = 256;
+/// The most bytes of one read.
+pub(crate) const ROOM: usize = 256;
 
 /// The bytes of the last read that aren't used yet: `bytes[at..end]`.
 #[derive(Drop)]
@@ -58,7 +59,7 @@ impl Unheard {
 
     // Reads once, in place of what was left. Returns false at the end of the stream.
     pub(crate) fn read<S: Source>(&mut self, source: &mut S) -> Result<bool, PortFailed>
-        ensures few { length self.new ≤ 256 }
+        ensures few { length self.new ≤ ROOM }
         ensures end { result ≡ Ok false → self.new ≡ [] }
         ensures bytes { ReadsOnce (input_of S.Source source.old) (input_of S.Source source.new) self.new result }
     {

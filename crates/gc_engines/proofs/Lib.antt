@@ -1,7 +1,8 @@
-mod Forms
-mod Scenes
-mod OneSchedule
-mod Shown
 mod Checked
-mod OneVerdict
+mod Forms
 mod LogSaid
+mod OneSchedule
+mod OneVerdict
+mod Scenes
+mod Shown
+pub mod RuleForms

@@ -6,3 +6,4 @@ pub mod Verdicts
 pub mod Checking
 pub mod LogChecking
 pub mod Laws
+pub mod RuleScenes

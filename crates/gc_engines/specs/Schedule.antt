@@ -1,7 +1,7 @@
 -- A schedule's text, and the events that it gives: this project's own.
 use Rattle.std.specs.Prelude.{◌≡◌, ℕ, List, ◌∷◌, ◌++◌, codes}
 use Rattle.gc_catalogue.specs.declared.call.Call.{Call}
-use Rattle.gc_texts.specs.LineForms.{IsText, FirstFaulty, BehindAnItem}
+use Rattle.gc_texts.specs.LineForms.{IsText, FirstFaulty, ReachesASoundLine}
 use Rattle.gc_texts.specs.Procedures.{IsNumber, IsProcedure}
 use Rattle.gc_world.specs.declared.event.Event.{Event}
 use Rattle.gc_world.specs.declared.event.Event.TheVariants.{Send, UpDeliver, UpBytes, UpLose, UpRepeat, DownDeliver, DownBytes, DownLose, DownRepeat, Expire, RestartClient, RestartInstrument}
@@ -69,5 +69,5 @@ IsFirstFaulty text n = FirstFaulty IsEvent text n
 
 -- some line has the form of an event, and no line before it is faulty: the reading comes to that line, and may want memory
 -- there
-abbrev pub IsBehindAnEvent : List ℕ → Type 0
-IsBehindAnEvent text = BehindAnItem IsEvent text
+abbrev pub ReachesASoundEvent : List ℕ → Type 0
+ReachesASoundEvent text = ReachesASoundLine IsEvent text

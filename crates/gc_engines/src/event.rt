@@ -69,7 +69,7 @@ fn read_send(line: &[u8], event: &mut Event) -> bool
 }
 
 // Whether the line is these words.
-fn is_plain(words: &[u8], line: &[u8]) -> bool
+pub(crate) fn is_plain(words: &[u8], line: &[u8]) -> bool
     ensures { IsTrue result ↔ (line.now ≡ words.now) }
 {
     line == words

@@ -62,7 +62,7 @@ fn read_scene_line(line: &[u8]) -> Option<SceneLine>
 }
 
 // Reads `serial N`: a serial number. `None`: the line has no such form.
-fn read_serial(line: &[u8]) -> Option<i32>
+pub(crate) fn read_serial(line: &[u8]) -> Option<i32>
     ensures { MatchOption result ((n : ℤ) → IsSerial line.now n → ⊥) (λ n. IsSerial line.now n) }
 {
     match behind(b"serial ", line) {
@@ -82,7 +82,7 @@ fn long_of(digits: &[u8]) -> Option<i32>
 }
 
 // Reads `name TEXT`: an instrument's name. `None`: the line has no such form.
-fn read_name(line: &[u8]) -> Option<Text>
+pub(crate) fn read_name(line: &[u8]) -> Option<Text>
     ensures { MatchOption result ((bytes : List ℕ) → IsName line.now bytes → ⊥) (λ bytes. IsName line.now bytes) }
 {
     match behind(b"name ", line) {
@@ -102,7 +102,7 @@ fn text_of(bytes: &[u8]) -> Option<Text>
 }
 
 // Reads `target HZ V DISTANCE`: a target's angles in radians and its slope distance in metres. `None`: the line has no such form.
-fn read_target(line: &[u8]) -> Option<Target>
+pub(crate) fn read_target(line: &[u8]) -> Option<Target>
     ensures { MatchOption result ((target : Target) → IsTarget line.now target → ⊥) (λ target. IsTarget line.now target) }
 {
     match behind(b"target ", line) {

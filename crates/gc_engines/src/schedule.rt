@@ -2,7 +2,7 @@
 
 ghost use Rattle.std.specs.Prelude.{◌≡◌, ◌<◌, ◌↔◌, ℕ, length, Err, IfOk, IfErr};
 ghost use Rattle.gc_texts.specs.LineForms.{TextFault};
-ghost use Rattle.gc_engines.specs.Schedule.{IsEvent, IsSchedule, IsFirstFaulty, IsBehindAnEvent};
+ghost use Rattle.gc_engines.specs.Schedule.{IsEvent, IsSchedule, IsFirstFaulty, ReachesASoundEvent};
 ghost use Rattle.gc_texts.specs.declared.fault.RunFault.{RunFault};
 ghost use Rattle.gc_texts.specs.declared.text.TheConstants.{TEXT_LIMIT};
 
@@ -20,7 +20,7 @@ pub fn read_schedule(alloc: Global, text: &[u8]) -> Result<Vec<Event>, RunFault>
     ensures found { IfOk result (λ events. IsSchedule text.now events.items) }
     ensures too_long { (result ≡ Err RunFault.InputTooLong) ↔ (TEXT_LIMIT < length text.now) }
     ensures faulty { (n : ℕ) → result ≡ Err (RunFault.Schedule n) → IsFirstFaulty text.now n }
-    ensures memory { result ≡ Err RunFault.Memory → IsBehindAnEvent text.now }
+    ensures memory { result ≡ Err RunFault.Memory → ReachesASoundEvent text.now }
     ensures faults { IfErr result (λ e. TextFault IsEvent text.now e) }
 {
     read_items::<EventForm>(alloc, text)

@@ -1,6 +1,6 @@
 //! Rows of a link over TCP, and of its far end, which is the case's own, in one thread. The link leads to a port where the case
-//! listens, or to the one under `port`. A put on the link waits for no more milliseconds than `patience` says. What comes of a
-//! row is appended to `came`, and what isn't as the case expects to `wrong`.
+//! listens, or to the one under `port`, from 0 to 65535. A put on the link waits for no more milliseconds than `patience` says, and
+//! without a patience for ten seconds. What comes of a row is appended to `came`, and what isn't as the case expects to `wrong`.
 //!
 //!     do open, close           the link, which is open or shut then
 //!     do put abc               sent, or cut after so many bytes
@@ -25,6 +25,9 @@ use std::net::{TcpListener, TcpStream};
 // A moment of November 2023 in milliseconds since 1970, which has passed.
 const YEAR_2023: u64 = 1_700_000_000_000;
 
+// How long a put waits where the case says no patience, in milliseconds.
+const PATIENCE: u64 = 10_000;
+
 /// Plays `.links`.
 pub struct Links;
 
@@ -42,20 +45,21 @@ impl Player for Links {
 // Plays a case whose link leads to this listener, or to the port that the case names.
 fn play_at(rt: &HostRuntime, listener: TcpListener, case: &Case<'_>, wrong: &mut Told) {
     match link_of(rt, &listener, case) {
-        Ok(link) => play_over(rt, listener, link, case, wrong),
-        Err(_) => case.tell_wrong("link", b"none", wrong),
+        Some(link) => play_over(rt, listener, link, case, wrong),
+        None => case.tell_wrong("link", b"none", wrong),
     }
 }
 
-// The link of a case, with the port and the patience that it says; without a port it leads to the listener.
+// The link of a case, with the port and the patience that it says; without a port it leads to the listener. `None`: the port is
+// above 65535, or the link can't be made.
 fn link_of<'a>(
     rt: &'a HostRuntime,
     listener: &TcpListener,
     case: &Case<'_>,
-) -> io::Result<TcpLink<'a, HostRuntime>> {
-    let own = u64::from(listener.local_addr()?.port());
-    let port = u16::try_from(case.number("port", own)).unwrap_or(0);
-    TcpLink::with_patience(rt, port, case.number("patience", 10_000))
+) -> Option<TcpLink<'a, HostRuntime>> {
+    let own = u64::from(listener.local_addr().ok()?.port());
+    let port = u16::try_from(case.number("port", own)).ok()?;
+    TcpLink::with_patience(rt, port, case.number("patience", PATIENCE)).ok()
 }
 
 // Plays the rows of a case over this link.

@@ -1,5 +1,6 @@
 use Rattle.std.proofs.Common.{◌≡◌, ◌≤◌, ◌+◌, ◌-◌, ◌*◌, List, ℕ, length, take}
 use Rattle.std.specs.Io.KnownBytes.{Consumes}
+use Rattle.gc_ask.specs.declared.unheard.TheConstants.{ROOM}
 use Rattle.gc_ask.proofs.Asked.{Course}
 use Rattle.gc_ask.proofs.Ends.{Sound}
 use Rattle.gc_ask.proofs.ask.ask_all.Given as goal
@@ -7,7 +8,7 @@ use Rattle.gc_ask.proofs.ask.ask_all.Given as goal
 abbrev pub invariant-loop-place : goal.invariant-loop-place
 invariant-loop-place g l = record {
   course : (given : List ℕ) × Consumes (g.L.Link.client l.initial.link).remaining (g.L.Link.client l.link).remaining given
-      × (length given ≤ 256 * ((g.L.Link.client l.link).reads - (g.L.Link.client l.initial.link).reads))
+      × (length given ≤ ROOM * ((g.L.Link.client l.link).reads - (g.L.Link.client l.initial.link).reads))
       × Course (take l.place l.commands) given l.asking.ahead l.asking.end.assembler l.asking.end.client.ids
       (g.L.Link.client l.initial.link).taken (g.L.Link.client l.link).taken (g.K.Sink.taken l.initial.sink) (g.K.Sink.taken l.sink);
   reads : (g.L.Link.client l.link).reads + (g.L.Link.instrument l.link).reads + l.asking.reads ≡ (g.L.Link.client l.initial.link).reads + (g.L.Link.instrument l.initial.link).reads + l.max_reads;

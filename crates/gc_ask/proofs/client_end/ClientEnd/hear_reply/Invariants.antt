@@ -2,13 +2,14 @@ use Rattle.std.proofs.Common.{◌≡◌, ◌<◌, ◌≤◌, ◌+◌, ◌-◌, �
 use Rattle.std.specs.Io.KnownBytes.{Consumes}
 use Rattle.gc_lines.specs.Assembler.{StandsFor}
 use Rattle.gc_ask.specs.Links.{OnlyReads}
+use Rattle.gc_ask.specs.declared.unheard.TheConstants.{ROOM}
 use Rattle.gc_ask.proofs.FirstReplies.{Reading}
 use Rattle.gc_ask.proofs.client_end.ClientEnd.hear_reply.Given as goal
 
 abbrev pub invariant-loop-used : goal.invariant-loop-used
 invariant-loop-used g l = record {
   heard : (given : List ℕ) × Consumes (g.L.Link.client l.initial.link).remaining (g.L.Link.client l.link).remaining given
-      × (length given ≤ 256 * ((g.L.Link.client l.link).reads - (g.L.Link.client l.initial.link).reads))
+      × (length given ≤ ROOM * ((g.L.Link.client l.link).reads - (g.L.Link.client l.initial.link).reads))
       × ((rest : List ℕ) → StandsFor l.initial.self.assembler rest → Reading rest l.initial.ahead given l.ahead l.self.assembler l.initial.self.client.ids l.self.client.ids);
   reads : (g.L.Link.client l.link).reads + l.reads ≡ (g.L.Link.client l.initial.link).reads + l.initial.reads;
   grows : (g.L.Link.client l.initial.link).reads ≤ (g.L.Link.client l.link).reads;

@@ -1,0 +1,65 @@
+-- Which lines have the forms of a scene with rules.
+use Rattle.std.proofs.Common.{◌≡◌, ℕ, ℤ, ◌<◌, ◌≤◌, List, length, Option, Some, None, sym, ◌∙◌, subst, arith, codes}
+use Rattle.std.specs.Prelude.{MatchOption, IfSome, IfNone}
+use Rattle.gc_catalogue.specs.RawTexts.{raw_bytes}
+use Rattle.gc_catalogue.specs.declared.raw.RawCall.{RawCall}
+use Rattle.gc_instrument.specs.declared.target.Target.{Target}
+use Rattle.gc_scenes.specs.Params.{scripted_params}
+use Rattle.gc_scenes.specs.declared.rules.Fault.{Fault}
+use Rattle.gc_scenes.specs.declared.rules.Scripted.{Scripted}
+use Rattle.gc_scenes.specs.declared.rules.Noise.{Noise}
+use Rattle.gc_texts.specs.Cuts.{before, behind}
+use Rattle.gc_texts.specs.Procedures.{IsNumber}
+use Rattle.gc_texts.proofs.Procedures.{one_number}
+use Rattle.gc_engines.specs.Scenes.{IsSerial, IsName, IsTarget}
+use Rattle.gc_engines.specs.RuleScenes.{Begins, IsAnswer, IsFault, IsBlocked, IsDrift, IsNoise, IsRuleLine}
+use Rattle.gc_engines.specs.declared.rule_line.RuleLine.{RuleLine}
+use Rattle.gc_engines.specs.declared.rule_line.RuleLine.TheVariants as says
+use Rattle.gc_engines.specs.declared.rule_line.Blocked.{Blocked}
+use Rattle.gc_engines.specs.declared.rule_line.Drift.{Drift}
+
+-- the reply to this procedure with these parameters, or none
+abbrev pub Scripts : ℕ → ℕ → List ℕ → Option Scripted → Type 0
+Scripts rpc rc params r =
+    MatchOption r ((a : Scripted) (call : RawCall) → a.rpc ≡ rpc → a.with ≡ Some call → call.rpc ≡ rpc → raw_bytes call.params ≡ params → ⊥)
+    (λ a. (a.rpc ≡ rpc) × (a.rc ≡ rc) × ((call : RawCall) × (a.with ≡ Some call) × (call.rpc ≡ rpc) × (raw_bytes call.params ≡ params)))
+
+-- where a request has these parameters, the reply that was made of it has them, too; and where none was made, they are too long
+pub scripts : (rpc rc : ℕ) (params : List ℕ) (call : RawCall) (r : Option Scripted) → call.rpc ≡ rpc → raw_bytes call.params ≡ params
+    → IfSome r (λ s. (s.rpc ≡ call.rpc) × (s.with ≡ Some call) × (s.rc ≡ rc)) → IfNone r (490 < length (raw_bytes call.params)) → Scripts rpc rc params r
+scripts rpc rc params call None number bytes made long = λ a other same with_is own its.
+    let short : length (raw_bytes other.params) ≤ 490 = subst (λ (w : Option RawCall). length (scripted_params w) ≤ 490) with_is a.short in
+    let one : raw_bytes other.params ≡ raw_bytes call.params = its ∙ sym bytes in
+    omega (arith, subst (λ (x : List ℕ). length x ≤ 490) one short, long)
+scripts rpc rc params call (Some s) number bytes made long = (made.0 ∙ number, made.2, (call, made.1, number, bytes))
+
+-- where the words of a line are these, the line is the reply that they say
+pub answer_is : (line params : List ℕ) (rpc rc : ℕ) (r : Option Scripted) → Begins (codes "answer") line → IsNumber (before 32 (behind 32 line)) rpc 65535
+    → IsNumber (before 44 (behind 32 (behind 32 line))) rc 65535 → params ≡ behind 44 (behind 32 (behind 32 line)) → Scripts rpc rc params r
+    → MatchOption r ((a : Scripted) → IsAnswer line a → ⊥) (λ a. IsAnswer line a)
+answer_is line params rpc rc None word rpc_is rc_is params_is none = λ a h.
+    let same : a.rpc ≡ rpc = one_number (before 32 (behind 32 line)) a.rpc rpc 65535 h.rpc rpc_is in
+    none a h.call same h.with_is (h.number ∙ same) (h.params ∙ sym params_is)
+answer_is line params rpc rc (Some a) word rpc_is rc_is params_is made = record {
+  word = word;
+  rpc = subst (λ (n : ℕ). IsNumber (before 32 (behind 32 line)) n 65535) (sym made.0) rpc_is;
+  rc = subst (λ (n : ℕ). IsNumber (before 44 (behind 32 (behind 32 line))) n 65535) (sym made.1) rc_is;
+  call = made.2.0;
+  with_is = made.2.1;
+  number = made.2.2 ∙ sym made.0;
+  params = made.2.3 ∙ params_is;
+}
+
+-- a line that has none of the nine forms says nothing
+pub no_rule : (line : List ℕ) → ((n : ℤ) → IsSerial line n → ⊥) → ((bytes : List ℕ) → IsName line bytes → ⊥) → ((t : Target) → IsTarget line t → ⊥)
+    → ((f : Fault) → IsFault line f → ⊥) → ((a : Scripted) → IsAnswer line a → ⊥) → ((b : Blocked) → IsBlocked line b → ⊥) → ((d : Drift) → IsDrift line d → ⊥)
+    → ((n : Noise) → IsNoise line n → ⊥) → (line ≡ codes "repeats no" → ⊥) → (rule : RuleLine) → IsRuleLine line rule → ⊥
+no_rule line s n t f a b d x r (says.Serial m) h = s m h
+no_rule line s n t f a b d x r (says.Name bytes) h = n bytes h
+no_rule line s n t f a b d x r (says.Target u) h = t u h
+no_rule line s n t f a b d x r (says.Fault g) h = f g h
+no_rule line s n t f a b d x r (says.Answer g) h = a g h
+no_rule line s n t f a b d x r (says.Blocked g) h = b g h
+no_rule line s n t f a b d x r (says.Drift g) h = d g h
+no_rule line s n t f a b d x r (says.Noise g) h = x g h
+no_rule line s n t f a b d x r says.NoRepeats h = r h

@@ -1,0 +1,7 @@
+use Rattle.std.proofs.Common.{◌≡◌, drop}
+use Rattle.gc_scenes.specs.Laws.{still}
+use Rattle.gc_engines.specs.RuleScenes.{rules_prism}
+use Rattle.gc_engines.proofs.rule_scene.prism_of.Given as goal
+
+abbrev pub invariant-loop-line : goal.invariant-loop-line
+invariant-loop-line l = rules_prism l.number (drop l.line-index l.lines) l.prism ≡ rules_prism l.number l.lines (still l.fn.target)

@@ -1,0 +1,8 @@
+use Rattle.std.proofs.Common.{◌≡◌, ◌++◌, ◌+◌, ◌≤◌, drop, length}
+use Rattle.gc_engines.specs.RuleScenes.{rules_prisms}
+use Rattle.gc_engines.proofs.rule_scene.prisms_of.Given as goal
+
+abbrev pub invariant-loop-target : goal.invariant-loop-target
+invariant-loop-target l =
+    (l.prisms.items ++ rules_prisms l.lines l.number (drop l.target-index l.targets) ≡ rules_prisms l.lines 1 l.targets)
+    × (length l.prisms.items ≤ l.target-index) × (l.number ≡ l.target-index + 1) × (length l.targets ≤ 32)

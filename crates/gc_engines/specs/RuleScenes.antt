@@ -1,0 +1,177 @@
+-- A scene's text with rules, and the instrument that it sets up: this project's own.
+use Rattle.std.specs.Prelude.{◌≡◌, ◌⊎◌, ℕ, ℤ, suc, ◌==◌, ◌≤◌, Bool, true, false, List, [], ◌∷◌, length, Option, Some, None, if◌then◌else◌, codes}
+use Rattle.gc_catalogue.specs.RawTexts.{raw_bytes}
+use Rattle.gc_catalogue.specs.declared.raw.RawCall.{RawCall}
+use Rattle.gc_instrument.specs.State.{opening, simulator_opening}
+use Rattle.gc_instrument.specs.declared.target.Target.{Target}
+use Rattle.gc_scenes.specs.SceneState.{SceneState}
+use Rattle.gc_scenes.specs.declared.rules.Prism.{Prism}
+use Rattle.gc_scenes.specs.declared.rules.Offset.{Offset}
+use Rattle.gc_scenes.specs.declared.rules.Fault.{Fault}
+use Rattle.gc_scenes.specs.declared.rules.Scripted.{Scripted}
+use Rattle.gc_scenes.specs.declared.rules.Noise.{Noise}
+use Rattle.gc_texts.specs.Cuts.{before, behind}
+use Rattle.gc_texts.specs.LineForms.{IsText}
+use Rattle.gc_texts.specs.Nears.{IsDouble}
+use Rattle.gc_texts.specs.Procedures.{IsNumber}
+use Rattle.gc_engines.specs.Scenes.{IsSerial, IsName, IsTarget}
+use Rattle.gc_engines.specs.declared.rule_line.RuleLine.{RuleLine}
+use Rattle.gc_engines.specs.declared.rule_line.RuleLine.TheVariants as says
+use Rattle.gc_engines.specs.declared.rule_line.Blocked.{Blocked}
+use Rattle.gc_engines.specs.declared.rule_line.Drift.{Drift}
+use Rattle.gc_engines.specs.declared.rule_line.Span.{Span}
+
+-- the greatest number of 32 bits, which stands for "without end"
+abbrev pub no_end : ℕ
+no_end = 4294967295
+
+-- the words begin with this one
+abbrev pub Begins : List ℕ → List ℕ → Type 0
+Begins word words = before 32 words ≡ word
+
+-- nothing, or `for COUNT`
+abbrev pub IsTimes : List ℕ → ℕ → Type 0
+IsTimes [] times = times ≡ no_end
+IsTimes (b ∷ bs) times = Begins (codes "for") (b ∷ bs) × IsNumber (behind 32 (b ∷ bs)) times 4294967295
+
+-- nothing, `after COUNT`, `for COUNT`, or both in this order
+abbrev pub IsSpan : List ℕ → Span → Type 0
+IsSpan words span =
+    (Begins (codes "after") words × IsNumber (before 32 (behind 32 words)) span.after 4294967295 × IsTimes (behind 32 (behind 32 words)) span.times)
+    ⊎ ((Begins (codes "after") words → ⊥) × (span.after ≡ 0) × IsTimes words span.times)
+
+-- `fault RPC RC [after COUNT] [for COUNT]`, of which no request was made yet
+pub record IsFault (line : List ℕ) (f : Fault) : Type 0 where
+  pub word : Begins (codes "fault") line
+  pub rpc : IsNumber (before 32 (behind 32 line)) f.rpc 65535
+  pub rc : IsNumber (before 32 (behind 32 (behind 32 line))) f.rc 65535
+  pub span : IsSpan (behind 32 (behind 32 (behind 32 line))) (record { after = f.after; times = f.times })
+  pub met : f.met ≡ 0
+
+-- `answer RPC RC[,PARAMS]`: a procedure that isn't in the table, and its reply
+pub record IsAnswer (line : List ℕ) (a : Scripted) : Type 0 where
+  pub word : Begins (codes "answer") line
+  pub rpc : IsNumber (before 32 (behind 32 line)) a.rpc 65535
+  pub rc : IsNumber (before 44 (behind 32 (behind 32 line))) a.rc 65535
+  pub call : RawCall
+  pub with_is : a.with ≡ Some call
+  pub number : call.rpc ≡ a.rpc
+  pub params : raw_bytes call.params ≡ behind 44 (behind 32 (behind 32 line))
+
+-- `blocked TARGET FROM TO`
+pub record IsBlocked (line : List ℕ) (b : Blocked) : Type 0 where
+  pub word : Begins (codes "blocked") line
+  pub target : IsNumber (before 32 (behind 32 line)) b.target 32
+  pub from : IsNumber (before 32 (behind 32 (behind 32 line))) b.from 4294967295
+  pub to : IsNumber (behind 32 (behind 32 (behind 32 line))) b.to 4294967295
+
+-- `HZ V D`: three decimals
+pub record IsOffset (words : List ℕ) (o : Offset) : Type 0 where
+  pub hz : IsDouble (before 32 words) o.hz
+  pub v : IsDouble (before 32 (behind 32 words)) o.v
+  pub distance : IsDouble (behind 32 (behind 32 words)) o.distance
+
+-- `drift TARGET HZ V D`
+pub record IsDrift (line : List ℕ) (d : Drift) : Type 0 where
+  pub word : Begins (codes "drift") line
+  pub target : IsNumber (before 32 (behind 32 line)) d.target 32
+  pub by : IsOffset (behind 32 (behind 32 line)) d.by
+
+-- `noise HZ V D SEED`
+pub record IsNoise (line : List ℕ) (n : Noise) : Type 0 where
+  pub word : Begins (codes "noise") line
+  pub hz : IsDouble (before 32 (behind 32 line)) n.hz
+  pub v : IsDouble (before 32 (behind 32 (behind 32 line))) n.v
+  pub distance : IsDouble (before 32 (behind 32 (behind 32 (behind 32 line)))) n.distance
+  pub seed : IsNumber (behind 32 (behind 32 (behind 32 (behind 32 line)))) n.seed 4294967295
+
+-- the line says this, in its form
+abbrev pub IsRuleLine : List ℕ → RuleLine → Type 0
+IsRuleLine line (says.Serial n) = IsSerial line n
+IsRuleLine line (says.Name bytes) = IsName line bytes
+IsRuleLine line (says.Target target) = IsTarget line target
+IsRuleLine line (says.Fault f) = IsFault line f
+IsRuleLine line (says.Answer a) = IsAnswer line a
+IsRuleLine line (says.Blocked b) = IsBlocked line b
+IsRuleLine line (says.Drift d) = IsDrift line d
+IsRuleLine line (says.Noise n) = IsNoise line n
+IsRuleLine line says.NoRepeats = line ≡ codes "repeats no"
+
+-- What lines say together.
+
+-- the serial number of the last line that says one, or `n` where none does
+abbrev pub rules_serial : ℤ → List RuleLine → ℤ
+rules_serial n [] = n
+rules_serial n (says.Serial m ∷ rest) = rules_serial m rest
+rules_serial n (other ∷ rest) = rules_serial n rest
+
+-- the name of the last line that says one, or `name` where none does
+abbrev pub rules_name : List ℕ → List RuleLine → List ℕ
+rules_name name [] = name
+rules_name name (says.Name bytes ∷ rest) = rules_name bytes rest
+rules_name name (other ∷ rest) = rules_name name rest
+
+-- the targets, in order
+abbrev pub rules_targets : List RuleLine → List Target
+rules_targets [] = []
+rules_targets (says.Target target ∷ rest) = target ∷ rules_targets rest
+rules_targets (other ∷ rest) = rules_targets rest
+
+-- the faults, in order
+abbrev pub rules_faults : List RuleLine → List Fault
+rules_faults [] = []
+rules_faults (says.Fault f ∷ rest) = f ∷ rules_faults rest
+rules_faults (other ∷ rest) = rules_faults rest
+
+-- the replies, in order
+abbrev pub rules_answers : List RuleLine → List Scripted
+rules_answers [] = []
+rules_answers (says.Answer a ∷ rest) = a ∷ rules_answers rest
+rules_answers (other ∷ rest) = rules_answers rest
+
+-- the noise of the last line that says one, or `n` where none does
+abbrev pub rules_noise : Option Noise → List RuleLine → Option Noise
+rules_noise n [] = n
+rules_noise n (says.Noise m ∷ rest) = rules_noise (Some m) rest
+rules_noise n (other ∷ rest) = rules_noise n rest
+
+-- whether the instrument repeats: unless a line says that it doesn't
+abbrev pub rules_repeat : Bool → List RuleLine → Bool
+rules_repeat b [] = b
+rules_repeat b (says.NoRepeats ∷ rest) = rules_repeat false rest
+rules_repeat b (other ∷ rest) = rules_repeat b rest
+
+-- the target with the looks in which it is blocked, if the line is of the target with this number
+abbrev pub ruled : ℕ → RuleLine → Prism → Prism
+ruled number (says.Blocked b) p = if b.target == number then record p { from = b.from; to = b.to } else p
+ruled number (says.Drift d) p = if d.target == number then record p { drift = Some d.by } else p
+ruled number other p = p
+
+-- the target with what all lines say of the target with this number; of several of a kind the last counts
+abbrev pub rules_prism : ℕ → List RuleLine → Prism → Prism
+rules_prism number [] p = p
+rules_prism number (line ∷ rest) p = rules_prism number rest (ruled number line p)
+
+-- the targets, of which the first has this number, with what the lines say of them
+abbrev pub rules_prisms : List RuleLine → ℕ → List Target → List Prism
+rules_prisms lines number [] = []
+rules_prisms lines number (t ∷ ts) = rules_prism number lines (record { at = t; drift = None; from = 1; to = 0 }) ∷ rules_prisms lines (suc number) ts
+
+-- the opening state of the instrument that these lines set up: what they don't say is the simulator's, but for the targets
+abbrev pub rules_opening : List RuleLine → SceneState
+rules_opening lines = record {
+  base = opening (rules_serial simulator_opening.serial lines) (rules_name simulator_opening.name lines) [];
+  prisms = rules_prisms lines 1 (rules_targets lines);
+  faults = rules_faults lines;
+  answers = rules_answers lines;
+  noise = rules_noise None lines;
+  looks = 0;
+  repeats = rules_repeat true lines;
+}
+
+-- the text is a scene with rules, of at most 32 targets, 32 faults and 16 replies, and this is the opening state of its instrument
+pub record IsRuleScene (text : List ℕ) (state : SceneState) : Type 0 where
+  pub lines : List RuleLine
+  pub are : IsText IsRuleLine text lines
+  pub few : length (rules_targets lines) ≤ 32
+  pub opens : state ≡ rules_opening lines

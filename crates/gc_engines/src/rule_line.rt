@@ -1,0 +1,330 @@
+//! The reading of one line of a scene with rules. The words of rules are known here alone.
+
+ghost use Rattle.std.specs.Prelude.{◌≡◌, ℕ, List, MatchOption, Some};
+ghost use Rattle.gc_texts.specs.Cuts.{before, behind};
+ghost use Rattle.gc_texts.specs.Procedures.{IsNumber};
+ghost use Rattle.gc_catalogue.specs.declared.raw.RawCall.{RawCall};
+ghost use Rattle.gc_catalogue.specs.RawTexts.{raw_bytes};
+ghost use Rattle.gc_scenes.specs.declared.rules.Fault.{Fault};
+ghost use Rattle.gc_scenes.specs.declared.rules.Scripted.{Scripted};
+ghost use Rattle.gc_scenes.specs.declared.rules.Offset.{Offset};
+ghost use Rattle.gc_scenes.specs.declared.rules.Noise.{Noise};
+ghost use Rattle.gc_engines.specs.RuleScenes.{IsRuleLine, IsFault, IsAnswer, IsBlocked, IsOffset, IsDrift, IsNoise, IsSpan, IsTimes};
+
+use crate::event::is_plain;
+use crate::scene_line::{read_name, read_serial, read_target};
+use gc_catalogue::{RawCall, raw_call};
+use gc_instrument::Target;
+use gc_scenes::{Fault, Noise, Offset, Scripted};
+use gc_texts::{LineForm, before, behind, number_of, read_double};
+use gc_values::Text;
+
+// The greatest number of 32 bits, which stands for "without end".
+const NO_END: u64 = 4294967295;
+
+// The greatest number of a procedure, and the greatest return code.
+const CODE_MAX: u64 = 65535;
+
+// The greatest number of a target.
+const TARGETS: u64 = 32;
+
+/// A target that can't be seen from the one look to the other.
+#[derive(Clone, Copy, Debug, PartialEq, Eq)]
+pub struct Blocked {
+    pub target: u32,
+    pub from: u32,
+    pub to: u32,
+}
+
+/// A target that moves with each measurement of it.
+#[derive(Clone, Copy, Debug, PartialEq, Eq)]
+pub struct Drift {
+    pub target: u32,
+    pub by: Offset,
+}
+
+/// Behind how many requests a fault comes, and for how many.
+#[derive(Clone, Copy, Debug, PartialEq, Eq)]
+pub struct Span {
+    pub after: u32,
+    pub times: u32,
+}
+
+/// What a line of a scene with rules says.
+#[derive(Clone, Copy, Debug, PartialEq, Eq)]
+pub enum RuleLine {
+    /// The instrument's serial number.
+    Serial(i32),
+    /// The instrument's name.
+    Name(Text),
+    /// One more target.
+    Target(Target),
+    /// A procedure that is answered with a return code.
+    Fault(Fault),
+    /// The reply to a procedure that isn't in the table.
+    Answer(Scripted),
+    /// A target that can't be seen.
+    Blocked(Blocked),
+    /// A target that moves.
+    Drift(Drift),
+    /// What is added to measurements.
+    Noise(Noise),
+    /// The instrument keeps no reply.
+    NoRepeats,
+}
+
+/// The form of the lines of a scene with rules.
+pub(crate) struct RuleForm;
+
+impl LineForm for RuleForm {
+    type Item = RuleLine;
+
+    ghost form = { IsRuleLine };
+
+    fn blank() -> RuleLine {
+        RuleLine::NoRepeats
+    }
+
+    fn read(line: &[u8], says: &mut RuleLine) -> bool {
+        match read_rule_line(line) {
+            Some(found) => {
+                *says = found;
+                true
+            }
+            None => false,
+        }
+    }
+}
+
+// Reads one line of a scene with rules. `None`: it has no form.
+fn read_rule_line(line: &[u8]) -> Option<RuleLine>
+    ensures { MatchOption result ((says : RuleLine) → IsRuleLine line.now says → ⊥) (λ says. IsRuleLine line.now says) }
+{
+    if let Some(serial) = read_serial(line) {
+        return Some(RuleLine::Serial(serial));
+    }
+    if let Some(name) = read_name(line) {
+        return Some(RuleLine::Name(name));
+    }
+    if let Some(target) = read_target(line) {
+        return Some(RuleLine::Target(target));
+    }
+    if let Some(fault) = read_fault(line) {
+        return Some(RuleLine::Fault(fault));
+    }
+    if let Some(answer) = read_answer(line) {
+        return Some(RuleLine::Answer(answer));
+    }
+    if let Some(blocked) = read_blocked(line) {
+        return Some(RuleLine::Blocked(blocked));
+    }
+    if let Some(drift) = read_drift(line) {
+        return Some(RuleLine::Drift(drift));
+    }
+    if let Some(noise) = read_noise(line) {
+        return Some(RuleLine::Noise(noise));
+    }
+    if is_plain(b"repeats no", line) {
+        return Some(RuleLine::NoRepeats);
+    }
+    None
+}
+
+// Reads nothing, or `for COUNT`. `None`: the words have no such form.
+fn read_times(words: &[u8]) -> Option<u32>
+    ensures { MatchOption result ((n : ℕ) → IsTimes words.now n → ⊥) (λ n. IsTimes words.now n) }
+{
+    if words.is_empty() {
+        return Some(NO_END as u32);
+    }
+    if !is_plain(b"for", before(b' ', words)) {
+        return None;
+    }
+    match number_of(behind(b' ', words), NO_END) {
+        Some(n) => Some(n as u32),
+        None => None,
+    }
+}
+
+// Reads `COUNT [for COUNT]`, which stand behind `after`. `None`: the words have no such form.
+fn read_after(words: &[u8]) -> Option<Span>
+    ensures { MatchOption result ((span : Span) → IsNumber (before 32 words.now) span.after 4294967295 → IsTimes (behind 32 words.now) span.times → ⊥)
+        (λ span. IsNumber (before 32 words.now) span.after 4294967295 × IsTimes (behind 32 words.now) span.times) }
+{
+    let Some(after) = number_of(before(b' ', words), NO_END) else {
+        return None
+    };
+    match read_times(behind(b' ', words)) {
+        Some(times) => Some(Span {
+            after: after as u32,
+            times,
+        }),
+        None => None,
+    }
+}
+
+// Reads nothing, `after COUNT`, `for COUNT`, or both. `None`: the words have no such form.
+fn read_span(words: &[u8]) -> Option<Span>
+    ensures { MatchOption result ((span : Span) → IsSpan words.now span → ⊥) (λ span. IsSpan words.now span) }
+{
+    if is_plain(b"after", before(b' ', words)) {
+        return read_after(behind(b' ', words));
+    }
+    match read_times(words) {
+        Some(times) => Some(Span { after: 0, times }),
+        None => None,
+    }
+}
+
+// Reads `fault RPC RC [after COUNT] [for COUNT]`. `None`: the line has no such form.
+fn read_fault(line: &[u8]) -> Option<Fault>
+    ensures { MatchOption result ((f : Fault) → IsFault line.now f → ⊥) (λ f. IsFault line.now f) }
+{
+    if !is_plain(b"fault", before(b' ', line)) {
+        return None;
+    }
+    let rest = behind(b' ', line);
+    let Some(rpc) = number_of(before(b' ', rest), CODE_MAX) else {
+        return None
+    };
+    let rest = behind(b' ', rest);
+    let Some(rc) = number_of(before(b' ', rest), CODE_MAX) else {
+        return None
+    };
+    match read_span(behind(b' ', rest)) {
+        Some(span) => Some(Fault::new(rpc as u16, rc as u16, span.after, span.times)),
+        None => None,
+    }
+}
+
+// The number of a procedure or the return code that the digits write. `None`: they write none.
+fn code_of(digits: &[u8]) -> Option<u16>
+    ensures { MatchOption result ((n : ℕ) → IsNumber digits.now n 65535 → ⊥) (λ n. IsNumber digits.now n 65535) }
+{
+    match number_of(digits, CODE_MAX) {
+        Some(n) => Some(n as u16),
+        None => None,
+    }
+}
+
+// The reply with this code to a procedure that isn't in the table. `None`: the procedure is in the table, or the parameters can't
+// stand in a reply.
+fn scripted(rpc: u16, rc: u16, params: &[u8]) -> Option<Scripted>
+    ensures { MatchOption result ((a : Scripted) (call : RawCall) → a.rpc ≡ rpc → a.with ≡ Some call → call.rpc ≡ rpc → raw_bytes call.params ≡ params.now → ⊥)
+        (λ a. (a.rpc ≡ rpc) × (a.rc ≡ rc) × ((call : RawCall) × (a.with ≡ Some call) × (call.rpc ≡ rpc) × (raw_bytes call.params ≡ params.now))) }
+{
+    match raw_call(rpc, params) {
+        Ok(call) => Scripted::new(call, rc),
+        Err(_) => None,
+    }
+}
+
+// Reads `answer RPC RC[,PARAMS]`. `None`: the line has no such form.
+fn read_answer(line: &[u8]) -> Option<Scripted>
+    ensures { MatchOption result ((a : Scripted) → IsAnswer line.now a → ⊥) (λ a. IsAnswer line.now a) }
+{
+    if !is_plain(b"answer", before(b' ', line)) {
+        return None;
+    }
+    let rest = behind(b' ', line);
+    let Some(rpc) = code_of(before(b' ', rest)) else {
+        return None
+    };
+    let rest = behind(b' ', rest);
+    let Some(rc) = code_of(before(b',', rest)) else {
+        return None
+    };
+    scripted(rpc, rc, behind(b',', rest))
+}
+
+// Reads `blocked TARGET FROM TO`. `None`: the line has no such form.
+fn read_blocked(line: &[u8]) -> Option<Blocked>
+    ensures { MatchOption result ((b : Blocked) → IsBlocked line.now b → ⊥) (λ b. IsBlocked line.now b) }
+{
+    if !is_plain(b"blocked", before(b' ', line)) {
+        return None;
+    }
+    let rest = behind(b' ', line);
+    let Some(target) = number_of(before(b' ', rest), TARGETS) else {
+        return None
+    };
+    let rest = behind(b' ', rest);
+    let Some(from) = number_of(before(b' ', rest), NO_END) else {
+        return None
+    };
+    match number_of(behind(b' ', rest), NO_END) {
+        Some(to) => Some(Blocked {
+            target: target as u32,
+            from: from as u32,
+            to: to as u32,
+        }),
+        None => None,
+    }
+}
+
+// Reads `HZ V D`. `None`: the words have no such form.
+fn read_offset(words: &[u8]) -> Option<Offset>
+    ensures { MatchOption result ((o : Offset) → IsOffset words.now o → ⊥) (λ o. IsOffset words.now o) }
+{
+    let Some(hz) = read_double(before(b' ', words)) else {
+        return None
+    };
+    let rest = behind(b' ', words);
+    let Some(v) = read_double(before(b' ', rest)) else {
+        return None
+    };
+    match read_double(behind(b' ', rest)) {
+        Some(distance) => Some(Offset { hz, v, distance }),
+        None => None,
+    }
+}
+
+// Reads `drift TARGET HZ V D`. `None`: the line has no such form.
+fn read_drift(line: &[u8]) -> Option<Drift>
+    ensures { MatchOption result ((d : Drift) → IsDrift line.now d → ⊥) (λ d. IsDrift line.now d) }
+{
+    if !is_plain(b"drift", before(b' ', line)) {
+        return None;
+    }
+    let rest = behind(b' ', line);
+    let Some(target) = number_of(before(b' ', rest), TARGETS) else {
+        return None
+    };
+    match read_offset(behind(b' ', rest)) {
+        Some(by) => Some(Drift {
+            target: target as u32,
+            by,
+        }),
+        None => None,
+    }
+}
+
+// Reads `noise HZ V D SEED`. `None`: the line has no such form.
+fn read_noise(line: &[u8]) -> Option<Noise>
+    ensures { MatchOption result ((n : Noise) → IsNoise line.now n → ⊥) (λ n. IsNoise line.now n) }
+{
+    if !is_plain(b"noise", before(b' ', line)) {
+        return None;
+    }
+    let rest = behind(b' ', line);
+    let Some(hz) = read_double(before(b' ', rest)) else {
+        return None
+    };
+    let rest = behind(b' ', rest);
+    let Some(v) = read_double(before(b' ', rest)) else {
+        return None
+    };
+    let rest = behind(b' ', rest);
+    let Some(distance) = read_double(before(b' ', rest)) else {
+        return None
+    };
+    match number_of(behind(b' ', rest), NO_END) {
+        Some(seed) => Some(Noise {
+            hz,
+            v,
+            distance,
+            seed: seed as u32,
+        }),
+        None => None,
+    }
+}

@@ -1,0 +1,223 @@
+//! The text of a scene with rules, read into the instrument that it sets up.
+
+ghost use Rattle.std.specs.Prelude.{◌≡◌, ◌<◌, ◌≤◌, ◌↔◌, ◌++◌, length, Err, IfOk, IfSome, None, true};
+ghost use Rattle.gc_instrument.specs.State.{simulator_opening};
+ghost use Rattle.gc_texts.specs.declared.fault.RunFault.{RunFault};
+ghost use Rattle.gc_texts.specs.declared.text.TheConstants.{TEXT_LIMIT};
+ghost use Rattle.gc_scenes.specs.Laws.{still};
+ghost use Rattle.gc_engines.specs.RuleScenes.{IsRuleScene, rules_opening, rules_serial, rules_name, rules_targets, rules_faults, rules_answers, rules_noise, rules_repeat, rules_prism, rules_prisms, ruled};
+
+use crate::rule_line::{RuleForm, RuleLine};
+use arrayvec::ArrayVec;
+use gc_instrument::Target;
+use gc_scenes::{Fault, Noise, Prism, SceneInstrument, Scripted};
+use gc_texts::{RunFault, read_items};
+use gc_values::Text;
+use std::alloc::Global;
+
+/// Reads the text of a scene with rules, and gives the instrument that it sets up, in its opening state.
+///
+/// A line is one of a scene, or a rule: `fault RPC RC [after COUNT] [for COUNT]`, `answer RPC RC[,PARAMS]`,
+/// `blocked TARGET FROM TO`, `drift TARGET HZ V D`, `noise HZ V D SEED` or `repeats no`. Of several lines `blocked` or `drift` of one
+/// target, or `noise`, the last one counts.
+///
+/// `InputTooLong` refuses a text of more than 65,536 bytes, before any line is looked at. `Schedule` names the first line that has
+/// no form, counted from 1. `SceneFull` refuses more than 32 targets, 32 faults or 16 replies, where each line has a form. `Memory`
+/// comes only where the list of lines couldn't grow.
+pub fn read_rule_scene(alloc: Global, text: &[u8]) -> Result<SceneInstrument, RunFault>
+    ensures { IfOk result (λ instrument. IsRuleScene text.now instrument) }
+{
+    let lines = match read_items::<RuleForm>(alloc, text) {
+        Ok(lines) => lines,
+        Err(fault) => return Err(fault),
+    };
+    match set_up(lines.as_slice()) {
+        Some(instrument) => Ok(instrument),
+        None => Err(RunFault::SceneFull),
+    }
+}
+
+// The instrument that these lines set up. `None`: they have too many targets, faults or replies.
+fn set_up(lines: &[RuleLine]) -> Option<SceneInstrument>
+    ensures { IfSome result (λ instrument. (instrument ≡ rules_opening lines.now) × (length (rules_targets lines.now) ≤ 32)) }
+{
+    let Some(targets) = targets_of(lines) else {
+        return None
+    };
+    let Some(faults) = faults_of(lines) else {
+        return None
+    };
+    let Some(answers) = answers_of(lines) else {
+        return None
+    };
+    Some(SceneInstrument::new(
+        serial_of(lines),
+        name_of(lines),
+        prisms_of(lines, targets.as_slice()),
+        faults,
+        answers,
+        noise_of(lines),
+        repeats(lines),
+    ))
+}
+
+// The serial number of the last line that says one, or the simulator's.
+fn serial_of(lines: &[RuleLine]) -> i32
+    ensures { result ≡ rules_serial simulator_opening.serial lines.now }
+{
+    let mut serial = 123456;
+    for line in lines {
+        let RuleLine::Serial(said) = *line else {
+            continue;
+        };
+        serial = said;
+    }
+    serial
+}
+
+// The name of the last line that says one, or the simulator's.
+fn name_of(lines: &[RuleLine]) -> Text
+    ensures { result ≡ rules_name simulator_opening.name lines.now }
+{
+    let mut name = simulator_name();
+    for line in lines {
+        let RuleLine::Name(said) = *line else {
+            continue;
+        };
+        name = said;
+    }
+    name
+}
+
+// The targets of these lines, in order. `None`: they are more than an instrument has.
+fn targets_of(lines: &[RuleLine]) -> Option<ArrayVec<Target, 32>>
+    ensures { IfSome result (λ targets. targets.items ≡ rules_targets lines.now) }
+{
+    let mut targets = ArrayVec::new();
+    for line in lines {
+        let RuleLine::Target(target) = *line else {
+            continue;
+        };
+        if targets.try_push(target).is_err() {
+            return None;
+        }
+    }
+    Some(targets)
+}
+
+// The faults of these lines, in order. `None`: they are more than an instrument has.
+fn faults_of(lines: &[RuleLine]) -> Option<ArrayVec<Fault, 32>>
+    ensures { IfSome result (λ faults. faults.items ≡ rules_faults lines.now) }
+{
+    let mut faults = ArrayVec::new();
+    for line in lines {
+        let RuleLine::Fault(fault) = *line else {
+            continue;
+        };
+        if faults.try_push(fault).is_err() {
+            return None;
+        }
+    }
+    Some(faults)
+}
+
+// The replies of these lines, in order. `None`: they are more than an instrument has.
+fn answers_of(lines: &[RuleLine]) -> Option<ArrayVec<Scripted, 16>>
+    ensures { IfSome result (λ answers. answers.items ≡ rules_answers lines.now) }
+{
+    let mut answers = ArrayVec::new();
+    for line in lines {
+        let RuleLine::Answer(answer) = *line else {
+            continue;
+        };
+        if answers.try_push(answer).is_err() {
+            return None;
+        }
+    }
+    Some(answers)
+}
+
+// The noise of the last line that says one.
+fn noise_of(lines: &[RuleLine]) -> Option<Noise>
+    ensures { result ≡ rules_noise None lines.now }
+{
+    let mut noise = None;
+    for line in lines {
+        let RuleLine::Noise(said) = *line else {
+            continue;
+        };
+        noise = Some(said);
+    }
+    noise
+}
+
+// Whether the instrument repeats: unless a line says that it doesn't.
+fn repeats(lines: &[RuleLine]) -> bool
+    ensures { result ≡ rules_repeat true lines.now }
+{
+    let mut repeats = true;
+    for line in lines {
+        let RuleLine::NoRepeats = *line else {
+            continue;
+        };
+        repeats = false;
+    }
+    repeats
+}
+
+// The target with the number, with what the line says of it, if it does.
+fn ruled(number: u32, line: &RuleLine, prism: &Prism) -> Prism
+    ensures { result ≡ ruled number line.now prism.now }
+{
+    match *line {
+        RuleLine::Blocked(blocked) if blocked.target == number => Prism {
+            at: prism.at,
+            drift: prism.drift,
+            from: blocked.from,
+            to: blocked.to,
+        },
+        RuleLine::Drift(drift) if drift.target == number => Prism {
+            at: prism.at,
+            drift: Some(drift.by),
+            from: prism.from,
+            to: prism.to,
+        },
+        _ => *prism,
+    }
+}
+
+// The target with this number, with what all lines say of it.
+fn prism_of(number: u32, lines: &[RuleLine], target: Target) -> Prism
+    ensures { result ≡ rules_prism number lines.now (still target) }
+{
+    let mut prism = Prism::still(target);
+    for line in lines {
+        prism = ruled(number, line, &prism);
+    }
+    prism
+}
+
+// The targets, with what the lines say of them.
+fn prisms_of(lines: &[RuleLine], targets: &[Target]) -> ArrayVec<Prism, 32>
+    requires { length targets.now ≤ 32 }
+    ensures { result.items ≡ rules_prisms lines.now 1 targets.now }
+{
+    let mut prisms = ArrayVec::new();
+    let mut number = 1u32;
+    for target in targets {
+        // There is room, since there are as many as targets.
+        let _ = prisms.try_push(prism_of(number, lines, *target));
+        number = number.saturating_add(1);
+    }
+    prisms
+}
+
+// The simulator's name. These ten plain bytes always make a text.
+fn simulator_name() -> Text
+    ensures { result ≡ simulator_opening.name }
+{
+    match Text::new(b"GEOCOM SIM") {
+        Ok(name) => name,
+        Err(_) => unreachable!(),
+    }
+}

@@ -1,0 +1,5 @@
+pub mod Instance
+pub mod Playing
+pub mod Rows
+pub mod Shifts
+pub mod Turns

@@ -1,0 +1,162 @@
+-- What the code appends for a request is what the definitions give.
+use Rattle.std.proofs.Common.{◌≡◌, ◌≢◌, ℕ, List, [], ◌∷◌, ◌++◌, Some, None, Option, Result, Ok, Err, true, false, refl, sym, ap, ◌∙◌, subst, append_assoc}
+use Rattle.std.specs.Prelude.{unwrap_or}
+use Rattle.gc_lines.specs.Answering.{AppendsAnswer}
+use Rattle.gc_lines.specs.Headers.{Gives}
+use Rattle.gc_lines.specs.Lines.{with_end}
+use Rattle.gc_lines.specs.Requests.{RequestFields, IsRequest}
+use Rattle.gc_lines.specs.declared.fault.LineFault.{LineFault}
+use Rattle.gc_lines.specs.declared.frame.Frame.TheVariants.{Line}
+use Rattle.gc_lines.specs.declared.request.Request.{Request}
+use Rattle.gc_values.specs.declared.fault.ValueFault.{ValueFault}
+use Rattle.gc_catalogue.specs.Calls.{IsCall, IsRefusal}
+use Rattle.gc_catalogue.specs.Texts.{reply_line}
+use Rattle.gc_catalogue.specs.declared.answer.Answer.{Answer}
+use Rattle.gc_catalogue.specs.declared.answer.Answer.TheVariants as answer
+use Rattle.gc_catalogue.specs.declared.call.Call.{Call}
+use Rattle.gc_catalogue.specs.declared.fault.CallFault.TheVariants.{Unknown, Parameters}
+use Rattle.gc_instrument.specs.Execution.{Executed}
+use Rattle.gc_instrument.specs.Replying.{refusal_line, reply_id}
+use Rattle.gc_instrument.proofs.Executions.{exec_outcome}
+use Rattle.gc_scenes.specs.Appending.{AppendsGave, AppendsPlayed, AppendsReply}
+use Rattle.gc_scenes.specs.Machine.{seeing}
+use Rattle.gc_scenes.specs.Rules.{fault_of, answer_of, noisy, noise_after, seen}
+use Rattle.gc_scenes.specs.SceneExecution.{Played, plays, table_outcome, behind_call, look_of, played_call, played_raw, unless_faulted_raw, scripted, counting, faulted}
+use Rattle.gc_scenes.specs.SceneReplying.{IsPlayed, silent, answers, AnswersRequest, names_call, names_none, unreadable, again_for, again_or_played, handed_call, handed_raw, played_or_refused, holding, kept_behind, line_of}
+use Rattle.gc_scenes.specs.SceneServing.{PlaysFrame}
+use Rattle.gc_scenes.specs.SceneState.{SceneState}
+use Rattle.gc_scenes.specs.declared.rules.Noise.{Noise}
+use Rattle.gc_scenes.specs.declared.rules.Scripted.{Scripted}
+use Rattle.gc_scenes.specs.Params.{scripted_params}
+
+-- A request that isn't executed, or is.
+
+-- the line that is sent again
+pub gave_again : (s : SceneState) (id : Option ℕ) (p : Played) (line old new : List ℕ) → again_for s id ≡ Some line → new ≡ old ++ line
+    → AppendsGave (again_or_played s id p (again_for s id)) s old new
+gave_again s id p line old new again appended =
+    subst (λ (o : Option (List ℕ)). AppendsGave (again_or_played s id p o) s old new) (sym again) (record { state = refl; appended = appended })
+
+-- its own reply, which is kept
+pub gave_played : (s : SceneState) (id : Option ℕ) (p : Played) (number : ℕ) (played after : SceneState) (line old new : List ℕ) → again_for s id ≡ None
+    → number ≡ unwrap_or id 0 → played ≡ p.state → new ≡ old ++ line_of number p → line ≡ line_of number p → after ≡ holding (kept_behind played id line) played
+    → AppendsGave (again_or_played s id p (again_for s id)) after old new
+gave_played s id p number played after line old new none is state appended own kept =
+    let one : line_of number p ≡ line_of (unwrap_or id 0) p = ap (λ n. line_of n p) is in
+    subst (λ (o : Option (List ℕ)). AppendsGave (again_or_played s id p o) after old new) (sym none)
+    (record {
+      state = kept ∙ ap (λ (l : List ℕ). holding (kept_behind played id l) played) (own ∙ one) ∙ ap (λ (t : SceneState). holding (kept_behind t id (line_of (unwrap_or id 0) p)) t) state;
+      appended = appended ∙ ap (λ (l : List ℕ). old ++ l) one;
+    })
+
+-- what comes of a call, by what comes of the request
+pub gave_call : (s after : SceneState) (rpc : ℕ) (id : Option ℕ) (call : Call) (old new : List ℕ) → AppendsGave (again_or_played s id (played_call s rpc call) (again_for s id)) after old new
+    → AppendsGave (handed_call s rpc id call) after old new
+unfolding handed_call
+gave_call s after rpc id call old new h = h
+
+-- what comes of a request of a procedure that isn't in the table, by what the scene has for it
+module _ (s after : SceneState) (rpc : ℕ) (id : Option ℕ) (old new : List ℕ) where
+  -- by what is played, if anything is
+  by_played : (o : Option Played) → played_raw s rpc ≡ o → AppendsGave (played_or_refused s rpc id o) after old new → AppendsGave (handed_raw s rpc id) after old new
+  unfolding handed_raw
+  by_played o is h = subst (λ (p : Option Played). AppendsGave (played_or_refused s rpc id p) after old new) (sym is) h
+
+  -- a fault has a code for it
+  pub gave_fault : (code : ℕ) → Some code ≡ fault_of rpc s.faults → AppendsGave (again_or_played s id (record { state = counting rpc s; rc = code; params = [] }) (again_for s id)) after old new
+      → AppendsGave (handed_raw s rpc id) after old new
+  gave_fault code is h = by_played (Some (faulted (counting rpc s) code)) (ap (unless_faulted_raw (counting rpc s) rpc) (sym is)) h
+
+  -- no fault has one, and the scene has a reply
+  pub gave_scripted : (a : Scripted) → None ≡ fault_of rpc s.faults → Some a ≡ answer_of rpc s.answers
+      → AppendsGave (again_or_played s id (record { state = counting rpc s; rc = a.rc; params = scripted_params a.with }) (again_for s id)) after old new
+      → AppendsGave (handed_raw s rpc id) after old new
+  gave_scripted a none is h =
+      by_played (Some (record { state = counting rpc s; rc = a.rc; params = scripted_params a.with }))
+      (ap (unless_faulted_raw (counting rpc s) rpc) (sym none) ∙ ap (scripted (counting rpc s)) (sym is)) h
+
+  -- there is neither
+  pub gave_refusal : None ≡ fault_of rpc s.faults → None ≡ answer_of rpc s.answers → after ≡ counting rpc s → new ≡ old ++ refusal_line (unwrap_or id 0) Unknown
+      → AppendsGave (handed_raw s rpc id) after old new
+  gave_refusal none unknown state appended =
+      by_played None (ap (unless_faulted_raw (counting rpc s) rpc) (sym none) ∙ ap (scripted (counting rpc s)) (sym unknown)) (record { state = state; appended = appended })
+
+-- Executing.
+
+-- noise makes no answer of none
+noise_of_none : (n : Option Noise) (a : Answer) → a ≡ answer.Nothing → noisy n a ≡ answer.Nothing
+noise_of_none None a is = is
+noise_of_none (Some n) a is = ap (noisy (Some n)) is
+
+-- with a code that isn't 0 nothing is told
+pub refuses : (s t : SceneState) (call : Call) (x : Executed) (code : ℕ) (said told : Answer) → table_outcome s call ≡ record { state = x.state; rc = code; answer = said }
+    → told ≡ noisy t.noise said → code ≢ 0 → told ≡ answer.Nothing
+refuses s t call x code said told is noise some =
+    let outcome = exec_outcome (seeing (seen (look_of s.looks call) s.prisms) s.base) call in
+    noise ∙ noise_of_none t.noise said (sym (ap (λ (y : Executed). y.answer) is) ∙ outcome.refuses (λ none. some (sym (ap (λ (y : Executed). y.rc) is) ∙ none)))
+
+-- what comes of an executed call
+pub executed : (s t u : SceneState) (call : Call) (number code places : ℕ) (said told : Answer) (old new : List ℕ)
+    → table_outcome s call ≡ record { state = (table_outcome s call).state; rc = code; answer = said }
+    → t ≡ record (behind_call s call (table_outcome s call)) { noise = s.noise } → told ≡ noisy t.noise said → u ≡ record t { noise = noise_after t.noise said } → places ≡ u.base.precision
+    → new ≡ old ++ reply_line number code told places → AppendsPlayed number (plays s call) u old new
+unfolding plays
+executed s t u call number code places said told old new is state noise drawn precision appended =
+    let x = table_outcome s call in
+    let rc : code ≡ x.rc = sym (ap (λ (y : Executed). y.rc) is) in
+    let ans : said ≡ x.answer = sym (ap (λ (y : Executed). y.answer) is) in
+    let quiet : t.noise ≡ s.noise = ap (λ (y : SceneState). y.noise) state in
+    let after : u ≡ behind_call s call x =
+    drawn ∙ ap (λ (y : SceneState). record y { noise = noise_after y.noise said }) state ∙ ap (λ (a : Answer). record (behind_call s call x) { noise = noise_after s.noise a }) ans in
+    let said_is : told ≡ noisy s.noise x.answer = noise ∙ ap (λ (n : Option Noise). noisy n said) quiet ∙ ap (noisy s.noise) ans in
+    let places_is : places ≡ x.state.precision = precision ∙ ap (λ (y : SceneState). y.base.precision) after in
+    record {
+      state = after;
+      appended = appended ∙ ap (λ (c : ℕ). old ++ reply_line number c told places) rc ∙ ap (λ (a : Answer). old ++ reply_line number x.rc a places) said_is
+          ∙ ap (λ (p : ℕ). old ++ reply_line number x.rc (noisy s.noise x.answer) p) places_is;
+    }
+
+-- Lines.
+
+-- what a request for a call gives is the reply to the request
+pub call_reply : (before after : SceneState) (q : RequestFields) (call : Call) (old new : List ℕ) → IsCall q.rpc q.params call → AppendsGave (handed_call before q.rpc q.id call) after old new
+    → AppendsReply before q after old new
+call_reply before after q call old new is h =
+    record { text = (handed_call before q.rpc q.id call).reply; appended = h.appended; answers = names_call call is (record { state = h.state; line = refl }) }
+
+-- what a request gives whose procedure isn't in the table is the reply to it
+pub raw_reply : (before after : SceneState) (q : RequestFields) (old new : List ℕ) → IsRefusal q.rpc q.params Unknown → AppendsGave (handed_raw before q.rpc q.id) after old new
+    → AppendsReply before q after old new
+raw_reply before after q old new is h =
+    record { text = (handed_raw before q.rpc q.id).reply; appended = h.appended; answers = names_none is (record { state = h.state; line = refl }) }
+
+-- the refusal of parameters that don't read is the reply to the request
+pub unread_reply : (s : SceneState) (q : RequestFields) (e : ValueFault) (number : ℕ) (old new : List ℕ) → IsRefusal q.rpc q.params (Parameters e) → number ≡ reply_id q
+    → new ≡ old ++ refusal_line number (Parameters e) → AppendsReply s q s old new
+unread_reply s q e number old new is same appended =
+    record { text = refusal_line number (Parameters e); appended = appended; answers = unreadable e is refl (ap (λ n. refusal_line n (Parameters e)) same) }
+
+-- the reply to the request that a line is is the reply to the line
+pub request_played : (before after : SceneState) (line bytes : List ℕ) (q : RequestFields) (text : List ℕ) → bytes ≡ line → IsRequest bytes q
+    → AnswersRequest before q after text → IsPlayed before line after (Some text)
+request_played before after line bytes q text same is made = answers q (subst (λ (x : List ℕ). IsRequest x q) same is) text made refl
+
+-- a line that is no request gets no reply. The premise about `view` is the contract of the reading that failed
+pub silence_played : (state : SceneState) (line bytes : List ℕ) (fault : LineFault) (view : Request → RequestFields) → bytes ≡ line
+    → ((q : RequestFields) → IsRequest bytes q → Gives view (Err fault) (Ok q)) → IsPlayed state line state None
+silence_played state line bytes fault view same only =
+    silent (λ q is. let wrong : ◌≡◌ {A = Result RequestFields LineFault} (Ok q) (Err fault) = only q (subst (λ (x : List ℕ). IsRequest x q) (sym same) is) in cc) refl refl
+
+-- where a reply was appended to the empty text, the text is then that reply
+pub played_alone : (s t : SceneState) (line new : List ℕ) → AppendsAnswer (IsPlayed s line t) [] new true → IsPlayed s line t (Some new)
+played_alone s t line new h = subst (λ (text : List ℕ). IsPlayed s line t (Some text)) (sym h.2) h.1
+
+-- appending a line's reply, and CR LF behind it, is how the instrument answers the frame of that line
+pub answered_line : (before after : SceneState) (line old between new : List ℕ) → AppendsAnswer (IsPlayed before line after) old between true → new ≡ between ++ 13 ∷ 10 ∷ []
+    → AppendsAnswer (PlaysFrame before (Line (record { items = line })) after) old new true
+answered_line before after line old between new h e = (with_end h.0, (Some h.0, h.1, refl), e ∙ ap (λ (xs : List ℕ). xs ++ 13 ∷ 10 ∷ []) h.2 ∙ append_assoc old h.0 (13 ∷ 10 ∷ []))
+
+-- a line without a reply is answered by nothing
+pub unanswered_line : (before after : SceneState) (line old new : List ℕ) → AppendsAnswer (IsPlayed before line after) old new false
+    → AppendsAnswer (PlaysFrame before (Line (record { items = line })) after) old new false
+unanswered_line before after line old new h = ((None, h.0, refl), h.1)

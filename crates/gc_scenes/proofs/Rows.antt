@@ -1,0 +1,89 @@
+-- What the execution table has for each call that turns the telescope or asks for a distance or a target; and that each other call neither
+-- looks at targets, at the distance and at what is kept, nor changes them.
+use Rattle.std.proofs.Common.{◌≡◌, ℤ, Bool, true, false, ℕ, List, Option, refl, sym, ap, ◌∙◌, ◌||◌}
+use Rattle.std.specs.Prelude.{int_lt, pos}
+use Rattle.gc_values.specs.declared.decimal.Decimal.{Decimal}
+use Rattle.gc_catalogue.specs.declared.answer.Answer.{Answer}
+use Rattle.gc_catalogue.specs.declared.answer.Answer.TheVariants.{Nothing, Measured, MeasuredMode}
+use Rattle.gc_catalogue.specs.declared.call.Call.{Call}
+use Rattle.gc_catalogue.specs.declared.call.Call.TheVariants as call
+use Rattle.gc_instrument.specs.Execution.{Executed, exec, done, set_if, told, commanded, measured, pointed, turned_over, searched, adjusted}
+use Rattle.gc_instrument.specs.State.{State, KeptReply}
+use Rattle.gc_instrument.specs.Targets.{first_within}
+use Rattle.gc_instrument.specs.declared.target.Target.{Target}
+use Rattle.gc_instrument.proofs.Executions.{exec_outcome}
+use Rattle.gc_scenes.specs.Machine.{over, over_outcome, is_other, CarriesOut}
+
+-- what the table has for TMC_DoMeasure
+pub row_command : (s : State) (command mode : ℤ) → exec s (call.DoMeasure command mode) ≡ commanded s command
+unfolding exec
+row_command s command mode = refl
+
+-- what the table has for TMC_GetSimpleMea
+pub row_simple : (s : State) (wait mode : ℤ) → exec s (call.SimpleMea wait mode) ≡ told s (λ d. Measured s.pointing.hz s.pointing.v d) s.distance
+unfolding exec
+row_simple s wait mode = refl
+
+-- what the table has for TMC_QuickDist
+pub row_quick : (s : State) → exec s call.QuickDist ≡ told (measured s) (λ d. Measured s.pointing.hz s.pointing.v d) (measured s).distance
+unfolding exec
+row_quick s = refl
+
+-- measuring, and answering as TMC_GetSimpleMea does, is TMC_QuickDist
+pub row_quick_of : (s m : State) (x : Executed) → m ≡ measured s → told m (λ d. Measured m.pointing.hz m.pointing.v d) m.distance ≡ x → exec s call.QuickDist ≡ x
+row_quick_of s m x is does = row_quick s ∙ ap (λ (t : State). told t (λ d. Measured t.pointing.hz t.pointing.v d) t.distance) (sym is) ∙ does
+
+-- what the table has for BAP_MeasDistanceAngle
+pub row_distance : (s : State) (mode : ℤ) → exec s (call.MeasDistance mode) ≡ told (measured s) (λ d. MeasuredMode s.pointing.hz s.pointing.v d mode) (measured s).distance
+unfolding exec
+row_distance s mode = refl
+
+-- what the table has for AUT_MakePositioning
+pub row_position : (s : State) (hz v : Decimal) (pos_mode atr_mode : ℤ) (dummy : Bool) → exec s (call.Position hz v pos_mode atr_mode dummy) ≡ done (pointed s hz v) Nothing
+unfolding exec
+row_position s hz v pos_mode atr_mode dummy = refl
+
+-- what the table has for AUT_ChangeFace
+pub row_face : (s : State) (pos_mode atr_mode : ℤ) (dummy : Bool) → exec s (call.ChangeFace pos_mode atr_mode dummy) ≡ done (turned_over s) Nothing
+unfolding exec
+row_face s pos_mode atr_mode dummy = refl
+
+-- what the table has for AUT_FineAdjust
+pub row_adjust : (s : State) (area_hz area_v : Decimal) (dummy : Bool) → exec s (call.FineAdjust area_hz area_v dummy) ≡ searched s area_hz area_v
+unfolding exec
+row_adjust s area_hz area_v dummy = refl
+
+-- setting a value is the same over any targets, distance and kept reply
+set_over : (targets : List Target) (d : Option Decimal) (kept : Option KeptReply) (b : Bool) (s t : State) → set_if b (over targets d kept s) (over targets d kept t) ≡ over_outcome targets d kept (set_if b s t)
+set_over targets d kept true s t = refl
+set_over targets d kept false s t = refl
+
+-- each other call is the same over any targets, distance and kept reply
+pub others : (targets : List Target) (d : Option Decimal) (kept : Option KeptReply) (s : State) (asked : Call) → is_other asked ≡ true
+    → exec (over targets d kept s) asked ≡ over_outcome targets d kept (exec s asked)
+unfolding exec
+others targets d kept s (call.SetPrecision n) is = set_over targets d kept _ _ _
+others targets d kept s (call.SetDate date) is = set_over targets d kept _ _ _
+others targets d kept s (call.SetPrism n) is = set_over targets d kept _ _ _
+others targets d kept s (call.DoMeasure command mode) is = let never : ⊥ = cc in absurd never
+others targets d kept s (call.SimpleMea wait mode) is = let never : ⊥ = cc in absurd never
+others targets d kept s call.QuickDist is = let never : ⊥ = cc in absurd never
+others targets d kept s (call.MeasDistance mode) is = let never : ⊥ = cc in absurd never
+others targets d kept s (call.Position hz v pos_mode atr_mode dummy) is = let never : ⊥ = cc in absurd never
+others targets d kept s (call.ChangeFace pos_mode atr_mode dummy) is = let never : ⊥ = cc in absurd never
+others targets d kept s (call.FineAdjust area_hz area_v dummy) is = let never : ⊥ = cc in absurd never
+others targets d kept s asked is = refl
+
+-- a call that was passed on to an instrument is carried out over any targets
+pub passed : (targets : List Target) (d : Option Decimal) (kept : Option KeptReply) (before after : State) (asked : Call) (code : ℕ) (said : Answer) → is_other asked ≡ true
+    → exec before asked ≡ record { state = after; rc = code; answer = said }
+    → CarriesOut targets (over before.scene d kept before) asked (over after.scene d kept after) code said
+passed targets d kept before after asked code said other does = record {
+  gives = others targets d kept before asked other ∙ ap (over_outcome targets d kept) does;
+  same = ap (λ (x : Executed). x.state.scene) (sym does) ∙ ap (λ (s : State). s.scene) (exec_outcome before asked).same;
+}
+
+-- a search within areas that aren't below zero finds the first target within them
+pub searched_found : (s : State) (area_hz area_v : Decimal) (o : Option Target) → (int_lt area_hz.digits (pos 0) || int_lt area_v.digits (pos 0)) ≡ false
+    → o ≡ first_within s.pointing area_hz area_v s.scene → searched s area_hz area_v ≡ adjusted s o
+searched_found s area_hz area_v o some is = rw some (ap (adjusted s) (sym is))

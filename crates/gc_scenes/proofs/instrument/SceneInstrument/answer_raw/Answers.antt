@@ -1,0 +1,18 @@
+use Rattle.std.proofs.Common.{sym, ap, ◌∙◌, ◌++◌}
+use Rattle.gc_catalogue.specs.declared.fault.CallFault.TheVariants.{Unknown}
+use Rattle.gc_instrument.specs.Replying.{refusal_line}
+use Rattle.gc_scenes.proofs.Playing.{gave_fault, gave_scripted, gave_refusal}
+use Rattle.gc_scenes.proofs.instrument.SceneInstrument.answer_raw.Goals as goal
+
+pub returns-in-Some-clause-gave : goal.returns-in-Some-clause-gave
+returns-in-Some-clause-gave g c = gave_fault c.args.self.now _ c.args.rpc c.args.id _ _ c.in-Some.rc (sym c.in-Some.is ∙ c.fault_of.ensures.code) c.answer_with.ensures.gave
+
+pub returns-in-Some-answer_of-clause-gave : goal.returns-in-Some-answer_of-clause-gave
+returns-in-Some-answer_of-clause-gave g c =
+    let h = rw c.params.ensures.value at c.answer_with-in-Some-answer_of.ensures.gave in
+    gave_scripted c.args.self.now _ c.args.rpc c.args.id _ _ c.in-Some-answer_of.scripted (sym c.in-None.is ∙ c.fault_of.ensures.code) (sym c.in-Some-answer_of.is ∙ c.answer_of.ensures) h
+
+pub returns-in-None-answer_of-clause-gave : goal.returns-in-None-answer_of-clause-gave
+returns-in-None-answer_of-clause-gave g c =
+    gave_refusal c.args.self.now _ c.args.rpc c.args.id _ _ (sym c.in-None.is ∙ c.fault_of.ensures.code) (sym c.in-None-answer_of.is ∙ c.answer_of.ensures) c.count.ensures
+    (c.push_reply.ensures.items ∙ ap (λ n. c.args.out.now.items ++ refusal_line n Unknown) c.unwrap_or.ensures)

@@ -1,0 +1,6 @@
+use Rattle.std.proofs.Common.{◌≡◌, ◌++◌, ◌≤◌, drop, length}
+use Rattle.gc_scenes.specs.Rules.{counted}
+use Rattle.gc_scenes.proofs.instrument.counted.Given as goal
+
+abbrev pub invariant-loop-fault : goal.invariant-loop-fault
+invariant-loop-fault l = (l.all.items ++ counted l.rpc (drop l.fault-index l.faults) ≡ counted l.rpc l.faults) × (length l.all.items ≤ l.fault-index)

@@ -1,0 +1,6 @@
+use Rattle.std.proofs.Common.{◌≡◌, drop}
+use Rattle.gc_scenes.specs.Rules.{fault_of}
+use Rattle.gc_scenes.proofs.instrument.fault_of.Given as goal
+
+abbrev pub invariant-loop-fault : goal.invariant-loop-fault
+invariant-loop-fault l = (fault_of l.rpc (drop l.fault-index l.faults) ≡ fault_of l.rpc l.faults)

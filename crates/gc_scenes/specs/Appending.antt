@@ -1,0 +1,23 @@
+-- What the code appends for a request: this project's own.
+use Rattle.std.specs.Prelude.{◌≡◌, ℕ, List, ◌++◌}
+use Rattle.gc_lines.specs.Requests.{RequestFields}
+use Rattle.gc_instrument.specs.Replying.{Handed}
+use Rattle.gc_scenes.specs.SceneExecution.{Played}
+use Rattle.gc_scenes.specs.SceneReplying.{AnswersRequest, line_of}
+use Rattle.gc_scenes.specs.SceneState.{SceneState}
+
+-- this was given, and the reply appended
+pub record AppendsGave (x : Handed SceneState) (after : SceneState) (old new : List ℕ) : Type 0 where
+  pub state : after ≡ x.state
+  pub appended : new ≡ old ++ x.reply
+
+-- this came of a request, and its line with the id was appended
+pub record AppendsPlayed (number : ℕ) (p : Played) (after : SceneState) (old new : List ℕ) : Type 0 where
+  pub state : after ≡ p.state
+  pub appended : new ≡ old ++ line_of number p
+
+-- the reply to a request was appended
+pub record AppendsReply (before : SceneState) (q : RequestFields) (after : SceneState) (old new : List ℕ) : Type 0 where
+  pub text : List ℕ
+  pub appended : new ≡ old ++ text
+  pub answers : AnswersRequest before q after text

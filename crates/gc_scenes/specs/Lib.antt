@@ -1,0 +1,12 @@
+pub mod Params
+pub mod Machine
+pub mod Shifting
+pub mod ShiftedFacts
+pub mod Rules
+pub mod SceneState
+pub mod SceneExecution
+pub mod SceneReplying
+pub mod SceneServing
+pub mod Laws
+pub mod Seen
+pub mod Appending

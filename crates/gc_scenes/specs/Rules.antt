@@ -1,0 +1,102 @@
+-- What each rule of a scene does: to targets, to requests and to answers. This project's own.
+use Rattle.std.specs.Prelude.{ℕ, ◌+◌, ◌-◌, ◌==◌, ◌&&◌, not, Bool, true, false, List, [], ◌∷◌, Option, Some, None, nat_le, if◌then◌else◌, min}
+use Rattle.gc_values.specs.Decimals.{units}
+use Rattle.gc_catalogue.specs.declared.answer.Answer.{Answer}
+use Rattle.gc_catalogue.specs.declared.answer.Answer.TheVariants as answer
+use Rattle.gc_instrument.specs.Targets.{is_at}
+use Rattle.gc_instrument.specs.declared.pointing.Pointing.{Pointing}
+use Rattle.gc_instrument.specs.declared.target.Target.{Target}
+use Rattle.gc_scenes.specs.Shifting.{shifted, next, deviation}
+use Rattle.gc_scenes.specs.declared.rules.Prism.{Prism}
+use Rattle.gc_scenes.specs.declared.rules.Offset.{Offset}
+use Rattle.gc_scenes.specs.declared.rules.Fault.{Fault}
+use Rattle.gc_scenes.specs.declared.rules.Scripted.{Scripted}
+use Rattle.gc_scenes.specs.declared.rules.Noise.{Noise}
+
+-- a count that stays at the greatest number of 32 bits
+abbrev pub one_more : ℕ → ℕ
+one_more n = min (n + 1) 4294967295
+
+-- Targets.
+
+-- whether the target can be seen in the look with this number, counted from 1
+abbrev pub is_clear : ℕ → Prism → Bool
+is_clear look p = not (nat_le p.from look && nat_le look p.to)
+
+-- the targets that can be seen in this look, where they stand
+abbrev pub seen : ℕ → List Prism → List Target
+seen look [] = []
+seen look (p ∷ ps) = if is_clear look p then p.at ∷ seen look ps else seen look ps
+
+-- the target, moved so much
+abbrev pub offset : Offset → Target → Target
+offset o t = record { hz = shifted t.hz (units o.hz); v = shifted t.v (units o.v); distance = shifted t.distance (units o.distance) }
+
+-- the target after a measurement of it
+abbrev pub moved_by : Option Offset → Prism → Prism
+moved_by None p = p
+moved_by (Some o) p = record p { at = offset o p.at }
+
+-- the target after a measurement in this look, with the telescope pointing there: it moves if it was measured
+abbrev pub moved : ℕ → Pointing → Prism → Prism
+moved look there p = if is_clear look p && is_at there p.at then moved_by p.drift p else p
+
+-- the targets after a measurement
+abbrev pub drifted : ℕ → Pointing → List Prism → List Prism
+drifted look there [] = []
+drifted look there (p ∷ ps) = moved look there p ∷ drifted look there ps
+
+-- Requests.
+
+-- whether the next request of this procedure is answered by the fault
+abbrev pub is_due : ℕ → Fault → Bool
+is_due rpc f = (f.rpc == rpc) && (nat_le f.after f.met && nat_le (f.met - f.after + 1) f.times)
+
+-- the return code of the first fault that answers the next request of this procedure
+abbrev pub fault_of : ℕ → List Fault → Option ℕ
+fault_of rpc [] = None
+fault_of rpc (f ∷ fs) = if is_due rpc f then Some f.rc else fault_of rpc fs
+
+-- the fault after one more request of this procedure
+abbrev pub met_once : ℕ → Fault → Fault
+met_once rpc f = if f.rpc == rpc then record f { met = one_more f.met } else f
+
+-- the faults after one more request of this procedure
+abbrev pub counted : ℕ → List Fault → List Fault
+counted rpc [] = []
+counted rpc (f ∷ fs) = met_once rpc f ∷ counted rpc fs
+
+-- the reply that the scene has for this procedure: the first one
+abbrev pub answer_of : ℕ → List Scripted → Option Scripted
+answer_of rpc [] = None
+answer_of rpc (a ∷ rest) = if a.rpc == rpc then Some a else answer_of rpc rest
+
+-- Answers.
+
+-- what is measured, with three deviations in a row
+abbrev pub disturbed : Noise → Answer → Answer
+disturbed n (answer.Measured hz v d) =
+    answer.Measured (shifted hz (deviation n.hz (next n.seed))) (shifted v (deviation n.v (next (next n.seed)))) (shifted d (deviation n.distance (next (next (next n.seed)))))
+disturbed n (answer.MeasuredMode hz v d mode) =
+    answer.MeasuredMode (shifted hz (deviation n.hz (next n.seed))) (shifted v (deviation n.v (next (next n.seed)))) (shifted d (deviation n.distance (next (next (next n.seed))))) mode
+disturbed n other = other
+
+-- whether an answer tells a measurement
+abbrev pub is_measured : Answer → Bool
+is_measured (answer.Measured hz v d) = true
+is_measured (answer.MeasuredMode hz v d mode) = true
+is_measured other = false
+
+-- the noise after an answer: three numbers on behind one that tells a measurement
+abbrev pub spent : Noise → Answer → Noise
+spent n a = if is_measured a then record n { seed = next (next (next n.seed)) } else n
+
+-- an answer with the noise, if there is one
+abbrev pub noisy : Option Noise → Answer → Answer
+noisy None a = a
+noisy (Some n) a = disturbed n a
+
+-- the noise, if there is one, after an answer
+abbrev pub noise_after : Option Noise → Answer → Option Noise
+noise_after None a = None
+noise_after (Some n) a = Some (spent n a)

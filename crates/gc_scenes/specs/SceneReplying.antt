@@ -1,0 +1,70 @@
+-- The reply of a scene's instrument to a line: this project's own. The communication codes are the manual's.
+use Rattle.std.specs.Prelude.{◌≡◌, ℕ, List, true, false, Option, Some, None, unwrap_or, if◌then◌else◌}
+use Rattle.gc_lines.specs.Replies.{reply_text}
+use Rattle.gc_lines.specs.Requests.{RequestFields, IsRequest}
+use Rattle.gc_values.specs.declared.fault.ValueFault.{ValueFault}
+use Rattle.gc_catalogue.specs.Calls.{IsCall, IsRefusal}
+use Rattle.gc_catalogue.specs.declared.call.Call.{Call}
+use Rattle.gc_catalogue.specs.declared.fault.CallFault.TheVariants.{Unknown, Parameters}
+use Rattle.gc_instrument.specs.Replying.{Handed, kept_line, kept_after, with_kept, refusal_line, reply_id}
+use Rattle.gc_instrument.specs.State.{KeptReply}
+use Rattle.gc_scenes.specs.SceneExecution.{Played, played_call, played_raw, counting}
+use Rattle.gc_scenes.specs.SceneState.{SceneState}
+
+-- the reply's line
+abbrev pub line_of : ℕ → Played → List ℕ
+line_of number p = reply_text (record { rc_com = 0; id = Some number; rc = p.rc; params = p.params })
+
+-- the line that is sent again for this id: the kept one, where the instrument repeats
+abbrev pub again_for : SceneState → Option ℕ → Option (List ℕ)
+again_for s id = if s.repeats then kept_line s.base.kept id else None
+
+-- what is kept behind a request that was dealt with: its id and its reply's line, as of the table; nothing where the instrument doesn't repeat
+abbrev pub kept_behind : SceneState → Option ℕ → List ℕ → Option KeptReply
+kept_behind s id line = if s.repeats then kept_after s.base.kept id line else None
+
+-- the state with this reply kept
+abbrev pub holding : Option KeptReply → SceneState → SceneState
+holding kept s = record s { base = with_kept kept s.base }
+
+-- what a request gives, of which this comes: the line that is sent again for its id, and nothing is done; or its own reply, which is kept
+abbrev pub again_or_played : SceneState → Option ℕ → Played → Option (List ℕ) → Handed SceneState
+again_or_played s id p (Some line) = record { state = s; reply = line; executed = false }
+again_or_played s id p None =
+    let line = line_of (unwrap_or id 0) p in
+    record { state = holding (kept_behind p.state id line) p.state; reply = line; executed = true }
+
+-- what a request for a call gives
+unfoldable pub handed_call : SceneState → ℕ → Option ℕ → Call → Handed SceneState
+handed_call s rpc id call = again_or_played s id (played_call s rpc call) (again_for s id)
+
+-- what a request gives that is no call of the table, where this comes of it, or the scene has no reply: then it is refused, and counts for
+-- the faults alone
+abbrev pub played_or_refused : SceneState → ℕ → Option ℕ → Option Played → Handed SceneState
+played_or_refused s rpc id (Some p) = again_or_played s id p (again_for s id)
+played_or_refused s rpc id None = record { state = counting rpc s; reply = refusal_line (unwrap_or id 0) Unknown; executed = true }
+
+-- what a request of a procedure gives that isn't in the table
+unfoldable pub handed_raw : SceneState → ℕ → Option ℕ → Handed SceneState
+handed_raw s rpc id = played_or_refused s rpc id (played_raw s rpc)
+
+-- this state and this reply are what a request gives
+pub record Gave (x : Handed SceneState) (after : SceneState) (reply : List ℕ) : Type 0 where
+  pub state : after ≡ x.state
+  pub line : reply ≡ x.reply
+
+-- what the instrument does with a request, and its reply
+pub data AnswersRequest (before : SceneState) (q : RequestFields) (after : SceneState) (reply : List ℕ) : Type 0 where
+  -- it names a call
+  names_call : (call : Call) → IsCall q.rpc q.params call → Gave (handed_call before q.rpc q.id call) after reply → AnswersRequest before q after reply
+  -- its procedure isn't in the table
+  names_none : IsRefusal q.rpc q.params Unknown → Gave (handed_raw before q.rpc q.id) after reply → AnswersRequest before q after reply
+  -- its parameters don't read: nothing changes
+  unreadable : (e : ValueFault) → IsRefusal q.rpc q.params (Parameters e) → after ≡ before → reply ≡ refusal_line (reply_id q) (Parameters e) → AnswersRequest before q after reply
+
+-- what the instrument does with a line, and its reply, if there is one
+pub data IsPlayed (before : SceneState) (line : List ℕ) (after : SceneState) (reply : Option (List ℕ)) : Type 0 where
+  -- the line is no request: nothing changes
+  silent : ((q : RequestFields) → ¬ IsRequest line q) → after ≡ before → reply ≡ None → IsPlayed before line after reply
+  -- the line is a request
+  answers : (q : RequestFields) → IsRequest line q → (text : List ℕ) → AnswersRequest before q after text → reply ≡ Some text → IsPlayed before line after reply

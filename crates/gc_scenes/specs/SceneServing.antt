@@ -1,0 +1,25 @@
+-- What serving with a scene's instrument writes, and how it ends: this project's own.
+use Rattle.std.specs.Prelude.{◌≡◌, ℕ, List, Option, None, Result}
+use Rattle.std.specs.Option.{option_map}
+use Rattle.gc_lines.specs.Answering.{Ports, HasEnded, AnswersGiven}
+use Rattle.gc_lines.specs.Lines.{with_end}
+use Rattle.gc_lines.specs.declared.frame.Frame.{Frame}
+use Rattle.gc_lines.specs.declared.frame.Frame.TheVariants.{Line, Cleared, Overlong, More}
+use Rattle.gc_lines.specs.declared.served.Served.{Served}
+use Rattle.gc_lines.specs.declared.served.ServeFault.{ServeFault}
+use Rattle.gc_scenes.specs.SceneReplying.{IsPlayed}
+use Rattle.gc_scenes.specs.SceneState.{SceneState}
+
+-- what a scene's instrument does with a frame: the reply to a line goes out with its CR LF, and what is no line is answered by nothing
+abbrev pub PlaysFrame : SceneState → Frame → SceneState → Option (List ℕ) → Type 0
+PlaysFrame before (Line line) after text = (reply : Option (List ℕ)) × IsPlayed before line.items after reply × (text ≡ option_map with_end reply)
+PlaysFrame before Cleared after text = (after ≡ before) × (text ≡ None)
+PlaysFrame before Overlong after text = (after ≡ before) × (text ≡ None)
+PlaysFrame before More after text = (after ≡ before) × (text ≡ None)
+
+-- serving in at most `most` reads took the instrument from `from` to `to` and the ports from `old` to `new`, and gave this result
+pub record IsSceneServing (from to : SceneState) (old new : Ports) (most : ℕ) (result : Result Served ServeFault) : Type 0 where
+  -- the frames of the bytes that the source gave were answered, and the sink took the replies as the result says
+  pub serves : AnswersGiven PlaysFrame from to old new result
+  -- why the run ended, and what that says of the ports, as `HasEnded` has it
+  pub ended : HasEnded old new most result

@@ -1,0 +1,317 @@
+//! The instrument of the execution table over targets that are handed to it: an instrument without targets of its own, its
+//! distance, and the reply that is kept.
+
+ghost use Rattle.std.specs.Prelude.{◌≡◌, ◌≤◌, List, None, Some, [], true, length, IfSome};
+ghost use Rattle.std.specs.Option.{option_map};
+ghost use Rattle.gc_instrument.specs.Execution.{exec, Gives, done, told, commanded, measured, pointed, turned_over, searched};
+ghost use Rattle.gc_instrument.specs.Replying.{kept_line, kept_after, with_kept};
+ghost use Rattle.gc_instrument.specs.State.{restarted, opening};
+ghost use Rattle.gc_instrument.specs.Targets.{first_at, first_within, is_at, is_within_areas};
+ghost use Rattle.gc_instrument.specs.declared.target.Target.{Target};
+ghost use Rattle.gc_scenes.specs.Machine.{CarriesOut, is_other, seeing};
+
+use gc_catalogue::{Answer, Call};
+use gc_instrument::{Instrument, Pointing, Target};
+use gc_lines::Line;
+use gc_values::{Decimal, Text};
+use std::marker::Model;
+
+/// The manual's return code for an invalid parameter.
+const INVALID_PARAMETER: u16 = 2;
+
+/// The return code where angles are known and no distance is.
+const NO_DISTANCE: u16 = 1285;
+
+/// The return code where no target is met.
+const NO_TARGET: u16 = 8710;
+
+/// The id of a request, and the line of its reply.
+#[derive(Debug, Drop)]
+pub(crate) struct Held {
+    id: u8,
+    line: Line,
+}
+
+/// An instrument without targets of its own, the slope distance that was measured last, in metres, and the reply that is kept.
+#[derive(Debug, Drop)]
+pub(crate) struct Machine {
+    base: Instrument,
+    distance: Option<Decimal>,
+    kept: Option<Held>,
+}
+
+impl Model for Machine {
+    ghost use Rattle.gc_instrument.specs.State.{State};
+
+    ghost Value = { State };
+
+    ghost use Rattle.gc_scenes.specs.Machine.{machine_of};
+
+    ghost view = { machine_of };
+}
+
+impl Machine {
+    ghost use Rattle.gc_catalogue.specs.declared.call.Call.TheVariants.{DoMeasure, SimpleMea, QuickDist, MeasDistance, FineAdjust};
+    ghost use Rattle.gc_catalogue.specs.declared.answer.Answer.TheVariants.{Nothing, Measured, MeasuredMode};
+
+    /// The instrument with this serial number and this name, in the opening state.
+    pub(crate) fn new(serial: i32, name: Text) -> Machine
+        ensures { result ≡ opening serial name [] }
+    {
+        match Instrument::new(serial, name, &[]) {
+            Ok(base) => Machine {
+                base,
+                distance: None,
+                kept: None,
+            },
+            Err(_) => unreachable!(),
+        }
+    }
+
+    /// Brings back the opening state but for the precision, and forgets the reply that was kept.
+    pub(crate) fn restart(&mut self)
+        ensures { self.new ≡ restarted self.old }
+    {
+        self.base.restart();
+        self.distance = None;
+        self.kept = None;
+    }
+
+    /// The number of places to which doubles are rounded in replies.
+    pub(crate) fn precision(&self) -> u8
+        ensures value { result ≡ self.now.precision }
+        ensures few { result ≤ 15 }
+    {
+        self.base.precision()
+    }
+
+    /// Where the telescope points.
+    pub(crate) fn pointing(&self) -> Pointing
+        ensures { result ≡ self.now.pointing }
+    {
+        self.base.pointing()
+    }
+
+    /// The line that is kept for this id. `None`: there is no id, or none is kept, or another one is.
+    pub(crate) fn line_of(&self, id: Option<u8>) -> Option<&[u8]>
+        ensures line { option_map (λ r. r.now) result ≡ kept_line self.now.kept id }
+        ensures within { IfSome result (λ r. length r.now ≤ 512) }
+    {
+        let Some(held) = &self.kept else {
+            return None;
+        };
+        let Some(asked) = id else {
+            return None;
+        };
+        if held.id == asked {
+            Some(held.line.as_slice())
+        } else {
+            None
+        }
+    }
+
+    /// Keeps a request's id and the line of its reply. Where the request carried no id, nothing changes.
+    pub(crate) fn keep(&mut self, id: Option<u8>, line: &[u8])
+        requires { length line.now ≤ 512 }
+        ensures { self.new ≡ with_kept (kept_after self.old.kept id line.now) self.old }
+    {
+        let Some(id) = id else {
+            return;
+        };
+        let mut held = Line::new();
+        let _ = held.try_extend_from_slice(line);
+        self.kept = Some(Held { id, line: held });
+    }
+
+    /// Keeps neither an id nor a line.
+    pub(crate) fn forget(&mut self)
+        ensures { self.new ≡ with_kept None self.old }
+    {
+        self.kept = None;
+    }
+
+    /// Carries out a call over these targets, and gives the return code. An answer other than `Answer::Nothing` is written into
+    /// `answer`.
+    pub(crate) fn carry_out(&mut self, call: &Call, targets: &[Target], answer: &mut Answer) -> u16
+        requires { answer.old ≡ Nothing }
+        ensures { CarriesOut targets.now self.old call.now self.new result answer.new }
+    {
+        match call {
+            Call::DoMeasure { command, .. } => self.measure_as(*command, targets),
+            Call::SimpleMea { .. } => self.simple_measurement(answer),
+            Call::QuickDist => {
+                self.measure(targets);
+                self.simple_measurement(answer)
+            }
+            Call::MeasDistance { mode } => self.measured_distance(*mode, targets, answer),
+            Call::Position { hz, v, .. } => self.position(hz, v),
+            Call::ChangeFace { .. } => self.change_face(),
+            Call::FineAdjust {
+                area_hz,
+                area_v,
+                ..
+            } => self.fine_adjust(area_hz, area_v, targets),
+            _ => self.pass_on(call, answer),
+        }
+    }
+
+    // Carries out a call that neither turns the telescope nor asks for a distance or a target.
+    fn pass_on(&mut self, call: &Call, answer: &mut Answer) -> u16
+        requires { is_other call.now ≡ true }
+        ensures { (targets : List Target) → CarriesOut targets self.old call.now self.new result answer.new }
+    {
+        let (rc, said) = self.base.execute(call);
+        *answer = said;
+        rc
+    }
+
+    // Measures the distance of the first of these targets that lies exactly where the telescope points. Without one the distance
+    // is cleared.
+    fn measure(&mut self, targets: &[Target])
+        ensures seen { seeing targets.now self.new ≡ measured (seeing targets.now self.old) }
+        ensures same { self.new.scene ≡ self.old.scene }
+    {
+        let there = self.base.pointing();
+        self.distance = first_at(&there, targets).map(|target| target.distance);
+    }
+
+    // Measures (1), clears the distance (3), or does nothing (0), as commanded. Another command is refused.
+    fn measure_as(&mut self, command: i32, targets: &[Target]) -> u16
+        ensures gives { Gives (commanded (seeing targets.now self.old) command) (seeing targets.now self.new) result Nothing }
+        ensures same { self.new.scene ≡ self.old.scene }
+    {
+        match command {
+            0 => 0,
+            1 => {
+                self.measure(targets);
+                0
+            }
+            3 => {
+                self.distance = None;
+                0
+            }
+            _ => INVALID_PARAMETER,
+        }
+    }
+
+    // Answers the angles and the distance. Where there is no distance, the code is 1285, without an answer.
+    fn simple_measurement(&self, answer: &mut Answer) -> u16
+        requires { answer.old ≡ Nothing }
+        ensures { (targets : List Target) → Gives (told (seeing targets self.now) (λ d. Measured self.now.pointing.hz self.now.pointing.v d)
+            self.now.distance) (seeing targets self.now) result answer.new }
+    {
+        let Some(distance) = self.distance else {
+            return NO_DISTANCE;
+        };
+        let Pointing { hz, v } = self.base.pointing();
+        *answer = Answer::Measured { hz, v, distance };
+        0
+    }
+
+    // Measures, and answers the angles, the distance and the mode. Where there is no distance, the code is 1285, without an answer.
+    fn measured_distance(&mut self, mode: i32, targets: &[Target], answer: &mut Answer) -> u16
+        requires { answer.old ≡ Nothing }
+        ensures gives { Gives (told (measured (seeing targets.now self.old)) (λ d. MeasuredMode self.old.pointing.hz self.old.pointing.v d mode)
+            (measured (seeing targets.now self.old)).distance) (seeing targets.now self.new) result answer.new }
+        ensures same { self.new.scene ≡ self.old.scene }
+    {
+        self.measure(targets);
+        let Some(distance) = self.distance else {
+            return NO_DISTANCE;
+        };
+        let Pointing { hz, v } = self.base.pointing();
+        *answer = Answer::MeasuredMode {
+            hz,
+            v,
+            distance,
+            mode,
+        };
+        0
+    }
+
+    // Turns the telescope to these angles, which clears the distance.
+    #[tactic(auto, unfolding(gc_instrument::specs::Execution::exec))]
+    fn position(&mut self, hz: &Decimal, v: &Decimal) -> u16
+        ensures gives { (targets : List Target) → Gives (done (pointed (seeing targets self.old) hz.now v.now) Nothing) (seeing targets self.new) result Nothing }
+        ensures same { self.new.scene ≡ self.old.scene }
+    {
+        let turn = Call::Position {
+            hz: *hz,
+            v: *v,
+            pos_mode: 0,
+            atr_mode: 0,
+            dummy: false,
+        };
+        let (rc, _) = self.base.execute(&turn);
+        self.distance = None;
+        rc
+    }
+
+    // Turns the telescope over, which clears the distance. The angles stay.
+    #[tactic(auto, unfolding(gc_instrument::specs::Execution::exec))]
+    fn change_face(&mut self) -> u16
+        ensures gives { (targets : List Target) → Gives (done (turned_over (seeing targets self.old)) Nothing) (seeing targets self.new) result Nothing }
+        ensures same { self.new.scene ≡ self.old.scene }
+    {
+        let turn = Call::ChangeFace {
+            pos_mode: 0,
+            atr_mode: 0,
+            dummy: false,
+        };
+        let (rc, _) = self.base.execute(&turn);
+        self.distance = None;
+        rc
+    }
+
+    // Turns the telescope to the first of these targets within the areas, which clears the distance. Where there is none, the code
+    // is 8710 and nothing changes. A negative area is refused.
+    fn fine_adjust(&mut self, area_hz: &Decimal, area_v: &Decimal, targets: &[Target]) -> u16
+        ensures gives { Gives (searched (seeing targets.now self.old) area_hz.now area_v.now) (seeing targets.now self.new) result Nothing }
+        ensures same { self.new.scene ≡ self.old.scene }
+    {
+        if area_hz.digits() < 0 || area_v.digits() < 0 {
+            return INVALID_PARAMETER;
+        }
+        let there = self.base.pointing();
+        match first_within(&there, area_hz, area_v, targets) {
+            Some(target) => self.position(&target.hz, &target.v),
+            None => NO_TARGET,
+        }
+    }
+}
+
+// Whether the target lies exactly where the telescope points.
+fn is_at(there: &Pointing, target: &Target) -> bool
+    ensures { result ≡ is_at there.now target.now }
+{
+    target.hz == there.hz && target.v == there.v
+}
+
+// The first of these targets that lies exactly where the telescope points.
+fn first_at(there: &Pointing, targets: &[Target]) -> Option<Target>
+    ensures { result ≡ first_at there.now targets.now }
+{
+    targets.iter().copied().find(|target| is_at(there, target))
+}
+
+// Whether the target lies within the areas round where the telescope points.
+fn is_within_areas(there: &Pointing, area_hz: &Decimal, area_v: &Decimal, target: &Target) -> bool
+    ensures { result ≡ is_within_areas there.now area_hz.now area_v.now target.now }
+{
+    target.hz.within(&there.hz, area_hz) && target.v.within(&there.v, area_v)
+}
+
+// The first of these targets within the areas.
+fn first_within(
+    there: &Pointing,
+    area_hz: &Decimal,
+    area_v: &Decimal,
+    targets: &[Target],
+) -> Option<Target>
+    ensures { result ≡ first_within there.now area_hz.now area_v.now targets.now }
+{
+    targets
+        .iter()
+        .copied()
+        .find(|target| is_within_areas(there, area_hz, area_v, target))
+}

@@ -1,0 +1,215 @@
+//! What a scene's instrument replies to a line.
+
+ghost use Rattle.std.specs.Prelude.{◌≡◌, ◌<◌, ◌≤◌, ◌+◌, ◌++◌, ℕ, List, Option, Some, None, length, unwrap_or, IfSome};
+ghost use Rattle.std.specs.Option.{ForSome, option_map};
+ghost use Rattle.arrayvec.specs.ArrayVec.{array_vec_len};
+ghost use Rattle.gc_lines.specs.Answering.{AppendsAnswer};
+ghost use Rattle.gc_lines.specs.Requests.{request_seen};
+ghost use Rattle.gc_lines.specs.Replies.{reply_text};
+ghost use Rattle.gc_instrument.specs.Replying.{Handed};
+ghost use Rattle.gc_scenes.specs.SceneExecution.{Played, plays, unless_faulted, counting};
+ghost use Rattle.gc_scenes.specs.SceneReplying.{IsPlayed, AnswersRequest, Gave, again_for, handed_call, handed_raw, line_of, kept_behind, holding, again_or_played};
+ghost use Rattle.gc_scenes.specs.Appending.{AppendsGave, AppendsPlayed, AppendsReply};
+
+use crate::instrument::SceneInstrument;
+use arrayvec::ArrayVec;
+use gc_catalogue::{Answer, Call, CallFault, decode_call_into, encode_answer_onto};
+use gc_lines::{Line, Request, append, push_reply, read_request};
+
+/// The communication code for a procedure that isn't in the catalogue.
+const UNKNOWN_PROCEDURE: u16 = 3081;
+
+/// The communication code for parameters that don't read.
+const WRONG_PARAMETERS: u16 = 3080;
+
+impl SceneInstrument {
+    ghost use Rattle.gc_catalogue.specs.declared.call.Call.{Call};
+
+    /// The reply to a line, if it is a request. It is that of the simulator, but for what the scene's rules say: a request that a
+    /// fault answers is not executed, a target that is hidden isn't met, and a procedure that isn't in the catalogue is answered
+    /// where the scene has a reply. Each of these is kept for a repeat as any other, where the instrument repeats.
+    #[tactic(auto, using(crate::proofs::Playing::played_alone))]
+    pub fn on_line(&mut self, line: &Line) -> Option<Line>
+        ensures { IsPlayed self.old line.now.items self.new (option_map (λ r. r.items) result) }
+    {
+        let mut reply = Line::new();
+        if self.reply_onto(line.as_slice(), &mut reply) {
+            Some(reply)
+        } else {
+            None
+        }
+    }
+
+    /// Appends the reply to a line to `out`, if the line is a request, and says whether it is one. Else `out` stays as it is.
+    pub fn reply_onto<const N: usize>(&mut self, line: &[u8], out: &mut ArrayVec<u8, N>) -> bool
+        requires { array_vec_len out.old + 512 ≤ N }
+        ensures played { AppendsAnswer (IsPlayed self.old line.now self.new) out.old.items out.new.items result }
+        ensures bound { length out.new.items ≤ length out.old.items + 512 }
+    {
+        match read_request(line) {
+            Ok(request) => {
+                self.reply_to(&request, out);
+                true
+            }
+            Err(_) => false,
+        }
+    }
+
+    // Appends the reply to a request.
+    fn reply_to<const N: usize>(&mut self, request: &Request<'_>, out: &mut ArrayVec<u8, N>)
+        requires id { ForSome request.now.id (λ id. id < 8) }
+        requires room { array_vec_len out.old + 512 ≤ N }
+        ensures replies { AppendsReply self.old (request_seen request.now) self.new out.old.items out.new.items }
+        ensures bound { length out.new.items ≤ length out.old.items + 512 }
+    {
+        let mut call = Call::NullProc;
+        match decode_call_into(request, &mut call) {
+            Ok(()) => self.answer_call(request.rpc, request.id, &call, out),
+            Err(CallFault::Unknown) => self.answer_raw(request.rpc, request.id, out),
+            Err(CallFault::Parameters(_)) => {
+                push_reply(out, WRONG_PARAMETERS, request.id.unwrap_or(0), 0)
+            }
+        }
+    }
+
+    // The line that is sent again for this id, where the instrument repeats.
+    fn again_for(&self, id: Option<u8>) -> Option<&[u8]>
+        ensures line { option_map (λ r. r.now) result ≡ again_for self.now id }
+        ensures within { IfSome result (λ r. length r.now ≤ 512) }
+    {
+        if self.repeats {
+            self.machine.line_of(id)
+        } else {
+            None
+        }
+    }
+
+    // Keeps a reply's line for the request's id, where the instrument repeats, and else nothing.
+    fn keep(&mut self, id: Option<u8>, line: &[u8])
+        requires { length line.now ≤ 512 }
+        ensures { self.new ≡ holding (kept_behind self.old id line.now) self.old }
+    {
+        if self.repeats {
+            self.machine.keep(id, line);
+        } else {
+            self.machine.forget();
+        }
+    }
+
+    // Appends the reply to a call: the kept one to a repeat, and else a new one, which is kept.
+    fn answer_call<const N: usize>(
+        &mut self,
+        rpc: u16,
+        id: Option<u8>,
+        call: &Call,
+        out: &mut ArrayVec<u8, N>,
+    )
+        requires id { ForSome id (λ id. id < 8) }
+        requires room { array_vec_len out.old + 512 ≤ N }
+        ensures gave { AppendsGave (handed_call self.old rpc id call.now) self.new out.old.items out.new.items }
+        ensures bound { length out.new.items ≤ length out.old.items + 512 }
+    {
+        if let Some(line) = self.again_for(id) {
+            append(out, line);
+            return;
+        }
+        let start = out.len();
+        let fault = self.fault_of(rpc);
+        self.count(rpc);
+        self.play_onto(id.unwrap_or(0), call, fault, out);
+        self.keep(id, &out[start..]);
+    }
+
+    // Appends the reply to a call that isn't a repeat: that of the fault, where there is one, or of executing it.
+    fn play_onto<const N: usize>(
+        &mut self,
+        id: u8,
+        call: &Call,
+        fault: Option<u16>,
+        out: &mut ArrayVec<u8, N>,
+    )
+        requires id { id < 8 }
+        requires room { array_vec_len out.old + 512 ≤ N }
+        ensures played { AppendsPlayed id (unless_faulted self.old call.now fault) self.new out.old.items out.new.items }
+        ensures bound { length out.new.items ≤ length out.old.items + 512 }
+    {
+        match fault {
+            Some(rc) => push_reply(out, 0, id, rc),
+            None => self.execute_onto(id, call, out),
+        }
+    }
+
+    // Executes a call, and appends its reply.
+    fn execute_onto<const N: usize>(&mut self, id: u8, call: &Call, out: &mut ArrayVec<u8, N>)
+        requires id { id < 8 }
+        requires room { array_vec_len out.old + 512 ≤ N }
+        ensures played { AppendsPlayed id (plays self.old call.now) self.new out.old.items out.new.items }
+        ensures bound { length out.new.items ≤ length out.old.items + 512 }
+    {
+        let mut answer = Answer::Nothing;
+        let rc = self.execute(call, &mut answer);
+        self.disturb(&mut answer);
+        encode_answer_onto(out, id, rc, &answer, self.machine.precision());
+    }
+
+    // Appends the reply to a request of a procedure that isn't in the table.
+    fn answer_raw<const N: usize>(&mut self, rpc: u16, id: Option<u8>, out: &mut ArrayVec<u8, N>)
+        requires id { ForSome id (λ id. id < 8) }
+        requires room { array_vec_len out.old + 512 ≤ N }
+        ensures gave { AppendsGave (handed_raw self.old rpc id) self.new out.old.items out.new.items }
+        ensures bound { length out.new.items ≤ length out.old.items + 512 }
+    {
+        match self.fault_of(rpc) {
+            Some(rc) => self.answer_with(rpc, id, rc, b"", out),
+            None => match self.answer_of(rpc) {
+                Some(scripted) => self.answer_with(rpc, id, scripted.rc, scripted.params(), out),
+                None => {
+                    self.count(rpc);
+                    push_reply(out, UNKNOWN_PROCEDURE, id.unwrap_or(0), 0);
+                }
+            },
+        }
+    }
+
+    // Appends the reply to a request that isn't executed: the kept one to a repeat, and else this code with these parameters, which
+    // is kept.
+    fn answer_with<const N: usize>(
+        &mut self,
+        rpc: u16,
+        id: Option<u8>,
+        rc: u16,
+        params: &[u8],
+        out: &mut ArrayVec<u8, N>,
+    )
+        requires id { ForSome id (λ id. id < 8) }
+        requires few { length params.now ≤ 490 }
+        requires room { array_vec_len out.old + 512 ≤ N }
+        ensures gave { AppendsGave (again_or_played self.old id (record { state = counting rpc self.old; rc = rc; params = params.now }) (again_for self.old id))
+            self.new out.old.items out.new.items }
+        ensures bound { length out.new.items ≤ length out.old.items + 512 }
+    {
+        if let Some(line) = self.again_for(id) {
+            append(out, line);
+            return;
+        }
+        let start = out.len();
+        self.count(rpc);
+        push_with(id.unwrap_or(0), rc, params, out);
+        self.keep(id, &out[start..]);
+    }
+}
+
+// Appends a reply with this code and these parameters.
+fn push_with<const N: usize>(id: u8, rc: u16, params: &[u8], out: &mut ArrayVec<u8, N>)
+    requires id { id < 8 }
+    requires few { length params.now ≤ 490 }
+    requires room { array_vec_len out.old + 512 ≤ N }
+    ensures line { out.new.items ≡ out.old.items ++ reply_text (record { rc_com = 0; id = Some id; rc = rc; params = params.now }) }
+    ensures bound { length out.new.items ≤ length out.old.items + 512 }
+{
+    push_reply(out, 0, id, rc);
+    if !params.is_empty() {
+        append(out, b",");
+        append(out, params);
+    }
+}

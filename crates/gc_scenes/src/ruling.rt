@@ -1,0 +1,261 @@
+//! What each rule of a scene does by itself: to targets, to requests and to answers.
+
+ghost use Rattle.std.specs.Prelude.{◌≡◌, ◌<◌, ◌≤◌, length, IfSome, IfNone, Some};
+ghost use Rattle.gc_catalogue.specs.RawTexts.{raw_bytes};
+ghost use Rattle.gc_scenes.specs.Laws.{still};
+ghost use Rattle.gc_scenes.specs.Params.{scripted_params};
+ghost use Rattle.gc_scenes.specs.Rules.{is_clear, offset, moved_by, moved, is_due, met_once, disturbed, is_measured, spent};
+ghost use Rattle.gc_scenes.specs.Shifting.{next, shifted, deviation};
+
+use crate::rules::{Fault, Noise, Offset, Prism, Scripted};
+use crate::shifting::{deviation, next, shifted};
+use gc_catalogue::{Answer, RawCall};
+use gc_instrument::{Pointing, Target};
+use gc_values::Decimal;
+
+impl Fault {
+    /// A fault of which no request was made yet.
+    pub fn new(rpc: u16, rc: u16, after: u32, times: u32) -> Fault
+        ensures rpc { result.rpc ≡ rpc }
+        ensures rc { result.rc ≡ rc }
+        ensures after { result.after ≡ after }
+        ensures times { result.times ≡ times }
+        ensures met { result.met ≡ 0 }
+    {
+        Fault {
+            rpc,
+            rc,
+            after,
+            times,
+            met: 0,
+        }
+    }
+
+    /// Whether the next request of this procedure is answered by the fault.
+    pub(crate) fn is_due(&self, rpc: u16) -> bool
+        ensures { result ≡ is_due rpc self.now }
+    {
+        self.rpc == rpc
+            && self.after <= self.met
+            && u64::from(self.met - self.after) + 1 <= u64::from(self.times)
+    }
+
+    /// The fault after one more request of this procedure.
+    pub(crate) fn met_once(&self, rpc: u16) -> Fault
+        ensures { result ≡ met_once rpc self.now }
+    {
+        if self.rpc == rpc {
+            Fault {
+                rpc: self.rpc,
+                rc: self.rc,
+                after: self.after,
+                times: self.times,
+                met: self.met.saturating_add(1),
+            }
+        } else {
+            *self
+        }
+    }
+}
+
+impl Scripted {
+    /// The reply with this code and the parameters of this request to its procedure. `None`: the parameters have more than 490 bytes.
+    pub fn new(call: RawCall, rc: u16) -> Option<Scripted>
+        ensures made { IfSome result (λ s. (s.rpc ≡ call.rpc) × (s.with ≡ Some call) × (s.rc ≡ rc)) }
+        ensures none { IfNone result (490 < length (raw_bytes call.params)) }
+    {
+        if call.params().len() <= 490 {
+            Some(Scripted {
+                rpc: call.number(),
+                rc,
+                with: Some(call),
+            })
+        } else {
+            None
+        }
+    }
+
+    /// The parameters of the reply.
+    pub(crate) fn params(&self) -> &[u8]
+        ensures value { result.now ≡ scripted_params self.now.with }
+        ensures few { length result.now ≤ 490 }
+    {
+        match &self.with {
+            Some(call) => call.params(),
+            None => b"",
+        }
+    }
+}
+
+impl Default for Scripted {
+    /// What fills a place that nothing uses: procedure 0, with code 0 and no parameters.
+    fn default() -> Scripted {
+        Scripted {
+            rpc: 0,
+            rc: 0,
+            with: None,
+        }
+    }
+}
+
+impl Default for Fault {
+    /// What fills a place that nothing uses: a fault that never comes.
+    fn default() -> Fault {
+        Fault::new(0, 0, 0, 0)
+    }
+}
+
+impl Default for Prism {
+    /// What fills a place that nothing uses: a target of zeros.
+    fn default() -> Prism {
+        Prism::still(Target::default())
+    }
+}
+
+impl Prism {
+    /// A target that no rule names.
+    pub fn still(at: Target) -> Prism
+        ensures { result ≡ still at }
+    {
+        Prism {
+            at,
+            drift: None,
+            from: 1,
+            to: 0,
+        }
+    }
+
+    /// Whether the target can be seen in the look with this number.
+    pub(crate) fn is_clear(&self, look: u32) -> bool
+        ensures { result ≡ is_clear look self.now }
+    {
+        !(self.from <= look && look <= self.to)
+    }
+
+    // The target after a measurement of it.
+    fn moved_by(&self) -> Prism
+        ensures { result ≡ moved_by self.now.drift self.now }
+    {
+        match self.drift {
+            None => *self,
+            Some(offset) => Prism {
+                at: offset.of(&self.at),
+                drift: self.drift,
+                from: self.from,
+                to: self.to,
+            },
+        }
+    }
+
+    /// The target after a measurement in this look, with the telescope pointing there: it moves if it was measured.
+    pub(crate) fn moved(&self, look: u32, there: &Pointing) -> Prism
+        ensures { result ≡ moved look there.now self.now }
+    {
+        if self.is_clear(look) && self.at.hz == there.hz && self.at.v == there.v {
+            self.moved_by()
+        } else {
+            *self
+        }
+    }
+}
+
+impl Offset {
+    // The target, moved so much.
+    fn of(&self, target: &Target) -> Target
+        ensures { result ≡ offset self.now target.now }
+    {
+        Target {
+            hz: shifted(&target.hz, self.hz.units()),
+            v: shifted(&target.v, self.v.units()),
+            distance: shifted(&target.distance, self.distance.units()),
+        }
+    }
+}
+
+impl Noise {
+    // The three deviations of one measurement are by three numbers of the generator in a row.
+    fn numbers(&self) -> (u32, u32, u32)
+        ensures first { result.0 ≡ next self.now.seed }
+        ensures second { result.1 ≡ next (next self.now.seed) }
+        ensures third { result.2 ≡ next (next (next self.now.seed)) }
+    {
+        let first = next(self.seed);
+        let second = next(first);
+        (first, second, next(second))
+    }
+
+    /// What is measured, with three deviations in a row. Other answers stay as they are.
+    pub(crate) fn disturb(&self, answer: &mut Answer)
+        ensures { answer.new ≡ disturbed self.now answer.old }
+    {
+        match *answer {
+            Answer::Measured { hz, v, distance } => {
+                let (hz, v, distance) = self.deviated(hz, v, distance);
+                *answer = Answer::Measured { hz, v, distance };
+            }
+            Answer::MeasuredMode {
+                hz,
+                v,
+                distance,
+                mode,
+            } => {
+                let (hz, v, distance) = self.deviated(hz, v, distance);
+                *answer = Answer::MeasuredMode {
+                    hz,
+                    v,
+                    distance,
+                    mode,
+                };
+            }
+            _ => {}
+        }
+    }
+
+    // A direction, an angle and a distance with three deviations in a row.
+    fn deviated(&self, hz: Decimal, v: Decimal, distance: Decimal) -> (Decimal, Decimal, Decimal)
+        ensures hz { result.0 ≡ shifted hz (deviation self.now.hz (next self.now.seed)) }
+        ensures v { result.1 ≡ shifted v (deviation self.now.v (next (next self.now.seed))) }
+        ensures distance { result.2 ≡ shifted distance (deviation self.now.distance (next (next (next self.now.seed)))) }
+    {
+        let (first, second, third) = self.numbers();
+        let hz = deviated(&hz, &self.hz, first);
+        let v = deviated(&v, &self.v, second);
+        let distance = deviated(&distance, &self.distance, third);
+        (hz, v, distance)
+    }
+
+    /// The noise after an answer: three numbers on behind one that tells a measurement.
+    pub(crate) fn spent(&self, answer: &Answer) -> Noise
+        ensures { result ≡ spent self.now answer.now }
+    {
+        if is_measured(answer) {
+            let (_, _, third) = self.numbers();
+            Noise {
+                hz: self.hz,
+                v: self.v,
+                distance: self.distance,
+                seed: third,
+            }
+        } else {
+            *self
+        }
+    }
+}
+
+// Whether an answer tells a measurement.
+fn is_measured(answer: &Answer) -> bool
+    ensures { result ≡ is_measured answer.now }
+{
+    match answer {
+        Answer::Measured { .. } => true,
+        Answer::MeasuredMode { .. } => true,
+        _ => false,
+    }
+}
+
+// A decimal with the deviation by this number of the generator.
+fn deviated(d: &Decimal, most: &Decimal, x: u32) -> Decimal
+    ensures { result ≡ shifted d.now (deviation most.now x) }
+{
+    shifted(d, deviation(most, x))
+}
