@@ -73,10 +73,10 @@ keeps_answered z asked [] x rest up kept h e k = subst (λ i. IsFor i kept) h.en
 keeps_answered z asked (i ∷ later) x rest up kept h e k =
     each_more (HasNone (i ∷ later)) (KeepsIf i kept) (λ y f o g. absurd ((f o).0 (sym g))) rest (each_front (HasNone (i ∷ later)) rest up h.own.0.1)
 
--- `Keeps` lasts where a reply comes
-keeps_came : (z : ℕ) (left : List ℕ) (x : Sent) (rest up : List Sent) (kept : Option ℕ) → IsLine z left (x ∷ (rest ++ up)) → Keeps z left (x ∷ rest) kept → Keeps z (heard left x.id) rest kept
-keeps_came z [] x rest up kept h k = k
-keeps_came z (asked ∷ later) x rest up kept h k = chosen (nat_eq x.id asked) refl where
+-- `Keeps` lasts where x, the front reply, is heard: of what is left then, and of the replies behind x
+keeps_heard : (z : ℕ) (left : List ℕ) (x : Sent) (rest up : List Sent) (kept : Option ℕ) → IsLine z left (x ∷ (rest ++ up)) → Keeps z left (x ∷ rest) kept → Keeps z (heard left x.id) rest kept
+keeps_heard z [] x rest up kept h k = k
+keeps_heard z (asked ∷ later) x rest up kept h k = chosen (nat_eq x.id asked) refl where
   chosen : (b : Bool) → nat_eq x.id asked ≡ b → Keeps z (left_by_one b asked later) rest kept
   chosen true e = keeps_answered z asked later x rest up kept h (eqb-true x.id asked e) k
   chosen false e = k.1
@@ -115,11 +115,11 @@ keeps_passes z s (x ∷ rest) e h = by_case x.old refl where
   by_case true old = keeps_old z s.left s.down x s.kept old h.keeps
   by_case false own = keeps_replied z s.left s.down x (keeps_reached z s.left s.down x rest (subst (λ q. IsLine z s.left (s.down ++ q)) e h.line))
 
--- `Keeps` lasts where a reply comes
+-- the same of a whole state: `Keeps` lasts where a reply comes
 keeps_comes : (z : ℕ) (s : Model) (down : List Sent) → s.down ≡ down → IsSound z s → Keeps z (comes s down).left (comes s down).down (comes s down).kept
 keeps_comes z s [] e h = h.keeps
 keeps_comes z s (x ∷ rest) e h =
-    keeps_came z s.left x rest s.up s.kept (subst (λ q. IsLine z s.left (q ++ s.up)) e h.line) (subst (λ q. Keeps z s.left q s.kept) e h.keeps)
+    keeps_heard z s.left x rest s.up s.kept (subst (λ q. IsLine z s.left (q ++ s.up)) e h.line) (subst (λ q. Keeps z s.left q s.kept) e h.keeps)
 
 -- `Keeps` lasts over each move
 keeps_moves : (z : ℕ) (s : Model) (m : Move) → IsSound z s → Keeps z (moves s m).left (moves s m).down (moves s m).kept

@@ -8,9 +8,9 @@ use Rattle.gc_instrument.specs.Execution.{exec}
 use Rattle.gc_instrument.specs.Replying.{handed}
 use Rattle.gc_texts.specs.Nears.{is_elsewhere}
 use Rattle.gc_texts.specs.declared.tasks.Task.{Task}
-use Rattle.gc_texts.specs.Codes.{no_codes}
 use Rattle.gc_station.specs.Links.{AreChained}
 use Rattle.gc_world.proofs.Options.{some_is}
+use Rattle.gc_field.specs.Plain.{plain_task}
 use Rattle.gc_field.specs.ChainWitness.{IsPointedInField, acts, before, commands, measures, moves, runs, scope}
 use Rattle.gc_field.specs.Pointing.{AreStill, turns}
 use Rattle.gc_field.proofs.Witness.{asked_each, fits, one_part, opens, run_on, units}
@@ -33,7 +33,7 @@ all_chained (suc (suc (suc p))) above upto = absurd (omega (arith, upto))
 none_turns : AreStill commands 0 2
 none_turns zero task above under e = absurd (omega (arith, above))
 none_turns (suc zero) task above under e =
-    let one : Task = record { command = record { target = 7; call = measures }; deadline = 100; chained = true; near = None; accepted = no_codes } in
+    let one : Task = plain_task (record { target = 7; call = measures }) 100 true in
     ap (λ (t : Task). turns t.command.call) (sym (some_is one task e))
 none_turns (suc (suc p)) task above under e = absurd (omega (arith, under))
 

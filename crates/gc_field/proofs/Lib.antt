@@ -45,3 +45,4 @@ pub mod Drifting
 pub mod CountingChain
 pub mod LateAnswer
 pub mod BeginsAnew
+pub mod SceneField

@@ -18,11 +18,11 @@ use Rattle.gc_instrument.specs.State.{IsFittingState, simulator_opening}
 use Rattle.gc_links.specs.Acts.{Act}
 use Rattle.gc_texts.specs.Nears.{is_elsewhere}
 use Rattle.gc_texts.specs.declared.tasks.Task.{Task}
-use Rattle.gc_texts.specs.Codes.{no_codes}
 use Rattle.gc_station.specs.declared.plan.Plan.{Plan}
 use Rattle.gc_station.specs.Parts as part
 use Rattle.gc_station.specs.Parts.{Part, nothing, parts_of}
 use Rattle.gc_station.specs.Model.{Runs, Model, after, after_all, opening}
+use Rattle.gc_field.specs.Plain.{plain_expected}
 use Rattle.gc_field.specs.Simulator.{ends}
 use Rattle.gc_field.specs.Begin.{begins, leaves, turned}
 use Rattle.gc_field.specs.Begun.{WasMadeOn}
@@ -60,7 +60,7 @@ opens width tasks reads =
 -- the part with these turns and steps, whose requests are of the first cycle: each by its place, and the moment before it went
 -- out
 abbrev pub part_of : List part.Turn → List (Step Asked) → List (ℕ × ℕ) → Part
-part_of turns steps sent = record { turns = turns; steps = steps; marks = map (λ x. Some (record { cycle = 1; place = x.0; sent = x.1; expected = record { near = None; accepted = no_codes } })) sent }
+part_of turns steps sent = record { turns = turns; steps = steps; marks = map (λ x. Some (record { cycle = 1; place = x.0; sent = x.1; expected = plain_expected })) sent }
 
 -- a run in one part, after which nothing happens
 abbrev pub one_part : List part.Turn → List (Step Asked) → List (ℕ × ℕ) → List Part

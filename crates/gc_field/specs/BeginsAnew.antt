@@ -11,7 +11,6 @@ use Rattle.gc_client.specs.declared.window.TheConstants.{WINDOW}
 use Rattle.gc_texts.specs.declared.wish.Wish.{Wish}
 use Rattle.gc_texts.specs.declared.tasks.Task.{Task}
 use Rattle.gc_texts.specs.Endings as end
-use Rattle.gc_texts.specs.Codes.{no_codes}
 use Rattle.gc_texts.specs.declared.quality.Quality.TheVariants.{Fine}
 use Rattle.gc_station.specs.declared.plan.Plan.{Plan}
 use Rattle.gc_links.specs.Acts.{Act, Told, Put, Gave, Silent, Closed}
@@ -20,6 +19,7 @@ use Rattle.gc_station.specs.Progressing.{is_over}
 use Rattle.gc_station.specs.Records.{Record}
 use Rattle.gc_station.specs.Runs.{stood}
 use Rattle.gc_station.specs.Scopes.{Scope}
+use Rattle.gc_field.specs.Plain.{plain_task, plain_turn}
 use Rattle.gc_field.specs.World.{Up_deliver, Up_lose}
 use Rattle.gc_field.specs.Begin as turn
 use Rattle.gc_field.specs.Begin.{Turn, Asks, Reaches, UnderWay, begins, leaves, turned}
@@ -41,7 +41,7 @@ command target = record { target = target; call = Table InstrumentNo }
 
 -- the eight commands of this run, with a deadline of 100 ms each
 abbrev pub commands : List Task
-commands = map (λ target. record { command = command target; deadline = 100; chained = false; near = None; accepted = no_codes }) (1 ∷ 2 ∷ 3 ∷ 4 ∷ 5 ∷ 6 ∷ 7 ∷ 8 ∷ [])
+commands = map (λ target. plain_task (command target) 100 false) (1 ∷ 2 ∷ 3 ∷ 4 ∷ 5 ∷ 6 ∷ 7 ∷ 8 ∷ [])
 
 -- the scope of this run: at most a hundred acts; every reply is taken to say what the reply to the last command says
 abbrev pub scope : Scope
@@ -156,7 +156,7 @@ from = leaves (turned counting turns (begins left))
 
 -- the record of a lost command, at this place and for this target
 abbrev pub lost : ℕ → ℕ → Record
-lost place target = record { sent = Some 15; utc = 115; cycle = 1; place = place; command = command target; end = end.Lost }
+lost place target = record { sent = Some 15; utc = 115; cycle = 1; place = place; turn = plain_turn; command = command target; end = end.Lost }
 
 -- the records of the run: the first seven commands are lost, and the eighth has its answer
 abbrev pub records : List Record
@@ -168,7 +168,7 @@ records =
     ∷ lost 4 5
     ∷ lost 5 6
     ∷ lost 6 7
-    ∷ record { sent = Some 120; utc = 125; cycle = 1; place = 7; command = command 8; end = end.Answered Fine (Some (Long (pos 45))) answer }
+    ∷ record { sent = Some 120; utc = 125; cycle = 1; place = 7; turn = plain_turn; command = command 8; end = end.Answered Fine (Some (Long (pos 45))) answer }
     ∷ []
 
 -- this is a run in the field, over an instrument, after which no act follows. It begins anew where seven are given up. Two

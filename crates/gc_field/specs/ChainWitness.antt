@@ -12,13 +12,13 @@ use Rattle.gc_catalogue.specs.declared.call.Call.TheVariants.{Position, DoMeasur
 use Rattle.gc_instrument.specs.State.{State, IsFittingState, simulator_opening}
 use Rattle.gc_texts.specs.declared.tasks.Task.{Task}
 use Rattle.gc_texts.specs.Endings as end
-use Rattle.gc_texts.specs.Codes.{no_codes}
 use Rattle.gc_texts.specs.declared.quality.Quality.TheVariants.{Fine}
 use Rattle.gc_links.specs.Acts.{Act, Told, Put, Gave, Closed}
 use Rattle.gc_station.specs.Links.{AreChained}
 use Rattle.gc_station.specs.Records.{Record}
 use Rattle.gc_station.specs.Runs.{stood}
 use Rattle.gc_station.specs.Scopes.{Scope}
+use Rattle.gc_field.specs.Plain.{plain_task, plain_turn}
 use Rattle.gc_field.specs.Simulator.{ends}
 use Rattle.gc_field.specs.World.{Up_deliver}
 use Rattle.gc_field.specs.Begin.{UnderWay, begins, leaves, none_under_way, turned}
@@ -54,9 +54,9 @@ reads_all = Table (SimpleMea (pos 3000) (pos 1))
 -- the three commands, as one chain
 abbrev pub commands : List Task
 commands =
-    record { command = record { target = 7; call = points }; deadline = 100; chained = false; near = None; accepted = no_codes }
-    ∷ record { command = record { target = 7; call = measures }; deadline = 100; chained = true; near = None; accepted = no_codes }
-    ∷ record { command = record { target = 7; call = reads_all }; deadline = 100; chained = true; near = None; accepted = no_codes }
+    plain_task (record { target = 7; call = points }) 100 false
+    ∷ plain_task (record { target = 7; call = measures }) 100 true
+    ∷ plain_task (record { target = 7; call = reads_all }) 100 true
     ∷ []
 
 -- the scope of this run: at most a hundred acts; every reply is taken to say a value, whichever
@@ -119,9 +119,9 @@ moves_with a b c =
 -- the records of the run, in which the three commands are answered by the lines a, b and c
 abbrev pub records_with : List ℕ → List ℕ → List ℕ → List Record
 records_with a b c =
-    record { sent = Some 15; utc = 20; cycle = 1; place = 0; command = record { target = 7; call = points }; end = end.Answered Fine (Some (Long (pos 0))) a }
-    ∷ record { sent = Some 20; utc = 25; cycle = 1; place = 1; command = record { target = 7; call = measures }; end = end.Answered Fine (Some (Long (pos 0))) b }
-    ∷ record { sent = Some 25; utc = 30; cycle = 1; place = 2; command = record { target = 7; call = reads_all }; end = end.Answered Fine (Some (Long (pos 0))) c }
+    record { sent = Some 15; utc = 20; cycle = 1; place = 0; turn = plain_turn; command = record { target = 7; call = points }; end = end.Answered Fine (Some (Long (pos 0))) a }
+    ∷ record { sent = Some 20; utc = 25; cycle = 1; place = 1; turn = plain_turn; command = record { target = 7; call = measures }; end = end.Answered Fine (Some (Long (pos 0))) b }
+    ∷ record { sent = Some 25; utc = 30; cycle = 1; place = 2; turn = plain_turn; command = record { target = 7; call = reads_all }; end = end.Answered Fine (Some (Long (pos 0))) c }
     ∷ []
 
 -- the acts of the run over the simulator

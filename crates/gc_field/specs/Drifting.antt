@@ -15,13 +15,13 @@ use Rattle.gc_client.specs.declared.window.TheConstants.{WINDOW}
 use Rattle.gc_client.specs.Rule.{heard}
 use Rattle.gc_texts.specs.declared.tasks.Task.{Task}
 use Rattle.gc_texts.specs.Endings as end
-use Rattle.gc_texts.specs.Codes.{no_codes}
 use Rattle.gc_texts.specs.declared.quality.Quality.TheVariants.{Fine}
 use Rattle.gc_station.specs.declared.plan.Plan.{Plan}
 use Rattle.gc_links.specs.Acts.{Act, Told, Put, Gave, Silent, Broke, Closed, Opened}
 use Rattle.gc_station.specs.Progressing.{is_over}
 use Rattle.gc_station.specs.Runs.{stood}
 use Rattle.gc_station.specs.Scopes.{Scope}
+use Rattle.gc_field.specs.Plain.{plain_task, plain_turn}
 use Rattle.gc_field.specs.World.{Ends, Up_deliver, Down_lose}
 use Rattle.gc_field.specs.Begin.{Turn, Asks, Reaches, UnderWay, begins, leaves, none_under_way, turned}
 use Rattle.gc_field.specs.Begin as turn
@@ -44,13 +44,13 @@ drifting =
 
 -- the plan of this run: one request at a time, deadlines of 100 ms, one cycle, a quiet time of 10 ms, and three new tries
 abbrev pub plan : Plan
-plan = record { width = 1; deadline = 100; every = 0; cycles = 1; quiet = 10; retries = 3 }
+plan = record { width = 1; deadline = 100; every = 0; cycles = 1; quiet = 10; retries = 3; stale = 0; watched = false }
 
 -- the two commands of this run: one asks for the instrument's number, the other for a procedure that isn't in the table
 abbrev pub commands : RawCall → List Task
 commands raw =
-    record { command = record { target = 7; call = Table InstrumentNo }; deadline = 100; chained = false; near = None; accepted = no_codes }
-    ∷ record { command = record { target = 8; call = Raw raw }; deadline = 100; chained = false; near = None; accepted = no_codes }
+    plain_task (record { target = 7; call = Table InstrumentNo }) 100 false
+    ∷ plain_task (record { target = 8; call = Raw raw }) 100 false
     ∷ []
 
 -- the scope of this run: at most a hundred acts; every reply is taken to say what the reply to the second command says, whose parameters nobody reads
@@ -148,8 +148,8 @@ pub record IsAnsweredByDrifting (raw : RawCall) : Type 0 where
   pub over : is_over (stood plan (commands raw) scope (acts raw)).progress ≡ true
   pub records :
       (stood plan (commands raw) scope (acts raw)).records
-      ≡ record { sent = Some 220; utc = 360; cycle = 1; place = 0; command = record { target = 7; call = Table InstrumentNo }; end = end.Lost }
-      ∷ record { sent = Some 320; utc = 360; cycle = 1; place = 1; command = record { target = 8; call = Raw raw }; end = end.Answered Fine (Some Nothing) answer }
+      ≡ record { sent = Some 220; utc = 360; cycle = 1; place = 0; turn = plain_turn; command = record { target = 7; call = Table InstrumentNo }; end = end.Lost }
+      ∷ record { sent = Some 320; utc = 360; cycle = 1; place = 1; turn = plain_turn; command = record { target = 8; call = Raw raw }; end = end.Answered Fine (Some Nothing) answer }
       ∷ []
   pub made_on : WasMadeOn WINDOW drifting (leaves (turned drifting turns (begins (none_under_way 5)))) (moves raw) 9 (Raw raw) answer
 

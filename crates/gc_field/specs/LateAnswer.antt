@@ -8,11 +8,11 @@ use Rattle.gc_client.specs.declared.window.TheConstants.{WINDOW}
 use Rattle.gc_instrument.specs.State.{State, IsFittingState, simulator_opening}
 use Rattle.gc_texts.specs.declared.tasks.Task.{Task}
 use Rattle.gc_texts.specs.Endings as end
-use Rattle.gc_texts.specs.Codes.{no_codes}
 use Rattle.gc_texts.specs.declared.quality.Quality.TheVariants.{Fine}
 use Rattle.gc_links.specs.Acts.{Act, Told, Put, Gave, Silent, Closed}
 use Rattle.gc_station.specs.Progressing.{is_over}
 use Rattle.gc_station.specs.Runs.{stood}
+use Rattle.gc_field.specs.Plain.{plain_task, plain_turn}
 use Rattle.gc_field.specs.Simulator.{ends}
 use Rattle.gc_field.specs.World.{Up_deliver}
 use Rattle.gc_field.specs.Begin.{UnderWay, begins, leaves, none_under_way, turned}
@@ -26,8 +26,8 @@ use Rattle.gc_field.specs.Witness.{plan, scope, at, begun_with, eight, replies}
 -- two requests for the instrument's number
 abbrev pub commands : List Task
 commands =
-    record { command = record { target = 7; call = Table InstrumentNo }; deadline = 100; chained = false; near = None; accepted = no_codes }
-    ∷ record { command = record { target = 8; call = Table InstrumentNo }; deadline = 100; chained = false; near = None; accepted = no_codes }
+    plain_task (record { target = 7; call = Table InstrumentNo }) 100 false
+    ∷ plain_task (record { target = 8; call = Table InstrumentNo }) 100 false
     ∷ []
 
 -- the reply to the first request, which comes too late
@@ -92,8 +92,8 @@ pub record IsLateInField : Type 0 where
   pub over : is_over (stood plan commands scope acts).progress ≡ true
   pub records :
       (stood plan commands scope acts).records
-      ≡ record { sent = Some 15; utc = 120; cycle = 1; place = 0; command = record { target = 7; call = Table InstrumentNo }; end = end.Late }
-      ∷ record { sent = Some 115; utc = 125; cycle = 1; place = 1; command = record { target = 8; call = Table InstrumentNo }; end = end.Answered Fine (Some (Long (pos 123456))) answer }
+      ≡ record { sent = Some 15; utc = 120; cycle = 1; place = 0; turn = plain_turn; command = record { target = 7; call = Table InstrumentNo }; end = end.Late }
+      ∷ record { sent = Some 115; utc = 125; cycle = 1; place = 1; turn = plain_turn; command = record { target = 8; call = Table InstrumentNo }; end = end.Answered Fine (Some (Long (pos 123456))) answer }
       ∷ []
   pub late_made_on : WasMadeOn WINDOW ends from moves 8 (Table InstrumentNo) late
   pub answer_made_on : WasMadeOn WINDOW ends from moves 9 (Table InstrumentNo) answer

@@ -17,6 +17,7 @@ pub mod Shown
 pub mod Asking
 pub mod Runs
 pub mod InARow
+pub mod Plain
 pub mod Witness
 pub mod Chains
 pub mod Pointing
@@ -28,3 +29,4 @@ pub mod Drifting
 pub mod CountingChain
 pub mod LateAnswer
 pub mod BeginsAnew
+pub mod SceneField

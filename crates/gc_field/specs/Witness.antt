@@ -10,7 +10,6 @@ use Rattle.gc_client.specs.declared.window.TheConstants.{WINDOW}
 use Rattle.gc_instrument.specs.State.{State, IsFittingState, simulator_opening}
 use Rattle.gc_texts.specs.declared.tasks.Task.{Task}
 use Rattle.gc_texts.specs.Endings as end
-use Rattle.gc_texts.specs.Codes.{no_codes}
 use Rattle.gc_texts.specs.declared.quality.Quality.TheVariants.{Fine}
 use Rattle.gc_links.specs.declared.link.Moment.{Moment}
 use Rattle.gc_station.specs.declared.plan.Plan.{Plan}
@@ -18,6 +17,7 @@ use Rattle.gc_links.specs.Acts.{Act, Told, Put, Gave, Closed, Opened}
 use Rattle.gc_station.specs.Progressing.{is_over}
 use Rattle.gc_station.specs.Runs.{stood}
 use Rattle.gc_station.specs.Scopes.{Scope}
+use Rattle.gc_field.specs.Plain.{plain_task, plain_turn}
 use Rattle.gc_field.specs.Simulator.{ends}
 use Rattle.gc_field.specs.World.{Up_deliver}
 use Rattle.gc_field.specs.Begin as turn
@@ -30,7 +30,7 @@ use Rattle.gc_field.specs.Runs.{IsInField}
 
 -- a plan with requests in flight up to this width, deadlines of 100 ms, one cycle, a quiet time of 10 ms, and one retry
 abbrev pub plan_of : ℕ → Plan
-plan_of width = record { width = width; deadline = 100; every = 0; cycles = 1; quiet = 10; retries = 1 }
+plan_of width = record { width = width; deadline = 100; every = 0; cycles = 1; quiet = 10; retries = 1; stale = 0; watched = false }
 
 -- the plan of this run: one request at a time
 abbrev pub plan : Plan
@@ -38,7 +38,7 @@ plan = plan_of 1
 
 -- the command: a request for the instrument's number
 abbrev pub commands : List Task
-commands = record { command = record { target = 7; call = Table InstrumentNo }; deadline = 100; chained = false; near = None; accepted = no_codes } ∷ []
+commands = plain_task (record { target = 7; call = Table InstrumentNo }) 100 false ∷ []
 
 -- the scope of this run: at most a hundred acts; every reply is taken to say what the reply to the command says
 abbrev pub scope : Scope
@@ -46,7 +46,7 @@ scope = record { turns = 100; reads = λ call line. Value (Long (pos 123456)) }
 
 -- the moment at which both clocks show this number
 abbrev pub at : ℕ → Moment
-at now = record { elapsed = now; utc = now }
+at now = record { elapsed = now; utc = now; stops = false }
 
 -- the lines of a beginning's null procedures, in order
 abbrev pub asked : List (List ℕ)
@@ -121,7 +121,7 @@ pub record IsAnsweredInField : Type 0 where
   pub over : is_over (stood plan commands scope acts).progress ≡ true
   pub records :
       (stood plan commands scope acts).records
-      ≡ record { sent = Some 15; utc = 20; cycle = 1; place = 0; command = record { target = 7; call = Table InstrumentNo }; end = end.Answered Fine (Some (Long (pos 123456))) answer } ∷ []
+      ≡ record { sent = Some 15; utc = 20; cycle = 1; place = 0; turn = plain_turn; command = record { target = 7; call = Table InstrumentNo }; end = end.Answered Fine (Some (Long (pos 123456))) answer } ∷ []
   pub made_on : WasMadeOn WINDOW ends (leaves (turned ends turns (begins before))) moves 8 (Table InstrumentNo) answer
 
 -- some run is one in the field

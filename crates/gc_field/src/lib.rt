@@ -4,3 +4,4 @@
 
 pub mod beginning;
 pub mod laws;
+pub mod scenes;

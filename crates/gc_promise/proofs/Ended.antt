@@ -43,7 +43,7 @@ row (first ∷ others) = more (field_text first ++ behind_commas others) (codes 
 -- the text of a record ends in a line feed, in each form
 record_ends : (form : Form) (when : When) (name : List ℕ) (command : Wish) (end : End) → Ends (record_text form when name command end)
 record_ends Lines when name command end =
-    more (stamp_text when.stamp.utc ++ codes " " ++ decimal when.stamp.place ++ codes " " ++ decimal command.target ++ ending_text end) (codes "\n") feed
+    more (stamp_text when.stamp.utc ++ codes " " ++ decimal when.stamp.turn.place ++ codes " " ++ decimal command.target ++ ending_text end) (codes "\n") feed
 record_ends Csv when name command end = row (row_fields false when name command end)
 record_ends Columns when name command end = row (row_fields true when name command end)
 record_ends Json when name command end =

@@ -23,7 +23,7 @@ use Rattle.gc_station.specs.Parts.{Part, nothing, parts_of}
 use Rattle.gc_station.specs.Records.{Record, texts_of}
 use Rattle.gc_station.specs.Runs.{RanTo, stood}
 use Rattle.gc_station.specs.Scopes.{AreReadings, Scope}
-use Rattle.gc_station.specs.Tallies.{none_yet, tallied}
+use Rattle.gc_station.specs.Tallies.{tally_of}
 use Rattle.gc_station.specs.declared.cause.Cause.TheVariants.{Done}
 use Rattle.gc_world.specs.Clients.{by_ids}
 use Rattle.gc_field.specs.World.{World}
@@ -279,7 +279,7 @@ module _ (reads : Asked → List ℕ → Reading) where
   computed_run : (text : Record → List ℕ) → RanTo plan commands (scope (patched reads)) text (Some []) (Some acts) (Some []) (Some (texts_of text records)) Done tally
   unfolding is_elsewhere is_near header_at reply_at digits rounded
   computed_run text =
-      record { acts = acts; tells = refl; runs = all_run; stops = refl; took = ap (texts_of text) (sym written); counts = ap (tallied none_yet) (sym written) }
+      record { acts = acts; tells = refl; runs = all_run; stops = refl; took = ap (texts_of text) (sym written); counts = ap tally_of (sym written) }
 
 -- the run is eventful with every function that gives what replies say
 pub eventful : (reads : Asked → List ℕ → Reading) → AreReadings reads → IsEventful reads

@@ -32,7 +32,7 @@ use Rattle.gc_texts.specs.Stamps.{stamp_text}
 use Rattle.gc_texts.specs.declared.wish.Wish.{Wish}
 use Rattle.gc_texts.specs.declared.quality.Quality.{Quality}
 use Rattle.gc_texts.specs.declared.quality.Quality.TheVariants as quality
-use Rattle.gc_rows.specs.JsonLines.{Member, Text, Number, Texts, ending_members, item_members, json_members, last_members, more_members, answer_members, quantity_members, sent_members, values_members, what_members, when_members, without_zeros, worded_members}
+use Rattle.gc_rows.specs.JsonLines.{Member, Text, Number, Texts, ending_members, item_members, json_members, last_members, more_members, answer_members, quantity_members, attempt_members, sent_members, values_members, what_members, when_members, without_zeros, worded_members}
 use Rattle.gc_rows.specs.Items.{split_items}
 use Rattle.gc_rows.specs.Laws.{members_read, record_read, texts_read}
 use Rattle.gc_rows.specs.Quantities.{column_of, quantity_names, quantity_text}
@@ -142,6 +142,21 @@ worded_without : (word : List ℕ) → LacksAll (worded_members word) quantity_n
 worded_without [] =
     (refl, (refl, (refl, (refl, (refl, (refl, (refl, (refl, (refl, (refl, (refl, (refl, (refl, (refl, (refl, (refl, (refl, (refl, (refl, (refl, (refl, (refl, (refl, (refl, tt))))))))))))))))))))))))
 worded_without (b ∷ bs) =
+    (refl, (refl, (refl, (refl, (refl, (refl, (refl, (refl, (refl, (refl, (refl, (refl, (refl, (refl, (refl, (refl, (refl, (refl, (refl, (refl, (refl, (refl, (refl, (refl, tt))))))))))))))))))))))))
+
+-- what two lists of members lack, both together lack
+lacks_both : (xs ys : List Member) (keys : List (List ℕ)) → LacksAll xs keys → LacksAll ys keys → LacksAll (xs ++ ys) keys
+lacks_both xs ys [] a b = tt
+lacks_both xs ys (key ∷ keys) a b =
+    (find_both key xs ys ∙ ap (λ (o : Option json.Json). later_or o (find key xs)) b.0 ∙ ap (later_or None) a.0, lacks_both xs ys keys a.1 b.1)
+
+-- the attempt has none of the names of `firsts`
+attempt_apart : (when : When) → LacksAll (attempt_members when) firsts
+attempt_apart when = (refl, (refl, (refl, (refl, (refl, (refl, (refl, (refl, tt))))))))
+
+-- the attempt has no name of a quantity
+attempt_without : (when : When) → LacksAll (attempt_members when) quantity_names
+attempt_without when =
     (refl, (refl, (refl, (refl, (refl, (refl, (refl, (refl, (refl, (refl, (refl, (refl, (refl, (refl, (refl, (refl, (refl, (refl, (refl, (refl, (refl, (refl, (refl, (refl, tt))))))))))))))))))))))))
 
 -- the member for a reply's items has no name of a quantity
@@ -462,11 +477,15 @@ module _ (when : When) (text : List ℕ) (command : Wish) (end : End) where
   abbrev quantities : List Member
   quantities = quantity_members command.call end
 
+  -- the member for the quality, if it was answered, and behind it the one for the attempt
+  abbrev worded : List Member
+  worded = worded_members (quality_text (quality_of end))
+
   abbrev last : List Member
-  last = last_members end
+  last = last_members when end
 
   abbrev more : List Member
-  more = more_members command.call end
+  more = more_members when command.call end
 
   -- the members on how the command ended
   abbrev ending : List Member
@@ -504,26 +523,22 @@ module _ (when : When) (text : List ℕ) (command : Wish) (end : End) where
       ∙ ap (later_or (later_or a b)) ec)
       ∙ ap (later_or (later_or (later_or a b) c)) ed)
 
-  -- no member for a quantity has one of the names of `firsts`
-  -- what the quantities and the quality lack, both together lack
-  lacks_more : (keys : List (List ℕ)) → LacksAll quantities keys → LacksAll last keys → LacksAll more keys
-  lacks_more [] a b = tt
-  lacks_more (key ∷ keys) a b = (find_both key quantities last ∙ ap (λ (o : Option json.Json). later_or o (find key quantities)) b.0 ∙ ap (later_or None) a.0, lacks_more keys a.1 b.1)
-
+  -- no member for a quantity, for the quality or for the attempt has one of the names of `firsts`
   abbrev apart : LacksAll more firsts
-  apart = lacks_more firsts (quantities_apart command.call end) (worded_apart (quality_text (quality_of end)))
+  apart = lacks_both quantities last firsts (quantities_apart command.call end)
+      (lacks_both worded (attempt_members when) firsts (worded_apart (quality_text (quality_of end))) (attempt_apart when))
 
   -- under `cycle` the object has the record's cycle
   pub member_cycle : at_member (codes "cycle") ≡ decimal when.stamp.cycle
   member_cycle =
       found_at (codes "cycle") None None None (Some (json.number (decimal when.stamp.cycle))) apart.0 (ending_apart end).0 (what_apart command text).0
-      (moment_found when.stamp.sent (stamp_text when.stamp.utc) (decimal when.stamp.cycle) (decimal when.stamp.place)).0
+      (moment_found when.stamp.sent (stamp_text when.stamp.utc) (decimal when.stamp.cycle) (decimal when.stamp.turn.place)).0
 
   -- under `place` the object has the record's place
-  pub member_place : at_member (codes "place") ≡ decimal when.stamp.place
+  pub member_place : at_member (codes "place") ≡ decimal when.stamp.turn.place
   member_place =
-      found_at (codes "place") None None None (Some (json.number (decimal when.stamp.place))) apart.1.0 (ending_apart end).1.0 (what_apart command text).1.0
-      (moment_found when.stamp.sent (stamp_text when.stamp.utc) (decimal when.stamp.cycle) (decimal when.stamp.place)).1
+      found_at (codes "place") None None None (Some (json.number (decimal when.stamp.turn.place))) apart.1.0 (ending_apart end).1.0 (what_apart command text).1.0
+      (moment_found when.stamp.sent (stamp_text when.stamp.utc) (decimal when.stamp.cycle) (decimal when.stamp.turn.place)).1
 
   -- under `target` the object has the command's target
   pub member_target : at_member (codes "target") ≡ decimal command.target
@@ -574,9 +589,22 @@ module _ (when : When) (text : List ℕ) (command : Wish) (end : End) where
       found_at (codes "quality") (find (codes "quality") last) None None None
       (find_both (codes "quality") quantities last ∙ ap (later_or (find (codes "quality") last)) (quantities_unqualified command.call end) ∙ sym (later_none (find (codes "quality") last)))
       (ending_unqualified end) (what_unqualified command text)
-      (moment_unqualified when.stamp.sent (stamp_text when.stamp.utc) (decimal when.stamp.cycle) (decimal when.stamp.place))
+      (moment_unqualified when.stamp.sent (stamp_text when.stamp.utc) (decimal when.stamp.cycle) (decimal when.stamp.turn.place))
       ∙ ap text_of (last_found (find (codes "quality") last))
+      ∙ ap text_of (find_both (codes "quality") worded (attempt_members when))
       ∙ worded_found (quality_of end)
+
+  -- the attempt is found among what stands behind how the command ended
+  attempt_found : find (codes "attempt") more ≡ Some (json.number (decimal when.stamp.turn.attempt))
+  attempt_found =
+      find_both (codes "attempt") quantities last
+      ∙ ap (λ (o : Option json.Json). later_or o (find (codes "attempt") quantities)) (find_both (codes "attempt") worded (attempt_members when))
+
+  -- under `attempt` the object has the attempt of the record's chain
+  pub member_attempt : at_member (codes "attempt") ≡ decimal when.stamp.turn.attempt
+  member_attempt =
+      found_at (codes "attempt") (Some (json.number (decimal when.stamp.turn.attempt))) (find (codes "attempt") ending) (find (codes "attempt") what) (find (codes "attempt") moments)
+      attempt_found refl refl refl
 
   module _ (name : List ℕ) (k : ℕ) (is : slice_get quantity_names k ≡ Some name) where
     -- no name of a quantity is `run`
@@ -588,11 +616,12 @@ module _ (when : When) (text : List ℕ) (command : Wish) (end : End) where
     not_started : started name ≡ None
     not_started = all_at (λ (n : List ℕ). started n ≡ None) quantity_names none_started k name is
 
-    -- the quality has another name than the quantities
+    -- the quality and the attempt have other names than the quantities
     in_quantities : find name more ≡ find name quantities
     in_quantities =
         find_both name quantities last
-        ∙ ap (λ (o : Option json.Json). later_or o (find name quantities)) (all_at (λ (n : List ℕ). find n last ≡ None) quantity_names (worded_without (quality_text (quality_of end))) k name is)
+        ∙ ap (λ (o : Option json.Json). later_or o (find name quantities)) (all_at (λ (n : List ℕ). find n last ≡ None) quantity_names
+        (lacks_both worded (attempt_members when) quantity_names (worded_without (quality_text (quality_of end))) (attempt_without when)) k name is)
 
     -- what stands under the name of a quantity stands among the quantities
     pub member_quantity : at_member name ≡ text_of (find name quantities)
@@ -601,6 +630,6 @@ module _ (when : When) (text : List ℕ) (command : Wish) (end : End) where
         (all_at (λ (n : List ℕ). find n ending ≡ None) quantity_names (ending_without end) k name is)
         (all_at (λ (n : List ℕ). find n what ≡ None) quantity_names (what_without command text) k name is)
         (all_at (λ (n : List ℕ). find n moments ≡ None) quantity_names
-        (moment_without when.stamp.sent (stamp_text when.stamp.utc) (decimal when.stamp.cycle) (decimal when.stamp.place)) k name is)
+        (moment_without when.stamp.sent (stamp_text when.stamp.utc) (decimal when.stamp.cycle) (decimal when.stamp.turn.place)) k name is)
         ∙ ap (λ (o : Option json.Json). text_of (later_or (later_or (later_or (later_or (find name quantities) None) None) None) o)) not_started
         ∙ ap text_of (last_found (find name quantities))

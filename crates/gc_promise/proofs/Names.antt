@@ -1,6 +1,6 @@
 -- What stands under a name in the row of a record.
 use Rattle.std.proofs.Common.{◌≡◌, ◌||◌, ℕ, ℤ, zero, suc, Bool, true, false, List, [], ◌∷◌, ◌++◌, length, map, replicate, Option, Some, None, if◌then◌else◌, refl, sym, ap, ◌∙◌, subst, arith}
-use Rattle.std.specs.Prelude.{codes, nat_eq, slice_get}
+use Rattle.std.specs.Prelude.{codes, nat_eq, not, slice_get}
 use Rattle.std.specs.Cmp.Lexicographic.{pointwise}
 use Rattle.std.specs.Fmt.{decimal}
 use Rattle.std.specs.List.{AllByRecursion, list_any}
@@ -59,9 +59,13 @@ pick : (b : Bool) (f x y : List ℕ) → (b ≡ false → x ≡ y) → (if b the
 pick true f x y same = refl
 pick false f x y same = same refl
 
+-- whether a name is among these
+abbrev is_among : List ℕ → List (List ℕ) → Bool
+is_among key names = list_any (λ name. pointwise nat_eq name key) names
+
 -- a name is among these
 abbrev IsAmong : List ℕ → List (List ℕ) → Type 0
-IsAmong key names = list_any (λ name. pointwise nat_eq name key) names ≡ true
+IsAmong key names = is_among key names ≡ true
 
 -- under a name that is among the first names of a row stands what stands under it in the first fields
 under_front : (key : List ℕ) (names fields more others : List (List ℕ)) → length fields ≡ length names → IsAmong key names
@@ -70,25 +74,46 @@ under_front key [] fields more others same among = cc
 under_front key (n ∷ names) [] more others same among = absurd (omega (arith, same))
 under_front key (n ∷ names) (f ∷ fields) more others same among =
     pick (pointwise nat_eq n key) f (under key (names ++ more) (fields ++ others)) (under key names fields)
-    (λ other. under_front key names fields more others (omega (arith, same)) (sym (ap (λ b. b || list_any (λ name. pointwise nat_eq name key) names) other) ∙ among))
+    (λ other. under_front key names fields more others (omega (arith, same)) (sym (ap (λ b. b || is_among key names) other) ∙ among))
+
+-- where neither of two tests passes, each fails
+neither : (a b : Bool) → (a || b) ≡ false → (a ≡ false) × (b ≡ false)
+neither true b e = cc
+neither false b e = (refl, e)
 
 -- under a name that isn't among the first names of a row stands what stands under it in the fields behind those
-under_behind : (key : List ℕ) (names fields more others : List (List ℕ)) → length fields ≡ length names → AllByRecursion (λ name. pointwise nat_eq name key ≡ false) names
+under_behind : (key : List ℕ) (names fields more others : List (List ℕ)) → length fields ≡ length names → is_among key names ≡ false
     → under key (names ++ more) (fields ++ others) ≡ under key more others
 under_behind key [] [] more others same none = refl
 under_behind key [] (f ∷ fields) more others same none = absurd (omega (arith, same))
 under_behind key (n ∷ names) [] more others same none = absurd (omega (arith, same))
 under_behind key (n ∷ names) (f ∷ fields) more others same none =
-    ap (λ b. if b then f else under key (names ++ more) (fields ++ others)) none.0 ∙ under_behind key names fields more others (omega (arith, same)) none.1
+    let parts = neither (pointwise nat_eq n key) (is_among key names) none in
+    ap (λ b. if b then f else under key (names ++ more) (fields ++ others)) parts.0 ∙ under_behind key names fields more others (omega (arith, same)) parts.1
 
--- each name of a quantity is among them, and none is the name of the quality
+-- a test whose opposite fails passes
+passes : (b : Bool) → not b ≡ false → b ≡ true
+passes true e = refl
+passes false e = cc
+
+-- where no key of a list is missing among the names, each of its keys is among them
+none_missing : (names keys : List (List ℕ)) → list_any (λ key. not (is_among key names)) keys ≡ false → AllByRecursion (λ key. IsAmong key names) keys
+none_missing names [] none = tt
+none_missing names (key ∷ keys) none =
+    let parts = neither (not (is_among key names)) (list_any (λ k. not (is_among k names)) keys) none in
+    (passes (is_among key names) parts.0, none_missing names keys parts.1)
+
+-- each name of a quantity is among them
 all_among : AllByRecursion (λ key. IsAmong key quantity_names) quantity_names
-all_among =
-    (refl, (refl, (refl, (refl, (refl, (refl, (refl, (refl, (refl, (refl, (refl, (refl, (refl, (refl, (refl, (refl, (refl, (refl, (refl, (refl, (refl, (refl, (refl, (refl, tt))))))))))))))))))))))))
+all_among = none_missing quantity_names quantity_names refl
 
-none_quality : AllByRecursion (λ name. pointwise nat_eq name (codes "quality") ≡ false) quantity_names
-none_quality =
-    (refl, (refl, (refl, (refl, (refl, (refl, (refl, (refl, (refl, (refl, (refl, (refl, (refl, (refl, (refl, (refl, (refl, (refl, (refl, (refl, (refl, (refl, (refl, (refl, tt))))))))))))))))))))))))
+-- no quantity's column is named `quality`
+no_quantity_is_quality : is_among (codes "quality") quantity_names ≡ false
+no_quantity_is_quality = refl
+
+-- no quantity's column is named `attempt`
+no_quantity_is_attempt : is_among (codes "attempt") quantity_names ≡ false
+no_quantity_is_attempt = refl
 
 -- the quantities of a row have as many fields as names
 filled : (call : Asked) (end : End) → length (map escaped (quantity_fields call end)) ≡ length quantity_names
@@ -105,9 +130,9 @@ module _ (when : When) (name : List ℕ) (command : Wish) (end : End) where
   under_cycle true = decimal_plain when.stamp.cycle
 
   -- under `place` a row has the record's place
-  pub under_place : (columns : Bool) → row_at columns (codes "place") ≡ decimal when.stamp.place
-  under_place false = decimal_plain when.stamp.place
-  under_place true = decimal_plain when.stamp.place
+  pub under_place : (columns : Bool) → row_at columns (codes "place") ≡ decimal when.stamp.turn.place
+  under_place false = decimal_plain when.stamp.turn.place
+  under_place true = decimal_plain when.stamp.turn.place
 
   -- under `target` a row has the command's target
   pub under_target : (columns : Bool) → row_at columns (codes "target") ≡ decimal command.target
@@ -127,15 +152,15 @@ module _ (when : When) (name : List ℕ) (command : Wish) (end : End) where
   -- the fields of a row, by the line of its reply
   abbrev by_line : Bool → Option (List ℕ) → List (List ℕ)
   by_line columns line =
-      stamp_text when.run ∷ (when_fields when ++ (what_fields command name ++ ((word_of end ∷ fault_field (fault_of end) ∷ reply_fields line) ++ more_fields columns command.call end)))
+      stamp_text when.run ∷ (when_fields when ++ (what_fields command name ++ ((word_of end ∷ fault_field (fault_of end) ∷ reply_fields line) ++ more_fields columns when command.call end)))
 
-  -- behind the line's fields stands what stands behind the first thirteen columns
+  -- behind the line's fields stands what stands behind the first thirteen columns: the quality and the attempt
   last_alone : (line : Option (List ℕ)) → under (codes "quality") (header false) (map escaped (by_line false line)) ≡ escaped (quality_text (quality_of end))
   last_alone None = refl
   last_alone (Some line) = refl
 
   last_behind : (line : Option (List ℕ)) → under (codes "quality") (header true) (map escaped (by_line true line))
-      ≡ under (codes "quality") (quantity_names ++ last_names) (map escaped (quantity_fields command.call end ++ last_fields end))
+      ≡ under (codes "quality") (quantity_names ++ last_names) (map escaped (quantity_fields command.call end ++ last_fields when end))
   last_behind None = refl
   last_behind (Some line) = refl
 
@@ -144,9 +169,27 @@ module _ (when : When) (name : List ℕ) (command : Wish) (end : End) where
   under_quality false = last_alone (line_of end) ∙ quality_plain (quality_of end)
   under_quality true =
       last_behind (line_of end)
-      ∙ ap (under (codes "quality") (quantity_names ++ last_names)) (map-append escaped (quantity_fields command.call end) (last_fields end))
-      ∙ under_behind (codes "quality") quantity_names (map escaped (quantity_fields command.call end)) last_names (map escaped (last_fields end)) (filled command.call end) none_quality
+      ∙ ap (under (codes "quality") (quantity_names ++ last_names)) (map-append escaped (quantity_fields command.call end) (last_fields when end))
+      ∙ under_behind (codes "quality") quantity_names (map escaped (quantity_fields command.call end)) last_names (map escaped (last_fields when end)) (filled command.call end) no_quantity_is_quality
       ∙ quality_plain (quality_of end)
+
+  attempt_alone : (line : Option (List ℕ)) → under (codes "attempt") (header false) (map escaped (by_line false line)) ≡ escaped (decimal when.stamp.turn.attempt)
+  attempt_alone None = refl
+  attempt_alone (Some line) = refl
+
+  attempt_behind : (line : Option (List ℕ)) → under (codes "attempt") (header true) (map escaped (by_line true line))
+      ≡ under (codes "attempt") (quantity_names ++ last_names) (map escaped (quantity_fields command.call end ++ last_fields when end))
+  attempt_behind None = refl
+  attempt_behind (Some line) = refl
+
+  -- under `attempt` a row has the attempt of the record's chain
+  pub under_attempt : (columns : Bool) → row_at columns (codes "attempt") ≡ decimal when.stamp.turn.attempt
+  under_attempt false = attempt_alone (line_of end) ∙ decimal_plain when.stamp.turn.attempt
+  under_attempt true =
+      attempt_behind (line_of end)
+      ∙ ap (under (codes "attempt") (quantity_names ++ last_names)) (map-append escaped (quantity_fields command.call end) (last_fields when end))
+      ∙ under_behind (codes "attempt") quantity_names (map escaped (quantity_fields command.call end)) last_names (map escaped (last_fields when end)) (filled command.call end) no_quantity_is_attempt
+      ∙ decimal_plain when.stamp.turn.attempt
 
   module _ (line : List ℕ) (is : line_of end ≡ Some line) where
     -- under `rc_com` a row has the communication code of the line that ended the command
@@ -173,17 +216,18 @@ all_at P [] all (suc k) x e = cc
 all_at P (y ∷ ys) all zero x e = let same : y ≡ x = cc in subst P same all.0
 all_at P (y ∷ ys) all (suc k) x e = all_at P ys all.1 k x e
 
--- behind the first thirteen columns stand those of quantities, and that of the quality
+-- behind the first thirteen columns stand those of quantities, and those of the quality and the attempt
 thirteen : (a b c d e f g h i j k l m : List ℕ) (others : List (List ℕ))
     → AllByRecursion (λ (name : List ℕ). under name (header true) (a ∷ b ∷ c ∷ d ∷ e ∷ f ∷ g ∷ h ∷ i ∷ j ∷ k ∷ l ∷ m ∷ others) ≡ under name (quantity_names ++ last_names) others) quantity_names
 thirteen a b c d e f g h i j k l m others =
     (refl, (refl, (refl, (refl, (refl, (refl, (refl, (refl, (refl, (refl, (refl, (refl, (refl, (refl, (refl, (refl, (refl, (refl, (refl, (refl, (refl, (refl, (refl, (refl, tt))))))))))))))))))))))))
 
 module _ (when : When) (text : List ℕ) (command : Wish) where
-  -- under this name a row has what its quantities and the quality behind them have
+  -- under this name a row has what its quantities and the last fields behind them have
   abbrev IsBehind : End → List ℕ → Type 0
   IsBehind end name =
-      under name (header true) (map escaped (row_fields true when text command end)) ≡ under name (quantity_names ++ last_names) (map escaped (quantity_fields command.call end ++ last_fields end))
+      under name (header true) (map escaped (row_fields true when text command end))
+      ≡ under name (quantity_names ++ last_names) (map escaped (quantity_fields command.call end ++ last_fields when end))
 
   -- under the names of quantities a row that is put together of these parts has what its last part, `others`, has
   by_parts : (word fault first code values : List ℕ) (others : List (List ℕ)) → AllByRecursion (λ (name : List ℕ).
@@ -191,20 +235,21 @@ module _ (when : When) (text : List ℕ) (command : Wish) where
       ≡ under name (quantity_names ++ last_names) (map escaped others)) quantity_names
   by_parts word fault first code values others =
       thirteen (escaped (stamp_text when.run)) (escaped (moment_text when.stamp.sent)) (escaped (stamp_text when.stamp.utc)) (escaped (decimal when.stamp.cycle))
-      (escaped (decimal when.stamp.place)) (escaped (decimal command.target)) (escaped text) (escaped (decimal (procedure_of command.call)))
+      (escaped (decimal when.stamp.turn.place)) (escaped (decimal command.target)) (escaped text) (escaped (decimal (procedure_of command.call)))
       (escaped word) (escaped fault) (escaped first) (escaped code) (escaped values) (map escaped others)
 
-  -- under each name of a quantity a row has what its quantities and the quality behind them have, however the command ended
+  -- under each name of a quantity a row has what its quantities and the last fields behind them have, however the command ended
   behind_others : (end : End) → AllByRecursion (IsBehind end) quantity_names
   behind_others (Answered quality answer line) =
       by_parts (codes "answered") [] (com_of line) (code_of line) (values_of line)
-      (quantity_fields command.call (Answered quality answer line) ++ last_fields (Answered quality answer line))
-  behind_others (Unreadable line fault) = by_parts (codes "unreadable") (decimal (fault_number fault)) (com_of line) (code_of line) (values_of line) (replicate 24 [] ++ [] ∷ [])
-  behind_others (Elsewhere line) = by_parts (codes "elsewhere") [] (com_of line) (code_of line) (values_of line) (replicate 24 [] ++ [] ∷ [])
-  behind_others Late = by_parts (codes "late") [] [] [] [] (replicate 24 [] ++ [] ∷ [])
-  behind_others Lost = by_parts (codes "lost") [] [] [] [] (replicate 24 [] ++ [] ∷ [])
-  behind_others Skipped = by_parts (codes "skipped") [] [] [] [] (replicate 24 [] ++ [] ∷ [])
-  behind_others Missed = by_parts (codes "missed") [] [] [] [] (replicate 24 [] ++ [] ∷ [])
+      (quantity_fields command.call (Answered quality answer line) ++ last_fields when (Answered quality answer line))
+  behind_others (Unreadable line fault) =
+      by_parts (codes "unreadable") (decimal (fault_number fault)) (com_of line) (code_of line) (values_of line) (replicate 24 [] ++ [] ∷ decimal when.stamp.turn.attempt ∷ [])
+  behind_others (Elsewhere line) = by_parts (codes "elsewhere") [] (com_of line) (code_of line) (values_of line) (replicate 24 [] ++ [] ∷ decimal when.stamp.turn.attempt ∷ [])
+  behind_others Late = by_parts (codes "late") [] [] [] [] (replicate 24 [] ++ [] ∷ decimal when.stamp.turn.attempt ∷ [])
+  behind_others Lost = by_parts (codes "lost") [] [] [] [] (replicate 24 [] ++ [] ∷ decimal when.stamp.turn.attempt ∷ [])
+  behind_others Skipped = by_parts (codes "skipped") [] [] [] [] (replicate 24 [] ++ [] ∷ decimal when.stamp.turn.attempt ∷ [])
+  behind_others Missed = by_parts (codes "missed") [] [] [] [] (replicate 24 [] ++ [] ∷ decimal when.stamp.turn.attempt ∷ [])
 
 -- the texts of an answer in their columns
 abbrev pub texts_of : Answer → List (List ℕ)
@@ -346,8 +391,8 @@ module _ (when : When) (text : List ℕ) (command : Wish) (name : List ℕ) (k :
   behind : (end : End) → field_of end ≡ under name quantity_names (map escaped (quantity_fields command.call end))
   behind end =
       all_at (IsBehind when text command end) quantity_names (behind_others when text command end) k name is
-      ∙ ap (under name (quantity_names ++ last_names)) (map-append escaped (quantity_fields command.call end) (last_fields end))
-      ∙ under_front name quantity_names (map escaped (quantity_fields command.call end)) last_names (map escaped (last_fields end)) (filled command.call end)
+      ∙ ap (under name (quantity_names ++ last_names)) (map-append escaped (quantity_fields command.call end) (last_fields when end))
+      ∙ under_front name quantity_names (map escaped (quantity_fields command.call end)) last_names (map escaped (last_fields when end)) (filled command.call end)
       (all_at (λ key. IsAmong key quantity_names) quantity_names all_among k name is)
 
   -- where all fields of quantities are empty, the field under this name is empty

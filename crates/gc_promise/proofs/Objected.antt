@@ -57,7 +57,7 @@ use Rattle.gc_field.proofs.Joining.{run_faithful}
 use Rattle.gc_promise.specs.Fields.{IsOwn, IsReplied, Says, quality_in, quantity_in, taken}
 use Rattle.gc_promise.specs.Objects.{AreOfBytes, AreOwnObjects, IsOwnObject, ObjectsAreTheirOwn, lines_text}
 use Rattle.gc_promise.specs.Tables.{acts_measured, records_in, scope_of}
-use Rattle.gc_promise.proofs.Finding.{at_member, member_cycle, member_outcome, member_place, member_procedure, member_quality, member_quantity, member_rc, member_rc_com, member_stands, member_target, member_values, zeros_gone}
+use Rattle.gc_promise.proofs.Finding.{at_member, member_attempt, member_cycle, member_outcome, member_place, member_procedure, member_quality, member_quantity, member_rc, member_rc_com, member_stands, member_target, member_values, zeros_gone}
 use Rattle.gc_promise.proofs.Judged.{IsJudged, judged, told_none, told_some}
 use Rattle.gc_promise.proofs.Names.{answer_to}
 use Rattle.gc_promise.proofs.Owning.{a_reply, same_line}
@@ -148,6 +148,7 @@ module _ {State : Type 0} (ends : Ends State) (kept : State → Option KeptReply
         is_of = record {
           cycle = member_cycle when text r.command r.end;
           place = member_place when text r.command r.end;
+          attempt = member_attempt when text r.command r.end;
           target = member_target when text r.command r.end;
           procedure = member_procedure when text r.command r.end;
           outcome = word;

@@ -58,7 +58,7 @@ module _ (columns : Bool) (when : When) (name : List ℕ) (command : Wish) (end 
   -- the fields of a row, by the line of its reply
   abbrev by_line : Option (List ℕ) → List (List ℕ)
   by_line line =
-      stamp_text when.run ∷ (when_fields when ++ (what_fields command name ++ ((word_of end ∷ fault_field (fault_of end) ∷ reply_fields line) ++ more_fields columns command.call end)))
+      stamp_text when.run ∷ (when_fields when ++ (what_fields command name ++ ((word_of end ∷ fault_field (fault_of end) ∷ reply_fields line) ++ more_fields columns when command.call end)))
 
   -- a row has more than one field
   pub two_fields : 1 < length (row_fields columns when name command end)

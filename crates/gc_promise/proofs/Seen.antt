@@ -83,7 +83,7 @@ module _ (plan : Plan) (commands : List Task) (scope : Scope) (text : Record →
 
   -- what a run took, whatever its end, is `Fronted`
   pub fronted : (told : List Act) (bytes : List ℕ) (end : Result Tally RunFault) → Took told bytes end → Fronted told bytes
-  fronted told bytes (Ok tally) ran = record { acts = ran.acts; others = []; all = ran.tells ∙ sym (append-nil ran.acts); own = same_front _ _ ran.took }
+  fronted told bytes (Ok tally) ran = record { acts = ran.1.acts; others = []; all = ran.1.tells ∙ sym (append-nil ran.1.acts); own = same_front _ _ ran.1.took }
   fronted told bytes (Err Output) (inl broke) = record {
     acts = broke.acts ++ broke.last ∷ [];
     others = Closed ∷ [];

@@ -48,7 +48,7 @@ use Rattle.gc_field.proofs.Joining.{run_faithful}
 use Rattle.gc_promise.specs.Fields.{IsOwn, IsQuantity, IsReplied, Says, quality_in, quantity_in, taken, under}
 use Rattle.gc_promise.specs.Tables.{AreReadAs, IsOwnTable, TablesAreTheirOwn, acts_measured, head_rows, header, records_in, scope_of, table}
 use Rattle.gc_promise.proofs.Judged.{IsJudged, judged, told_none, told_some}
-use Rattle.gc_promise.proofs.Names.{all_at, answer_to, none_answered, none_else, quantity_stands, under_cycle, under_outcome, under_place, under_procedure, under_quality, under_rc, under_rc_com, under_target, under_values}
+use Rattle.gc_promise.proofs.Names.{all_at, answer_to, none_answered, none_else, quantity_stands, under_attempt, under_cycle, under_outcome, under_place, under_procedure, under_quality, under_rc, under_rc_com, under_target, under_values}
 use Rattle.gc_promise.proofs.Owning.{a_reply, fields_of, in_table, same_line, two_fields}
 use Rattle.gc_promise.proofs.Plain.{number_plain}
 use Rattle.gc_promise.proofs.Reading.{both_read, each_reads, none_read, row_reads}
@@ -226,6 +226,7 @@ module _ {State : Type 0} (ends : Ends State) (kept : State → Option KeptReply
           is_of = record {
             cycle = under_cycle when text r.command r.end columns;
             place = under_place when text r.command r.end columns;
+            attempt = under_attempt when text r.command r.end columns;
             target = under_target when text r.command r.end columns;
             procedure = under_procedure when text r.command r.end columns;
             outcome = word;

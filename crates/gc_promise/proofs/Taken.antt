@@ -85,7 +85,7 @@ module _ (text : Record → List ℕ) where
     -- `Took` holds of a run, whatever its end
     ran_took : (end : Result Tally RunFault) → Ran plan commands scope text (Some []) (Some told) (Some start) has end
         → Took (stood plan commands scope (acts_measured (end_of_run end) told)).records (end_of_run end) start has
-    ran_took (Ok tally) r = took_of r.acts told (Ok tally) r.tells r.took
+    ran_took (Ok tally) r = took_of r.1.acts told (Ok tally) r.1.tells r.1.took
     ran_took (Err Output) (inl r) =
         let whole : told ≡ (r.acts ++ r.last ∷ []) ++ Closed ∷ [] = r.tells ∙ sym (append_assoc r.acts (r.last ∷ []) (Closed ∷ [])) in
         let measured : acts_measured (Err (Run Output)) told ≡ r.acts ++ r.last ∷ [] = ap (acts_measured (Err (Run Output))) whole ∙ but_last (r.acts ++ r.last ∷ []) Closed in

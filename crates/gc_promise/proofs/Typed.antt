@@ -87,7 +87,7 @@ sent_is_small (Some utc) = is_small utc
 -- whether all numbers of records are below 2^64
 abbrev are_small : List Record → Bool
 are_small [] = true
-are_small (r ∷ rs) = (sent_is_small r.sent && (is_small r.utc && (is_small r.cycle && (is_small r.place && is_small r.command.target)))) && are_small rs
+are_small (r ∷ rs) = (sent_is_small r.sent && (is_small r.utc && (is_small r.cycle && (is_small r.turn.place && (is_small r.turn.attempt && is_small r.command.target))))) && are_small rs
 
 -- a moment is below 2^64 where `sent_is_small` says so
 sent_below : (sent : Option ℕ) → sent_is_small sent ≡ true → IfSome sent (λ utc. utc < 2 ^ 64)
@@ -103,22 +103,25 @@ typed : (rs : List Record) → are_small rs ≡ true → AllByRecursion (λ (r :
 typed [] e h = tt
 typed (r ∷ rs) e h =
     let target = is_small r.command.target in
-    let place = is_small r.place && target in
+    let attempt = is_small r.turn.attempt && target in
+    let place = is_small r.turn.place && attempt in
     let cycle = is_small r.cycle && place in
     let utc = is_small r.utc && cycle in
     let all = both_true (sent_is_small r.sent && utc) (are_small rs) e in
     let of_sent = both_true (sent_is_small r.sent) utc all.0 in
     let of_utc = both_true (is_small r.utc) cycle of_sent.1 in
     let of_cycle = both_true (is_small r.cycle) place of_utc.1 in
-    let of_place = both_true (is_small r.place) target of_cycle.1 in (
+    let of_place = both_true (is_small r.turn.place) attempt of_cycle.1 in
+    let of_attempt = both_true (is_small r.turn.attempt) target of_place.1 in (
       (
         record {
           sent = sent_below r.sent of_sent.0;
           utc = ltb-true r.utc (2 ^ 64) of_utc.0;
           cycle = ltb-true r.cycle (2 ^ 64) of_cycle.0;
-          place = ltb-true r.place (2 ^ 64) of_place.0;
+          place = ltb-true r.turn.place (2 ^ 64) of_place.0;
+          attempt = ltb-true r.turn.attempt (2 ^ 64) of_attempt.0;
         },
-        ltb-true r.command.target (2 ^ 64) of_place.1,
+        ltb-true r.command.target (2 ^ 64) of_attempt.1,
         h.0,
       ),
       typed rs all.1 h.1,

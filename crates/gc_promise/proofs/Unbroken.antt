@@ -15,7 +15,7 @@ use Rattle.gc_texts.specs.Endings.{End, Answered, Unreadable, Elsewhere, Late, L
 use Rattle.gc_texts.specs.Logs.{escape, escaped, hex_digit, is_as_it_is}
 use Rattle.gc_texts.specs.Stamps.{stamp_text}
 use Rattle.gc_texts.specs.declared.wish.Wish.{Wish}
-use Rattle.gc_rows.specs.JsonLines.{Member, Text, Number, Texts, behind_backslash, comma_where, ending_members, item_members, json_members, last_members, list_text, member_text, members_text, more_members, answer_members, quantity_members, reply_members, sent_members, string_text, strings_text, value_members, values_members, what_members, when_members, without_zeros, worded_members}
+use Rattle.gc_rows.specs.JsonLines.{Member, Text, Number, Texts, behind_backslash, comma_where, ending_members, item_members, json_members, last_members, list_text, member_text, members_text, more_members, answer_members, attempt_members, quantity_members, reply_members, sent_members, string_text, strings_text, value_members, values_members, what_members, when_members, without_zeros, worded_members}
 use Rattle.gc_rows.specs.Items.{split_items}
 use Rattle.gc_rows.specs.Laws.{IsEnd, IsMember, IsPlainName, IsReplyOfBytes}
 use Rattle.gc_rows.specs.Quantities.{column_of, quantity_name, quantity_text}
@@ -135,7 +135,7 @@ sent_plain (Some utc) = (tt, tt)
 
 -- the members on when and where have plain digits
 when_plain : (when : When) → AllByRecursion HasPlainDigits (when_members when)
-when_plain when = all_both (sent_members when.stamp.sent) _ (sent_plain when.stamp.sent) (tt, (decimal_plain when.stamp.cycle, (decimal_plain when.stamp.place, tt)))
+when_plain when = all_both (sent_members when.stamp.sent) _ (sent_plain when.stamp.sent) (tt, (decimal_plain when.stamp.cycle, (decimal_plain when.stamp.turn.place, tt)))
 
 -- the members on a command have plain digits
 what_plain : (command : Wish) (name : List ℕ) → AllByRecursion HasPlainDigits (what_members command name)
@@ -202,13 +202,18 @@ worded_plain : (word : List ℕ) → AllByRecursion HasPlainDigits (worded_membe
 worded_plain [] = tt
 worded_plain (b ∷ bs) = (tt, tt)
 
+-- the members behind all others have plain digits
+last_plain : (when : When) (end : End) → AllByRecursion HasPlainDigits (last_members when end)
+last_plain when end =
+    all_both (worded_members (quality_text (quality_of end))) (attempt_members when) (worded_plain (quality_text (quality_of end))) (decimal_plain when.stamp.turn.attempt, tt)
+
 -- the digits of all members of a record stand as they are
 members_plain : (when : When) (name : List ℕ) (command : Wish) (end : End) → IsEnd end → AllByRecursion HasPlainDigits (json_members when name command end)
 members_plain when name command end is =
-    let rest = ending_members end ++ more_members command.call end in
+    let rest = ending_members end ++ more_members when command.call end in
     all_both (when_members when) (what_members command name ++ rest) (when_plain when)
-    (all_both (what_members command name) rest (what_plain command name) (all_both (ending_members end) (more_members command.call end) (ending_plain end is)
-    (all_both (quantity_members command.call end) (last_members end) (quantities_plain command.call end) (worded_plain (quality_text (quality_of end))))))
+    (all_both (what_members command name) rest (what_plain command name) (all_both (ending_members end) (more_members when command.call end) (ending_plain end is)
+    (all_both (quantity_members command.call end) (last_members when end) (quantities_plain command.call end) (last_plain when end))))
 
 -- the line of a record, without its line feed, has none
 pub line_unbroken : (when : When) (name : List ℕ) (command : Wish) (end : End) → IsEnd end → AllByRecursion IsMember (json_members when name command end)

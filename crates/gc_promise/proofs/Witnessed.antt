@@ -9,6 +9,7 @@ use Rattle.gc_rows.specs.declared.record.Form.{Form}
 use Rattle.gc_rows.specs.declared.record.Form.TheVariants.{Json}
 use Rattle.gc_texts.specs.Stamps.{days_after}
 use Rattle.gc_station.specs.Keeping.{Turn}
+use Rattle.gc_station.specs.declared.cause.Cause.TheVariants.{Done}
 use Rattle.gc_station.specs.Model.{opening}
 use Rattle.gc_station.specs.Parts.{parts_of}
 use Rattle.gc_station.specs.Records.{Record}
@@ -45,7 +46,7 @@ is_measured form =
       front = refl;
       end = Ok tally;
       is = refl;
-      ran = for_readings _ (ran_whole (text_in (layout_in form) []));
+      ran = for_readings _ (λ reads are. (Done, ran_whole (text_in (layout_in form) []) reads are, refl));
       keeps = for_readings _ (keeps_whole (text_in (layout_in form) []));
     }
 

@@ -3,7 +3,7 @@
 -- three cycles the second is missed. In the first one the reply to the first command of a chain is lost, and so the second one is skipped; then
 -- seven requests are given up, and the station begins anew, with requests and a reply of before under way. In the third both commands of the
 -- chain are answered.
-use Rattle.std.specs.Prelude.{◌≡◌, ℕ, suc, ◌+◌, Bool, true, false, List, [], ◌∷◌, ◌++◌, codes, drop, map, pos, refl, replicate, Option, Some, None}
+use Rattle.std.specs.Prelude.{◌≡◌, ℕ, suc, ◌+◌, Bool, true, false, List, [], ◌∷◌, ◌++◌, ◌==◌, if◌then◌else◌, codes, drop, map, pos, refl, replicate, Option, Some, None}
 use Rattle.std.specs.List.{flat_map}
 use Rattle.gc_lines.specs.Lines.{with_end}
 use Rattle.gc_lines.specs.Replies.{reply_text}
@@ -20,10 +20,12 @@ use Rattle.gc_client.specs.Rule.{heard}
 use Rattle.gc_client.specs.declared.window.TheConstants.{WINDOW}
 use Rattle.gc_texts.specs.Endings as end
 use Rattle.gc_texts.specs.Endings.{End}
+use Rattle.gc_texts.specs.Again.{no_again}
 use Rattle.gc_texts.specs.Codes.{no_codes}
 use Rattle.gc_texts.specs.declared.near.Near.{Near}
 use Rattle.gc_texts.specs.declared.quality.Quality.TheVariants.{Fine}
 use Rattle.gc_texts.specs.declared.tasks.Task.{Task}
+use Rattle.gc_texts.specs.declared.turn.Turn as command
 use Rattle.gc_links.specs.Acts.{Act, Told, Put, Cut, Gave, Silent, Ended, Broke, Closed, Opened, Unopened}
 use Rattle.gc_station.specs.Beginnings.{IsAnew}
 use Rattle.gc_station.specs.Links.{AreChained}
@@ -31,7 +33,7 @@ use Rattle.gc_station.specs.Progressing.{is_over}
 use Rattle.gc_station.specs.Records.{Record}
 use Rattle.gc_station.specs.Runs.{stood}
 use Rattle.gc_station.specs.Scopes.{Scope}
-use Rattle.gc_station.specs.Tallies.{none_yet, tallied}
+use Rattle.gc_station.specs.Tallies.{tally_of}
 use Rattle.gc_station.specs.declared.plan.Plan.{Plan}
 use Rattle.gc_station.specs.declared.tally.Tally.{Tally}
 use Rattle.gc_field.specs.World.{Ends, Up_deliver, Up_lose, Up_repeat, Down_lose, Down_repeat}
@@ -65,11 +67,27 @@ reporting =
 -- the plan of this run: seven requests at a time, null procedures that wait 100 ms, three cycles, one of which is due every 150 ms, a quiet time
 -- of 10 ms, and three new tries
 abbrev pub plan : Plan
-plan = record { width = 7; deadline = 100; every = 150; cycles = 3; quiet = 10; retries = 3 }
+plan = record { width = 7; deadline = 100; every = 150; cycles = 3; quiet = 10; retries = 3; stale = 0; watched = false }
 
--- a command that waits 50 ms
-abbrev pub task : ℕ → Asked → Bool → Option Near → Task
-task target call chained near = record { command = record { target = target; call = call }; deadline = 50; chained = chained; near = near; accepted = no_codes }
+-- the turn of a command at a place, in the first attempt; of one that is chained it is the second of its chain
+abbrev pub turn_at : ℕ → Bool → command.Turn
+turn_at place chained = record { place = place; attempt = 1; link = if chained then 1 else 0 }
+
+-- a command that waits 50 ms, and whose chain of two commands at most doesn't go out again: its place, its target, what it asks, whether it
+-- is chained to the one before it, and where its target stands
+abbrev pub task : ℕ → ℕ → Asked → Bool → Option Near → Task
+task place target call chained near =
+    record {
+      command = record { target = target; call = call };
+      deadline = 50;
+      chained = chained;
+      near = near;
+      accepted = no_codes;
+      again = no_again;
+      turn = turn_at place chained;
+      others = 0;
+      now = false;
+    }
 
 -- where a target stands: in this direction, within a hundredth of a radian
 abbrev pub stands : ℕ → Decimal → Decimal → Option Near
@@ -79,10 +97,10 @@ stands target hz v = Some (record { target = target; place = record { hz = hz; v
 -- target 8; and for each of four targets, to read the instrument's number
 abbrev pub commands : List Task
 commands =
-    task 7 points false None
-    ∷ task 7 reads_all true (stands 7 hz v)
-    ∷ task 8 reads_all false (stands 8 (decimal (pos 125) 2 refl) (decimal (pos 15) 1 refl))
-    ∷ map (λ target. task target (Table InstrumentNo) false None) (1 ∷ 2 ∷ 3 ∷ 4 ∷ [])
+    task 0 7 points false None
+    ∷ task 1 7 reads_all true (stands 7 hz v)
+    ∷ task 2 8 reads_all false (stands 8 (decimal (pos 125) 2 refl) (decimal (pos 15) 1 refl))
+    ∷ map (λ target. task (2 + target) target (Table InstrumentNo) false None) (1 ∷ 2 ∷ 3 ∷ 4 ∷ [])
 
 -- the request line of command 0. The number of a command is its id, in the first cycle and in the third
 abbrev pub point : List ℕ
@@ -383,7 +401,15 @@ last_stretch = record { from = leaves (turned reporting anew_turns (begins left)
 -- did, and ended at the moment `utc`
 abbrev pub ended : Option ℕ → ℕ → ℕ → ℕ → ℕ → Asked → End → Record
 ended sent utc cycle place target call end =
-    record { sent = sent; utc = utc; cycle = cycle; place = place; command = record { target = target; call = call }; end = end }
+    record {
+      sent = sent;
+      utc = utc;
+      cycle = cycle;
+      place = place;
+      turn = turn_at place (place == 1);
+      command = record { target = target; call = call };
+      end = end;
+    }
 
 -- what the reply to command 1 says
 abbrev pub at_target : Answer
@@ -435,9 +461,9 @@ records =
     ∷ ended (Some 390) 445 3 6 4 (Table InstrumentNo) end.Lost
     ∷ []
 
--- how many commands ended in each of the seven ways
+-- how many commands ended in each of the seven ways; no chain goes out again
 abbrev pub tally : Tally
-tally = record { answered = 3; late = 1; lost = 7; skipped = 1; unreadable = 1; missed = 7; elsewhere = 1 }
+tally = record { answered = 3; late = 1; lost = 7; skipped = 1; unreadable = 1; missed = 7; elsewhere = 1; again = 0 }
 
 -- What the run shows.
 
@@ -455,7 +481,7 @@ pub record IsEventful (reads : Asked → List ℕ → Reading) : Type 0 where
   pub over : is_over (stood plan commands (scope reads) acts).progress ≡ true
   pub written : (stood plan commands (scope reads) acts).records ≡ records
   -- commands end in each of the seven ways
-  pub counted : tallied none_yet records ≡ tally
+  pub counted : tally_of records ≡ tally
   -- command 1 goes out only once command 0 was answered well
   pub chained : AreChained commands 0 1
   -- a reply is lost: in the first cycle, too, the instrument made this line on executing the request of command 0

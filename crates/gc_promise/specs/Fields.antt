@@ -40,10 +40,12 @@ under name [] fields = []
 under name (n ∷ names) [] = []
 under name (n ∷ names) (field ∷ fields) = if pointwise nat_eq n name then field else under name names fields
 
--- the row of a record has the record's cycle, place, target, procedure and outcome, however its command ended
+-- the row of a record has the record's cycle, the place and the attempt of its turn, its target, procedure and outcome, however its command
+-- ended
 pub record IsOf (at : List ℕ → List ℕ) (r : Record) : Type 0 where
   pub cycle : at (codes "cycle") ≡ decimal r.cycle
-  pub place : at (codes "place") ≡ decimal r.place
+  pub place : at (codes "place") ≡ decimal r.turn.place
+  pub attempt : at (codes "attempt") ≡ decimal r.turn.attempt
   pub target : at (codes "target") ≡ decimal r.command.target
   pub procedure : at (codes "procedure") ≡ decimal (procedure_of r.command.call)
   pub outcome : at (codes "outcome") ≡ word_of r.end
@@ -100,7 +102,7 @@ pub record Says (has_quantities : Bool) (at : List ℕ → List ℕ) (accepted :
       (name : List ℕ) → IsQuantity name → at name ≡ escaped (quantity_in call told name)
 
 module _ {State : Type 0} (ends : Ends State) (Good : State → Type 0) (kept : State → Option KeptReply) where
-  -- the row of record `r`, in which `at` gives the text under each name, is its own: it has the record's cycle, place, target,
+  -- the row of record `r`, in which `at` gives the text under each name, is its own: it has the record's cycle, place, attempt, target,
   -- procedure and outcome. Where the outcome is that of a reply, the row says what a line says that the instrument made on
   -- executing the request of that very cycle and place, in a run with the parts `ps` and the stretches `ss`. Where the outcome
   -- isn't `answered`, the row has neither a quantity nor a quality

@@ -40,11 +40,11 @@ use Rattle.gc_promise.specs.Tables.{table}
 abbrev pub column : List ℕ → List (List ℕ) → List ℕ
 column name fields = under name rows.names fields
 
--- the fields of a row say the record's cycle, place, target, procedure and outcome, and the codes and parameters of the line of
--- its reply
+-- the fields of a row say the record's cycle, the place of its turn, its target, procedure and outcome, and the codes and parameters of the
+-- line of its reply
 pub record FieldsSay (fields : List (List ℕ)) (r : Record) (line : List ℕ) : Type 0 where
   pub cycle : column (codes "cycle") fields ≡ decimal r.cycle
-  pub place : column (codes "place") fields ≡ decimal r.place
+  pub place : column (codes "place") fields ≡ decimal r.turn.place
   pub target : column (codes "target") fields ≡ decimal r.command.target
   pub procedure : column (codes "procedure") fields ≡ decimal (procedure_of r.command.call)
   pub outcome : column (codes "outcome") fields ≡ word_of r.end

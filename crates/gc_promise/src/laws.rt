@@ -15,8 +15,8 @@ use std::rt::Files;
 /// instrument made that line on executing the request of that row's very cycle and place.
 pub fn rows_are_their_own<State>()
     // Of the bytes that a sink took of a run, as `measure_at` and `append_at` have it: a reader of comma-separated values gives the header, and
-    // the run's records as rows, one for one and in order. Under the names of the header each row has its record's cycle, place, target,
-    // procedure and outcome. Where the outcome is that of a reply, it has the codes, the values and the quantities of such a line.
+    // the run's records as rows, one for one and in order. Under the names of the header each row has its record's cycle, place, attempt,
+    // target, procedure and outcome. Where the outcome is that of a reply, it has the codes, the values and the quantities of such a line.
     ensures tables { TablesAreTheirOwn State }
 
     // The same of lines of JSON: a reader of JSON gives each line as an object, whose members have under these names what a row has.

@@ -1,9 +1,7 @@
 -- Two lists side by side, one element further. `FirstAre Is xs ys`: the first items of `xs` go with those of `ys`, one for one,
 -- where an item of `xs` and one of `ys` "go together" if `Is` holds of them.
-use Rattle.std.proofs.Common.{◌≡◌, ℕ, zero, suc, ◌<◌, ◌≤◌, Bool, List, [], ◌∷◌, ◌++◌, length, take, refl, subst, arith}
+use Rattle.std.proofs.Common.{◌≡◌, ℕ, zero, suc, ◌<◌, ◌≤◌, List, [], ◌∷◌, ◌++◌, length, take, refl, subst, arith}
 use Rattle.std.specs.Prelude.{Some, slice_get, slice_set}
-use Rattle.gc_catalogue.specs.declared.asked.Asked.{Asked}
-use Rattle.gc_client.specs.declared.pending.Pending.{Pending}
 use Rattle.geocom_c.specs.FirstAre.{FirstAre}
 
 module _ {A B : Type 0} (Is : A → B → Type 0) where
@@ -46,15 +44,6 @@ pub first_map : {A B : Type 0} (Is Be : A → B → Type 0) → ((x : A) (y : B)
 first_map Is Be step xs [] are = tt
 first_map Is Be step [] (b ∷ ys) are = absurd are
 first_map Is Be step (a ∷ xs) (b ∷ ys) are = (step a b are.0, first_map Is Be step xs ys are.1)
-
--- a request with the same target, call, deadline and `given_up` as p is p
-pub same_pending : (p : Pending Asked) (target : ℕ) (call : Asked) (deadline : ℕ) (given_up : Bool) → target ≡ p.target → Some call ≡ Some p.call
-    → deadline ≡ p.deadline → Some given_up ≡ Some p.given_up
-    → Some (record { target = target; call = call; deadline = deadline; given_up = given_up }) ≡ Some p
-same_pending p target call deadline given_up a b d e =
-    let b' : call ≡ p.call = cc in
-    let e' : given_up ≡ p.given_up = cc in
-    rw (a, b', d, e') refl
 
 -- a place within a list has an item
 pub got : {A : Type 0} (xs : List A) (k : ℕ) → k < length xs → (x : A) × (slice_get xs k ≡ Some x)

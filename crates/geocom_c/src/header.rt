@@ -88,17 +88,23 @@ pub const CLEARED: u32 = 4;
 /// A line of more than 512 bytes, which is dropped.
 pub const OVERLONG: u32 = 5;
 
-/// The constants have the values of the header, and so have the faults of a call and of a raw request, which are gc_catalogue's. The
-/// function does nothing: its contract is the law.
-pub fn numbers()
+/// The constants have the values of the header, and so have the faults of a call and of a raw request, which are gc_catalogue's.
+/// `library/tests/numbers.py` compares these clauses with the constants above and with the header. The function does nothing: its
+/// contract is the law.
+pub fn numbers_are_the_headers()
     ensures version { VERSION ≡ 2 }
     ensures rooms { (LINE_ROOM ≡ 514) × (TEXT_ROOM ≡ 1024) }
     ensures procedure { refusal_number CallFault.Unknown ≡ 21 }
-    ensures parameters { (refusal_number (CallFault.Parameters ValueFault.Spelling) ≡ 11) × (refusal_number (CallFault.Parameters ValueFault.Range) ≡ 12)
-        × (refusal_number (CallFault.Parameters ValueFault.OpenQuote) ≡ 13) × (refusal_number (CallFault.Parameters ValueFault.TooMany) ≡ 14)
-        × (refusal_number (CallFault.Parameters ValueFault.Count) ≡ 15) }
-    ensures raws { (raw_number RawFault.InTable ≡ 68) × (raw_number RawFault.NotPlain ≡ 11) × (raw_number RawFault.TooLong ≡ 6)
-        × (raw_number RawFault.OpenQuote ≡ 13) × (raw_number RawFault.TooMany ≡ 14) }
+    ensures spelling { refusal_number (CallFault.Parameters ValueFault.Spelling) ≡ 11 }
+    ensures range { refusal_number (CallFault.Parameters ValueFault.Range) ≡ 12 }
+    ensures open_quote { refusal_number (CallFault.Parameters ValueFault.OpenQuote) ≡ 13 }
+    ensures too_many { refusal_number (CallFault.Parameters ValueFault.TooMany) ≡ 14 }
+    ensures count { refusal_number (CallFault.Parameters ValueFault.Count) ≡ 15 }
+    ensures raw_in_table { raw_number RawFault.InTable ≡ 68 }
+    ensures raw_not_plain { raw_number RawFault.NotPlain ≡ 11 }
+    ensures raw_too_long { raw_number RawFault.TooLong ≡ 6 }
+    ensures raw_open_quote { raw_number RawFault.OpenQuote ≡ 13 }
+    ensures raw_too_many { raw_number RawFault.TooMany ≡ 14 }
     ensures faults { (WINDOW_FULL ≡ 31) × (NO_WIDTH ≡ 61) × (NO_ROOM ≡ 62) × (NO_CLIENT ≡ 63) × (NOT_BEGUN ≡ 67) × (IN_TABLE ≡ 68) }
     ensures outcomes { (ANSWERED ≡ 1) × (LATE ≡ 2) × (LOST ≡ 3) }
     ensures readings { (NONE ≡ 0) × (VALUE ≡ 1) × (REFUSED ≡ 2) × (COM_FAULT ≡ 3) × (UNREADABLE ≡ 4) }

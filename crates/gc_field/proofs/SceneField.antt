@@ -1,0 +1,179 @@
+-- The instrument of a scene is an instrument in the sense of the station's promise.
+use Rattle.std.proofs.Common.{◌≡◌, ◌⊎◌, ℕ, ◌<◌, inl, inr, Bool, true, false, List, [], ◌∷◌, Option, Some, None, cond, refl, sym, ◌∙◌, ap, subst, eqb, lit<}
+use Rattle.std.proofs.lemmas.Bool.{eqb-true}
+use Rattle.gc_world.proofs.Options.{some_is}
+use Rattle.gc_lines.proofs.Written.{reply_back}
+use Rattle.gc_lines.proofs.Requests.{request_found}
+use Rattle.gc_lines.specs.Replies.{ReplyFields, reply_text}
+use Rattle.gc_catalogue.proofs.AskedRules.{asked_again}
+use Rattle.gc_catalogue.proofs.LineLaws.{call_again}
+use Rattle.gc_catalogue.specs.Asked.{asked_line, asked_request, is_of_table}
+use Rattle.gc_catalogue.specs.Calls.{call_fields, IsFitting}
+use Rattle.gc_catalogue.specs.Texts.{request_line, request_of}
+use Rattle.gc_catalogue.specs.declared.asked.Asked.{Asked}
+use Rattle.gc_catalogue.specs.declared.asked.Asked.TheVariants.{Table, Raw}
+use Rattle.gc_catalogue.specs.declared.call.Call.{Call}
+use Rattle.gc_catalogue.specs.declared.fault.CallFault.TheVariants.{Unknown}
+use Rattle.gc_catalogue.specs.declared.raw.RawCall.{RawCall}
+use Rattle.gc_client.specs.Rule.{id_in, heard}
+use Rattle.gc_instrument.specs.Replying.{Handed, kept_line, kept_after, refusal_line}
+use Rattle.gc_instrument.specs.State.{KeptReply, IsFittingKept, IsFittingReply}
+use Rattle.gc_instrument.proofs.Executions.{exec_outcome}
+use Rattle.gc_instrument.proofs.Keeping.{executes_apart}
+use Rattle.gc_scenes.specs.Machine.{seeing}
+use Rattle.gc_scenes.specs.Rules.{fault_of, answer_of, seen, is_due}
+use Rattle.gc_scenes.specs.Params.{scripted_params}
+use Rattle.gc_scenes.specs.SceneExecution.{Played, plays, told_of, table_outcome, look_of, played_call, played_raw, unless_faulted, unless_faulted_raw, scripted, counting}
+use Rattle.gc_scenes.specs.SceneReplying.{IsPlayed, answers, names_call, names_none, Gave, again_for, again_or_played, handed_call, handed_raw, played_or_refused, line_of, kept_behind}
+use Rattle.gc_scenes.specs.SceneState.{SceneState}
+use Rattle.gc_scenes.specs.declared.rules.Fault.{Fault}
+use Rattle.gc_scenes.specs.declared.rules.Scripted.{Scripted}
+use Rattle.gc_field.specs.Instrument.{KeepsItsOwn}
+use Rattle.gc_field.specs.SceneField.{scene_handed, scene_ends, scene_kept, KeepsAReply, IsHeard, SceneIsAnInstrument}
+
+-- equal numbers within `Some` are equal
+some_number : (a b : ℕ) → Some a ≡ Some b → a ≡ b
+some_number a b e = cc
+
+-- equal outcomes within `Some` are equal
+some_played : (a b : Played) → Some a ≡ Some b → a ≡ b
+some_played a b e = cc
+
+-- false isn't true
+never : true ≡ false → ⊥
+never e = cc
+
+-- where the kept line for an id is this one, this line is kept, with that id
+kept_own : (k : Option KeptReply) (id : ℕ) (line : List ℕ) → kept_line k (Some id) ≡ Some line → k ≡ Some (record { id = id; line = line })
+kept_own None id line e = let wrong : ⊥ = cc in absurd wrong
+kept_own (Some k) id line e = chosen (eqb k.id id) refl e where
+  chosen : (b : Bool) → eqb k.id id ≡ b → cond b (Some k.line) None ≡ Some line → Some k ≡ Some (record { id = id; line = line })
+  chosen true t e = ap (λ i. Some (record { id = i; line = k.line })) (eqb-true k.id id t) ∙ ap (λ l. Some (record { id = id; line = l })) (some_is k.line line e)
+  chosen false t e = let wrong : ⊥ = cc in absurd wrong
+
+-- what is sent again is what is kept
+again_kept : (b : Bool) (k : Option KeptReply) (id : ℕ) (line : List ℕ) → cond b (kept_line k (Some id)) None ≡ Some line → k ≡ Some (record { id = id; line = line })
+again_kept true k id line e = kept_own k id line e
+again_kept false k id line e = let wrong : ⊥ = cc in absurd wrong
+
+-- what a request gives, as the promise wants it
+record Does (s : SceneState) (id : ℕ) (known : Bool) (h : Handed SceneState) : Type 0 where
+  reads : IsHeard s.base.kept → heard h.reply ≡ Some id
+  repeats : h.executed ≡ false → s.base.kept ≡ Some (record { id = id; line = h.reply })
+  keeps : ((h.state.base.kept ≡ None) ⊎ (h.state.base.kept ≡ Some (record { id = id; line = h.reply }))) ⊎ ((known ≡ false) × (h.state.base.kept ≡ s.base.kept))
+  good : IsHeard s.base.kept → IsHeard h.state.base.kept
+
+-- a reply's line has its id
+line_heard : (id : ℕ) (p : Played) → id < 8 → p.rc < 65536 → heard (line_of id p) ≡ Some id
+line_heard id p small code = ap id_in (reply_back (record { rc_com = 0; id = Some id; rc = p.rc; params = p.params }) (record { rc_com = lit< tt; id = small; rc = code }))
+
+-- what is kept behind a request: its own reply, or nothing
+own_or_none : (b : Bool) (id : ℕ) (line : List ℕ) (k : Option KeptReply)
+    → (cond b (kept_after k (Some id) line) None ≡ None) ⊎ (cond b (kept_after k (Some id) line) None ≡ Some (record { id = id; line = line }))
+own_or_none true id line k = inr refl
+own_or_none false id line k = inl refl
+
+-- what is kept behind a request is heard
+kept_heard : (b : Bool) (id : ℕ) (line : List ℕ) (k : Option KeptReply) → heard line ≡ Some id → IsHeard (cond b (kept_after k (Some id) line) None)
+kept_heard true id line k h = h
+kept_heard false id line k h = tt
+
+-- what a request gives of which this comes
+played_does : (s : SceneState) (id : ℕ) (known : Bool) (p : Played) (o : Option (List ℕ)) → again_for s (Some id) ≡ o → id < 8 → p.rc < 65536 → Does s id known (again_or_played s (Some id) p o)
+played_does s id known p (Some line) again small code =
+    let kept = again_kept s.repeats s.base.kept id line again in
+    record { reads = λ good. subst IsHeard kept good; repeats = λ _. kept; keeps = inl (inr kept); good = λ good. good }
+played_does s id known p None again small code =
+    let line = line_of id p in
+    record {
+      reads = λ good. line_heard id p small code;
+      repeats = λ not. absurd (never not);
+      keeps = inl (own_or_none p.state.repeats id line p.state.base.kept);
+      good = λ good. kept_heard p.state.repeats id line p.state.base.kept (line_heard id p small code);
+    }
+
+-- the code of a fault that is due, or of a later one, is a code
+fault_by : (f : Fault) (b : Bool) (later : Option ℕ) (code : ℕ) → (later ≡ Some code → code < 65536) → cond b (Some f.rc) later ≡ Some code → code < 65536
+fault_by f true later code rest e = subst (λ (c : ℕ). c < 65536) (some_number f.rc code e) f.fits
+fault_by f false later code rest e = rest e
+
+-- a fault's code is a code
+fault_bound : (rpc : ℕ) (fs : List Fault) (code : ℕ) → fault_of rpc fs ≡ Some code → code < 65536
+fault_bound rpc [] code e = let wrong : ⊥ = cc in absurd wrong
+fault_bound rpc (f ∷ fs) code e = fault_by f (is_due rpc f) (fault_of rpc fs) code (fault_bound rpc fs code) e
+
+-- the code of a call is a code
+call_bound : (s : SceneState) (call : Call) (o : Option ℕ) → ((code : ℕ) → o ≡ Some code → code < 65536) → (unless_faulted s call o).rc < 65536
+unfolding plays
+call_bound s call (Some code) is = is code refl
+call_bound s call None is = (exec_outcome (seeing (seen (look_of s.looks call) s.prisms) s.base) call).code
+
+-- the code of a reply that the scene has is a code
+scripted_bound : (s : SceneState) (a : Option Scripted) (p : Played) → scripted s a ≡ Some p → p.rc < 65536
+scripted_bound s None p e = let wrong : ⊥ = cc in absurd wrong
+scripted_bound s (Some a) p e = subst (λ (q : Played). q.rc < 65536) (some_played (record { state = s; rc = a.rc; params = scripted_params a.with }) p e) a.fits
+
+-- the code of what comes of a request that isn't in the table is a code
+raw_bound : (s : SceneState) (rpc : ℕ) (o : Option ℕ) (p : Played) → ((code : ℕ) → o ≡ Some code → code < 65536) → unless_faulted_raw s rpc o ≡ Some p → p.rc < 65536
+raw_bound s rpc (Some code) p is e = subst (λ (q : Played). q.rc < 65536) (some_played (record { state = s; rc = code; params = [] }) p e) (is code refl)
+raw_bound s rpc None p is e = scripted_bound s (answer_of rpc s.answers) p e
+
+-- what a request for a call gives
+call_does : (s : SceneState) (id : ℕ) (call : Call) → id < 8 → Does s id true (handed_call s (call_fields call).number (Some id) call)
+unfolding handed_call
+call_does s id call small =
+    let rpc = (call_fields call).number in
+    played_does s id true (played_call s rpc call) (again_for s (Some id)) refl small (call_bound (counting rpc s) call (fault_of rpc s.faults) (fault_bound rpc s.faults))
+
+-- what a request gives whose procedure isn't in the table
+raw_by : (s : SceneState) (id rpc : ℕ) (o : Option Played) → id < 8 → ((p : Played) → o ≡ Some p → p.rc < 65536) → Does s id false (played_or_refused s rpc (Some id) o)
+raw_by s id rpc (Some p) small code = played_does s id false p (again_for s (Some id)) refl small (code p refl)
+raw_by s id rpc None small code = record {
+  reads = λ good. ap id_in (reply_back (record { rc_com = 3081; id = Some id; rc = 0; params = [] }) (record { rc_com = lit< tt; id = small; rc = lit< tt }));
+  repeats = λ not. absurd (never not);
+  keeps = inr (refl, refl);
+  good = λ good. good;
+}
+
+-- what a request gives whose procedure isn't in the table, by what the scene has for it
+raw_does : (s : SceneState) (id : ℕ) (raw : RawCall) → id < 8 → Does s id false (handed_raw s raw.rpc (Some id))
+unfolding handed_raw
+raw_does s id raw small =
+    raw_by s id raw.rpc (played_raw s raw.rpc) small (λ p e. raw_bound (counting raw.rpc s) raw.rpc (fault_of raw.rpc s.faults) p (fault_bound raw.rpc s.faults) e)
+
+-- what any request gives
+asked_does : (s : SceneState) (id : ℕ) (asked : Asked) → id < 8 → Does s id (is_of_table asked) (scene_handed s id asked)
+asked_does s id (Table call) small = call_does s id call small
+asked_does s id (Raw raw) small = raw_does s id raw small
+
+-- what is said of a call is what the instrument does with its line
+calls : (s : SceneState) (id : ℕ) (call : Call) → id < 8 → IsFitting call
+    → IsPlayed s (request_line (Some id) call) (scene_handed s id (Table call)).state (Some (scene_handed s id (Table call)).reply)
+calls s id call small fits =
+    let q = request_of (Some id) call in
+    let back = call_again (Some id) call small fits in
+    answers q (request_found (request_line (Some id) call) q back.line) (scene_handed s id (Table call)).reply (names_call call back.is_call (record { state = refl; line = refl })) refl
+
+-- and of another procedure
+raws : (s : SceneState) (id : ℕ) (raw : RawCall) → id < 8
+    → IsPlayed s (asked_line (Some id) (Raw raw)) (scene_handed s id (Raw raw)).state (Some (scene_handed s id (Raw raw)).reply)
+raws s id raw small =
+    let q = asked_request (Some id) (Raw raw) in
+    let back = asked_again (Some id) (Raw raw) small raw.is in
+    answers q (request_found (asked_line (Some id) (Raw raw)) q back.line) (scene_handed s id (Raw raw)).reply (names_none raw.is.no_procedure (record { state = refl; line = refl })) refl
+
+-- the instrument of a scene is an instrument, and what is said of a request is what it does with the line
+pub scene_is_an_instrument : SceneIsAnInstrument
+scene_is_an_instrument = record {
+  is = record {
+    hears = λ line. refl;
+    replies = λ s id asked good small. (asked_does s id asked small).reads good;
+    repeats = λ s id asked good small not. (asked_does s id asked small).repeats not;
+    keeps = λ s id asked good small. (asked_does s id asked small).keeps;
+    starts = λ s good. inl refl;
+    stays_good = λ s id asked good small. (asked_does s id asked small).good good;
+    starts_good = λ s good. tt;
+  };
+  calls = calls;
+  raws = raws;
+}
