@@ -6,7 +6,7 @@ ghost use Rattle.gc_messages.specs.Streams.{are_open, TellsClosed};
 
 use gc_lines::{Durable, Source};
 use gc_links::Place;
-use gc_measuring::{Appended, append_at, measure_at};
+use gc_measuring::{Appended, append_at, check_task_text, measure_at};
 use gc_messages::{Lossy, Noticed, Noting, Spot, Standard, Streams};
 use gc_station::Kept;
 use gc_subcommands::Asking;
@@ -66,6 +66,7 @@ fn run_open<
     match asking {
         Asking::Loop { scene } => run_loop(rt, alloc, scene, streams),
         Asking::Ask { place } => run_ask(rt, alloc, place, streams),
+        Asking::Outline { choice } => check_task_text(alloc, choice, streams),
         Asking::Station {
             site,
             station,
@@ -150,7 +151,7 @@ fn measure_site<
         noticed: &noticed,
     };
     let lossy = lossy_of(streams);
-    let (mut lossy, ended) = measure_recorded(rt, alloc, spot, site.log, station, recording, lossy);
+    let (mut lossy, ended) = measure_recorded(rt, alloc, spot, site, station, recording, lossy);
     let _ = spot.tell(&mut lossy.messages);
     // The system's reason is told only where the place couldn't be reached, or no run stopped for a fault.
     if !spot.is_unreached() {
@@ -169,7 +170,7 @@ fn measure_recorded<
     rt: &R,
     alloc: Global,
     spot: Spot<'_>,
-    log: Option<LogPlace<'_>>,
+    site: Site<'_>,
     station: Settings,
     recording: Option<Recording<'_>>,
     streams: Streams<S, K, E>,
@@ -180,12 +181,14 @@ fn measure_recorded<
     let mut kept = Kept::new();
     match recording {
         None => {
-            let (streams, ended, _) = measure_at(rt, alloc, spot, log, station, streams, &mut kept);
+            let (streams, ended, _) = measure_at(
+                rt, alloc, spot, site.log, site.until, station, streams, &mut kept,
+            );
             (streams, ended)
         }
         Some(recording) => {
             let (streams, ended, appended) = append_at(
-                rt, alloc, spot, log, station, recording, streams, &mut kept,
+                rt, alloc, spot, site.log, site.until, station, recording, streams, &mut kept,
             );
             end_appending(appended);
             (streams, ended)

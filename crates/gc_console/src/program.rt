@@ -10,7 +10,7 @@ use crate::asking::run_asking;
 use clap::Error;
 use clap::error::ErrorKind;
 use gc_lines::{FromReader, ReadAhead, ToWriter};
-use gc_messages::{Noting, Standard, Streams, refuse_numbers, refuse_place};
+use gc_messages::{Noting, Standard, Streams, refuse_numbers, refuse_place, refuse_stale};
 use gc_subcommands::check::check;
 use gc_subcommands::drill::{Drilling, drill_scene};
 use gc_subcommands::exec::exec_scene;
@@ -100,6 +100,7 @@ fn run_asked<
         Asked::Over(asking) => run_over(rt, alloc, standard, asking, streams),
         Asked::Nowhere { serves } => refuse_place(serves, &mut streams.messages),
         Asked::Unnumbered => refuse_numbers(&mut streams.messages),
+        Asked::Impatient => refuse_stale(&mut streams.messages),
     }
 }
 

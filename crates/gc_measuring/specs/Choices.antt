@@ -19,4 +19,6 @@ plan_of choice tasks =
       cycles = choice.cycles;
       quiet = choice.quiet;
       retries = choice.retries;
+      stale = choice.stale;
+      watched = choice.watched;
     }

@@ -31,7 +31,7 @@ use Rattle.gc_rows.specs.declared.when.When.{When}
 
 -- the moments, the cycle and the place of a record, of a run that began at this moment
 abbrev pub when_of : ℕ → Record → When
-when_of run r = record { run = run; stamp = record { sent = r.sent; utc = r.utc; cycle = r.cycle; place = r.place } }
+when_of run r = record { run = run; stamp = record { sent = r.sent; utc = r.utc; cycle = r.cycle; place = r.place; turn = r.turn } }
 
 -- the text of a record in a layout, where targets have these names
 abbrev pub text_in : Layout → List Name → Record → List ℕ
@@ -120,7 +120,7 @@ abbrev pub MeasuresGiven : Settings → Places → Places → Result Tally Stop 
 MeasuresGiven station old new result =
     (given : List ℕ) × Consumes old.input.remaining new.input.remaining given × Measures given station 18446744073709551615 old new result
 
--- a source gave a text to its end, and the run over its tasks is done
+-- a source gave a text to its end, and the run over its tasks is done, or its end was asked for
 abbrev pub IsMeasured : Settings → Places → Places → Type 0
 IsMeasured station old new = (given : List ℕ) × Consumes old.input.remaining new.input.remaining given
     × ((tasks : List Task) × (names : List Name) × (tally : Tally)
@@ -152,15 +152,19 @@ overrun_line cycle = codes "geocom: cycle " ++ decimal cycle ++ codes " was not 
 abbrev pub ends_text : Tally → List ℕ
 ends_text t = codes "answered " ++ decimal t.answered ++ codes " late " ++ decimal t.late ++ codes " lost " ++ decimal t.lost ++ codes " "
 
--- the rest of the line of the counts: how many commands were skipped, unreadable, missed and elsewhere
+-- the middle of the line of the counts: how many commands were skipped, unreadable, missed and elsewhere
 abbrev pub others_text : Tally → List ℕ
 others_text t =
     codes "skipped " ++ decimal t.skipped ++ codes " unreadable " ++ decimal t.unreadable ++ codes " missed " ++ decimal t.missed
-    ++ codes " elsewhere " ++ decimal t.elsewhere ++ codes "\n"
+    ++ codes " elsewhere " ++ decimal t.elsewhere
+
+-- the end of the line of the counts: how many times a chain went out again
+abbrev pub again_text : Tally → List ℕ
+again_text t = codes " again " ++ decimal t.again ++ codes "\n"
 
 -- the line of the counts of a run that is done
 abbrev pub tally_line : Tally → List ℕ
-tally_line t = ends_text t ++ others_text t
+tally_line t = ends_text t ++ others_text t ++ again_text t
 
 -- how the program reports a station's end: by status 0 and the line of its counts, or by status 1 and the lines of its stop
 abbrev pub TellsCounts : Result Tally Stop → ℕ → Option (List ℕ) → Option (List ℕ) → Type 0

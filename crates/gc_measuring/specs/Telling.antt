@@ -47,7 +47,7 @@ pub record TellsMeasuring {S K E : Type 0} (source : Source S) (sink : Sink K) (
   pub fails : FailsAtOutput (sink.failed old.output) (sink.failed new.output) (with_fault end)
   pub counts : TellsCounts end status (shown between) (shown new.messages)
 
--- a source gave a text to its end, and the run over its commands is done, over a link that told these acts
+-- a source gave a text to its end, and the run over its commands is done, or its end was asked for, over a link that told these acts
 pub record MeasuresAll {S K E : Type 0} (source : Source S) (sink : Sink K) (shown : E → Option (List ℕ)) (station : Settings)
     (acts acts' : Option (List Act)) (turns turns' : List Turn) (old new : Streams S K E) : Type 0 where
   pub between : E
@@ -87,7 +87,7 @@ pub record TellsRun {S K E : Type 0} (source : Source S) (sink : Sink K) (lasts 
   pub counts : TellsCounts end status (shown between) (shown behind)
   pub loss : TellsLoss is_lost (shown behind) (shown new.messages)
 
--- a source gave a text to its end, and the run over its commands is done, by these acts, which its link told from none on
+-- a source gave a text to its end, and the run over its commands is done, or its end was asked for, by these acts, which its link told from none on
 abbrev pub MeasuresAllFromNone : {S K E : Type 0} → Source S → Sink K → (E → Option (List ℕ)) → Settings → Streams S K E → Streams S K E → Option (List Act)
     → List Turn → List Turn → Type 0
 MeasuresAllFromNone source sink shown station old new acts turns turns' =
@@ -119,7 +119,7 @@ pub record TellsAppended {S F K E : Type 0} (source : Source S) (sink : Sink F) 
   pub filed : IsFiled sink old new begun ended file
   pub run : TellsRun source sink lasts shown has_log (appended station) begun ended acts turns turns' status
 
--- a source gave a text to its end, and the run over its commands is done, which appended to a file. `old` and `new` are the streams of
+-- a source gave a text to its end, and the run over its commands is done, or its end was asked for, which appended to a file. `old` and `new` are the streams of
 -- the run's caller; `begun` and `ended` are the run's own, with the file as output (`IsFiled`)
 pub record AppendsAll {S F K E : Type 0} (source : Source S) (sink : Sink F) (shown : E → Option (List ℕ)) (station : Settings)
     (old new : Streams S K E) (file : Option F) (acts : Option (List Act)) (turns turns' : List Turn) : Type 0 where

@@ -3,7 +3,7 @@
 ghost use Rattle.std.specs.Prelude.{◌≤◌, IfOk, OnOk};
 ghost use Rattle.std.specs.Io.KnownBytes.{Appends};
 ghost use Rattle.std.specs.Process.{exit_status};
-ghost use Rattle.gc_measuring.specs.Measuring.{TellsCounts, ends_text, others_text, tally_line};
+ghost use Rattle.gc_measuring.specs.Measuring.{TellsCounts, again_text, ends_text, others_text, tally_line};
 
 use crate::stop::Stop;
 use gc_station::Tally;
@@ -30,12 +30,13 @@ pub(crate) fn tell_counts<E: Write>(
     }
 }
 
-// Writes the line of the counts.
+// Writes the line of the counts: of each command's last attempt, and how many times a chain went out again.
 fn write_counts<E: Write>(tally: Tally, messages: &mut E) -> io::Result<()>
     ensures { OnOk result (Appends (E.contents messages.old) (E.contents messages.new) (tally_line tally)) }
 {
     write_ends(tally, messages)?;
-    write_others(tally, messages)
+    write_others(tally, messages)?;
+    write_again(tally, messages)
 }
 
 // Writes the front of the line of the counts: how many commands were answered, late and lost.
@@ -51,7 +52,7 @@ fn write_ends<E: Write>(tally: Tally, messages: &mut E) -> io::Result<()>
     write!(messages, "answered {answered} late {late} lost {lost} ")
 }
 
-// Writes the rest of the line of the counts: how many commands were skipped, unreadable, missed and elsewhere.
+// Writes the middle of the line of the counts: how many commands were skipped, unreadable, missed and elsewhere.
 fn write_others<E: Write>(tally: Tally, messages: &mut E) -> io::Result<()>
     ensures { OnOk result (Appends (E.contents messages.old) (E.contents messages.new) (others_text tally)) }
 {
@@ -62,8 +63,16 @@ fn write_others<E: Write>(tally: Tally, messages: &mut E) -> io::Result<()>
         elsewhere,
         ..
     } = tally;
-    writeln!(
+    write!(
         messages,
         "skipped {skipped} unreadable {unreadable} missed {missed} elsewhere {elsewhere}"
     )
+}
+
+// Writes the end of the line of the counts: how many times a chain went out again.
+fn write_again<E: Write>(tally: Tally, messages: &mut E) -> io::Result<()>
+    ensures { OnOk result (Appends (E.contents messages.old) (E.contents messages.new) (again_text tally)) }
+{
+    let again = tally.again;
+    writeln!(messages, " again {again}")
 }

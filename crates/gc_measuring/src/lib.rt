@@ -1,6 +1,7 @@
 //! A station over its ports: its text, its records and their file, its log, and the messages that it writes while it measures.
 #![tactic(auto)]
 
+mod checking;
 mod counts;
 pub mod laws;
 mod logging;
@@ -14,6 +15,7 @@ mod task_text;
 mod telling;
 mod wanted;
 
+pub use checking::check_task_text;
 pub use measure::run_station_text;
 pub use plan::plan_of;
 pub use recording::{Appended, append_at};

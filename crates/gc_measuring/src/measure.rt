@@ -9,6 +9,7 @@ ghost use Rattle.gc_lines.specs.Ports.{FailsWith, TakesFront};
 ghost use Rattle.gc_station.specs.Runs.{FailsAtOutput, LastsBut};
 ghost use Rattle.gc_texts.specs.declared.text.TheConstants.{TEXT_LIMIT};
 
+use crate::checking::commands_in;
 use crate::plan::plan_of;
 use crate::stop::Stop;
 use crate::task_text::read_task_text;
@@ -36,7 +37,8 @@ use std::io::Write;
 /// The messages get at the start what is odd about the text: each angle of a positioning that lies outside one turn, and each
 /// target of which the text says where it stands, and which no command asks for its direction. Then they get signs of life, each
 /// kind at most once a minute, where the choice has them, and what `spot` notices of the line. Where they can't be written the
-/// station measures on.
+/// station measures on. Where the run ends because it is stale, they get a line that says since when no answer of a good quality
+/// came.
 pub fn run_station_text<L: Link, S: Source, K: Durable, E: Write>(
     alloc: Global,
     link: &mut L,
@@ -75,13 +77,11 @@ pub fn run_station_text<L: Link, S: Source, K: Durable, E: Write>(
     let Ok(()) = write_front(&mut streams.output, station.layout) else {
         return (streams, Err(Stop::Run(RunFault::Output)));
     };
-    let _ = tell_turns(
-        text.as_slice(),
-        tasks.tasks.as_slice(),
-        &mut streams.messages,
-    );
+    let _ = tell_turns(text.as_slice(), &tasks, &mut streams.messages);
     let _ = tell_unasked(&tasks, &mut streams.messages);
+    let commands = commands_in(&tasks);
     let Tasks {
+        setup: _,
         tasks,
         names,
         nears,
@@ -89,6 +89,7 @@ pub fn run_station_text<L: Link, S: Source, K: Durable, E: Write>(
     // A run may take months: the memory of the text is given back first.
     drop(text);
     let named = Tasks {
+        setup: 0,
         tasks: Vec::new(alloc),
         names,
         nears,
@@ -96,6 +97,7 @@ pub fn run_station_text<L: Link, S: Source, K: Durable, E: Write>(
     let work = Work {
         tasks,
         named,
+        commands,
         max_turns,
     };
     let (streams, end) = measure(link, station, work, spot, streams, kept);
@@ -105,12 +107,13 @@ pub fn run_station_text<L: Link, S: Source, K: Durable, E: Write>(
     }
 }
 
-// What is measured: the tasks, the names of their targets (in a `Tasks` whose own tasks are empty), and the most acts that a run
-// may make.
+// What is measured: the tasks, the names of their targets (in a `Tasks` whose own tasks are empty), how many commands a cycle has, and
+// the most acts that a run may make.
 #[derive(Drop)]
 struct Work {
     tasks: Vec<Task>,
     named: Tasks,
+    commands: usize,
     max_turns: u64,
 }
 
@@ -140,16 +143,18 @@ fn measure<L: Link, S, K: Durable, E: Write>(
     let Work {
         tasks,
         named,
+        commands,
         max_turns,
     } = work;
     let plan = plan_of(station.choice, tasks.as_slice());
     let mut teller = Teller::new(station.choice.watch, messages);
-    teller.begin(spot.place, tasks.len());
+    teller.begin(spot.place, commands);
     let mut records = Records {
         sink: output,
         layout: station.layout,
         named,
         noticed: spot.noticed,
+        fresh: station.layout.run,
         teller,
     };
     let end = run_station(link, &mut records, tasks.as_slice(), &plan, max_turns, kept);
@@ -158,8 +163,12 @@ fn measure<L: Link, S, K: Durable, E: Write>(
         layout: _,
         named: _,
         noticed: _,
-        teller,
+        fresh,
+        mut teller,
     } = records;
+    if let Err(RunFault::Stale) = end {
+        teller.stale(fresh);
+    }
     let streams = Streams {
         input,
         output: sink,
@@ -182,6 +191,15 @@ fn write_front<K: Durable>(sink: &mut K, layout: Layout) -> Result<(), usize>
     write_head(sink, layout.form)
 }
 
+// When a good answer was written down last, in milliseconds since 1970, once a command ended so at the moment `utc`: `fresh` where that
+// was no good answer.
+fn fresh_behind(fresh: u64, utc: u64, ending: Ending<'_>) -> u64 {
+    match ending.quality() {
+        Some(quality) if quality.is_good() => utc,
+        _ => fresh,
+    }
+}
+
 // A book that writes records in one layout into a sink, and reports on the messages what the station does.
 struct Records<'a, K, E> {
     sink: K,
@@ -189,6 +207,8 @@ struct Records<'a, K, E> {
     // The names of targets, in a `Tasks` whose own tasks are empty.
     named: Tasks,
     noticed: &'a Cell<Noticed>,
+    // When an answer of a good quality came last, or the run began, in milliseconds since 1970.
+    fresh: u64,
     teller: Teller<E>,
 }
 
@@ -209,6 +229,7 @@ impl<'a, K: Durable, E: Write> Book for Records<'a, K, E> {
         ending: Ending<'_>,
     ) -> Result<(), PortFailed> {
         self.teller.count(stamp, ending);
+        self.fresh = fresh_behind(self.fresh, stamp.utc, ending);
         let when = When {
             run: self.layout.run,
             stamp,

@@ -18,6 +18,8 @@ pub fn plan_of(choice: Choice, tasks: &[Task]) -> Plan
         cycles: choice.cycles,
         quiet: choice.quiet,
         retries: choice.retries,
+        stale: choice.stale,
+        watched: choice.watched,
     }
 }
 

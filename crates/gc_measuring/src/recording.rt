@@ -16,7 +16,7 @@ use crate::station::measure_at;
 use crate::stop::Stop;
 use gc_files::{RowsFile, SystemFile, Unfit, open_at};
 use gc_lines::{Durable, Sink, Source};
-use gc_links::{PlacedLink, Telling};
+use gc_links::{PlacedLink, Telling, Watched};
 use gc_messages::{Followed, Spot, Streams};
 use gc_rows::{head, sign};
 use gc_station::Kept;
@@ -140,7 +140,7 @@ fn open_records<R: Files<File = File>, E: Write>(
 #[derive(Drop)]
 pub struct Appended<'a, R> {
     pub file: Followed<'a, R>,
-    pub link: Option<Telling<PlacedLink<'a, R>>>,
+    pub link: Option<Telling<Watched<'a, R, PlacedLink<'a, R>>>>,
 }
 
 impl<'a, R: Files<File = File>> Appended<'a, R> {
@@ -171,6 +171,7 @@ pub fn append_at<
     alloc: Global,
     spot: Spot<'a>,
     log: Option<LogPlace<'_>>,
+    until: Option<&'a str>,
     station: Settings,
     recording: Recording<'a>,
     mut streams: Streams<S, K, E>,
@@ -187,7 +188,7 @@ pub fn append_at<
         ⊎ TellsAppended S.Source ⟦<Followed<'a, R> as Sink>⟧ ⟦<Followed<'a, R> as Durable>⟧.is_durable E.contents (is_some log.entry) station
         streams result.0 (file_of result.2) (acts_in result.2) kept.old.turns kept.new.turns (exit_status status)) }
 
-    // Status 0 only where the source gave a text to its end, and the run over its commands is done.
+    // Status 0 only where the source gave a text to its end, and the run over its commands is done, or its end was asked for.
     ensures done { IfOk result.1 (λ status. exit_status status ≡ 0
         → AppendsAll S.Source ⟦<Followed<'a, R> as Sink>⟧ E.contents station streams result.0 (file_of result.2) (acts_in result.2) kept.old.turns kept.new.turns) }
 
@@ -205,6 +206,7 @@ pub fn append_at<
                 alloc,
                 spot,
                 log,
+                until,
                 station.appended(),
                 filed,
                 kept,

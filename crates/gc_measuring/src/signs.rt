@@ -95,7 +95,11 @@ impl Signs {
         Signs {
             watch,
             health: LinkHealth::Idle,
-            since: Moment { elapsed: 0, utc: 0 },
+            since: Moment {
+                elapsed: 0,
+                utc: 0,
+                stops: false,
+            },
             elapsed: 0,
             wanted: Wanted::new(),
             is_troubled: false,
@@ -118,7 +122,7 @@ impl Signs {
         }
     }
 
-    /// Counts a record, and notes its cycle and whether its command was answered or skipped.
+    /// Notes a record, as `note` does, and counts it.
     pub(crate) fn count(&mut self, stamp: Stamp, ending: Ending<'_>)
         ensures { self.new.counts ≡ counted (ending_seen ending.entry) self.old.counts }
     {
@@ -132,7 +136,7 @@ impl Signs {
     {
         self.cycle = stamp.cycle;
         match ending {
-            Ending::Answered(..) | Ending::Unreadable(_, _) | Ending::Elsewhere(_) => self.answer(),
+            Ending::Answered(..) | Ending::Unreadable(..) | Ending::Elsewhere(_) => self.answer(),
             Ending::Skipped => self.skip(stamp.utc),
             Ending::Late | Ending::Lost | Ending::Missed => {}
         }
@@ -175,7 +179,7 @@ impl Signs {
             return Ok(());
         }
         let before = self.health;
-        self.stand(health, moment);
+        self.note_health(health, moment);
         if moment.utc != 0 {
             self.tell_troubles(before, is_lost, moment, messages)?;
         }
@@ -183,8 +187,8 @@ impl Signs {
         self.show(messages)
     }
 
-    // Notes the health of the link, and since when it has been the same.
-    fn stand(&mut self, health: LinkHealth, moment: Moment) {
+    // Notes the health of the link, since when it has been the same, and when it was seen.
+    fn note_health(&mut self, health: LinkHealth, moment: Moment) {
         // Until the clock is read first the moment is the beginning of 1970.
         if self.health != health || self.since.utc == 0 {
             self.health = health;
@@ -257,8 +261,10 @@ impl Signs {
         if !is_lost || before == LinkHealth::Idle {
             return Ok(());
         }
-        let may = self.unconnected.allows(self.elapsed, MINUTE);
-        self.tell_since(may, self.since.utc, "no connection", messages)
+        if !self.unconnected.allows(self.elapsed, MINUTE) {
+            return Ok(());
+        }
+        self.tell_since(self.since.utc, "no connection", messages)
     }
 
     // Reports that a new connection isn't quiet, once that has lasted for `LASTING`.
@@ -268,8 +274,10 @@ impl Signs {
         {
             return Ok(());
         }
-        let may = self.unquiet.allows(self.elapsed, MINUTE);
-        self.tell_since(may, self.since.utc, "not quiet", messages)
+        if !self.unquiet.allows(self.elapsed, MINUTE) {
+            return Ok(());
+        }
+        self.tell_since(self.since.utc, "not quiet", messages)
     }
 
     // Reports that no answer comes, once that has lasted for `LASTING`, whatever became of connections meanwhile.
@@ -277,24 +285,23 @@ impl Signs {
         match self.wanted.lasting(self.elapsed, LASTING) {
             Some(since) => {
                 self.wanted.told = true;
-                let may = self.unanswered.allows(self.elapsed, MINUTE);
-                self.tell_since(may, since.utc, "no answer", messages)
+                if !self.unanswered.allows(self.elapsed, MINUTE) {
+                    return Ok(());
+                }
+                self.tell_since(since.utc, "no answer", messages)
             }
             None => Ok(()),
         }
     }
 
-    // Writes `what` and since when it has lasted (`utc`, in milliseconds since 1970), if `may` allows it.
-    fn tell_since<E: Write>(
-        &mut self,
-        may: bool,
-        utc: u64,
-        what: &str,
-        messages: &mut E,
-    ) -> io::Result<()> {
-        if !may {
-            return Ok(());
-        }
+    /// Reports why a run ended that is stale: since when no answer of a good quality came, in milliseconds since 1970.
+    pub(crate) fn tell_stale<E: Write>(&mut self, since: u64, messages: &mut E) -> io::Result<()> {
+        self.tell_since(since, "no good answer", messages)
+    }
+
+    // Reports that `what` has lasted since `utc` (milliseconds since 1970). From then on the station counts as troubled, until a
+    // command is answered.
+    fn tell_since<E: Write>(&mut self, utc: u64, what: &str, messages: &mut E) -> io::Result<()> {
         self.is_troubled = true;
         self.is_answered = false;
         self.clear(messages)?;

@@ -13,7 +13,7 @@ use crate::stop::Stop;
 use gc_ask::fault_of;
 use gc_files::{RowsFile, SystemFile};
 use gc_lines::{Durable, Source};
-use gc_links::{Link, Moment, Place, PlacedLink, Telling, Unusable};
+use gc_links::{Link, Moment, Place, PlacedLink, Telling, Unusable, Watched};
 use gc_logs::Logged;
 use gc_messages::{Noticing, Spot, Streams};
 use gc_station::{Kept, Tally};
@@ -28,7 +28,8 @@ use std::rt::Files;
 use std::time::Clock;
 
 /// Measures at a place, and reports how the run ended: by the counts, or by the fault's line. Where a log is asked for, its file
-/// is opened first, and what was on the link is appended to it. `Log` comes where no log can be had, `Clock` where the clock
+/// is opened first, and what was on the link is appended to it. Where the file `until` is there, the run ends between two chains, as
+/// one that is done. `Log` comes where no log can be had, `Clock` where the clock
 /// can't be read, and the faults of a device where one is there and can't be used. That a log couldn't be written to its end is
 /// told after the counts, or the fault, and changes no status. The streams are handed back, and the link, where there was one.
 /// What was seen of link and output at each act is noted in `kept`.
@@ -43,13 +44,14 @@ pub fn measure_at<
     alloc: Global,
     spot: Spot<'a>,
     log: Option<LogPlace<'_>>,
+    until: Option<&'a str>,
     station: Settings,
     mut streams: Streams<S, K, E>,
     kept: &mut Kept,
 ) -> (
     Streams<S, K, E>,
     io::Result<ExitCode>,
-    Option<Telling<PlacedLink<'a, R>>>,
+    Option<Telling<Watched<'a, R, PlacedLink<'a, R>>>>,
 )
     // The status and the messages report how the run ended, and then whether the log was lost. Either the text was refused, or
     // its commands were measured: the link that is handed back has told all acts of the run and no other, the sink that is handed
@@ -58,7 +60,7 @@ pub fn measure_at<
     ensures told { IfOk result.1 (λ status. TellsRun S.Source K.Sink K.is_durable E.contents (is_some log.entry) station
         streams result.0 (acts_of result.2) kept.old.turns kept.new.turns (exit_status status)) }
 
-    // Status 0 only where the source gave a text to its end, and the run over its commands is done.
+    // Status 0 only where the source gave a text to its end, and the run over its commands is done, or its end was asked for.
     ensures done { IfOk result.1 (λ status. exit_status status ≡ 0
         → MeasuresAllFromNone S.Source K.Sink E.contents station streams result.0 (acts_of result.2) kept.old.turns kept.new.turns) }
     ensures bound { IfOk result.1 (λ status. exit_status status ≤ 1) }
@@ -71,7 +73,7 @@ pub fn measure_at<
         }
     };
     let station = station.begun(moment);
-    let told = Telling::new(link);
+    let told = Telling::new(Watched::new(rt, link, until));
     let mut link = Noticing::new(told, spot.noticed);
     match log {
         None => {
@@ -157,7 +159,7 @@ pub(crate) fn measure_over<L: Link, S: Source, K: Durable, E: Write>(
     ensures told { IfOk result.1 (λ status. TellsMeasuring S.Source K.Sink K.is_durable E.contents station
         (L.acts link.old) (L.acts link.new) kept.old.turns kept.new.turns streams result.0 (exit_status status)) }
 
-    // Status 0 only where the source gave a text to its end, and the run over its commands is done.
+    // Status 0 only where the source gave a text to its end, and the run over its commands is done, or its end was asked for.
     ensures done { IfOk result.1 (λ status. exit_status status ≡ 0
         → MeasuresAll S.Source K.Sink E.contents station (L.acts link.old) (L.acts link.new) kept.old.turns kept.new.turns streams result.0) }
     ensures bound { IfOk result.1 (λ status. exit_status status ≤ 1) }

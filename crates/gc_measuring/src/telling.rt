@@ -78,6 +78,12 @@ impl<E: Write> Teller<E> {
         }
     }
 
+    /// Writes why a run ended that is stale, also where no signs of life are written: since when no answer of a good quality came, in
+    /// milliseconds since 1970.
+    pub(crate) fn stale(&mut self, since: u64) {
+        let _ = self.signs.tell_stale(since, &mut self.messages);
+    }
+
     /// Writes at the end what wasn't reported yet, and hands the messages back.
     pub(crate) fn end(self) -> E {
         let Teller {

@@ -5,6 +5,10 @@ use Rattle.std.specs.Prelude.{ℕ, Bool, true, false, List, codes}
 abbrev pub range_line : List ℕ
 range_line = codes "error: a number of the command line is out of its range\n"
 
+-- the line that says that a station's run would end for want of an answer before its second cycle is due
+abbrev pub stale_line : List ℕ
+stale_line = codes "error: --stale is below --every: the run would end before its second cycle\n"
+
 -- the line that says that a word is no place: no port or device to serve a simulator on (`true`), or no place of an instrument
 abbrev pub place_line : Bool → List ℕ
 place_line true = codes "error: a simulator is served on a port of 127.0.0.1, from 1 to 65535, or on the path of a device, which has a /\n"

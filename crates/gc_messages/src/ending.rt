@@ -5,7 +5,7 @@ ghost use Rattle.std.specs.Io.KnownBytes.{Appends};
 ghost use Rattle.std.specs.Process.{exit_status};
 ghost use Rattle.gc_lines.specs.Answering.{fault_text};
 ghost use Rattle.gc_texts.specs.Faults.{run_fault_text, Tells};
-ghost use Rattle.gc_messages.specs.Refusals.{range_line, place_line};
+ghost use Rattle.gc_messages.specs.Refusals.{range_line, stale_line, place_line};
 
 use gc_lines::{ServeFault, Served};
 use gc_texts::RunFault;
@@ -20,6 +20,17 @@ pub fn refuse_numbers<E: Write>(messages: &mut E) -> io::Result<ExitCode>
     writeln!(
         messages,
         "error: a number of the command line is out of its range"
+    )?;
+    Ok(ExitCode::from(2))
+}
+
+/// Reports with status 2 that a station's run would end for want of an answer before its second cycle is due.
+pub fn refuse_stale<E: Write>(messages: &mut E) -> io::Result<ExitCode>
+    ensures told { IfOk result (λ status. (exit_status status ≡ 2) × Appends (E.contents messages.old) (E.contents messages.new) stale_line) }
+{
+    writeln!(
+        messages,
+        "error: --stale is below --every: the run would end before its second cycle"
     )?;
     Ok(ExitCode::from(2))
 }

@@ -1,7 +1,7 @@
 //! Angles outside one turn, in radians: a station reports them at its start, because they look like angles in gon or in degrees.
 
 use gc_catalogue::{Asked, Call};
-use gc_texts::Task;
+use gc_texts::{Task, Tasks};
 use gc_values::Decimal;
 use std::io::{self, Write};
 
@@ -25,16 +25,28 @@ fn is_no_vertical(v: Decimal) -> bool {
     v > turn() || v < Decimal::zero()
 }
 
-/// Writes a line for each angle outside one turn that a positioning of `text` has, with the number of its line. `tasks` are the
-/// tasks of the text.
-pub fn tell_turns<E: Write>(text: &[u8], tasks: &[Task], messages: &mut E) -> io::Result<()> {
-    let mut tasks = tasks.iter();
+/// Writes a line for each angle outside one turn that a positioning of `text` has, with the number of its line. `all` is what the
+/// text gives.
+pub fn tell_turns<E: Write>(text: &[u8], all: &Tasks, messages: &mut E) -> io::Result<()> {
+    let mut setup = all.tasks.iter().take(all.setup);
+    let mut cycle = all.tasks.iter().skip(all.setup);
+    let mut at_start = false;
     let mut line = 1u32;
     let mut begins = true;
-    for byte in text {
-        // A command's line begins with a digit of its target, and no other line does. So the tasks are those of such lines, in order.
+    for (place, byte) in text.iter().enumerate() {
+        if begins {
+            let rest = text.get(place..).unwrap_or(b"");
+            at_start = is_at_start(rest, at_start);
+        }
+        // A command's line begins with a digit of its target, and no other line does. So the tasks of a section are those of its
+        // lines that begin so, in order; a cycle's stand once more for each further attempt.
         if begins && byte.is_ascii_digit() {
-            if let Some(task) = tasks.next() {
+            let task = if at_start {
+                setup.next()
+            } else {
+                cycle.find(|task| task.turn.attempt == 1)
+            };
+            if let Some(task) = task {
                 tell_turn(line, task, messages)?;
             }
         }
@@ -44,6 +56,15 @@ pub fn tell_turns<E: Write>(text: &[u8], tasks: &[Task], messages: &mut E) -> io
         }
     }
     Ok(())
+}
+
+// Whether the commands behind the line at the front of `rest` are the set-up, where those in front of it are if `before` says so.
+fn is_at_start(rest: &[u8], before: bool) -> bool {
+    if before {
+        !rest.starts_with(b"each cycle")
+    } else {
+        rest.starts_with(b"at start")
+    }
 }
 
 // Writes a line for each angle outside one turn, where the task of this line is a positioning.

@@ -1,5 +1,5 @@
-//! Targets of which a text says where they stand, and which none of its commands asks for a direction. A station reports them at
-//! its start, because no answer is compared with these places.
+//! Targets of which a text says something that no command needs: where they stand, though none of its commands asks for a direction,
+//! which a station reports at its start, because no answer is compared with these places; or a name, though no command asks them.
 
 use gc_texts::Tasks;
 use std::io::{self, Write};
@@ -9,6 +9,24 @@ pub fn tell_unasked<E: Write>(tasks: &Tasks, messages: &mut E) -> io::Result<()>
     for near in tasks.nears.as_slice() {
         if !tasks.asks_direction_of(near.target) {
             tell_target(near.target, messages)?;
+        }
+    }
+    Ok(())
+}
+
+/// Writes a line for each target that has a name in the text, and that no command of the text asks.
+pub fn tell_unnamed<E: Write>(tasks: &Tasks, messages: &mut E) -> io::Result<()> {
+    for name in tasks.names.as_slice() {
+        if !tasks
+            .tasks
+            .iter()
+            .any(|task| task.command.target == name.target)
+        {
+            let target = name.target;
+            writeln!(
+                messages,
+                "geocom: name {target}: no command asks target {target}"
+            )?;
         }
     }
     Ok(())

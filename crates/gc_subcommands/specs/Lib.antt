@@ -1,3 +1,4 @@
 pub mod Drills
 pub mod Scenes
 pub mod Serves
+pub mod Staging

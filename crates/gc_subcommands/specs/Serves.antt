@@ -1,11 +1,13 @@
 -- How `exec` and `check` report how their loop over frames ended: this project's own. `told` is what had been written on the
 -- messages before, and `told'` what has been written now. 4294967295 is the most reads that a u32 counts.
-use Rattle.std.specs.Prelude.{◌≡◌, ℕ, ◌+◌, ◌<◌, ◌⊎◌, ◌↔◌, Bool, true, false, List, Option, Result}
+use Rattle.std.specs.Prelude.{◌≡◌, ℕ, ◌+◌, ◌<◌, ◌⊎◌, ◌↔◌, Bool, true, false, List, Option, None, Result}
 use Rattle.gc_subcommands.specs.Scenes.{RefusesScene, IsOfScene}
 use Rattle.gc_engines.specs.Checking.{IsChecking}
 use Rattle.gc_engines.specs.LogChecking.{IsCheckingLog}
 use Rattle.gc_instrument.specs.Serving.{IsServing}
 use Rattle.gc_instrument.specs.State.{State}
+use Rattle.gc_scenes.specs.SceneServing.{IsSceneServing}
+use Rattle.gc_scenes.specs.SceneState.{SceneState}
 use Rattle.gc_lines.specs.Answering.{Ports, fault_text}
 use Rattle.gc_lines.specs.declared.served.Served.{Served}
 use Rattle.gc_lines.specs.declared.served.ServeFault.{ServeFault}
@@ -18,10 +20,18 @@ pub record TellsServing (start : State) (old new : Ports) (status : ℕ) (told t
   pub serves : IsServing start after old new 4294967295 end
   pub tells : Tells fault_text end status told told'
 
--- the scene was refused, or its instrument served a source, and how that ended is reported
+-- the instrument of a scene with rules, with this opening state, served a source, and the status and the messages tell how that ended
+pub record TellsRuled (start : SceneState) (old new : Ports) (status : ℕ) (told told' : Option (List ℕ)) : Type 0 where
+  pub end : Result Served ServeFault
+  pub after : SceneState
+  pub serves : IsSceneServing start after old new 4294967295 end
+  pub tells : Tells fault_text end status told told'
+
+-- the scene was refused, or its instrument served a source, and how that ended is reported; it has rules only where a scene is named
 abbrev pub TellsExec : {Name : Type 0} → Option Name → Ports → Ports → ℕ → Option (List ℕ) → Option (List ℕ) → Type 0
 TellsExec scene old new status told told' =
-    RefusesScene scene old new status told told' ⊎ ((start : State) × IsOfScene scene start × TellsServing start old new status told told')
+    RefusesScene scene old new status told told' ⊎ (((start : State) × IsOfScene scene start × TellsServing start old new status told told')
+    ⊎ ((scene ≡ None → ⊥) × ((start : SceneState) × TellsRuled start old new status told told')))
 
 -- a log (`true`) or a stream (`false`) was checked, with this result
 abbrev pub ChecksInput : Bool → Ports → Ports → Result Served ServeFault → Type 0

@@ -2,14 +2,15 @@
 
 ghost use Rattle.std.specs.Prelude.{◌≡◌, ◌≤◌, None, IfOk, false};
 ghost use Rattle.std.specs.Process.{exit_status};
-ghost use Rattle.gc_subcommands.specs.Serves.{TellsServing, TellsExec, IsDoneAtEnd, FailsByPorts};
+ghost use Rattle.gc_subcommands.specs.Serves.{TellsServing, TellsRuled, TellsExec, IsDoneAtEnd, FailsByPorts};
 ghost use Rattle.gc_lines.specs.Answering.{ports_of};
 
-use crate::scene::instrument_of;
+use crate::scene::{Staged, staged_of};
 use clap::Command;
 use gc_instrument::{Instrument, serve};
 use gc_lines::{Sink, Source};
 use gc_messages::{end_of, tell_end};
+use gc_scenes::{SceneInstrument, serve_scene};
 use gc_words::help::REQUESTS;
 use gc_words::{Argument, SCENE, command_of};
 use std::alloc::{AllocError, Global};
@@ -61,8 +62,9 @@ pub fn exec_scene<R: Files, S: Source, K: Sink, E: Write>(
         (exit_status status)) }
     ensures bound { IfOk result (λ status. exit_status status ≤ 1) }
 {
-    match instrument_of(rt, alloc, scene) {
-        Ok(instrument) => exec(instrument, source, sink, messages),
+    match staged_of(rt, alloc, scene) {
+        Ok(Staged::Plain(instrument)) => exec(instrument, source, sink, messages),
+        Ok(Staged::Ruled(instrument)) => exec_ruled(instrument, source, sink, messages),
         Err(fault) => end_of(Err(fault), messages),
     }
 }
@@ -95,4 +97,37 @@ fn exec<S: Source, K: Sink, E: Write>(
     ensures bound { IfOk result (λ status. exit_status status ≤ 1) }
 {
     tell_end(serve(&mut instrument, source, sink, u32::MAX), messages)
+}
+
+// Serves with the instrument of a scene with rules, and reports how that ended.
+fn exec_ruled<S: Source, K: Sink, E: Write>(
+    mut instrument: SceneInstrument,
+    source: &mut S,
+    sink: &mut K,
+    messages: &mut E,
+) -> io::Result<ExitCode>
+    // The instrument served the source, and the status and the messages report how that ended.
+    ensures told { IfOk result (λ status. TellsRuled instrument
+        (ports_of S.Source source.old K.Sink sink.old)
+        (ports_of S.Source source.new K.Sink sink.new)
+        (exit_status status) (E.contents messages.old) (E.contents messages.new)) }
+
+    // Status 0 exactly where the last read was the end.
+    ensures done { IfOk result (λ status. IsDoneAtEnd
+        (ports_of S.Source source.old K.Sink sink.old)
+        (ports_of S.Source source.new K.Sink sink.new)
+        (exit_status status)) }
+
+    // Status 1 only where a port failed, or all reads that a u32 counts were used up.
+    ensures fault { S.failed source.old ≡ false → K.failed sink.old ≡ false
+        → IfOk result (λ status. FailsByPorts
+        (ports_of S.Source source.old K.Sink sink.old)
+        (ports_of S.Source source.new K.Sink sink.new)
+        (exit_status status)) }
+    ensures bound { IfOk result (λ status. exit_status status ≤ 1) }
+{
+    tell_end(
+        serve_scene(&mut instrument, source, sink, u32::MAX),
+        messages,
+    )
 }

@@ -5,15 +5,26 @@ ghost use Rattle.std.specs.Io.KnownBytes.{Consumes, IsAtEnd};
 ghost use Rattle.gc_instrument.specs.State.{simulator_opening};
 ghost use Rattle.gc_texts.specs.Texts.{IsReadFault};
 ghost use Rattle.gc_engines.specs.Scenes.{IsScene, SceneFault};
+ghost use Rattle.gc_subcommands.specs.Staging.{IsStaged};
+ghost use Rattle.gc_subcommands.specs.declared.scene.Staged.TheVariants.{Plain};
 
-use gc_engines::read_scene;
+use gc_engines::{read_rule_scene, read_scene};
 use gc_instrument::Instrument;
 use gc_lines::{FromReader, Source};
+use gc_scenes::SceneInstrument;
 use gc_texts::{RunFault, read_text};
 use std::alloc::Global;
 use std::fs::{File, Files};
 
-/// The instrument of the scene in a file, which is read to its end and closed, or the simulator where no file is named.
+/// The instrument that a scene sets up: that of the execution table, or one with rules, where a line of the scene is one.
+#[derive(Drop)]
+pub(crate) enum Staged {
+    Plain(Instrument),
+    Ruled(SceneInstrument),
+}
+
+/// The instrument of the scene in a file, which is read to its end and closed, or the simulator where no file is named. A scene has
+/// no rules here.
 ///
 /// `Read` comes where the file can't be opened or read, and the faults of a scene's text are those of `read_scene`.
 pub(crate) fn instrument_of<R: Files>(
@@ -47,4 +58,57 @@ fn scene_in<S: Source>(alloc: Global, source: &mut S) -> Result<Instrument, RunF
         Err(fault) => return Err(fault),
     };
     read_scene(alloc, text.as_slice())
+}
+
+/// The instrument of the scene in a file, with rules or without them, or the simulator where no file is named.
+///
+/// The faults are those of `instrument_of`. Where the scene has rules, they are those of `read_rule_scene`.
+pub(crate) fn staged_of<R: Files>(
+    rt: &R,
+    alloc: Global,
+    scene: Option<&str>,
+) -> Result<Staged, RunFault>
+    ensures simulator { scene.entry ≡ None → result ≡ Ok (Plain simulator_opening) }
+{
+    let Some(path) = scene else {
+        return Ok(Staged::Plain(Instrument::simulator()));
+    };
+    let Ok(file) = File::open(rt, path) else {
+        return Err(RunFault::Read);
+    };
+    staged_in(alloc, &mut FromReader::new(file))
+}
+
+// The instrument of the scene that a source gives, with rules or without them.
+fn staged_in<S: Source>(alloc: Global, source: &mut S) -> Result<Staged, RunFault>
+    // The whole of what the source gave is its text.
+    ensures found { IfOk result (λ staged. (text : List ℕ) × Consumes (S.remaining source.old) (S.remaining source.new) text
+        × IsAtEnd (S.remaining source.new) × IsStaged text staged) }
+{
+    let text = match read_text(alloc, source) {
+        Ok(text) => text,
+        Err(fault) => return Err(fault),
+    };
+    stage(alloc, text.as_slice())
+}
+
+// The instrument of a scene's text: without rules, where each line is one of a scene without rules.
+fn stage(alloc: Global, text: &[u8]) -> Result<Staged, RunFault>
+    ensures { IfOk result (λ staged. IsStaged text.now staged) }
+{
+    match read_scene(alloc, text) {
+        Ok(instrument) => Ok(Staged::Plain(instrument)),
+        Err(RunFault::Schedule { .. }) => ruled(alloc, text),
+        Err(fault) => Err(fault),
+    }
+}
+
+// The instrument of the text of a scene with rules.
+fn ruled(alloc: Global, text: &[u8]) -> Result<Staged, RunFault>
+    ensures { IfOk result (λ staged. IsStaged text.now staged) }
+{
+    match read_rule_scene(alloc, text) {
+        Ok(instrument) => Ok(Staged::Ruled(instrument)),
+        Err(fault) => Err(fault),
+    }
 }

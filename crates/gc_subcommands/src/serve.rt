@@ -5,10 +5,11 @@ ghost use Rattle.std.specs.Prelude.{◌≤◌, IfOk};
 ghost use Rattle.std.specs.Process.{exit_status};
 
 use crate::looped::tell_scene;
-use crate::scene::instrument_of;
+use crate::scene::{Staged, staged_of};
 use clap::{ArgMatches, Command};
-use gc_ask::{Keeping, MOST_CONNECTIONS, keep_device, keep_tcp, serve_device, serve_tcp};
-use gc_instrument::Instrument;
+use gc_ask::{
+    Keeping, MOST_CONNECTIONS, Simulates, keep_device, keep_tcp, serve_device, serve_tcp,
+};
 use gc_links::Place;
 use gc_messages::{Standard, end_of, refuse_numbers, refuse_place, tell_place};
 use gc_texts::RunFault;
@@ -136,23 +137,39 @@ fn serve_scene<
         connections,
         idle,
     } = serving;
-    let mut instrument = match instrument_of(rt, alloc, scene) {
-        Ok(instrument) => instrument,
+    match staged_of(rt, alloc, scene) {
+        Ok(Staged::Plain(mut instrument)) => {
+            serve_with(rt, place, connections, idle, &mut instrument, messages)
+        }
+        Ok(Staged::Ruled(mut instrument)) => {
+            serve_with(rt, place, connections, idle, &mut instrument, messages)
+        }
         Err(fault) => {
             let ended = end_of(Err(fault), messages);
             let _ = tell_scene(scene, messages);
-            return ended;
+            ended
         }
-    };
+    }
+}
+
+// Serves or keeps a place with an instrument.
+fn serve_with<
+    R: Net<Listener = TcpListener, Stream = TcpStream> + Clock + Files<File = File>,
+    I: Simulates,
+    E: Write,
+>(
+    rt: &R,
+    place: Place<'_>,
+    connections: Option<u32>,
+    idle: Option<u32>,
+    instrument: &mut I,
+    messages: &mut E,
+) -> io::Result<ExitCode>
+    ensures { IfOk result (λ status. exit_status status ≤ 2) }
+{
     match idle {
-        None => serve_place(
-            rt,
-            place,
-            connections.unwrap_or(1),
-            &mut instrument,
-            messages,
-        ),
-        Some(idle) => keep_place(rt, place, connections, idle, &mut instrument, messages),
+        None => serve_place(rt, place, connections.unwrap_or(1), instrument, messages),
+        Some(idle) => keep_place(rt, place, connections, idle, instrument, messages),
     }
 }
 
@@ -160,12 +177,13 @@ fn serve_scene<
 // so: hence they are refused here, too, but for 0 connections of a device, which is not opened then.
 fn serve_place<
     R: Net<Listener = TcpListener, Stream = TcpStream> + Clock + Files<File = File>,
+    I: Simulates,
     E: Write,
 >(
     rt: &R,
     place: Place<'_>,
     connections: u32,
-    instrument: &mut Instrument,
+    instrument: &mut I,
     messages: &mut E,
 ) -> io::Result<ExitCode>
     ensures { IfOk result (λ status. exit_status status ≤ 2) }
@@ -182,11 +200,11 @@ fn serve_place<
 }
 
 // Serves a port, and reports how that ended. Numbers out of their range are refused here, as in `serve_place`.
-fn serve_port<R: Net<Listener = TcpListener, Stream = TcpStream>, E: Write>(
+fn serve_port<R: Net<Listener = TcpListener, Stream = TcpStream>, I: Simulates, E: Write>(
     rt: &R,
     port: u16,
     connections: u32,
-    instrument: &mut Instrument,
+    instrument: &mut I,
     messages: &mut E,
 ) -> io::Result<ExitCode>
     ensures { IfOk result (λ status. exit_status status ≤ 2) }
@@ -203,13 +221,14 @@ fn serve_port<R: Net<Listener = TcpListener, Stream = TcpStream>, E: Write>(
 // Keeps a port or a device, and reports how that ended. Numbers out of their range are refused here, as in `serve_place`.
 fn keep_place<
     R: Net<Listener = TcpListener, Stream = TcpStream> + Clock + Files<File = File>,
+    I: Simulates,
     E: Write,
 >(
     rt: &R,
     place: Place<'_>,
     connections: Option<u32>,
     idle: u32,
-    instrument: &mut Instrument,
+    instrument: &mut I,
     messages: &mut E,
 ) -> io::Result<ExitCode>
     ensures { IfOk result (λ status. exit_status status ≤ 2) }

@@ -10,7 +10,7 @@ use clap::{ArgMatches, Command, Error};
 use gc_links::Place;
 use gc_words::help::SCENES_AND_FAULTS;
 use gc_words::{
-    Recording, Settings, Site, VERSION, log_of, named_place, recording_of, station_command,
+    Choice, Recording, Settings, Site, VERSION, log_of, named_place, recording_of, station_command,
     station_of,
 };
 use std::alloc::{AllocError, Global};
@@ -29,6 +29,8 @@ pub enum Asked<'a> {
     Nowhere { serves: bool },
     /// A number is missing that has a default.
     Unnumbered,
+    /// A station's run would end for want of an answer before its second cycle is due.
+    Impatient,
 }
 
 /// What is to be asked over a connection: commands, once, of a simulator or at a place; or the commands of a station.
@@ -41,6 +43,10 @@ pub enum Asking<'a> {
     /// Asks at a place.
     Ask {
         place: Place<'a>,
+    },
+    /// Reads the text of a station, and writes what would be done.
+    Outline {
+        choice: Choice,
     },
     /// Measures as a station, with its records in a file where one is named.
     Station {
@@ -197,7 +203,8 @@ fn ask_asked<'a>(words: &ArgMatches<'a>) -> Asked<'a> {
 }
 
 // A station at a place, with its records and its log in files where the words name them. `Nowhere`: the words name no place.
-// `Unnumbered`: a number is missing, though it has a default; clap fills it in, but no clause of clap's says so.
+// `Unnumbered`: a number is missing, though it has a default; clap fills it in, but no clause of clap's says so. `Impatient`: the
+// run would end for want of an answer before its second cycle is due.
 fn station_asked<'a>(words: &ArgMatches<'a>) -> Asked<'a> {
     let Some(place) = named_place(words) else {
         return Asked::Nowhere { serves: false };
@@ -205,9 +212,21 @@ fn station_asked<'a>(words: &ArgMatches<'a>) -> Asked<'a> {
     let Some(station) = station_of(words) else {
         return Asked::Unnumbered;
     };
+    if station.choice.is_impatient() {
+        return Asked::Impatient;
+    }
+    if words.get_flag("check") {
+        return Asked::Over(Asking::Outline {
+            choice: station.choice,
+        });
+    }
     let log = log_of(words);
     Asked::Over(Asking::Station {
-        site: Site { place, log },
+        site: Site {
+            place,
+            log,
+            until: words.get_str("until"),
+        },
         station,
         recording: recording_of(words),
     })

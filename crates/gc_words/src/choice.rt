@@ -62,6 +62,21 @@ const OPTIONS: &[Argument<'static>] = &[
         ..FLAG
     },
     Argument {
+        name: "stale",
+        takes: Takes::Unsigned(0, 31_536_000),
+        value_name: &["SECONDS"],
+        default: &["0"],
+        help: "Ends the run once no answer with quality `ok` or `warning` came for so many seconds, 1 to 31536000 and not below --every, or 0: never",
+        ..FLAG
+    },
+    Argument {
+        name: "until",
+        takes: Takes::Text,
+        value_name: &["FILE"],
+        help: "Ends the run with status 0 where this file is there: between two chains, once what was sent is settled; looks at least each second",
+        ..FLAG
+    },
+    Argument {
         name: "csv",
         help: "Writes comma-separated values, with a header",
         ..FLAG
@@ -85,6 +100,11 @@ const OPTIONS: &[Argument<'static>] = &[
     Argument {
         name: "silent",
         help: "Leaves out the signs of life",
+        ..FLAG
+    },
+    Argument {
+        name: "check",
+        help: "Reads the commands, writes what would be done, and connects to nothing",
         ..FLAG
     },
     Argument {
@@ -150,8 +170,19 @@ pub struct Choice {
     pub quiet: u64,
     /// How many times in a row it connects anew.
     pub retries: u32,
+    /// For how long it goes on without an answer of a good quality. 0: for as long as it takes.
+    pub stale: u64,
+    /// Whether a file is looked for that asks for the end of the run.
+    pub watched: bool,
     /// Who watches.
     pub watch: Watch,
+}
+
+impl Choice {
+    /// Whether the run would end for want of an answer before its second cycle is due.
+    pub fn is_impatient(self) -> bool {
+        self.stale > 0 && self.stale < self.every
+    }
 }
 
 /// What the options say, apart from those that name files. `None`: a number is missing, though it has a default; clap fills it
@@ -171,6 +202,8 @@ pub fn station_of(matches: &ArgMatches) -> Option<Settings> {
             cycles: cycles_of(matches.get_one::<u64>("cycles")?),
             quiet: matches.get_one::<u64>("quiet")?,
             retries: retries_of(matches.get_one::<u32>("retries")?),
+            stale: matches.get_one::<u64>("stale")?.saturating_mul(1000),
+            watched: matches.get_str("until").is_some(),
             watch: if matches.get_flag("silent") {
                 Watch::Nobody
             } else {

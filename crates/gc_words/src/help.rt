@@ -10,17 +10,25 @@ With --scene FILE it is the file's. A scene has a line for each thing; empty lin
   serial N               its serial number; without one 123456
   name TEXT              its name, at most 64 bytes; without one GEOCOM SIM
   target HZ V DISTANCE   one more target, at most 32: angles in radians, the slope distance in metres
+Of `exec` and `serve` a scene may have rules, too:
+  fault RPC RC [after COUNT] [for COUNT]   a procedure is answered with this return code, and nothing is done
+  answer RPC RC[,PARAMS]                   the reply to a procedure that isn't in the table
+  blocked TARGET FROM TO                   a target, counted from 1, is hidden in these measurements and searches
+  drift TARGET HZ V D                      each measurement of a target moves it so much
+  noise HZ V D SEED                        measured values deviate by at most so much
+  repeats no                               no reply is kept: a repeat is executed again
 
 Exit status: 0 where it is done, 1 after a fault, 2 for a command line that doesn't parse.
 
 A fault is one line on standard error, `geocom: fault N`. Of a place, a file, or a station's text a second line says what and why:
-  41  a scene has more than 32 targets
+  41  a scene has more than 32 targets, 32 faults or 16 replies
   42  the input, the connection, or the file of a scene could not be read
   43  the output, or the connection, could not be written: R whole lines went out, and B bytes of the next
   44  as many reads, or acts of a station, were made as are allowed, and none was the end
   45  the other end closed the connection before a request was settled
   46  no reply came any more, though the connection stood
   47  the clock could not be read, or stands before 1970
+  48  no answer with quality `ok` or `warning` came for as long as --stale allows
   50  the text of `station` has no command
   51  a line of the schedule, of the commands, or of a scene has no form: `line L` says which, counted from 1
   52  no memory was found
@@ -125,8 +133,11 @@ called, and where it stands:
                 is told as elsewhere
   accept C C .. up to 16 return codes from 1 to 65535 that are accepted: such an answer is a warning, and its chain goes on;
                 accept alone: none
+  retry N W W ..
+                where a command of a chain behind it ends with one of these return codes or outcomes (unreadable, elsewhere,
+                late, lost, skipped), the whole chain goes out again, at most N times in a cycle, 1 to 9; retry 0: none does
 
-Each is asked once in each cycle, and each gets a line as it ends, which begins with the moment:
+Each is asked once in each cycle, or in each attempt of its chain, and gets a line as it ends, which begins with the moment:
   answered      its reply came before its deadline
   unreadable N  its reply came before its deadline, with both codes 0, and its values have fault N, 11 to 15
   late          its reply came after it was given up; what it said is dropped
@@ -159,4 +170,4 @@ writes two lines as
   2026-11-22T23:08:27.123Z 0 7 answered %R1P,0,0:0,123456
   2026-11-22T23:08:27.124Z 1 8 answered %R1P,0,1:0,0
 and on standard error, at its end,
-  answered 2 late 0 lost 0 skipped 0 unreadable 0 missed 0 elsewhere 0";
+  answered 2 late 0 lost 0 skipped 0 unreadable 0 missed 0 elsewhere 0 again 0";

@@ -4,11 +4,13 @@ use crate::arguments::{Argument, FLAG, Takes};
 use clap::ArgMatches;
 use gc_links::Place;
 
-/// Where a station measures, and where it logs what was on the link, if anywhere.
+/// Where a station measures, where it logs what was on the link, if anywhere, and the path of the file by which somebody asks for the
+/// run's end, if any.
 #[derive(Clone, Copy)]
 pub struct Site<'a> {
     pub place: Place<'a>,
     pub log: Option<LogPlace<'a>>,
+    pub until: Option<&'a str>,
 }
 
 /// The option that bounds a log.

@@ -1,5 +1,6 @@
-//! Records of the second cycle of a run, at its place 3, for target 7: a case has the form, the moments, the target's name, the
-//! procedure, and the reply or how else the command ended.
+//! Records of a run: a case has the form, the moments, the target's name, the procedure, and the reply or how else the command
+//! ended. They are of the second cycle, of place 3 and of the first attempt, where the case doesn't say `cycle`, `place` or
+//! `attempt`.
 
 ghost use Rattle.std.specs.Prelude.{◌≤◌, length};
 
@@ -7,7 +8,7 @@ use gc_cases::{Case, Player, Told, bytes_of};
 use gc_catalogue::{Answer, Asked, Asking, Call, Reading};
 use gc_lines::{Line, ToWriter, read_reply};
 use gc_rows::{Form, When, write_head, write_record};
-use gc_texts::{Ending, Quality, Stamp, Wish, read_tasks, reading_as_zero};
+use gc_texts::{Ending, Quality, Stamp, Turn, Wish, read_tasks, reading_as_zero};
 use gc_values::ValueFault;
 use std::alloc::Global;
 use std::io;
@@ -114,9 +115,20 @@ fn when_of(case: &Case<'_>) -> When {
         stamp: Stamp {
             sent: case.value("sent").parse::<u64>().ok(),
             utc: case.value("utc").parse::<u64>().unwrap_or(1795388907123),
-            cycle: 2,
-            place: 3,
+            cycle: case.value("cycle").parse::<u64>().unwrap_or(2),
+            // (no record shows the place in the station's list)
+            place: 40,
+            turn: turn_of(case),
         },
+    }
+}
+
+// Which command of the text a record is of, and in which attempt.
+fn turn_of(case: &Case<'_>) -> Turn {
+    Turn {
+        place: case.value("place").parse::<usize>().unwrap_or(3),
+        attempt: case.value("attempt").parse::<u64>().unwrap_or(1),
+        link: 0,
     }
 }
 

@@ -8,10 +8,11 @@ use crate::cases::outcome::Came;
 use crate::cases::sink::Taking;
 use gc_ask::{Duplex, run_ask, run_loop_on};
 use gc_cases::{Case, push_all};
-use gc_engines::{read_scene, run_check, run_check_log, run_drill_on, run_exec};
+use gc_engines::{read_rule_scene, read_scene, run_check, run_check_log, run_drill_on, run_exec};
 use gc_instrument::serve;
 use gc_lines::{ServeFault, Served};
 use gc_probes::{PieceSource, Pipe};
+use gc_scenes::serve_scene;
 use gc_texts::RunFault;
 use std::alloc::{AllocError, Global};
 
@@ -26,6 +27,8 @@ pub enum Engine {
     Ask,
     Loop,
     Scene,
+    Rules,
+    RuleScene,
     None,
 }
 
@@ -74,6 +77,8 @@ fn engine_of(word: &str) -> Engine {
         "ask" => Engine::Ask,
         "loop" => Engine::Loop,
         "scene" => Engine::Scene,
+        "rules" => Engine::Rules,
+        "rule-scene" => Engine::RuleScene,
         _ => Engine::None,
     }
 }
@@ -240,6 +245,7 @@ impl Setup {
         match self.engine {
             Engine::Exec | Engine::Check | Engine::CheckLog => self.answer(source, came),
             Engine::Serve => self.serve(alloc, source, came),
+            Engine::Rules => self.serve_rules(alloc, source, came),
             Engine::None => came.end.text.text("no such engine"),
             _ => self.play(alloc, source, came),
         }
@@ -275,6 +281,17 @@ impl Setup {
         }
     }
 
+    // Serves with the instrument of the scene, which has rules.
+    fn serve_rules(&self, alloc: Global, source: &mut PieceSource<'_>, came: &mut Came) {
+        match read_rule_scene(alloc, self.scene.as_slice()) {
+            Ok(mut instrument) => {
+                let end = serve_scene(&mut instrument, source, &mut came.output, self.allowed);
+                came.end.serve(end);
+            }
+            Err(fault) => came.end.run(Err(fault)),
+        }
+    }
+
     // Runs an engine that doesn't count its lines.
     fn play(&self, alloc: Global, source: &mut PieceSource<'_>, came: &mut Came) {
         let end = self.play_to(alloc, source, &mut came.link, &mut came.output);
@@ -293,6 +310,7 @@ impl Setup {
             Engine::Drill => self.drill(alloc, source, output),
             Engine::Ask => self.ask(alloc, source, link, output),
             Engine::Loop => self.ask_in_a_loop(alloc, source, output),
+            Engine::RuleScene => self.read_rules(alloc),
             _ => self.read(alloc),
         }
     }
@@ -311,6 +329,14 @@ impl Setup {
     // Reads the input as a scene.
     fn read(&self, alloc: Global) -> Result<(), RunFault> {
         match read_scene(alloc, self.input.as_slice()) {
+            Ok(_) => Ok(()),
+            Err(fault) => Err(fault),
+        }
+    }
+
+    // Reads the input as a scene with rules.
+    fn read_rules(&self, alloc: Global) -> Result<(), RunFault> {
+        match read_rule_scene(alloc, self.input.as_slice()) {
             Ok(_) => Ok(()),
             Err(fault) => Err(fault),
         }

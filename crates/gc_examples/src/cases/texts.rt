@@ -56,6 +56,7 @@ fn read_text(alloc: Global, word: &str, case: &Case<'_>, text: &[u8], is: &mut T
         "commands" => commands(alloc, text, is),
         "schedule" => schedule(alloc, text, is),
         "tasks" => tasks(alloc, case, text, is),
+        "call" => call(alloc, case, text, is),
         "place" => place(text, is),
         "log line" => log_line(text, is),
         _ => is.text("no such text"),
@@ -109,20 +110,64 @@ fn tasks_of(alloc: Global, case: &Case<'_>, text: &[u8]) -> Result<Tasks, RunFau
 // Tells each task of a station's text, in a line for each, and how many names there are; or the fault.
 fn tasks(alloc: Global, case: &Case<'_>, text: &[u8], is: &mut Told) {
     match tasks_of(alloc, case, text) {
-        Ok(all) => tell_tasks(all.tasks.as_slice(), all.names.len(), is),
+        Ok(all) => tell_tasks(case, &all, is),
         Err(fault) => is.display(&fault),
     }
 }
 
-// Tells each task in a line, and then how many names there are.
-fn tell_tasks(tasks: &[Task], names: usize, is: &mut Told) {
-    for task in tasks {
+// Tells each task in a line, and then how many names there are; and of a case with `turns told` each task's turn, and how many tasks
+// are the set-up.
+fn tell_tasks(case: &Case<'_>, all: &Tasks, is: &mut Told) {
+    let turns = case.has("turns", "told");
+    for task in all.tasks.as_slice() {
         tell_task(task, is);
         tell_near(task, is);
         tell_accepted(task, is);
+        if turns {
+            tell_turn(task, is);
+        }
         is.text("\n");
     }
-    is.counted(&names, " names");
+    is.counted(&all.names.len(), " names");
+    if turns {
+        is.titled(" setup ", &all.setup);
+    }
+}
+
+// Tells a task's turn: its place, its attempt and its link; how many others this attempt and those behind it have; its rule; and whether
+// it sets the clock.
+fn tell_turn(task: &Task, is: &mut Told) {
+    is.titled(" place ", &task.turn.place);
+    is.titled(" attempt ", &task.turn.attempt);
+    is.titled(" link ", &task.turn.link);
+    is.titled(" others ", &task.others);
+    for code in &task.again.codes.codes {
+        if *code != 0 {
+            is.titled(" again ", code);
+        }
+    }
+    tell_outcomes(task, is);
+    is.either(task.now, " now", "");
+}
+
+// Tells the outcomes of a task's rule.
+fn tell_outcomes(task: &Task, is: &mut Told) {
+    is.either(task.again.unreadable, " unreadable", "");
+    is.either(task.again.elsewhere, " elsewhere", "");
+    is.either(task.again.late, " late", "");
+    is.either(task.again.lost, " lost", "");
+    is.either(task.again.skipped, " skipped", "");
+}
+
+// Tells what the first task of a text asks for where it goes out at the moment under `utc`, in milliseconds since 1970.
+fn call(alloc: Global, case: &Case<'_>, text: &[u8], is: &mut Told) {
+    match tasks_of(alloc, case, text) {
+        Ok(all) => match all.tasks.as_slice().first() {
+            Some(task) => is.debug(&task.call_at(case.value("utc").parse::<u64>().unwrap_or(0))),
+            None => is.text("no task"),
+        },
+        Err(fault) => is.display(&fault),
+    }
 }
 
 // Tells the target, the procedure and the deadline of a task, and whether it is chained.
@@ -266,6 +311,8 @@ fn plain_fault_of(word: &str) -> Option<RunFault> {
         "LinkClosed" => RunFault::LinkClosed,
         "Mute" => RunFault::Mute,
         "Clock" => RunFault::Clock,
+        "Stale" => RunFault::Stale,
+        "SetUp" => RunFault::SetUp,
         "Memory" => RunFault::Memory,
         "InputTooLong" => RunFault::InputTooLong,
         "Socket" => RunFault::Socket,

@@ -1,0 +1,156 @@
+//! A station's text that is only read: what a station would do with it is written on the output, and what looks wrong in it is
+//! reported on the messages. Nothing is connected to.
+
+ghost use Rattle.std.specs.Prelude.{◌≤◌, IfOk};
+ghost use Rattle.std.specs.Process.{exit_status};
+
+use crate::stop::Stop;
+use crate::task_text::read_task_text;
+use gc_lines::{Sink, Source, write_whole};
+use gc_messages::{Streams, tell_spaces, tell_turns, tell_unasked, tell_unnamed};
+use gc_texts::{Again, RunFault, Task, Tasks};
+use gc_words::Choice;
+use std::alloc::Global;
+use std::io::{self, Write};
+use std::process::ExitCode;
+
+/// Reads the text of a station, and writes what a station would do with it: the set-up, and the chains of a cycle with the names of
+/// their targets, their deadlines in milliseconds, and behind what they go out again. What looks wrong, and is no fault, is reported
+/// on the messages: names and places without a command, spaces at ends of lines, angles outside one turn. Status 0: the text can be
+/// measured. Status 1: it is refused, which is reported as a run reports it, or the output failed. The streams are handed back.
+pub fn check_task_text<S: Source, K: Sink, E: Write>(
+    alloc: Global,
+    choice: Choice,
+    mut streams: Streams<S, K, E>,
+) -> (Streams<S, K, E>, io::Result<ExitCode>)
+    ensures bound { IfOk result.1 (λ status. exit_status status ≤ 1) }
+{
+    let end = match read_task_text(alloc, &mut streams.input, &choice) {
+        Ok((tasks, text)) => {
+            let _ = tell_doubts(text.as_slice(), &tasks, &mut streams.messages);
+            write_outline(alloc, &tasks, &mut streams.output)
+        }
+        Err(stop) => Err(stop),
+    };
+    let status = match end {
+        Ok(()) => Ok(ExitCode::SUCCESS),
+        Err(stop) => match stop.tell(&mut streams.messages) {
+            Ok(()) => Ok(ExitCode::from(1)),
+            Err(failed) => Err(failed),
+        },
+    };
+    (streams, status)
+}
+
+// Reports what looks wrong in a text that gives these tasks.
+fn tell_doubts<E: Write>(text: &[u8], tasks: &Tasks, messages: &mut E) -> io::Result<()> {
+    tell_turns(text, tasks, messages)?;
+    tell_unasked(tasks, messages)?;
+    tell_unnamed(tasks, messages)?;
+    tell_spaces(text, messages)
+}
+
+// Writes what a station would do by these tasks.
+fn write_outline<K: Sink>(alloc: Global, tasks: &Tasks, output: &mut K) -> Result<(), Stop> {
+    let mut outline = Vec::new(alloc);
+    if outline_tasks(tasks, &mut outline).is_err() {
+        return Err(Stop::Run(RunFault::Memory));
+    }
+    match write_whole(output, outline.as_slice()) {
+        Ok(()) => Ok(()),
+        Err(_) => Err(Stop::Run(RunFault::Output)),
+    }
+}
+
+// Writes the outline of these tasks: the set-up, if there is one, and the chains of a cycle.
+fn outline_tasks<W: Write>(tasks: &Tasks, outline: &mut W) -> io::Result<()> {
+    let setup = tasks.setup;
+    if setup > 0 {
+        writeln!(outline, "at start, commands: {setup}")?;
+    }
+    for task in tasks.tasks.iter().take(setup) {
+        begin_chain(tasks, task.command.target, outline)?;
+        outline_command(task, outline)?;
+        writeln!(outline)?;
+    }
+    let commands = commands_in(tasks);
+    writeln!(outline, "each cycle, commands: {commands}")?;
+    outline_chains(tasks, outline)
+}
+
+/// How many commands a cycle of these tasks has, each counted once, however often its chain may go out again.
+pub(crate) fn commands_in(tasks: &Tasks) -> usize {
+    let cycle = tasks.tasks.iter().skip(tasks.setup);
+    cycle.filter(|task| task.turn.attempt == 1).count()
+}
+
+// Writes a line for each chain of a cycle: its target, its commands, and how often and behind what it goes out again.
+fn outline_chains<W: Write>(tasks: &Tasks, outline: &mut W) -> io::Result<()> {
+    // Of the chain that is being written: how often it may go out again, and behind what. `None`: none is.
+    let mut chain: Option<(u64, Again)> = None;
+    for task in tasks.tasks.iter().skip(tasks.setup) {
+        if task.turn.attempt > 1 {
+            let again = task.turn.attempt - 1;
+            chain = chain.map(|(_, rule)| (again, rule));
+            continue;
+        }
+        if task.turn.link == 0 {
+            end_chain(chain, outline)?;
+            begin_chain(tasks, task.command.target, outline)?;
+            chain = Some((0, task.again));
+        }
+        outline_command(task, outline)?;
+    }
+    end_chain(chain, outline)
+}
+
+// Writes the front of a chain's line: its target, with its name, if it has one.
+fn begin_chain<W: Write>(tasks: &Tasks, target: u32, outline: &mut W) -> io::Result<()> {
+    write!(outline, "  target {target}")?;
+    let name = str::from_utf8(tasks.name_of(target)).unwrap_or("");
+    if !name.is_empty() {
+        write!(outline, " ({name})")?;
+    }
+    write!(outline, ":")
+}
+
+// Writes a command behind its chain's target: the number of its procedure, and its deadline.
+fn outline_command<W: Write>(task: &Task, outline: &mut W) -> io::Result<()> {
+    let procedure = task.command.call.number();
+    let deadline = task.deadline;
+    write!(outline, " {procedure} within {deadline} ms;")
+}
+
+// Ends the line of a chain, if one is being written: how often it may go out again, and behind what.
+fn end_chain<W: Write>(chain: Option<(u64, Again)>, outline: &mut W) -> io::Result<()> {
+    let Some((again, rule)) = chain else {
+        return Ok(());
+    };
+    if again > 0 {
+        write!(outline, " again {again} times at most, behind")?;
+        outline_rule(&rule, outline)?;
+    }
+    writeln!(outline)
+}
+
+// Writes the return codes and the outcomes behind which a chain goes out again, each behind a space.
+fn outline_rule<W: Write>(rule: &Again, outline: &mut W) -> io::Result<()> {
+    for code in rule.codes.codes {
+        if code != 0 {
+            write!(outline, " {code}")?;
+        }
+    }
+    let outcomes = [
+        ("unreadable", rule.unreadable),
+        ("elsewhere", rule.elsewhere),
+        ("late", rule.late),
+        ("lost", rule.lost),
+        ("skipped", rule.skipped),
+    ];
+    for (outcome, named) in outcomes {
+        if named {
+            write!(outline, " {outcome}")?;
+        }
+    }
+    Ok(())
+}
