@@ -44,6 +44,7 @@
 
 #include <stddef.h>
 #include <stdint.h>
+#include <string.h>
 
 #ifdef __cplusplus
 extern "C" {
@@ -212,6 +213,105 @@ geocom_count geocom_client_restart(geocom_client *state, geocom_settlement *sett
 
 /* How many requests wait, those that were given up among them. Fault: 63. */
 geocom_count geocom_client_waiting(const geocom_client *state);
+
+/* How many requests wait that weren't given up; 0 of a state that is no client's. */
+static inline uint32_t geocom_client_current(const geocom_client *state) {
+    uint32_t waiting = geocom_client_waiting(state).count, current = 0, k;
+    for (k = 0; k < waiting; k++) current += state->places[k].given_up == 0;
+    return current;
+}
+
+/* What follows is written over the calls above, for programs that block until an answer comes: a beginning, a request with its
+ * settlement, and a new connection within a run.
+ *
+ * A port is the caller's connection with the caller's clock. `write` writes all of the bytes, and answers 0. `read` waits at most
+ * so many milliseconds, and answers how many bytes came, 0 where none did. Both answer below 0 where the connection failed or
+ * ended. `now` is a count of milliseconds that never runs backwards. Each is handed `context`. */
+typedef struct geocom_port {
+    void *context;
+    int (*write)(void *context, const uint8_t *bytes, size_t length);
+    int (*read)(void *context, uint8_t *bytes, size_t room, uint64_t milliseconds);
+    uint64_t (*now)(void *context);
+} geocom_port;
+
+/* What these calls answer beside 0 and a fault: the connection failed; no null procedure was answered, three times in a row. */
+enum geocom_trouble { GEOCOM_FAILED = -1, GEOCOM_SILENT = -2 };
+
+/* Begins over a new connection: a line feed, and eight null procedures, each again where nothing answered it for `patience`
+ * milliseconds. Answers 0, GEOCOM_FAILED, GEOCOM_SILENT, or 63. Call it again to go on where it was. */
+static inline int geocom_begin(geocom_client *state, const geocom_port *port, uint64_t patience) {
+    uint8_t bytes[256], line[GEOCOM_LINE_ROOM];
+    uint64_t now, end = 0;
+    int came = 0, unanswered = 0;
+    geocom_beginning begun = geocom_client_begin(state, (const uint8_t *)"\n", 1, line, sizeof line);
+    if (port->write(port->context, (const uint8_t *)"\n", 1) < 0) return GEOCOM_FAILED;
+    for (;;) {
+        begun = geocom_client_begin(state, bytes, (size_t)came, line, sizeof line);
+        if (begun.fault != 0 || begun.has_begun) return (int)begun.fault;
+        now = port->now(port->context);
+        if (begun.count > 0) {
+            unanswered = came > 0 ? 1 : unanswered + 1;
+            if (unanswered > 3) return GEOCOM_SILENT;
+            if (port->write(port->context, line, begun.count) < 0) return GEOCOM_FAILED;
+            end = now + patience;
+        }
+        came = now < end ? port->read(port->context, bytes, sizeof bytes, end - now) : 0;
+        if (came < 0) return GEOCOM_FAILED;
+    }
+}
+
+/* Goes on over a new connection within a run, once the client has begun: a line feed, and what comes is dropped until nothing
+ * came for `quiet` milliseconds. Answers 0, GEOCOM_FAILED, or a fault. */
+static inline int geocom_reconnect(geocom_client *state, const geocom_port *port, uint64_t quiet) {
+    uint8_t bytes[256], text[GEOCOM_TEXT_ROOM];
+    geocom_settlement records[GEOCOM_WINDOW];
+    int came = 1;
+    if (port->write(port->context, (const uint8_t *)"\n", 1) < 0) return GEOCOM_FAILED;
+    while (came > 0) came = port->read(port->context, bytes, sizeof bytes, quiet);
+    if (came < 0) return GEOCOM_FAILED;
+    return (int)geocom_client_feed(state, (const uint8_t *)"\n", 1, records, GEOCOM_WINDOW, text, sizeof text).fault;
+}
+
+/* Asks a procedure of the table, and reads until it is settled, at its deadline at the latest, `patience` milliseconds from now:
+ * one that wasn't answered by then is lost, as no answer will be taken for it. `text` has room for GEOCOM_TEXT_ROOM bytes. Where
+ * seven requests wait that are all given up, it begins anew first. One request at a time is asked so. Answers 0 with the
+ * settlement; else nothing is known of this request: GEOCOM_FAILED or GEOCOM_SILENT, or a fault, and then it didn't go out. */
+static inline int geocom_ask(geocom_client *state, const geocom_port *port, uint32_t target, uint16_t procedure, const char *params,
+                             uint64_t patience, geocom_settlement *settlement, uint8_t *text) {
+    const geocom_settlement lost = {target, procedure, 0, 0, 0, {{0, 0}}, GEOCOM_LOST, GEOCOM_NONE};
+    uint8_t bytes[256], line[GEOCOM_LINE_ROOM];
+    geocom_settlement records[GEOCOM_WINDOW];
+    uint32_t targets[GEOCOM_WINDOW];
+    uint64_t now, end;
+    geocom_count sent;
+    geocom_heard heard;
+    int came, trouble;
+    size_t used;
+    if (geocom_client_waiting(state).count == GEOCOM_WINDOW && geocom_client_current(state) == 0) {
+        geocom_client_restart(state, records, GEOCOM_WINDOW);
+        trouble = geocom_begin(state, port, patience);
+        if (trouble != 0) return trouble;
+    }
+    now = port->now(port->context);
+    end = now + patience;
+    sent = geocom_client_send(state, target, end, procedure, (const uint8_t *)params, strlen(params), line, sizeof line);
+    if (sent.fault != 0) return (int)sent.fault;
+    if (port->write(port->context, line, sent.count) < 0) return GEOCOM_FAILED;
+    *settlement = lost;
+    while (geocom_client_waiting(state).count > 0 && now < end) {
+        came = port->read(port->context, bytes, sizeof bytes, end - now);
+        if (came < 0) return GEOCOM_FAILED;
+        now = port->now(port->context);
+        geocom_client_expire(state, now, targets, GEOCOM_WINDOW);
+        for (used = 0; used < (size_t)came; used += heard.used) {
+            heard = geocom_client_feed(state, bytes + used, (size_t)came - used, records, GEOCOM_WINDOW, text, GEOCOM_TEXT_ROOM);
+            if (heard.fault != 0) return (int)heard.fault;
+            /* It was sent last: so it is settled once none waits, as the last one. */
+            if (heard.count > 0 && geocom_client_waiting(state).count == 0) *settlement = records[heard.count - 1];
+        }
+    }
+    return 0;
+}
 
 #ifdef __cplusplus
 }

@@ -4,7 +4,10 @@
 #define GEOCOM_HPP
 
 #include <array>
+#include <chrono>
 #include <cstdint>
+#include <deque>
+#include <functional>
 #include <optional>
 #include <stdexcept>
 #include <string>
@@ -127,6 +130,9 @@ public:
         return waiting.count;
     }
 
+    // How many wait that weren't given up.
+    std::uint32_t current() const { return geocom_client_current(&state_); }
+
     // How many feeds ended so.
     std::uint64_t count(geocom_kind kind) const { return kinds_[kind]; }
 
@@ -150,6 +156,158 @@ private:
     bool has_begun_ = false;
     std::array<geocom_settlement, GEOCOM_WINDOW> records_;
     std::array<std::uint64_t, GEOCOM_OVERLONG + 1> kinds_{};
+};
+
+// Nothing was answered in time: a null procedure of a beginning, three times in a row. Ask again, or make the connection anew.
+class silent : public std::runtime_error {
+public:
+    silent() : std::runtime_error("geocom: no null procedure is answered") {}
+};
+
+// A station over two callables and a clock, by the rules of docs/STATION.md: it begins, asks, gives up at a deadline, and begins
+// anew where seven requests wait that are all given up; it sends a null procedure where the rule of `send_raw` asks for one. What
+// the callables throw passes through: make the connection anew then, and call `reconnected`. One thread at a time.
+class station {
+public:
+    // What came within so many milliseconds; nothing where nothing did. It throws where the connection ended or failed.
+    using reader = std::function<std::string(std::uint64_t milliseconds)>;
+    // Writes all of it, or throws.
+    using writer = std::function<void(std::string_view bytes)>;
+    // Milliseconds of a count that never runs backwards.
+    using clock = std::function<std::uint64_t()>;
+    // A command of a chain: its procedure, and its parameters, as "5000,1".
+    using command = std::pair<std::uint16_t, std::string>;
+
+    // `timeout` is for each null procedure, and for each answer where a call says nothing else, in milliseconds.
+    station(reader read, writer write, std::uint64_t timeout = 10000, clock now = steady)
+        : read_(std::move(read)), write_(std::move(write)), now_(std::move(now)), timeout_(timeout) {}
+
+    // Begins, if it hasn't: by itself at the first request, too.
+    void begin() {
+        if (!is_clear_) clear();
+        std::string came;
+        for (int unanswered = 0; !client_.has_begun();) {
+            const std::string line = client_.begin(came);
+            if (client_.has_begun()) break;
+            if (!line.empty()) {
+                unanswered = came.empty() ? unanswered + 1 : 1;
+                if (unanswered > 3) throw silent();
+                write_(line);
+                end_ = now_() + timeout_;
+            }
+            const std::uint64_t now = now_();
+            came = now < end_ ? read_(end_ - now) : "";
+        }
+    }
+
+    // Asks a procedure of the table, and gives its settlement, at its deadline at the latest: one that wasn't answered by then is
+    // lost, as no answer will be taken for it.
+    settlement ask(std::uint32_t target, std::uint16_t procedure, std::string_view params = "", std::uint64_t timeout = 0) {
+        return ask(false, target, procedure, params, timeout);
+    }
+
+    // The same of a procedure that isn't in the table.
+    settlement ask_raw(std::uint32_t target, std::uint16_t procedure, std::string_view params = "", std::uint64_t timeout = 0) {
+        return ask(true, target, procedure, params, timeout);
+    }
+
+    // Runs a chain: each command goes out once the one before it was answered with a value. It ends behind the first that wasn't.
+    std::vector<settlement> measure(std::uint32_t target, const std::vector<command> &chain, std::uint64_t timeout = 0) {
+        std::vector<settlement> all;
+        for (const auto &[procedure, params] : chain) {
+            all.push_back(ask(target, procedure, params, timeout));
+            if (all.back().reading != reading::value) break;
+        }
+        return all;
+    }
+
+    // The callables stand for a new connection from now on. What waits goes on waiting; once the client has begun, what comes is
+    // dropped until nothing came for `quiet` milliseconds.
+    void reconnected(std::uint64_t quiet = 2000) {
+        is_clear_ = false;
+        quiet_ = quiet;
+    }
+
+    static std::uint64_t steady() {
+        using std::chrono::milliseconds, std::chrono::steady_clock;
+        return static_cast<std::uint64_t>(std::chrono::duration_cast<milliseconds>(steady_clock::now().time_since_epoch()).count());
+    }
+
+private:
+    // A line feed drops half a request at the instrument, and half a line here.
+    void clear() {
+        write_("\n");
+        if (client_.has_begun()) {
+            while (!read_(quiet_).empty()) {}
+            client_.expire(now_());
+            hear("\n");
+        } else {
+            client_.begin("\n");
+        }
+        is_clear_ = true;
+    }
+
+    bool is_full() const { return client_.waiting() == GEOCOM_WINDOW; }
+
+    // Those that wait are lost where they fill the window: all are given up, since one at a time is asked.
+    void begin_anew() {
+        if (is_full()) {
+            client_.restart();
+            raws_.clear();
+            behind_ = 0;
+        }
+        begin();
+    }
+
+    settlement ask(bool is_raw, std::uint32_t target, std::uint16_t procedure, std::string_view params, std::uint64_t timeout) {
+        begin_anew();
+        // One of the seven requests before each is a call of the table that was answered: else a null procedure goes out first.
+        while (behind_ >= GEOCOM_WINDOW) {
+            exchange(false, 0, 0, "", timeout_);
+            begin_anew();
+        }
+        return exchange(is_raw, target, procedure, params, timeout != 0 ? timeout : timeout_);
+    }
+
+    // What these bytes settle; behind the last call of the table that a reply ended are as many requests as wait.
+    std::vector<settlement> hear(std::string_view bytes) {
+        std::vector<settlement> all = client_.feed(bytes);
+        for (const settlement &each : all) {
+            const bool was_raw = raws_.front();
+            raws_.pop_front();
+            if (each.outcome != outcome::lost && !was_raw) behind_ = static_cast<std::uint32_t>(raws_.size());
+        }
+        return all;
+    }
+
+    settlement exchange(bool is_raw, std::uint32_t target, std::uint16_t procedure, std::string_view params, std::uint64_t timeout) {
+        std::uint64_t now = now_();
+        const std::uint64_t end = now + timeout;
+        const std::string line = is_raw ? client_.send_raw(target, end, procedure, params) : client_.send(target, end, procedure, params);
+        raws_.push_back(is_raw);
+        behind_ += behind_ < GEOCOM_WINDOW ? 1 : 0;
+        write_(line);
+        settlement ended{target, procedure, outcome::lost, reading::none, 0, {}, {}};
+        while (client_.waiting() > 0 && now < end) {
+            const std::string came = read_(end - now);
+            now = now_();
+            client_.expire(now);
+            for (settlement &each : hear(came)) ended = std::move(each);
+        }
+        // It was sent last: so it is settled once none waits, as the last one.
+        if (client_.waiting() > 0) ended = {target, procedure, outcome::lost, reading::none, 0, {}, {}};
+        return ended;
+    }
+
+    client client_;
+    reader read_;
+    writer write_;
+    clock now_;
+    std::uint64_t timeout_, quiet_ = 2000, end_ = 0;
+    // Which of those that wait are raw, and how many requests are behind the last call of the table that a reply ended.
+    std::deque<bool> raws_;
+    std::uint32_t behind_ = 0;
+    bool is_clear_ = false;
 };
 
 } // namespace geocom

@@ -1,19 +1,14 @@
-"""Runs quickstart.py with the simulated instrument for a port, and looks that the module's documentation has the same text; and then,
-where it is named, raw.py, which asks a procedure that the simulated instrument doesn't know: first_steps.py PROGRAM QUICKSTART [RAW]."""
+"""Runs the Python examples of a page as they stand: first_steps.py PAGE. They ask at 127.0.0.1:4001, where `geocom serve` listens; others,
+as those that name a device, aren't run. Those of README.md have at most ten lines."""
 
-import runpy
+import re
 import sys
 import textwrap
-import types
 
-import geocom
-
-program, quickstart, *raw = sys.argv[1:]
-with open(quickstart, encoding="utf-8") as file:
-    text = file.read().split("\n", 1)[1]
-assert textwrap.indent(text, "    ") in geocom.__doc__, "the documentation of geocom has another text"
-for words in [[quickstart, "no device", "7", "5003"]] + [[path, "no device", "8", "2167", "2,1"] for path in raw]:
-    with geocom.Instrument(program, timeout=0.1) as port:
-        sys.modules["serial"] = types.SimpleNamespace(Serial=lambda *_, **__: port)
-        sys.argv = words
-        runpy.run_path(words[0])
+with open(sys.argv[1], encoding="utf-8") as file:
+    blocks = re.findall(r"^    import geocom\n(?:(?:    .*)?\n)+", file.read(), re.M)
+examples = [textwrap.dedent(block).strip("\n") for block in blocks if "127.0.0.1:4001" in block]
+assert examples, "the page has no example that asks at 127.0.0.1:4001"
+for example in examples:
+    assert len(example.splitlines()) <= 10 or not sys.argv[1].endswith("README.md"), "the example has more than ten lines"
+    exec(compile(example, sys.argv[1], "exec"))

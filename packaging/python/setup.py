@@ -1,11 +1,20 @@
-"""The wheel: `geocom.py` as a package, with the library beside it. `tools/package` fills the folder, and names the version by
-GEOCOM_VERSION, the oldest glibc that the library needs by GEOCOM_GLIBC, as 2_14, and the project's address by GEOCOM_HOMEPAGE. The wheel is
-of no version of Python, but of this machine's processor."""
+"""The wheel: the package, with the library in it. `tools/package` fills the folder, and names by GEOCOM_GLIBC the oldest glibc that the
+library needs, as 2_14, and by GEOCOM_HOMEPAGE the project's address. The version is that of geocom/_version.py. The wheel is of no
+version of Python, but of this machine's processor. There is no source distribution: what is in the wheel is proved and built by `rt`. The
+licence's expression is in the field `License`: that of metadata 2.4 is refused by Debian's twine, which reads them up to 2.2."""
 
 import os
+import re
+import sys
+from pathlib import Path
+
+if "sdist" in sys.argv or "GEOCOM_HOMEPAGE" not in os.environ:
+    sys.exit("geocom has no source distribution: its library is proved and built by the Rattle kit; tools/package makes the wheel")
 
 from setuptools import Distribution, setup
 from wheel.bdist_wheel import bdist_wheel
+
+HOMEPAGE = os.environ["GEOCOM_HOMEPAGE"]
 
 
 class Wheel(bdist_wheel):
@@ -24,22 +33,35 @@ class Binary(Distribution):
 
 setup(
     name="geocom",
-    version=os.environ["GEOCOM_VERSION"],
-    description="The client of Leica's GeoCOM protocol, proved, over libgeocom",
-    long_description="A client that settles each request once: answered, late or lost. It opens no port and reads no clock.\n\n"
-    "It needs Linux with glibc, and any x86-64 processor.\n",
-    long_description_content_type="text/plain",
+    version=re.search(r'^__version__ = "(.*)"', Path("geocom/_version.py").read_text(), re.M)[1],
+    description="Asks Leica total stations over GeoCOM, so that each answer is its own request's: proved",
+    long_description=Path("README.md").read_text(encoding="utf-8"),
+    long_description_content_type="text/markdown",
     author="the geocom authors",
-    url=os.environ["GEOCOM_HOMEPAGE"],
+    url=HOMEPAGE,
+    project_urls={
+        "Documentation": f"{HOMEPAGE}/blob/main/docs/CLIENT.md",
+        "Changelog": f"{HOMEPAGE}/blob/main/CHANGELOG.md",
+        "Source": HOMEPAGE,
+        "Issues": f"{HOMEPAGE}/issues",
+    },
     license="MIT",
     license_files=["LICENSE", "copyright"],
+    keywords=["GeoCOM", "Leica", "total station", "surveying", "monitoring", "serial"],
     python_requires=">=3.9",
-    packages=["geocom"],
+    extras_require={"serial": ["pyserial>=3.5"]},
+    packages=["geocom", "geocom.aio"],
     package_data={"geocom": ["py.typed", "libgeocom.so"]},
     classifiers=[
+        "Development Status :: 4 - Beta",
+        "Framework :: AsyncIO",
+        "Intended Audience :: Science/Research",
         "License :: OSI Approved :: MIT License",
         "Operating System :: POSIX :: Linux",
         "Programming Language :: Python :: 3",
+        "Programming Language :: Python :: 3 :: Only",
+        "Topic :: Scientific/Engineering :: GIS",
+        "Topic :: System :: Hardware",
         "Typing :: Typed",
     ],
     distclass=Binary,

@@ -1,5 +1,5 @@
 """The numbers of header, wrapper and module are those of the source: the constants of the library, each of which stands in
-the law `numbers`, and the faults of a call that the law names. From the top of the repository; nothing has to be built."""
+the law `numbers_are_the_headers`, and the faults of a call and of a raw request that the law names. From the top of the repository; nothing has to be built."""
 
 import ast
 import re
@@ -32,8 +32,7 @@ def same(what, want, have):
 # Each constant stands in the law. A fault is a constant of the clause `faults`, or a refusal of a call or of a raw request.
 same("the law", constants, {name: int(value) for clause in clauses.values() for name, value in clause.items()})
 faults = {constants[name] for name in clauses["faults"]}
-faults |= {int(number) for clause in ("procedure", "parameters") for number in re.findall(r"refusal_number [^≡]*≡ (\d+)", law[clause])}
-faults |= {int(number) for number in re.findall(r"raw_number [^≡]*≡ (\d+)", law["raws"])}
+faults |= {int(number) for text in law.values() for number in re.findall(r"(?:refusal|raw)_number [^≡]*≡ (\d+)", text)}
 groups = {group: {name: constants[name] for name in clauses[group + "s"]} for group in GROUPS}
 plain = {name: constants[name] for clause in ("version", "rooms") for name in clauses[clause]}
 for path, name in [("crates/gc_client/src/window.rt", "WINDOW"), ("crates/gc_values/src/items.rt", "MOST_ITEMS")]:
@@ -54,21 +53,34 @@ for group in ["outcome", "reading"]:
     body = re.search(rf"enum class {group} : [^{{]*\{{(.*?)\}}", wrapper, re.S).group(1)
     same(f"{group} in geocom.hpp", {name.lower(): name for name in groups[group]}, dict(re.findall(r"(\w+) = GEOCOM_(\w+)", body)))
 
-module = ast.parse(read("library/python/geocom.py"))
-classes = {node.name: node for node in module.body if isinstance(node, ast.ClassDef)}
-assigned = {node.targets[0].id: node.value for node in module.body if isinstance(node, ast.Assign) and isinstance(node.targets[0], ast.Name)}
-numbers = {name: node.value for name, node in assigned.items() if isinstance(node, ast.Constant)}
-same("geocom.py", plain, numbers)
+package = Path("library/python/geocom")
+modules = {name: ast.parse(read(package / f"{name}.py")) for name in ["_library", "client", "settlement", "errors"]}
+
+
+def assigned(name):
+    """What the lines of a module assign, with or without a type."""
+    for node in modules[name].body:
+        if isinstance(node, ast.Assign) and isinstance(node.targets[0], ast.Name):
+            yield node.targets[0].id, node.value
+        if isinstance(node, ast.AnnAssign):
+            yield node.target.id, node.value
+
+
+numbers = {name: node.value for name, node in assigned("_library") if isinstance(node, ast.Constant)}
+same("_library.py", plain, numbers)
+classes = {node.name: node for name in ["client", "settlement"] for node in modules[name].body if isinstance(node, ast.ClassDef)}
 for group in GROUPS:
     members = [node for node in classes[group.capitalize()].body if isinstance(node, ast.Assign)]
-    same(f"{group.capitalize()} in geocom.py", groups[group], {node.targets[0].id: node.value.value for node in members})
+    same(f"{group.capitalize()} in the package", groups[group], {node.targets[0].id: node.value.value for node in members})
 raised = set()
-for node in ast.walk(assigned["_FAULTS"]):
+for node in ast.walk(dict(assigned("errors"))["_FAULTS"]):
     if isinstance(node, ast.Dict):
         raised |= {key.value for key in node.keys}
     if isinstance(node, ast.Call) and node.func.id == "range":
         raised |= set(range(*(argument.value for argument in node.args)))
-same("the faults in geocom.py", faults, raised)
+same("the faults in errors.py", faults, raised)
+version = re.findall(r'^pub const VERSION: &str = "(.*)";', read("crates/gc_words/src/version.rt"), re.M)
+same("_version.py", version, re.findall(r'^__version__ = "(.*)"', read(package / "_version.py"), re.M))
 
 for line in told:
     print(f"numbers: {line}", file=sys.stderr)

@@ -1,0 +1,87 @@
+r"""A total station over GeoCOM, asked so that each answer is its own request's: the proved client,
+and the easy way to it.
+
+>>> import geocom
+>>> with geocom.Station(geocom.Instrument(), timeout=5) as station:
+...     print(station.csv.get_instrument_no().serial)
+123456
+
+`Station` connects, begins, asks, gives up, reconnects and begins anew by itself;
+`geocom.aio.Station` is the same for asyncio. The port of a real one is "/dev/ttyUSB0" or
+"10.0.0.5:4001". Two ways to ask:
+
+- by name: `station.tmc.get_simple_mea(5000, 1)` gives a named tuple, with the units in its names
+  (`hz_rad`, `distance_m`), and raises `Refused`, `Late`, `Lost` or `Unreadable`, each a `NoValue`;
+- by number: `station.ask(2108, 5000, 1, target=7, timeout=30)` gives a `Settlement`, be it
+  answered, refused, late or lost; `settlement.value()` is the named tuple, or raises.
+  `station.raw(number, ..)` asks what isn't in the table.
+
+`station.measure(chain)` runs a `Chain` of commands and gives its rows, `station.cycles(chains,
+every=300)` all of them again and again.
+
+How it is made:
+
+- `Client` is the library's client (`libgeocom.so`, proved): which reply is whose, ids, deadlines,
+  what a reply says. It opens no port and reads no clock; deadlines and moments are milliseconds of
+  a count of yours.
+- `rules` decides what is done next, over one client: the rules of `docs/STATION.md`, and nothing of
+  ports or clocks.
+- `Station` and `aio.Station` do it, over `ports`.
+- `codes`, `results` and `named` are written of the tables of `docs/PROTOCOL.md`.
+
+The library is loaded at the first client. `GEOCOM_LIBRARY` names another one. Messages go to the
+logger `geocom`: lines as debug, what becomes of the connection as info.
+"""
+
+from __future__ import annotations
+
+from ._library import LINE_ROOM as LINE_ROOM
+from ._library import MOST_ITEMS as MOST_ITEMS
+from ._library import STRUCTURES as STRUCTURES
+from ._library import TEXT_ROOM as TEXT_ROOM
+from ._library import VERSION, WINDOW
+from ._version import __version__
+from .chains import Chain, Cycle, Row
+from .client import Client, Kind
+from .codes import RC
+from .errors import BadParameters, Fault, Late, Lost, NotReady, NoValue, Refused, Unreadable
+from .errors import BadWidth as BadWidth
+from .errors import InTable as InTable
+from .errors import LineTooLong as LineTooLong
+from .errors import NoClient as NoClient
+from .errors import NoRoom as NoRoom
+from .errors import NotBegun as NotBegun
+from .errors import UnknownProcedure as UnknownProcedure
+from .errors import WindowFull as WindowFull
+from .settlement import Outcome, Reading, Settlement
+from .simulator import Instrument
+from .station import Station
+from .values import Face, PrismType
+
+# What `help` shows. Each further fault is public, too, and a `Fault`: `geocom.errors` has them.
+__all__ = [
+    "BadParameters",
+    "Chain",
+    "Client",
+    "Cycle",
+    "Face",
+    "Fault",
+    "Instrument",
+    "Kind",
+    "Late",
+    "Lost",
+    "NoValue",
+    "NotReady",
+    "Outcome",
+    "PrismType",
+    "RC",
+    "Reading",
+    "Refused",
+    "Row",
+    "Settlement",
+    "Station",
+    "Unreadable",
+    "VERSION",
+    "WINDOW",
+    "__version__",
+]

@@ -1,0 +1,172 @@
+"""Chains of commands, the rows that they give, and the moments of cycles."""
+
+from __future__ import annotations
+
+import datetime
+from collections.abc import Iterable
+from dataclasses import dataclass
+from typing import Optional
+
+from .client import begun
+from .errors import NoValue
+from .results import TABLE
+from .settlement import Outcome, Request, Settlement
+from .values import Parameter, line
+
+#: A command of a chain: the procedure's number, and its parameters.
+Command = tuple[int, tuple[Parameter, ...]]
+
+
+@dataclass(frozen=True)
+class Chain:
+    """Commands for one target: each goes out only once the one before it was answered well, over
+    the same connection.
+
+    >>> Chain.of(7, (9027, "2.25", "1.625", 0, 1, False), (2008, 1, 1), timeout=30).commands
+    ((9027, ('2.25', '1.625', 0, 1, False)), (2008, (1, 1)))
+    """
+
+    target: int
+    commands: tuple[Command, ...]
+    #: seconds for each answer; None: those of the station
+    timeout: Optional[float] = None
+    #: return codes that let the chain go on, beside 0
+    accept: tuple[int, ...] = ()
+
+    @classmethod
+    def of(
+        cls,
+        target: int,
+        *commands: tuple[Parameter, ...],
+        timeout: Optional[float] = None,
+        accept: Iterable[int] = (),
+    ) -> Chain:
+        """A chain of commands, each a procedure's number with its parameters."""
+        return cls(target, tuple((int(c[0]), c[1:]) for c in commands), timeout, tuple(accept))
+
+    @classmethod
+    def measuring(
+        cls,
+        target: int,
+        hz_rad: Parameter,
+        v_rad: Parameter,
+        *,
+        timeout: float = 30.0,
+        accept: Iterable[int] = (),
+    ) -> Chain:
+        """Points the telescope at a prism, aims at it, measures, and reads both angles and the
+        distance.
+        """
+        return cls.of(
+            target,
+            (9027, hz_rad, v_rad, 0, 1, False),
+            (2008, 1, 1),
+            (2108, 5000, 1),
+            timeout=timeout,
+            accept=accept,
+        )
+
+
+@dataclass(frozen=True)
+class Row:
+    """A command of a chain, and how it ended. `sent` and `time` are moments of the system's clock,
+    in UTC.
+    """
+
+    target: int
+    #: its place in the chain, counted from 0
+    place: int
+    procedure: int
+    #: None where it wasn't sent, so that nothing was asked
+    settlement: Optional[Settlement]
+    sent: Optional[datetime.datetime]
+    time: datetime.datetime
+    accept: tuple[int, ...] = ()
+
+    @property
+    def outcome(self) -> str:
+        """`answered`, `late` or `lost`; `skipped` where it wasn't sent."""
+        return str(self.settlement.outcome) if self.settlement else "skipped"
+
+    @property
+    def is_good(self) -> bool:
+        """Whether it was answered with a value."""
+        return self.settlement is not None and is_good(self.settlement, self.accept)
+
+    @property
+    def value(self) -> object:
+        """What was answered, as `Settlement.value` has it; None without a value."""
+        return self.settlement.value(self.accept) if self.settlement and self.is_good else None
+
+
+@dataclass(frozen=True)
+class Cycle:
+    """A cycle, counted from 1, with the rows of its chains; none where it is missed: the next one
+    was due by then.
+    """
+
+    number: int
+    rows: list[Row]
+    is_missed: bool = False
+
+
+def is_good(settlement: Settlement, accept: tuple[int, ...]) -> bool:
+    """Whether it is an answer with a value."""
+    if settlement.outcome != Outcome.ANSWERED:
+        return False
+    try:
+        settlement.value(accept)
+    except NoValue:
+        return False
+    return True
+
+
+def requests(chain: Chain, timeout: int) -> list[Request]:
+    """The requests of a chain. Raises what the library refuses of any, before one goes out."""
+    made = []
+    for procedure, parameters in chain.commands:
+        is_raw = procedure not in TABLE
+        text = line(() if is_raw else TABLE[procedure].kinds, parameters)
+        made.append(Request(procedure, text, chain.target, timeout, is_raw))
+        client = begun()
+        if is_raw:
+            client.send_raw(procedure, text, target=0, deadline=0)
+        else:
+            client.send(0, 0, procedure, text)
+    return made
+
+
+def ended(place: int, request: Request, settlement: Settlement, accept: tuple[int, ...]) -> Row:
+    """The row of a command that ended just now."""
+    return Row(
+        request.target, place, request.procedure, settlement, request.sent, utc(), accept
+    )
+
+
+def skipped(chain: Chain, place: int) -> Row:
+    """The row of a command that isn't sent."""
+    return Row(chain.target, place, chain.commands[place][0], None, None, utc())
+
+
+def utc() -> datetime.datetime:
+    """The system's moment."""
+    return datetime.datetime.now(datetime.timezone.utc)
+
+
+class Pace:
+    """When cycles are due: each `every` seconds behind the beginning of the one before it."""
+
+    def __init__(self, every: float):
+        self.every, self.number, self._began = every, 0, 0.0
+
+    def due(self, now: float) -> float:
+        """How many seconds remain until the next cycle is due."""
+        return self._began + self.every - now if self.number else 0.0
+
+    def begin(self, now: float) -> bool:
+        """The next cycle begins: whether it isn't missed. One that is late by less than a period
+        keeps its due moment.
+        """
+        self._began = min(self._began + self.every, now) if self.number and self.every else now
+        self.number += 1
+        return not self.every or now - self._began < self.every

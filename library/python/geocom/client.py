@@ -1,0 +1,232 @@
+"""The client of `geocom.h`: bytes, targets and moments go in, and settlements come out. It opens no
+port and reads no clock.
+"""
+
+from __future__ import annotations
+
+import collections
+import ctypes
+import enum
+import threading
+from collections.abc import Callable
+from typing import Any
+
+from ._library import LINE_ROOM, TEXT_ROOM, WINDOW, _Client, _Settlement, load
+from .errors import check
+from .settlement import Outcome, Reading, Settlement
+from .values import Listed
+
+# The replies to the null procedures of a beginning.
+_ANSWERS = b"".join(b"%%R1P,0,%d:0\r\n" % id for id in (6, 5, 4, 3, 2, 1, 0, 7))
+
+
+class Kind(enum.IntEnum, metaclass=Listed):
+    """What some bytes ended."""
+
+    MORE = 0
+    SETTLED = 1
+    STRAY = 2
+    UNREAD = 3
+    CLEARED = 4
+    OVERLONG = 5
+
+
+# By their numbers.
+_OUTCOMES, _READINGS, _KINDS = {int(it): it for it in Outcome}, [*Reading], [*Kind]
+_REPLIES = (Kind.SETTLED, Kind.STRAY)
+
+
+class Client:
+    r"""A client that lets `width` requests wait, 1 to 7. Threads may share one: a lock keeps its
+    calls apart.
+
+    >>> client = Client()
+    >>> client.begin()
+    b'%R1Q,0,6:\r\n'
+    """
+
+    def __init__(self, width: int = WINDOW):
+        self._calls = load()
+        self._state = _Client()
+        self._records = (_Settlement * WINDOW)()
+        self._line = ctypes.create_string_buffer(LINE_ROOM)
+        self._text = ctypes.create_string_buffer(TEXT_ROOM)
+        self._due = (ctypes.c_uint32 * WINDOW)()
+        self._lock = threading.Lock()
+        #: how many feeds ended with which kind of line
+        self.counts: collections.Counter[Kind] = collections.Counter()
+        #: how many lines that are no replies had which first faulty field, 1 to 5
+        self.line_faults: collections.Counter[int] = collections.Counter()
+        #: how many replies came, those that no request waited for among them
+        self.replies = 0
+        self._has_begun = False
+        check(self._calls.geocom_client_init(self._state, width if 0 <= width < 256 else 0))
+
+    def begin(self, data: bytes = b"") -> bytes:
+        """Takes what came, and gives the line to write on the connection, with its CR LF; nothing
+        where none goes out now.
+
+        Eight null procedures are asked, one after the other, and all that came and answers none is
+        discarded. Call it without data for the first line, and where nothing came in time: it gives
+        the same line again. Once `has_begun`, requests go out.
+        """
+        came = bytes(data)
+        with self._lock:
+            begun = self._calls.geocom_client_begin(
+                self._state, came, len(came), self._line, LINE_ROOM
+            )
+            check(begun.fault)
+            self._has_begun = begun.has_begun == 1
+            return self._line.raw[: begun.count]
+
+    @property
+    def has_begun(self) -> bool:
+        """Whether all eight null procedures were answered, so that requests go out."""
+        return self._has_begun
+
+    def send(self, target: int, deadline: int, procedure: int, params: str | bytes = b"") -> bytes:
+        """Sends a request, and gives the line to write on the connection, with its CR LF.
+
+        The target is a number of your own below 2 ** 32, and comes back with the settlement.
+        Parameters have commas between them, as "5000,1". Raises NotBegun, UnknownProcedure,
+        BadParameters or WindowFull, and then nothing has changed.
+        """
+        return self._sent(self._calls.geocom_client_send, target, deadline, procedure, params)
+
+    def send_raw(
+        self, procedure: int, params: str | bytes = b"", *, target: int, deadline: int
+    ) -> bytes:
+        """Sends a request of a procedure that isn't in the table, and gives the line to write on
+        the connection.
+
+        The parameters go out exactly as they stand: bytes other than CR and LF, at most 16 items,
+        at most 512 bytes of line. What an answer with both codes 0 says is text: its reading is
+        VALUE, and `items` has the items of its parameters.
+
+        Ids come round behind eight requests, and an instrument may keep its reply over a procedure
+        that it doesn't know. So behind six raw requests in a row send a null procedure (`send` with
+        procedure 0), send on once it, or another one behind it, is answered, and drop what it says.
+        An instrument that knows each procedure which is asked needs none of it. A `geocom.Station`
+        does so by itself.
+
+        Raises NotBegun, InTable, BadParameters, LineTooLong or WindowFull, and then nothing has
+        changed.
+        """
+        return self._sent(self._calls.geocom_client_send_raw, target, deadline, procedure, params)
+
+    def _sent(
+        self,
+        call: Callable[..., Any],
+        target: int,
+        deadline: int,
+        procedure: int,
+        params: str | bytes,
+    ) -> bytes:
+        text = params.encode("latin-1") if isinstance(params, str) else bytes(params)
+        _within(target, 32)
+        _within(deadline, 64)
+        _within(procedure, 16)
+        with self._lock:
+            sent = call(
+                self._state, target, deadline, procedure, text, len(text), self._line, LINE_ROOM
+            )
+            check(sent.fault)
+            return self._line.raw[: sent.count]
+
+    def feed(self, data: bytes) -> list[Settlement]:
+        """Takes bytes as they come from a port, in any pieces, and gives the settlements, in order.
+        """
+        left = bytes(data)
+        settled: list[Settlement] = []
+        with self._lock:
+            while left:
+                heard = self._calls.geocom_client_feed(
+                    self._state, left, len(left), self._records, WINDOW, self._text, TEXT_ROOM
+                )
+                check(heard.fault)
+                left = left[heard.used :]
+                kind = _KINDS[heard.kind]
+                self.counts[kind] += 1
+                self.replies += kind in _REPLIES
+                if kind is Kind.UNREAD:
+                    self.line_faults[heard.line_fault] += 1
+                elif kind is Kind.SETTLED:
+                    settled += self._settled(heard.count)
+        return settled
+
+    def expire(self, now: int) -> list[int]:
+        """Gives up each request whose deadline is at most this moment, and gives the targets of
+        what wasn't before.
+
+        They go on waiting: a reply settles them as late.
+        """
+        _within(now, 64)
+        with self._lock:
+            due = self._calls.geocom_client_expire(self._state, now, self._due, WINDOW)
+            check(due.fault)
+            return list(self._due[: due.count])
+
+    def next_deadline(self) -> int | None:
+        """The earliest deadline of the requests that wait and aren't given up."""
+        with self._lock:
+            earliest = self._calls.geocom_client_next_deadline(self._state)
+        check(earliest.fault)
+        return int(earliest.deadline) if earliest.is_set else None
+
+    def restart(self) -> list[Settlement]:
+        """Settles all that wait as lost. A client that had begun begins anew: `begin` comes next.
+
+        One that hadn't goes on with the null procedure that it was at. Nothing has to be vouched
+        for: what is in flight may stay so. For another instrument or line make a new client.
+        """
+        with self._lock:
+            lost = self._calls.geocom_client_restart(self._state, self._records, WINDOW)
+            check(lost.fault)
+            self._has_begun = False
+            return self._settled(lost.count)
+
+    @property
+    def waiting(self) -> int:
+        """How many requests wait, those that were given up among them."""
+        with self._lock:
+            waiting = self._calls.geocom_client_waiting(self._state)
+        check(waiting.fault)
+        return int(waiting.count)
+
+    @property
+    def current(self) -> int:
+        """How many requests wait that weren't given up."""
+        with self._lock:
+            state = self._state
+            return sum(not place.given_up for place in state.places[: state.waiting])
+
+    def _settled(self, count: int) -> list[Settlement]:
+        text = self._text.raw
+        return [
+            Settlement(
+                target=r.target,
+                procedure=r.procedure,
+                outcome=_OUTCOMES[r.outcome],
+                reading=_READINGS[r.reading],
+                code=r.code,
+                line=text[: r.line_length].decode("latin-1") if r.line_length else None,
+                items=tuple(
+                    text[p.offset : p.offset + p.length].decode("latin-1")
+                    for p in r.places[: r.items]
+                ),
+            )
+            for r in self._records[:count]
+        ]
+
+
+def begun() -> Client:
+    """A client with nothing on any line, which has begun."""
+    client = Client(1)
+    client.begin(_ANSWERS)
+    return client
+
+
+def _within(number: int, bits: int) -> None:
+    """ctypes cuts a number that is too wide, silently: so it is refused here."""
+    if not 0 <= number < 1 << bits:
+        raise ValueError(f"{number} has more than {bits} bits")

@@ -1,0 +1,138 @@
+"""What is raised. A `Fault` is a call that was refused: nothing has changed then. A `NoValue` is a
+request that gave no value.
+"""
+
+from __future__ import annotations
+
+from typing import TYPE_CHECKING
+
+from .codes import RC
+
+if TYPE_CHECKING:
+    from .settlement import Settlement
+
+
+class Fault(Exception):
+    """A refusal, by its number. Nothing has changed then."""
+
+    text = "refused"
+
+    def __init__(self, number: int):
+        super().__init__(f"fault {number}: {self.text}")
+        self.number = number
+
+
+class LineTooLong(Fault):
+    """6: the line of a raw request would have more than 512 bytes."""
+
+    text = "the line would have more than 512 bytes"
+
+
+class BadParameters(Fault):
+    """11 to 15: the parameters don't read as the procedure's.
+
+    Of raw ones: 11 a CR or LF, 13 an open quote, 14 more than 16.
+    """
+
+    text = "the parameters don't read"
+
+
+class UnknownProcedure(Fault):
+    """21: no procedure has the number."""
+
+    text = "no procedure has the number"
+
+
+class WindowFull(Fault):
+    """31: as many requests wait as the width allows."""
+
+    text = "as many requests wait as the width allows"
+
+
+class BadWidth(Fault):
+    """61: the width is not 1 to 7."""
+
+    text = "the width is not 1 to 7"
+
+
+class NoRoom(Fault):
+    """62: less room than the call asks for."""
+
+    text = "less room than the call asks for"
+
+
+class NoClient(Fault):
+    """63: the state is no client's."""
+
+    text = "the state is no client's"
+
+
+class NotBegun(Fault):
+    """67: the client hasn't begun."""
+
+    text = "the client hasn't begun"
+
+
+class InTable(Fault):
+    """68: the procedure is one of the table, which `send` asks."""
+
+    text = "the procedure is one of the table: send asks it"
+
+
+_FAULTS: dict[int, type[Fault]] = {
+    6: LineTooLong,
+    21: UnknownProcedure,
+    31: WindowFull,
+    61: BadWidth,
+    62: NoRoom,
+    63: NoClient,
+    67: NotBegun,
+    68: InTable,
+} | {number: BadParameters for number in range(11, 16)}
+
+
+def check(number: int) -> None:
+    """Raises the fault of a number, if it is one."""
+    if number:
+        raise _FAULTS.get(number, Fault)(number)
+
+
+class NotReady(TimeoutError):
+    """There was no connection to an instrument that answers, in time: the request was not sent."""
+
+
+class NoValue(Exception):
+    """A request ended without a value. `settlement` is its end."""
+
+    def __init__(self, settlement: Settlement, why: str):
+        super().__init__(f"target {settlement.target}, procedure {settlement.procedure}: {why}")
+        self.settlement = settlement
+
+
+class Refused(NoValue):
+    """The instrument refused: `code` says why, a return code or a communication code."""
+
+    def __init__(self, settlement: Settlement):
+        self.code = RC(settlement.code)
+        super().__init__(settlement, f"{self.code.name} ({int(self.code)}): {self.code.text}")
+
+
+class Unreadable(NoValue):
+    """The answer's parameters don't read as the procedure's."""
+
+    def __init__(self, settlement: Settlement):
+        super().__init__(settlement, f"the answer doesn't read: {settlement.line}")
+
+
+class Late(NoValue):
+    """The reply came after the deadline, and was discarded."""
+
+    def __init__(self, settlement: Settlement):
+        super().__init__(settlement, "the reply came too late")
+
+
+class Lost(NoValue):
+    """No reply came in time, and none will be taken: whether the instrument acted isn't known."""
+
+    def __init__(self, settlement: Settlement):
+        super().__init__(settlement, "no reply came in time")

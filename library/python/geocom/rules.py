@@ -1,0 +1,279 @@
+"""What a station does next: the rules of `docs/STATION.md` over one `Client`, without a port and
+without a clock.
+
+`next` says what is to be done now, and what came of it is reported by `opened`, `came` and
+`closed`. All moments are milliseconds of one count. Which reply is whose is the library's to say:
+each request has a number of its own there, and what the library settles under that number is the
+end of that request.
+"""
+
+from __future__ import annotations
+
+import collections
+import datetime
+import enum
+import logging
+from typing import NamedTuple
+
+from ._library import WINDOW
+from .client import Client
+from .errors import Fault
+from .settlement import Outcome, Request, Settlement
+
+log = logging.getLogger("geocom")
+LONGEST_PAUSE = 60_000
+NULL = 0
+
+
+class Act(enum.Enum):
+    """What is to be done: connect, close, write bytes, read until a moment, or wait until it
+    without a connection.
+    """
+
+    OPEN = 1
+    CLOSE = 2
+    WRITE = 3
+    READ = 4
+    WAIT = 5
+
+
+class Step(NamedTuple):
+    """An act, with the bytes that are to be written, or the moment at which it ends."""
+
+    act: Act
+    data: bytes = b""
+    until: int = 0
+
+
+class Phase(enum.Enum):
+    """How far a connection is: none, a pause before one, before its line feed, until it is quiet,
+    ready for requests.
+    """
+
+    DOWN = 1
+    PAUSING = 2
+    CLEARING = 3
+    DRAINING = 4
+    READY = 5
+
+
+class Rules:
+    """How far a station is, and what it does next."""
+
+    def __init__(self, width: int = 1, timeout: int = 10_000, quiet: int = 2_000):
+        self.client = Client()
+        self.width, self.timeout, self.quiet = width, timeout, quiet
+        self.phase = Phase.DOWN
+        #: Requests that aren't sent, in order.
+        self.wanted: collections.deque[Request] = collections.deque()
+        #: Requests that went out and aren't settled, by their numbers in the library.
+        self.waiting: dict[int, Request] = {}
+        self.stretch = 0
+        self._number = 0
+        # When the null procedure that is asked goes out again, or 0: now.
+        self._again = 0
+        # From when a pause or a quiet time counts; when the last reply line came, or the first
+        # request behind it went.
+        self._since = self._alive = 0
+        self._is_asked = False
+        self._pause = 0
+        # How many requests are behind the last one of the table that a reply ended, at most seven.
+        self._behind = 0
+        self._replies = 0
+        # When the last turn ended behind which nothing was wanted.
+        self._idle: int | None = None
+
+    @property
+    def is_ready(self) -> bool:
+        """Whether it has begun, and requests may go out over a connection."""
+        return self.phase is Phase.READY and self.client.has_begun
+
+    @property
+    def is_busy(self) -> bool:
+        """Whether something is to be sent, or may be answered in time."""
+        return bool(self.wanted) or self.client.current > 0
+
+    def resume(self, now: int) -> None:
+        """Something is wanted again: the time without it counts for no dead line."""
+        if self._idle is not None:
+            self._alive += max(0, now - self._idle)
+            self._idle = None
+
+    def rest(self, now: int) -> None:
+        """Nothing is wanted from now on."""
+        if self._idle is None:
+            self._idle = now
+
+    def is_skipped(self, request: Request) -> bool:
+        """Whether it may go out no more: its chain's stretch is over."""
+        return request.stretch is None and request.within not in (None, self.stretch)
+
+    def next(self, now: int) -> Step:
+        """What is to be done now."""
+        if self.phase is Phase.PAUSING and now - self._since >= self._pause:
+            self.phase = Phase.DOWN
+        if self.phase is Phase.DOWN:
+            return Step(Act.OPEN)
+        if self.phase is Phase.PAUSING:
+            return Step(Act.WAIT, until=self._since + self._pause)
+        if self.phase is Phase.CLEARING:
+            return self._clear(now)
+        if self.phase is Phase.DRAINING:
+            return Step(Act.READ, until=self._since + self.quiet)
+        return self._command(now) if self.client.has_begun else self._begin(now)
+
+    def opened(self, now: int) -> None:
+        """A connection was made."""
+        self.phase = Phase.CLEARING
+        self._since = now
+        log.info("connected")
+
+    def closed(self, now: int) -> None:
+        """The connection ended, failed or was closed, or none could be made. What waits goes on
+        waiting.
+        """
+        self.phase = Phase.PAUSING
+        self._since = now
+        self._pause = max(min(2 * self._pause, LONGEST_PAUSE), self.quiet)
+        self.stretch += 1
+        log.info("no connection: the next one is made in %d ms", self._pause)
+
+    def came(self, data: bytes, now: int) -> None:
+        """Bytes were read, or none within the time."""
+        if data:
+            log.debug("< %r", data)
+        if self.phase is Phase.DRAINING:
+            self._drain(data, now)
+        elif self.client.has_begun:
+            self.client.expire(now)
+            self._hear(data, now)
+        elif data:
+            if self.client.begin(data) or self.client.has_begun:
+                self._again = 0
+            if b"%R1P," in data:
+                self._alive, self._is_asked = now, False
+
+    def _clear(self, now: int) -> Step:
+        """A lone line feed drops half a request at the instrument, and half a line here."""
+        has_begun = self.client.has_begun
+        self.phase = Phase.DRAINING if has_begun else Phase.READY
+        self._again, self._is_asked, self._since = 0, False, now
+        if has_begun:
+            self.client.expire(now)
+            self._hear(b"\n", now)
+        else:
+            self.client.begin(b"\n")
+        return Step(Act.WRITE, b"\n")
+
+    def _drain(self, data: bytes, now: int) -> None:
+        if data:
+            self._since = now
+        elif now - self._since >= self.quiet:
+            self.phase, self._alive, self._is_asked = Phase.READY, now, False
+        self.client.expire(now)
+
+    def _hear(self, data: bytes, now: int) -> None:
+        for settlement in self.client.feed(data):
+            self._settle(settlement)
+            if settlement.outcome != Outcome.LOST:
+                self._pause = 0
+        if self.client.replies != self._replies:
+            self._alive, self._is_asked, self._replies = now, False, self.client.replies
+
+    def _settle(self, settlement: Settlement) -> None:
+        """The library's settlement is that of the request with its number."""
+        request = self.waiting.pop(settlement.target)
+        vars(settlement)["target"] = request.target  # nobody else has it yet
+        request.settlement = settlement
+        if settlement.outcome != Outcome.LOST and not request.is_raw:
+            self._behind = len(self.waiting)
+        log.debug("target %d, %d: %s", request.target, request.procedure, settlement.outcome)
+
+    def _patience(self) -> int:
+        """After how long without a reply line the line is dead: twice the longest deadline."""
+        longest = max((request.timeout for request in self.waiting.values()), default=0)
+        return 2 * max(self.timeout, longest)
+
+    def _is_dead(self, now: int) -> bool:
+        if now - self._alive < 2 * self.timeout or not (self.waiting or self._again):
+            return False
+        return now - self._alive >= self._patience()
+
+    def _begin(self, now: int) -> Step:
+        """The null procedure of the first id that isn't answered, and again at its deadline."""
+        if self._is_dead(now):
+            return Step(Act.CLOSE)
+        if self._again > now:
+            return Step(Act.READ, until=min(self._again, self._alive + self._patience()))
+        self._ask(now)
+        self._again, self._behind = now + self.timeout, 0
+        return self._write(self.client.begin())
+
+    def _command(self, now: int) -> Step:
+        """The next command, if it may go out: behind a call of the table that was answered, of the
+        seven before it.
+        """
+        if not self.wanted:
+            return self._read(now)
+        if not self._has_room():
+            return self._wait(now)
+        if self._behind < WINDOW:
+            return self._send(self.wanted.popleft(), now) or self._command(now)
+        if self.client.current == 0:
+            return self._send(Request(NULL, "", 0, self.timeout), now) or self._wait(now)
+        return self._wait(now)
+
+    def _has_room(self) -> bool:
+        return len(self.waiting) < WINDOW and self.client.current < self.width
+
+    def _wait(self, now: int) -> Step:
+        """Nothing may go out: a reply may still come, or all that wait are given up, and the
+        station begins anew.
+        """
+        if self.client.current > 0 or self._is_dead(now):
+            return self._read(now)
+        log.info("all that wait are given up: begins anew")
+        for settlement in self.client.restart():
+            self._settle(settlement)
+        self._again = self._behind = 0
+        self.stretch += 1
+        return self._begin(now)
+
+    def _read(self, now: int) -> Step:
+        deadline = self.client.next_deadline()
+        if deadline is not None and now < self._alive + 2 * self.timeout >= deadline:
+            return Step(Act.READ, b"", deadline)  # it comes before any line is dead
+        if self._is_dead(now):
+            return Step(Act.CLOSE)
+        until = self._alive + self._patience()
+        return Step(Act.READ, b"", until if deadline is None else min(until, deadline))
+
+    def _send(self, request: Request, now: int) -> Step | None:
+        """A request goes out, once; None where the library refuses it, and nothing has changed."""
+        number, deadline = self._number, now + request.timeout
+        try:
+            if request.is_raw:
+                sent = self.client.send_raw(
+                    request.procedure, request.parameters, target=number, deadline=deadline
+                )
+            else:
+                sent = self.client.send(number, deadline, request.procedure, request.parameters)
+        except (Fault, ValueError) as fault:
+            request.fault = fault
+            return None
+        self._number = (number + 1) % (1 << 32)
+        self.waiting[number] = request
+        request.stretch, request.deadline = self.stretch, deadline
+        request.sent = datetime.datetime.now(datetime.timezone.utc)
+        self._ask(now)
+        return self._write(sent)
+
+    def _ask(self, now: int) -> None:
+        if not self._is_asked:
+            self._alive, self._is_asked = now, True
+        self._behind = min(self._behind + 1, WINDOW)
+
+    @staticmethod
+    def _write(line: bytes) -> Step:
+        log.debug("> %r", line)
+        return Step(Act.WRITE, line)

@@ -1,0 +1,286 @@
+"""Cases of the Python package, each a function: station_cases.py, with `geocom` on the path and port 4001 served."""
+
+import asyncio
+import contextlib
+import datetime
+import os
+import pydoc
+import socket
+import subprocess
+import sys
+import threading
+import types
+from decimal import Decimal
+
+import geocom
+import geocom.aio
+from geocom import RC, Face, Outcome, PrismType
+
+
+class Scripted:
+    """A port whose instrument answers as it is told: to a procedure's number what stands behind the colon, or nothing."""
+
+    def __init__(self, answers, clock):
+        self.answers, self.clock, self.timeout, self.came, self.written, self.is_ended = answers, clock, 0.0, b"", [], False
+
+    def write(self, data):
+        for line in data.split(b"\r\n"):
+            if line := line.lstrip(b"\n"):
+                head, _, _ = line.partition(b":")
+                procedure, id = head[5:].split(b",")
+                self.written.append(int(procedure))
+                answer = self.answers.get(int(procedure), b"0")
+                if isinstance(answer, list):
+                    answer = answer.pop(0) if answer else None
+                if answer is not None:
+                    com, _, rest = answer.rpartition(b"|")
+                    self.came += b"%%R1P,%s,%s:%s\r\n" % (com or b"0", id, rest)
+
+    def read(self, size=1):
+        if self.is_ended:
+            raise OSError("ended")
+        data, self.came = self.came, b""
+        if not data:
+            self.clock.now += self.timeout
+        return data
+
+    def open(self):
+        self.is_ended = False
+
+    def close(self):
+        self.is_ended = True
+
+
+class Clock:
+    now = 1000.0
+
+    def __call__(self):
+        return self.now
+
+    def sleep(self, seconds):
+        self.now += seconds
+
+
+def scripted(answers=None, **options):
+    clock = Clock()
+    port = Scripted(answers or {}, clock)
+    return port, geocom.Station(port, clock=clock, sleep=clock.sleep, **options)
+
+
+def raised(kind, call, *words, **options):
+    try:
+        call(*words, **options)
+    except kind as it:
+        return it
+    raise AssertionError(f"{kind.__name__} was not raised")
+
+
+def each_procedure_by_its_name():
+    with geocom.Station(geocom.Instrument(), timeout=5) as station:
+        com, csv, tmc, bap, aut = station.com, station.csv, station.tmc, station.bap, station.aut
+        assert com.null_proc() is None and com.set_double_precision(4) is None
+        assert com.get_double_precision().places == 4 and com.get_sw_version() == (1, 0, 0)
+        assert csv.get_instrument_no().serial == 123456 and csv.get_instrument_name().instrument == "GEOCOM SIM"
+        moment = datetime.datetime(2026, 11, 26, 22, 5, 59)
+        assert csv.set_date_time(moment) is None and csv.get_date_time().moment == moment
+        assert csv.get_int_temp().temperature_c == Decimal("21.0") and csv.get_sw_version().version == 2
+        assert tmc.set_station(Decimal("1.5"), 2, "3.25", 1.625) is None
+        assert tmc.get_station() == (Decimal("1.5"), 2, Decimal("3.25"), Decimal("1.625"))
+        assert tmc.set_height("1.65") is None and tmc.get_height().reflector_height_m == Decimal("1.65")
+        assert aut.make_positioning("2.25", Decimal("1.625"), 0, 1) is None and tmc.do_measure(1, 1) is None
+        point = tmc.get_simple_mea(5000, 1)
+        assert (point.hz_rad, point.v_rad, point.distance_m) == (Decimal("2.25"), Decimal("1.625"), Decimal("110.0625"))
+        assert tmc.get_angle(1) == point[:2] and tmc.quick_dist() == point and bap.meas_distance_angle(2)[:3] == point
+        assert tmc.get_face().face is Face.NORMAL and aut.change_face(0, 0) is None and tmc.get_face().face is Face.TURNED
+        assert bap.set_prism_type(PrismType.MINI) is None and bap.get_prism_type().prism_type is PrismType.MINI
+        assert bap.set_prism_type(77) is None and bap.get_prism_type().prism_type.name == "UNKNOWN_77"
+        aut.make_positioning("1.0", "1.0", 0, 0)
+        assert raised(geocom.Refused, aut.fine_adjust, "0.01", "0.01").code is RC.GRC_AUT_NO_TARGET
+
+
+def what_is_refused():
+    port, station = scripted({2107: b"1283,1.5,0.5", 2108: b"1285,1.5,0.5", 5003: b"3081|0", 5004: b"0,7,8", 5008: b"0,0,'00','00','00','00','00'"})
+    refused = station.ask(2107, 1, target=7)
+    assert (refused.target, refused.outcome, refused.rc, refused.rc.is_warning) == (7, Outcome.ANSWERED, 1283, True)
+    assert raised(geocom.Refused, refused.value).code is RC.GRC_TMC_NO_FULL_CORRECTION
+    assert refused.value(accept=[1283]) == (Decimal("1.5"), Decimal("0.5"))
+    raised(geocom.Unreadable, station.ask(2108, 5000, 1).value, accept=[1285])
+    assert raised(geocom.Refused, station.csv.get_instrument_no).code is RC.GRC_COM_PROC_UNAVAIL
+    raised(geocom.Unreadable, station.csv.get_instrument_name)
+    raised(geocom.Unreadable, station.csv.get_date_time)
+    _, accepting = scripted({2107: b"1283,1.5,0.5"}, accept=[RC.GRC_TMC_NO_FULL_CORRECTION])
+    assert accepting.tmc.get_angle(1).hz_rad == Decimal("1.5")
+    written = len(port.written)
+    for kind, call, words in [(geocom.BadParameters, station.ask, (2107, "x")), (geocom.BadParameters, station.ask, (2107,)),
+                              (geocom.UnknownProcedure, station.ask, (5002,)), (geocom.InTable, station.raw, (2107, 1)),
+                              (geocom.LineTooLong, station.raw, (2167, "x" * 600)), (ValueError, station.ask, (70000,))]:
+        raised(kind, call, *words)
+    assert len(port.written) == written
+
+
+def what_is_late_or_lost():
+    port, station = scripted({2107: [None]}, timeout=5)
+    begun = station.begin() or port.clock.now
+    lost = station.ask(2107, 1, timeout=3)
+    assert lost.outcome is Outcome.LOST and port.clock.now == begun + 3 and lost.rc is None
+    raised(geocom.Lost, lost.value)
+    port.came, port.clock.now = b"%R1P,0,0:0,9.5,9.5\r\n", port.clock.now + 60
+    port.answers[2107] = b"0,1.5,0.5"
+    assert station.tmc.get_angle(1).hz_rad == Decimal("1.5")
+
+
+def seven_that_are_given_up():
+    port, station = scripted({2107: [None] * 7 + [b"0,1.5,0.5"]}, timeout=100)
+    station.begin()
+    for _ in range(7):
+        assert station.ask(2107, 1, timeout=1).outcome is Outcome.LOST
+    assert station.ask(2107, 1, timeout=1).items == ("1.5", "0.5") and port.written[-9:] == [0] * 8 + [2107]
+
+
+def raw_requests_with_null_procedures_between():
+    port, station = scripted({2167: b'0, 1 ,"a,b"'})
+    for _ in range(16):
+        assert station.raw(2167, 2, 1).value() == ("1", '"a,b"')
+    assert port.written[8:] == [2167] * 7 + [0] + [2167] * 7 + [0] + [2167] * 2
+
+
+def a_chain():
+    port, station = scripted({2008: [b"0", b"1285"], 2108: b"0,1.5,0.5,10.0"})
+    chain = geocom.Chain.measuring(7, "1.5", "0.5")
+    rows = station.measure(chain)
+    assert [row.outcome for row in rows] == ["answered"] * 3 and rows[2].value.distance_m == 10 and rows[0].sent <= rows[0].time
+    rows = station.measure(chain)
+    assert [(row.outcome, row.is_good) for row in rows] == [("answered", True), ("answered", False), ("skipped", False)]
+    before = len(port.written)
+    raised(geocom.BadParameters, station.measure, geocom.Chain.of(7, (5003,), (2107, "x")))
+    assert len(port.written) == before
+    port.answers[2008], accepting = [b"1285"], geocom.Chain.measuring(7, "1.5", "0.5", accept=[1285])
+    assert [row.is_good for row in station.measure(accepting)] == [True] * 3
+
+
+def cycles_and_missed_ones():
+    port, station = scripted({9027: [b"0", None, b"0", b"0", b"0"]})
+    chain, seen = geocom.Chain.of(7, (9027, "1.5", "0.5", 0, 1, False), timeout=50), []
+    station.begin()
+    begun = port.clock.now
+    for cycle in station.cycles([chain], every=20, count=6):
+        seen.append((cycle.number, cycle.is_missed, port.clock.now - begun))
+    assert seen == [(1, False, 0), (2, False, 70), (3, True, 70), (4, False, 70), (5, False, 80), (6, False, 100)], seen
+
+
+def a_connection_that_ended():
+    port, station = scripted({5003: b"0,1"}, quiet=2)
+    assert station.csv.get_instrument_no().serial == 1
+    port.is_ended, before = True, port.clock.now
+    assert station.csv.get_instrument_no().serial == 1 and port.clock.now - before >= 4
+    assert 0 not in port.written[8:]
+
+
+def nobody_answers():
+    _, station = scripted({0: [None] * 100}, timeout=5)
+    raised(geocom.NotReady, station.begin)
+    raised(geocom.NotReady, station.ask, 5003)
+    with socket.create_server(("127.0.0.1", 0)) as probe:
+        free = probe.getsockname()[1]
+    raised(ConnectionRefusedError, geocom.Station(str(free)).begin)
+    raised(geocom.NotReady, geocom.Station(str(free), quiet=0.05).ask, 5003, timeout=0.2)
+    raised(ConnectionRefusedError, asyncio.run, geocom.aio.Station(str(free)).begin())
+    for wrong in ["word", "0", "host:0", "fd00::5", "tcp://host", ""]:
+        with contextlib.suppress(ValueError, OSError, ImportError):
+            geocom.Station(wrong).begin()
+            raise AssertionError(wrong)
+
+
+def threads_share_a_station():
+    with geocom.Station("4001") as station:
+        wrong = []
+
+        def ask():
+            for _ in range(100):
+                if station.csv.get_instrument_no().serial != 123456:
+                    wrong.append(1)
+
+        threads = [threading.Thread(target=ask) for _ in range(4)]
+        for each in threads:
+            each.start()
+        for each in threads:
+            each.join()
+        assert not wrong
+
+
+def a_socket_that_is_open():
+    with socket.create_connection(("127.0.0.1", 4001)) as connection, geocom.Station(connection) as station:
+        assert station.csv.get_instrument_no().serial == 123456
+
+
+def a_cancelled_call():
+    async def trial():
+        async with geocom.aio.Station("4001", width=3) as station:
+            asking = asyncio.create_task(station.ask(5004, target=1))
+            await asyncio.sleep(0)
+            asking.cancel()
+            assert (await station.csv.get_instrument_no()).serial == 123456
+            told = await asyncio.gather(*(station.ask(5003, target=number) for number in range(20)))
+            assert [each.target for each in told] == list(range(20)) and {each.items for each in told} == {("123456",)}
+            rows = await station.measure(geocom.Chain.measuring(2, "2.25", "1.625"))
+            assert rows[-1].value.distance_m == Decimal("110.0625")
+            cycles = [cycle async for cycle in station.cycles([geocom.Chain.of(1, (5003,))], count=2)]
+            assert [len(cycle.rows) for cycle in cycles] == [1, 1]
+            assert (await station.raw(2167)).rc == 3081 and asking.cancelled()
+
+    asyncio.run(trial())
+
+
+def a_station_that_is_closed_meanwhile():
+    async def trial():
+        writers = []
+
+        async def silent(reader, writer):
+            writers.append(writer)  # else it is closed with its last name
+            await reader.readline()
+            for id in (6, 5, 4, 3, 2, 1, 0, 7):
+                await reader.readline()
+                writer.write(b"%%R1P,0,%d:0\r\n" % id)
+
+        server = await asyncio.start_server(silent, "127.0.0.1", 0)
+        station = geocom.aio.Station(str(server.sockets[0].getsockname()[1]), timeout=60)
+        await station.begin()
+        asked = [asyncio.create_task(station.ask(5003)) for _ in range(2)]
+        await asyncio.sleep(0.1)
+        await station.close()
+        first, second = await asyncio.gather(*asked, return_exceptions=True)
+        assert first.outcome is Outcome.LOST and isinstance(second, geocom.NotReady)
+        server.close()
+
+    asyncio.run(trial())
+
+
+def what_the_client_counts():
+    client = geocom.Client()
+    client.begin(b"".join(b"%%R1P,0,%d:0\r\n" % id for id in (6, 5, 4, 3, 2, 1, 0, 7)))
+    for target in range(3):
+        client.send(target, 10 * target, 5003)
+    assert client.expire(10) == [0, 1] and (client.waiting, client.current) == (3, 1)
+    raised(ValueError, client.send, -1, 0, 5003)
+
+
+def the_library_is_loaded_at_the_first_use():
+    told = {**os.environ, "GEOCOM_LIBRARY": "/nowhere.so"}
+    text = "import geocom\ntry: geocom.Client()\nexcept OSError: print('at the first use')"
+    assert subprocess.run([sys.executable, "-c", text], env=told, capture_output=True, check=True).stdout == b"at the first use\n"
+
+
+def what_is_public():
+    for name in geocom.__all__:
+        assert getattr(geocom, name) is not None
+    for name in ["BadWidth", "InTable", "LineTooLong", "NoClient", "NoRoom", "NotBegun", "UnknownProcedure", "WindowFull"]:
+        assert issubclass(getattr(geocom, name), geocom.Fault)
+    assert "bit_length" not in pydoc.plain(pydoc.render_doc(geocom))  # of int, which each IntEnum has
+    for code in RC:
+        assert code.text and RC(int(code)) is code
+
+
+CASES = [it for name, it in list(globals().items()) if isinstance(it, types.FunctionType) and name not in ("scripted", "raised")]
+for case in CASES:
+    case()
+print(f"station cases: {len(CASES)} hold")
