@@ -94,10 +94,11 @@ def outcome_of(fields):
 
 
 def read(path):
-    """The targets of a file, in the order of their numbers. Half a row at its end is left out."""
+    """The targets of a file, in the order of their numbers, by the last attempt of each command in a cycle. Half a row at its end is left
+    out, and so are those of the set-up."""
     data = Path(path).read_bytes()
     lines = data[: data.rfind(b"\n") + 1].split(b"\n")[:-1]
-    targets = {}
+    targets, rows = {}, []
     try:
         form = records.form_of(lines[0] if lines else b"", NEEDED)
     except records.NoRow as why:
@@ -108,5 +109,7 @@ def read(path):
         except records.NoRow as why:
             raise Refused(f"{path}: line {number} is no row: {why}") from None
         if fields:
-            targets.setdefault(fields["target"], Target(fields["target"])).take(fields)
+            rows.append(fields)
+    for fields in records.last_attempts(rows):
+        targets.setdefault(fields["target"], Target(fields["target"])).take(fields)
     return [target for _, target in sorted(targets.items(), key=lambda pair: int(pair[0]))]

@@ -9,6 +9,7 @@ from dataclasses import dataclass, field
 from decimal import Decimal, InvalidOperation
 
 import quantities
+import records
 from angles import difference, in_face_one
 
 COLUMNS = ["target", "column", "reference", "tolerance", "outside", "of"]
@@ -125,40 +126,54 @@ def shown(number):
 class Watch:
     """What is known of the limits from the rows so far. `vars` of it is the state that is kept."""
 
+    # Of each limit whether the last good rows of earlier cycles were outside, and those of the cycle that is under way, each with its place.
     windows: dict = field(default_factory=dict)
-    # Of each silence how many cycles it lasts; the cycle that is under way, and the targets that had a good row in it.
+    now: dict = field(default_factory=dict)
+    # Of each silence how many cycles it lasts; the cycle that is under way, and the places and targets that had a good row in it.
     silent: dict = field(default_factory=dict)
     names: dict = field(default_factory=dict)
     cycle: list = None
     good: list = field(default_factory=list)
-    last: list = None
+    # The places and attempts of the cycle that is under way.
+    taken: list = field(default_factory=list)
 
     def take(self, limits, fields):
         """Takes a row; gives the lines that are to be told."""
+        if records.is_of_setup(fields):
+            return []
         lines = self.begin(limits, fields)
-        target = str(int(fields["target"]))
+        target, place = str(int(fields["target"])), int(fields["place"])
+        if records.attempt_of(fields) > 1:
+            self.forget(place)
         self.names[target] = fields["name"]
         # A reading is good where it measured, or, as of a reduction, has what a limit asks for.
         if any(limit.target == target and limit.column != SILENCE and value_of(fields, limit.column) is not None for limit in limits) or (
                 quantities.quantities(fields)):
-            self.good.append(target)
+            self.good.append([place, target])
         for limit in limits:
             if limit.target == target and limit.column != SILENCE:
                 lines += self.compare(limit, fields)
-        self.last = [fields.get("run", ""), int(fields["cycle"]), int(fields["place"])]
+        self.taken.append([place, records.attempt_of(fields)])
         return lines
+
+    def forget(self, place):
+        """Forgets what an earlier attempt of this command came to in the cycle: the last one counts."""
+        self.good = [each for each in self.good if each[0] != place]
+        self.now = {key: [each for each in rows if each[0] != place] for key, rows in self.now.items()}
 
     def begin(self, limits, fields):
         """Where a row begins a cycle, the one before it is over: whose silence it made long enough."""
         at, lines = [fields.get("run", ""), int(fields["cycle"])], []
         if self.cycle is not None and at != self.cycle:
             for limit in (each for each in limits if each.column == SILENCE):
-                cycles = 0 if limit.target in self.good else self.silent.get(limit.key(), 0) + 1
+                cycles = 0 if any(target == limit.target for _, target in self.good) else self.silent.get(limit.key(), 0) + 1
                 self.silent[limit.key()] = cycles
                 if cycles == limit.of:
                     lines.append(f"{fields['time']} {self.called(limit)}: no good row for {limit.of} cycles; cycle {self.cycle[1]}")
         if at != self.cycle:
-            self.cycle, self.good = at, []
+            for key, rows in self.now.items():
+                self.windows[key] = (self.windows.get(key, []) + [is_outside for _, is_outside in rows])[-MOST_ROWS:]
+            self.cycle, self.good, self.now, self.taken = at, [], {}, []
         return lines
 
     def compare(self, limit, fields):
@@ -168,9 +183,9 @@ class Watch:
             return []
         is_angle = limit.column.endswith("_rad")
         apart = difference(value, limit.reference) if is_angle else value - limit.reference
-        window = self.windows.setdefault(limit.key(), [])
-        window.append(int(abs(apart) > limit.tolerance))
-        del window[: -limit.of]
+        self.now.setdefault(limit.key(), []).append([int(fields["place"]), int(abs(apart) > limit.tolerance)])
+        self.windows[limit.key()] = self.windows.get(limit.key(), [])[-limit.of:]
+        window = (self.windows[limit.key()] + [is_outside for _, is_outside in self.now[limit.key()]])[-limit.of:]
         if not window[-1] or sum(window) < limit.outside:
             return []
         return [f"{fields['time']} {self.called(limit)}: {limit.column} is {shown(value)}, {shown(abs(apart))} "
@@ -183,5 +198,9 @@ class Watch:
         return f"target {limit.target}" + (f" ({name})" if name else "")
 
     def is_behind(self, fields):
-        """Whether a row comes behind the last one that was taken, by its run, its cycle and its place."""
-        return self.last is None or [fields.get("run", ""), int(fields["cycle"]), int(fields["place"])] > self.last
+        """Whether a row comes behind those that were taken, by its run, its cycle, its place and its attempt. The attempts of a chain stand
+        one behind the other, so within a cycle places may go back."""
+        at = [fields.get("run", ""), int(fields["cycle"])]
+        if self.cycle is None or at != self.cycle:
+            return self.cycle is None or at > self.cycle
+        return [int(fields["place"]), records.attempt_of(fields)] not in self.taken

@@ -45,7 +45,7 @@ HAS_VALUES = f"""(quality IN ({', '.join(f"'{word}'" for word in GOOD)})
 
 
 def view(item, cast):
-    """The columns of a view: what tells a row from others, and a column a quantity. `item` gives the SQL of the value at a place, and
+    """The columns of a view: what tells a row from others, and between its place and its attempt a column a quantity. `item` gives the SQL of the value at a place, and
     `cast` that of its number."""
     columns = [", ".join(["source", "line", *COLUMNS[: COLUMNS.index("outcome")]])]
     for name in NAMES:
@@ -55,4 +55,5 @@ def view(item, cast):
                 cases.setdefault(names.index(name), []).append(str(procedure))
         whens = " ".join(f"WHEN procedure IN ({', '.join(of)}) THEN {cast(item(place))}" for place, of in cases.items())
         columns.append(f"CASE {whens} END AS {name}")
-    return ",\n    ".join(columns)
+    # (it stands last: PostgreSQL adds columns to a view there alone)
+    return ",\n    ".join([*columns, "attempt"])

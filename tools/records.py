@@ -7,9 +7,10 @@ import datetime
 import json
 import re
 
-# The columns of a station's rows, of which the last one stands last in every table. Further ones are handed on under their names.
+# The columns of a station's rows, of which the last ones stand last in every table. Further ones are handed on under their names.
+LAST = ["quality", "attempt"]
 COLUMNS = [
-    "run", "sent", "time", "cycle", "place", "target", "name", "procedure", "outcome", "fault", "rc_com", "rc", "values", "quality",
+    "run", "sent", "time", "cycle", "place", "target", "name", "procedure", "outcome", "fault", "rc_com", "rc", "values", *LAST,
 ]
 HEAD = ",".join(COLUMNS).encode() + b"\n"
 # What `--columns` and `--json` add: the items of an answer.
@@ -18,7 +19,14 @@ ANSWER_COLUMNS = [
     "prism_type", "temperature_c", "places", "release", "version", "subversion", "serial", "instrument", "year", "month", "day", "hour",
     "minute", "second",
 ]
-COLUMNS_HEAD = ",".join([*COLUMNS[:-1], *ANSWER_COLUMNS, COLUMNS[-1]]).encode() + b"\n"
+
+
+def with_columns(columns):
+    """The columns of a table that has these, too: they stand in front of the last ones."""
+    return [*COLUMNS[: -len(LAST)], *columns, *LAST]
+
+
+COLUMNS_HEAD = ",".join(with_columns(ANSWER_COLUMNS)).encode() + b"\n"
 # In the order of the counts; those of a reply that came in time, and those of a command that wasn't sent.
 OUTCOMES = ["answered", "late", "lost", "skipped", "unreadable", "missed", "elsewhere"]
 REPLIED = ["answered", "unreadable", "elsewhere"]
@@ -26,14 +34,16 @@ UNSENT = ["skipped", "missed"]
 # The qualities of an answer whose values read.
 GOOD = ["ok", "warning"]
 MOMENTS = ["run", "sent", "time"]
-NUMBERS = ["cycle", "place", "target", "procedure", "fault", "rc_com", "rc"]
+NUMBERS = ["cycle", "place", "target", "procedure", "fault", "rc_com", "rc", "attempt"]
 # The columns that a table of an earlier version may not have, and what every reader needs: the others.
-LATER = ["run", "sent", "quality"]
+LATER = ["run", "sent", "quality", "attempt"]
 NEEDED = [column for column in COLUMNS if column not in LATER]
 # The member that is a list: the items of an answer to a procedure that isn't in the table.
 ITEMS = "items"
 # What no row has empty.
-FILLED = ["run", "time", "cycle", "place", "target", "procedure", "outcome"]
+FILLED = ["run", "time", "cycle", "place", "target", "procedure", "outcome", "attempt"]
+# What a row has that doesn't say it, as one of an earlier version: it is of the first attempt.
+UNSAID = {"attempt": "1"}
 MOMENT = re.compile(r"[0-9]{4}-[0-9]{2}-[0-9]{2}T[0-9]{2}:[0-9]{2}:[0-9]{2}\.[0-9]{3}Z")
 ESCAPES = {byte: f"\\x{byte:02x}" for byte in range(256) if not 32 <= byte < 127}
 
@@ -43,8 +53,8 @@ class NoRow(Exception):
 
 
 def counts_line(**count):
-    """The last line of a run with so many rows of each outcome; none of an outcome that isn't named."""
-    return " ".join(f"{outcome} {count.get(outcome, 0)}" for outcome in OUTCOMES)
+    """The last line of a run with so many commands of each outcome, and chains that went out `again`; none of what isn't named."""
+    return " ".join(f"{word} {count.get(word, 0)}" for word in (*OUTCOMES, "again"))
 
 
 def printable(data):
@@ -139,7 +149,7 @@ class Table:
         fields = fields_of(line)
         if len(fields) != len(self.names):
             raise NoRow(f"it has {len(fields)} fields for {len(self.names)} columns")
-        return checked(dict(zip(self.names, fields)))
+        return checked({**UNSAID, **dict(zip(self.names, fields))})
 
 
 class Objects:
@@ -148,9 +158,33 @@ class Objects:
     @staticmethod
     def row(line):
         """The fields of a row, by the names of their columns."""
-        return checked({**dict.fromkeys(COLUMNS, ""), **members_of(line)})
+        return checked({**dict.fromkeys(COLUMNS, ""), **UNSAID, **members_of(line)})
 
 
 def form_of(line, needed=NEEDED):
     """The form of a file with this first line. A table has to have the columns that are needed."""
     return Objects() if line.startswith(b"{") else Table(line, needed)
+
+
+def is_of_setup(fields):
+    """Whether a row is one of the set-up: it stands in no cycle, and its attempts are counted over the run."""
+    return fields.get("cycle") == "0"
+
+
+def attempt_of(fields):
+    """The attempt of its chain that a row is of."""
+    return int(fields.get("attempt") or UNSAID["attempt"])
+
+
+def last_attempts(rows):
+    """The rows that count of rows in their order: of several attempts of a command in a cycle the last one, and none of the set-up."""
+    kept, places = [], {}
+    for fields in rows:
+        if is_of_setup(fields):
+            continue
+        command = tuple(fields.get(column, "") for column in ("run", "cycle", "place"))
+        if attempt_of(fields) > 1 and command in places:
+            kept[places[command]] = None
+        places[command] = len(kept)
+        kept.append(fields)
+    return [fields for fields in kept if fields]

@@ -3,6 +3,7 @@
 All angles are radians, lengths metres, and numbers exact decimals (`angles.py`). The rules stand in `docs/RECORDS.md`, "Reductions".
 """
 
+import itertools
 import re
 from dataclasses import dataclass, field
 from decimal import Decimal
@@ -18,7 +19,7 @@ ADDED = [
     "hz_residuals_rad", "v_residuals_rad", "distance_residuals_m", "hz_deviation_rad", "v_deviation_rad", "distance_deviation_m",
     "freedom",
 ]
-NAMES = [*records.COLUMNS[:-1], *ADDED, records.COLUMNS[-1]]
+NAMES = records.with_columns(ADDED)
 DECIMAL = re.compile(r"[-+]?[0-9]+(\.[0-9]+)?")
 TARGET = re.compile(r"[0-9]+")
 # The lines of a site: how many numbers each has at least and at most, and whether a target stands in front of them.
@@ -245,10 +246,10 @@ def row_of(site, target, orientation):
 
 
 def rows_of_cycle(site, rows):
-    """The rows that a cycle comes to: one for each target that has a pair, and of each other one its last row that wasn't answered
-    well. Of a target that was answered in one face alone there is none."""
+    """The rows that a cycle comes to, by the last attempt of each command: one for each target that has a pair, and of each other one its
+    last row that wasn't answered well. Of a target that was answered in one face alone there is none."""
     by_target = {}
-    for row in rows:
+    for row in records.last_attempts(rows):
         by_target.setdefault(str(int(row["target"])), []).append(row)
     targets = [Target(each) for each in by_target.values()]
     orientation = orientation_of(site, targets)
@@ -261,13 +262,15 @@ def rows_of_cycle(site, rows):
 
 class Cycles:
     """Parts rows into cycles. One is over with the row of the text's last command, which is known once a cycle of the same run was
-    followed by another one, and else with the first row of the next."""
+    followed by another one, where its chain can't go out again; and else with the first row of the next. Rows of the set-up are in none."""
 
     def __init__(self):
         self.at, self.rows, self.last_place = None, [], None
 
     def take(self, fields):
         """Takes a row; gives the cycles that are over with it, each as its rows."""
+        if records.is_of_setup(fields):
+            return []
         at, over = (fields.get("run", ""), fields["cycle"]), []
         if at != self.at:
             over += [self.rows] if self.rows else []
@@ -276,7 +279,14 @@ class Cycles:
             self.at, self.rows = at, []
         self.rows.append(fields)
         self.last_row_place = int(fields["place"])
-        if self.last_row_place == self.last_place:
+        if self.last_row_place == self.last_place and self.is_settled():
             over.append(self.rows)
             self.rows = []
         return over
+
+    def is_settled(self):
+        """Whether the last chain can't go out again: it is among the last rows of one target, and each of them is fine. (A warning or a
+        refusal may be what a chain goes out again for.)"""
+        target = self.rows[-1]["target"]
+        last = itertools.takewhile(lambda row: row["target"] == target, reversed(records.last_attempts(self.rows)))
+        return all(quantities.has_values(row) and row.get("quality") != "warning" for row in last)

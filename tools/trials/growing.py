@@ -10,7 +10,7 @@ import os
 import random
 import threading
 
-from records import ANSWER_COLUMNS, COLUMNS, GOOD, HEAD, NUMBERS, UNSENT, moment_text
+from records import ANSWER_COLUMNS, COLUMNS, GOOD, HEAD, LAST, NUMBERS, UNSENT, moment_text
 
 TARGETS = [(7, b"pier 4", 2.25, 1.625, 110.0625), (8, b"", 0.5, 1.5, 25.125), (9, b"a/b+c #1", 4.0, 1.5, 48.5)]
 COMMANDS = [b"9027", b"2008", b"2108", b"2107", b"5004"]
@@ -51,7 +51,8 @@ def row(chance, number):
     sent = b"" if outcome.decode() in UNSENT else stamp(moment - datetime.timedelta(milliseconds=1_234))
     cycle = number // (len(COMMANDS) * len(TARGETS)) + 1
     numbers = b"%d,%d,%d" % (cycle, place, target)
-    return b",".join([RUN, sent, stamp(moment), numbers, name, procedure, outcome, fault, codes or b",", values, quality]) + b"\n"
+    attempt = b"2" if number % 7 == 3 else b"1"
+    return b",".join([RUN, sent, stamp(moment), numbers, name, procedure, outcome, fault, codes or b",", values, quality, attempt]) + b"\n"
 
 
 def parted(line):
@@ -70,18 +71,18 @@ def row_of_columns(chance, number):
     """The same row as `row` makes, as `--columns` writes it."""
     line = row(chance, number)
     items = parted(line)[1]
-    front, quality = line.rsplit(b",", 1)
-    return front + "".join("," + plain(name, items[name]) if name in items else "," for name in ANSWER_COLUMNS).encode() + b"," + quality
+    front, *last = line.rsplit(b",", len(LAST))
+    return b",".join([front, *(plain(name, items[name]).encode() if name in items else b"" for name in ANSWER_COLUMNS), *last])
 
 
 def row_of_json(chance, number):
     """The same row as `row` makes, as `--json` writes it."""
     fields, items = parted(row(chance, number))
-    quality = fields.pop("quality")
+    last = [(name, fields.pop(name)) for name in LAST]
     written = [(name, field) for name, field in fields.items() if field or name == "values" and fields["rc_com"]]
     for name, item in items.items():
         written += [(name, plain(name, item))] + [(f"{name}_text", item)] * (name != "instrument")
-    written += [("quality", quality)] * bool(quality)
+    written += [(name, field) for name, field in last if field]
     return (b"{" + b",".join(
         b'"%s":%s' % (name.encode(), (field if name in NUMBERS or name in ANSWER_COLUMNS[:3] else json.dumps(field)).encode())
         for name, field in written) + b"}\n")

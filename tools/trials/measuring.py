@@ -3,6 +3,7 @@
 import collections
 import csv
 import io
+import itertools
 import re
 from pathlib import Path
 
@@ -51,8 +52,12 @@ def rows_of(written):
 
 
 def counts_of(rows):
-    """The last line of a run with these rows."""
-    return counts_line(**collections.Counter(row["outcome"] for row in rows))
+    """The last line of a run with these rows: how the commands of cycles ended, each in its last attempt, and how many times a chain
+    went out again. The rows of an attempt stand directly in front of those of the next."""
+    rows = [row for row in rows if row["cycle"] != "0"]
+    last = {(row["cycle"], row["place"]): row["outcome"] for row in rows}
+    again = sum(int(row["attempt"]) == int(before["attempt"]) + 1 for before, row in itertools.pairwise(rows))
+    return counts_line(**collections.Counter(last.values()), again=again)
 
 
 def utc_of(row):
@@ -67,8 +72,8 @@ def outcomes_of(rows):
 
 def expect_each_once(rows, commands, cycles):
     """There is a row for each command of each cycle, in order, and none besides."""
-    places = [(int(row["cycle"]), int(row["place"])) for row in rows]
-    assert places == [(cycle, place) for cycle in range(1, cycles + 1) for place in range(commands)], "cycles and places"
+    places = [(int(row["cycle"]), int(row["place"]), int(row["attempt"])) for row in rows]
+    assert places == [(cycle, place, 1) for cycle in range(1, cycles + 1) for place in range(commands)], "cycles, places and attempts"
 
 
 class Processors:

@@ -5,7 +5,7 @@ known, and a target that moves from a day on. Each target's chain is a positioni
 import datetime
 import math
 import random
-from dataclasses import dataclass, field
+from dataclasses import dataclass, field, replace
 
 from growing import stamp
 from records import HEAD
@@ -73,17 +73,29 @@ class Month:
                         place += 1
             yield rows
 
-    def row(self, cycle, place, target, name, procedure, values, outcome):
+    def row(self, cycle, place, target, name, procedure, values, outcome, attempt=1):
         moment = self.moment(cycle) + datetime.timedelta(seconds=1 + 2 * place)
         how = f"answered,,0,0,{values},ok" if outcome == "answered" else f"{outcome},,,,,"
         if outcome == "refused":
             how = "answered,,0,1285,,refused"
         sent = stamp(moment - datetime.timedelta(seconds=1)).decode()
-        return f"2026-10-31T23:59:50.000Z,{sent},{stamp(moment).decode()},{cycle},{place},{target},{name},{procedure},{how}\n".encode()
+        return f"2026-10-31T23:59:50.000Z,{sent},{stamp(moment).decode()},{cycle},{place},{target},{name},{procedure},{how},{attempt}\n".encode()
 
     def table(self, seed=3):
         """The whole file."""
         return HEAD + b"".join(row for rows in self.rows(seed) for row in rows)
+
+    def tables_of_attempts(self):
+        """Two files that come to the same: in one each chain goes out twice, since its last command is refused at first, and the set-up
+        goes out between; its first attempt measures what is wrong. The other has the second attempts alone."""
+        wrong, refused = replace(self, index=0.001), replace(self, bad={target: (range(1, self.cycles + 1), "refused") for target in self.targets})
+        both, last = [HEAD], [HEAD]
+        for first, behind, again in zip(wrong.rows(), refused.rows(), self.rows()):
+            for begin in range(0, len(again), 6):
+                chain = [row.rsplit(b",", 1)[0] + b",2\n" for row in again[begin : begin + 6]]
+                both += [*first[begin : begin + 5], behind[begin + 5], self.row(0, 0, 9, "", 2107, '"0.5,1.5"', "answered", begin + 1), *chain]
+                last += chain
+        return b"".join(both), b"".join(last)
 
     def first_outside(self, tolerance, outside=1):
         """The cycle in which the moving target was further than this for so many rows, without noise."""

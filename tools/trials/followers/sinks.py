@@ -12,7 +12,7 @@ from pathlib import Path
 import quantities
 from followed import Row
 from programs import ended, until
-from records import COLUMNS, MOMENTS
+from records import COLUMNS, MOMENTS, UNSAID
 from servers import Listening, Servers
 
 TOOLS = Path(__file__).resolve().parents[2]
@@ -100,10 +100,10 @@ def rows_of(path):
     """The whole rows of a file of either form, with their fields by name."""
     *lines, _ = Path(path).read_text(encoding="ascii").split("\n")
     if lines[0].startswith("{"):
-        found = [{**dict.fromkeys(COLUMNS, ""), **json.loads(line, parse_int=str, parse_float=str)} for line in lines]
+        found = [{**dict.fromkeys(COLUMNS, ""), **UNSAID, **json.loads(line, parse_int=str, parse_float=str)} for line in lines]
     else:
         names, *fields = csv.reader(lines)
-        found = [dict(zip(names, row)) for row in fields]
+        found = [{**UNSAID, **dict(zip(names, row))} for row in fields]
     return [Row(number, fields) for number, fields in enumerate(found, 1)]
 
 

@@ -24,10 +24,10 @@ def laid(folder, limits, rows=b""):
     return [folder / "values.csv", folder / "limits", folder / "state"]
 
 
-def row(cycle, target, values, quality="ok", procedure=2108, rc=0):
+def row(cycle, target, values, quality="ok", procedure=2108, rc=0, attempt=1):
     """A row of this cycle, answered so."""
     fields = ["2026-11-24T00:00:00.000Z", "", f"2026-11-24T{cycle // 60:02}:{cycle % 60:02}:00.000Z", cycle, target, target, "", procedure, "answered",
-              "", 0, rc, values, quality]
+              "", 0, rc, values, quality, attempt]
     text = io.StringIO()
     csv.writer(text, lineterminator="\n").writerow(fields)
     return text.getvalue().encode()
@@ -78,6 +78,28 @@ def test_silence(folder):
     lines = lines_of(laid(folder, "7,silence,,,,3\n8,silence,,,,1\n", data))
     assert lines == ["2026-11-24T00:05:00.000Z target 7: no good row for 3 cycles; cycle 4",
                      "2026-11-24T00:10:00.000Z target 7: no good row for 3 cycles; cycle 9"]
+
+
+def test_the_last_attempt_counts(folder):
+    """Of several attempts of a command in a cycle the last one counts: what an earlier one measured is none of the last good rows, and
+    neither is it a good row where the last one was refused. Rows of the set-up are compared with nothing, and end no cycle."""
+    outside, refused = "2,1.5,50.1", ["", "refused", 2108, 1285]
+    data = b"".join([
+        row(1, 7, outside), row(1, 7, outside, attempt=2), row(0, 7, outside), row(1, 8, "2,1.5,50"), row(2, 7, "2,1.5,50"), row(3, 7, outside),
+        row(4, 7, outside), row(4, 7, *refused, attempt=2), row(0, 8, *refused, attempt=5), row(5, 7, *refused), row(6, 7, "2,1.5,50")])
+    lines = lines_of(laid(folder, "7,distance_m,50,0.05,2,3\n7,silence,,,,2\n", data))
+    assert [line.split(": ", 1)[1].split("is ")[-1] for line in lines] == [
+        "50.1, 0.1 above 50 (0.05 allowed): 2 of the last 3 outside; cycle 3", "50.1, 0.1 above 50 (0.05 allowed): 2 of the last 3 outside; cycle 4",
+        "no good row for 2 cycles; cycle 5"]
+
+
+def test_attempts_of_standard_input(folder):
+    """The attempts of a chain stand one behind the other: each row is taken once, also behind a restart within a cycle."""
+    words = ["-", *laid(folder, "7,distance_m,50,0.05,1,1\n8,distance_m,50,0.05,1,1\n")[1:]]
+    rows = [row(1, target, "2,1.5,51", attempt=attempt) for attempt in (1, 2) for target in (7, 8)] + [row(2, 7, "2,1.5,51")]
+    first = lines_of(words, HEAD + b"".join(rows[:3]))
+    again = lines_of(words, HEAD + b"".join(rows))
+    assert (len(first), len(again)) == (3, 2)
 
 
 @pytest.mark.parametrize("limits, why", [
@@ -150,7 +172,7 @@ def test_standard_input(folder):
     fields = dict(zip(COLUMNS, next(csv.reader([rows[0].decode()]))))
     fields["cycle"] = 9
     assert len(lines_of(words, json.dumps({name: field for name, field in fields.items() if field != ""}).encode() + b"\n")) == 1
-    assert ended(tool("alarm", *words), HEAD + rows[0] + b"no row\n", patience=20).messages.endswith("line 3 is no row: it has 1 fields for 14 columns\n")
+    assert ended(tool("alarm", *words), HEAD + rows[0] + b"no row\n", patience=20).messages.endswith("line 3 is no row: it has 1 fields for 15 columns\n")
 
 
 def test_a_command_is_bounded_in_rate(folder):

@@ -3,6 +3,7 @@
 import csv
 import os
 import random
+import re
 import sqlite3
 from contextlib import closing
 from dataclasses import dataclass
@@ -11,7 +12,7 @@ from typing import Callable
 
 from growing import first_rows, row, row_of_columns, row_of_json
 from programs import Run, until
-from records import COLUMNS, COLUMNS_HEAD, HEAD
+from records import COLUMNS, COLUMNS_HEAD, HEAD, LAST
 from sinks import expect_postgres, expect_sqlite, followers, level, messages_of, tool
 
 GOOD = {"~.csv": HEAD + b"".join(first_rows(40)),
@@ -37,7 +38,7 @@ def bad_lines():
     for name, before, rows, line, message in [
         ("glued.csv", HEAD + table_row, 1, table_row[:10] + table_row, glued),
         ("later glued.csv", COLUMNS_HEAD, 0, table_row[:10] + columns_row, glued),
-        ("glued in a string.csv", HEAD + table_row, 1, table_row[:-4] + table_row, no_row + "',' expected after"),
+        ("glued in a string.csv", HEAD + table_row, 1, table_row[:-6] + table_row, no_row + "',' expected after"),
         ("glued.jsonl", json_row, 1, json_row[:17] + json_row, no_row + "it is no object of JSON"),
         ("no date.csv", HEAD, 0, table_row.replace(b"-24T20", b"-31T20"), no_row + "its sent is no moment: 2026-11-31T20:00:38.766Z"),
         ("no procedure.csv", HEAD, 0, table_row.replace(b",2108,", b",,"), no_row + "it has nothing as procedure"),
@@ -113,7 +114,7 @@ def test_one_bad_file_stops_no_other(servers, folder, note):
 
 def test_reads_columns_by_name(servers, folder):
     """A column that is needed and missing is told in one line; further ones, another order, and rows of an earlier version, which
-    have no run, no moment of sending and no quality, change nothing."""
+    have no run, no moment of sending, no quality and no attempt, change nothing."""
     path, base = folder / "columns.csv", folder / "columns.db"
     path.write_bytes((",".join(column for column in COLUMNS if column != "rc") + "\n").encode())
     commands = [one.command(path, "--once") for one in followers(servers, base)]
@@ -128,7 +129,7 @@ def test_reads_columns_by_name(servers, folder):
         for fields in csv.reader(line.decode().rstrip("\n") for line in rows):
             table.writerow(["x", *reversed(fields), "2.25", ""])
     earlier = folder / "earlier.csv"
-    earlier.write_bytes(b"".join(line.split(b",", 2)[2].rsplit(b",", 1)[0] + b"\n" for line in [HEAD, *rows]))
+    earlier.write_bytes(b"".join(line.split(b",", 2)[2].rsplit(b",", len(LAST))[0] + b"\n" for line in [HEAD, *rows]))
     for other in later, earlier:
         for follower in followers(servers, base)[:2]:
             messages_of(follower.command(other, "--once"))
@@ -137,22 +138,53 @@ def test_reads_columns_by_name(servers, folder):
         messages_of(tool("plot", other, folder / other.stem))
 
 
+def without_attempt(view):
+    """The query of a view without its last column."""
+    return re.sub(r",\s+(?:record\.)?attempt(?=\s+FROM)", "", view)
+
+
 def test_goes_on_in_databases_of_an_earlier_version(servers, folder):
-    """A table without a quality gets that column, and its view then has the values of warnings."""
+    """A table without a quality and an attempt gets these columns, and its view then has the values of warnings."""
     path, base = folder / "old.csv", folder / "old.db"
     path.write_bytes(HEAD)
     commands = [one.command(path, "--once") for one in followers(servers, base)[:2]]
     for command in commands:
         messages_of(command)
     # The view of the other version has all rows.
-    older = ["DROP VIEW measured", "ALTER TABLE record DROP COLUMN quality"]
+    older = ["DROP VIEW measured", *(f"ALTER TABLE record DROP COLUMN {column}" for column in LAST)]
     with closing(sqlite3.connect(base)) as table:
         for statement in [*older, "CREATE VIEW measured AS SELECT source, line FROM record"]:
             table.execute(statement)
     view = servers.ask("SELECT pg_get_viewdef('measured')")[0][0]
-    servers.order(*older, "CREATE VIEW measured AS " + view[: view.index("WHERE")])
+    servers.order(*older, "CREATE VIEW measured AS " + without_attempt(view[: view.index("WHERE")]))
     path.write_bytes(HEAD + b"".join(first_rows(300)))
     for command in commands:
         messages_of(command)
     expect_sqlite(base, path)
     expect_postgres(servers, path)
+
+
+def test_rows_of_an_earlier_version_are_first_attempts(servers, folder):
+    """A table without an attempt gets that column: what it has is of the first attempt, and so is a row that doesn't say it. The view has
+    the attempt, too."""
+    path, base = folder / "old.csv", folder / "old.db"
+    rows = first_rows(40)
+    path.write_bytes(HEAD + b"".join(rows[:10]))
+    commands = [one.command(path, "--once") for one in followers(servers, base)[:2]]
+    for command in commands:
+        messages_of(command)
+    with closing(sqlite3.connect(base)) as table:
+        for statement in ["DROP VIEW measured", "ALTER TABLE record DROP COLUMN attempt", "CREATE VIEW measured AS SELECT source, line FROM record"]:
+            table.execute(statement)
+    view = servers.ask("SELECT pg_get_viewdef('measured')")[0][0]
+    servers.order("DROP VIEW measured", "ALTER TABLE record DROP COLUMN attempt", "CREATE VIEW measured AS " + without_attempt(view))
+    path.write_bytes(HEAD + b"".join(rows))
+    for command in commands:
+        messages_of(command)
+    wanted = [1] * 10 + [2 if number % 7 == 3 else 1 for number in range(10, 40)]
+    assert set(wanted[10:]) == {1, 2}
+    with closing(sqlite3.connect(base)) as table:
+        for name in "record", "measured":
+            found = table.execute(f"SELECT line, attempt FROM {name} WHERE source = ? ORDER BY line", [str(path)]).fetchall()
+            assert found and all(attempt == wanted[line - 1] for line, attempt in found), name
+            assert servers.ask(f"SELECT line, attempt FROM {name} WHERE source = %s ORDER BY line", str(path)) == found, name

@@ -50,6 +50,15 @@ def test_lanes_and_dates(folder):
             assert word in page, word
 
 
+def test_the_last_attempt_is_drawn(folder):
+    """Of several attempts of a command in a cycle the last one is drawn, and none of the set-up."""
+    for name, table in zip(("both", "last"), Month(cycles=20, noise=2e-6).tables_of_attempts()):
+        (folder / name).write_bytes(table)
+    both, last = (drawn.read(folder / name) for name in ("both", "last"))
+    assert both == last
+    assert [len(target.series["hz_rad"][1].values) for target in both] == [20, 20, 20]
+
+
 def test_tells_a_folder_that_cant_be_written(folder):
     """The folder is named, and not the file of rows."""
     path, place = folder / "values.csv", folder / "file"

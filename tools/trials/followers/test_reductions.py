@@ -196,3 +196,18 @@ def test_reduces_as_a_file_grows(folder, note):
     site.write_text(SITE.replace("0.5", "0.6"), encoding="utf-8")
     assert "has other rows than these come to" in messages_of([*command, "--once"], 1)
     note(f"12 kills, {found.count(chr(10).encode()) - 1} rows")
+
+
+def test_the_last_attempt_is_reduced(folder):
+    """Where chains go out again, and the set-up between them, the rows are those of the last attempts; also as the file grows, where a
+    cycle is over with the last attempt of its last chain."""
+    site = folder / "site"
+    site.write_text(SITE, encoding="utf-8")
+    tables = Month(cycles=5, noise=2e-6).tables_of_attempts()
+    for name, table in zip(("both", "last"), tables):
+        (folder / name).write_bytes(table)
+    both, last = (ended(tool("reduce", folder / name, site), patience=60).output for name in ("both", "last"))
+    assert both == last
+    assert [(row["quality"], row["attempt"]) for row in rows_of(both)] == [("ok", "2")] * 15
+    messages_of(tool("reduce", folder / "both", site, "--append", folder / "made", "--once"))
+    assert (folder / "made").read_bytes() == last

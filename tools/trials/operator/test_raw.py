@@ -8,6 +8,7 @@ import pytest
 from far_end import good, standing
 from measuring import finished, measuring, outcomes_of
 from programs import PATIENCE, Run, simulator
+from records import LAST
 
 SHORT = "--deadline 300 --quiet 150"
 # A line of a text, what stands behind the colon of its request, and what it is answered with behind the colon; the outcome of its row, its
@@ -53,14 +54,14 @@ def test_objects(program):
             assert run.status(PATIENCE) == 0, run.messages()
             rows = list(csv.DictReader(run.output().decode().splitlines()))
     names = list(rows[0])
-    empty = names[names.index("values") + 1 : -1]
+    empty = names[names.index("values") + 1 : -len(LAST)]
     assert not any(row[name] for row in rows for name in empty), "the columns of quantities"
     with standing(answering()) as far:
         with Run([program, "station", far.port, "--json", *SHORT.split()], TEXT) as run:
             assert run.status(PATIENCE) == 0, run.messages()
             objects = list(map(json.loads, run.output().splitlines()))
     assert [one.get("items") for one in objects] == [one[6] for one in ANSWERS], "the items"
-    assert all(list(one)[-2:] == ["items", "quality"] for one in objects if "items" in one), "where they stand"
+    assert all(list(one)[-3:] == ["items", *LAST] for one in objects if "items" in one), "where they stand"
 
 
 @pytest.mark.title("raw, chains")

@@ -2,10 +2,10 @@
 replies are for."""
 
 import collections
-import socket
 import sys
 from pathlib import Path
 
+from line_ends import Connection, Far
 from programs import Run, connect, free_port
 
 KNOWING = Path(__file__).resolve().parent / "knowing.py"
@@ -13,27 +13,26 @@ KNOWING = Path(__file__).resolve().parent / "knowing.py"
 CONNECTIONS = 1000
 
 
-class Instrument:
+class Instrument(Far):
     def __init__(self, program, is_knowing):
+        super().__init__(("127.0.0.1", 0))
         self.words = [sys.executable, KNOWING] if is_knowing else [program, "serve"]
-        self.port, self.run, self.link, self.starts = None, None, None, 0
+        self.run, self.starts = None, 0
         # The request whose reply it keeps, as its id and its number, and the numbers of those whose replies are under way.
         self.kept, self.owed = None, collections.deque()
 
-    def start_anew(self):
+    def restart(self):
         """It starts anew: it forgets the reply that it keeps, and what had come of a line."""
         if self.link:
-            self.link.shutdown(socket.SHUT_WR)
-            while self.link.recv(65536):
+            for _ in self.link.drained(False):
                 pass
-            self.link.close()
+            self.shut()
         if self.starts % CONNECTIONS == 0:
             self.end()
-            self.port = free_port()
-            self.run = Run([*self.words, self.port, "--connections", CONNECTIONS])
+            self.where = "127.0.0.1", free_port()
+            self.run = Run([*self.words, self.where[1], "--connections", CONNECTIONS])
         self.starts += 1
-        self.link = connect(self.port, 30)
-        self.link.setsockopt(socket.IPPROTO_TCP, socket.TCP_NODELAY, 1)
+        self.link = Connection(connect(self.where[1], 30))
         self.kept, self.owed = None, collections.deque()
 
     def owe(self, request):
@@ -41,14 +40,6 @@ class Instrument:
         if not self.kept or self.kept[0] != request[0]:
             self.kept = request
         self.owed.append(self.kept[1])
-
-    def receive(self):
-        """What comes from it."""
-        try:
-            data = self.link.recv(65536)
-        except OSError:
-            data = b""
-        return data or sys.exit("geocom serve ended")
 
     def end(self):
         if self.run:

@@ -117,8 +117,8 @@ def faults_of_rows(plan, rows, log):
 
 def faults_of_row(plan, row, cycle, place, number):
     """What is wrong with a row by itself. The number is that of its request, if one was sent."""
-    wanted = (cycle, place, *plan.commands[place])
-    if tuple(int(row[column]) for column in ("cycle", "place", "target", "procedure")) != wanted or row["name"] != "":
+    wanted = (1, cycle, place, *plan.commands[place])
+    if tuple(int(row[column]) for column in ("attempt", "cycle", "place", "target", "procedure")) != wanted or row["name"] != "":
         yield f"{row}"
     if row["outcome"] not in OUTCOMES or (row["outcome"] != "answered" and any(row[column] for column in OF_REPLY)):
         yield f"{row}"

@@ -96,7 +96,7 @@ def measure(case, program, cycles):
             until(lambda: is_listening(port), "the line isn't there", 30)
             near = f"{case.host}:{port}" if case.host else port
             with bridge(port, Path(folder, "device")) if case.is_device else nullcontext(near) as place:
-                status, written, messages = measured(case, program, plan, place)
+                status, written, messages = measured(case, program, plan, place, line)
             # The line notes a reply once it went over, and the station ends with its last one.
             time.sleep(1)
             line.terminate()
@@ -107,12 +107,12 @@ def measure(case, program, cycles):
     if verdict.faults:
         raise AssertionError("\n".join([*verdict.faults[:10], verdict.counts]))
     if case.name == "good":
-        assert " late 0 lost 0 skipped 0 unreadable 0 missed 0 elsewhere 0, " in verdict.counts and " 0 cycles not done in time, " in verdict.counts
+        assert " late 0 lost 0 skipped 0 unreadable 0 missed 0 elsewhere 0 again 0, " in verdict.counts and " 0 cycles not done in time, " in verdict.counts
     return f"station at {place}, {case.words}, {plan.cycles} cycles; {verdict.counts}; line: {seen}"
 
 
-def measured(case, program, plan, place):
-    """How a station ended there. At a device a second one is refused."""
+def measured(case, program, plan, place, line):
+    """How a station ended there, whose line has to be there as long. At a device a second one is refused."""
     words = ["--deadline", plan.deadline, "--quiet", plan.quiet, "--every", plan.every, "--cycles", plan.cycles, "--retries", 1000]
     with Run([program, "station", place, *words, "--csv", *case.words.split()], case.text()) as run:
         if case.is_device:
@@ -120,7 +120,9 @@ def measured(case, program, plan, place):
             # Where it isn't refused it begins at once.
             second = ended([program, "station", place, "--silent"], case.text())
             assert (second.status, second.output, second.messages.splitlines()[:1]) == (1, b"", [REFUSED]), second
-        return run.status(3000), run.output(), run.messages()
+        until(lambda: not line.is_running() or run.ends_within(1), "the station doesn't end", 3000)
+        assert line.is_running(), line.messages()
+        return run.status(), run.output(), run.messages()
 
 
 @contextmanager
