@@ -1,4 +1,5 @@
-# bash completion for geocom-to-sqlite(1), geocom-to-postgres(1), geocom-to-mqtt(1), geocom-plot(1), geocom-reduce(1) and geocom-alarm(1)
+# bash completion for geocom-to-sqlite(1), geocom-to-postgres(1), geocom-to-mqtt(1), geocom-plot(1), geocom-reduce(1), geocom-alarm(1) and
+# geocom-bad-line(1)
 
 _geocom_tools() {
     local cur prev words cword
@@ -9,9 +10,10 @@ _geocom_tools() {
     geocom-reduce) given="--append $given" ;;
     geocom-alarm) given="--run --apart --patience $given" ;;
     geocom-plot) given='--help' ;;
+    geocom-bad-line) given='--line --seed --connections --log --far-log --decided --drill --deadline --help' ;;
     esac
     case $prev in
-    --append | --password-file)
+    --append | --password-file | --line | --log | --far-log | --decided | --drill)
         _filedir
         return
         ;;
@@ -19,10 +21,10 @@ _geocom_tools() {
         _known_hosts_real -- "$cur"
         return
         ;;
-    --as | --rest | --port | --user | --run | --apart | --patience) return ;;
+    --as | --rest | --port | --user | --run | --apart | --patience | --seed | --connections | --deadline) return ;;
     esac
     case $cur in
     -*) mapfile -t COMPREPLY < <(compgen -W "$given" -- "$cur") ;;
     *) _filedir ;;
     esac
-} && complete -F _geocom_tools geocom-to-sqlite geocom-to-postgres geocom-to-mqtt geocom-plot geocom-reduce geocom-alarm
+} && complete -F _geocom_tools geocom-to-sqlite geocom-to-postgres geocom-to-mqtt geocom-plot geocom-reduce geocom-alarm geocom-bad-line

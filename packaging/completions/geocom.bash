@@ -20,7 +20,7 @@ _geocom() {
         mapfile -t COMPREPLY < <(compgen -W '1 2 3 4 5 6 7' -- "$cur")
         return
         ;;
-    --connections | --idle | --deadline | --every | --cycles | --quiet | --retries | --log-bytes) return ;;
+    --connections | --idle | --deadline | --every | --cycles | --quiet | --retries | --stale | --log-bytes) return ;;
     esac
     case $command in
     exec | loop) given='--scene --help' ;;
@@ -28,7 +28,7 @@ _geocom() {
     drill) given='--scene --totals --width --help' ;;
     serve) given='--connections --keep --idle --scene --help' ;;
     ask) given='--help' ;;
-    station) given='--width --deadline --every --cycles --quiet --retries --csv --columns --json --append --sync --unchained --silent --log --log-bytes --help' ;;
+    station) given='--width --deadline --every --cycles --quiet --retries --stale --until --csv --columns --json --append --sync --unchained --silent --check --log --log-bytes --help' ;;
     *) return ;;
     esac
     # What can't be given behind what stands there.

@@ -4,12 +4,16 @@ python3 -m venv /tmp/venv
 /tmp/venv/bin/pip install -q --no-index --disable-pip-version-check /try/*.whl
 cd /tmp
 /tmp/venv/bin/python /try/tests/examples.py 7 7 </try/tests/worked.steps | cmp - /try/tests/worked.expected
-first=$(/tmp/venv/bin/python /try/tests/first_steps.py /usr/bin/geocom /try/examples/quickstart.py)
-[ "$first" = "7 answered value ('123456',)" ]
+geocom serve 4001 >/dev/null &
+sleep 1
+[ "$(/tmp/venv/bin/python /try/tests/first_steps.py /usr/share/doc/geocom/README.md)" = '2.25 1.625 110.0625' ]
+wait
+/tmp/venv/bin/python /try/tests/examples_run.py >/dev/null
 /tmp/venv/bin/python -c '
 import geocom, importlib.metadata, importlib.resources
 assert importlib.resources.files(geocom).joinpath("py.typed").is_file()
-print(importlib.metadata.version("geocom"))'
+assert geocom.__version__ == importlib.metadata.version("geocom")
+print(geocom.__version__)'
 /tmp/venv/bin/pip uninstall -q -y geocom
 [ -z "$(find /tmp/venv -path '*/site-packages/geocom*')" ]
 rm -r /tmp/venv
