@@ -79,7 +79,8 @@ def test_a_unit_names_its_file(folder):
         assert status == 0, messages
         words = shlex.split(output.decode())
         wanted = ["station", "4001", "--json", "--cycles", "0", "--append", f"/var/lib/geocom/{name}", "--sync"]
-        assert words[words.index("station") : -2] == wanted, "the words of the unit"
+        *given, until, stop = words[words.index("station") : -2]
+        assert (given, until) == (wanted, "--until") and stop.endswith("/geocom-station-north/stop"), "the words of the unit"
 
 
 def test_draws_each_target(folder, note):
