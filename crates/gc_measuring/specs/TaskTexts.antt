@@ -68,3 +68,7 @@ pub record GivesTasks (given : List ℕ) (old new : Input) (choice : Choice) (ta
   pub are : IsTasks given choice.deadline choice.chained setup tasks names nears
   pub some : 0 < length tasks
   pub none : is_set_up setup tasks ≡ false
+
+-- a source gave a station's text that is measured by this choice
+abbrev pub IsCheckable : Choice → Input → Input → Type 0
+IsCheckable choice old new = (given : List ℕ) × (tasks : List Task) × (names : List Name) × Gave given old new × GivesTasks given old new choice tasks names

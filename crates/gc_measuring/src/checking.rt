@@ -1,8 +1,10 @@
 //! A station's text that is only read: what a station would do with it is written on the output, and what looks wrong in it is
 //! reported on the messages. Nothing is connected to.
 
-ghost use Rattle.std.specs.Prelude.{◌≤◌, IfOk};
+ghost use Rattle.std.specs.Prelude.{◌≡◌, ◌≤◌, IfOk};
 ghost use Rattle.std.specs.Process.{exit_status};
+ghost use Rattle.gc_measuring.specs.TaskTexts.{IsCheckable};
+ghost use Rattle.gc_texts.specs.WholeTexts.{input_of};
 
 use crate::stop::Stop;
 use crate::task_text::read_task_text;
@@ -24,6 +26,10 @@ pub fn check_task_text<S: Source, K: Sink, E: Write>(
     mut streams: Streams<S, K, E>,
 ) -> (Streams<S, K, E>, io::Result<ExitCode>)
     ensures bound { IfOk result.1 (λ status. exit_status status ≤ 1) }
+
+    // Status 0 only where the source gave a text that a station with this choice measures.
+    ensures done { IfOk result.1 (λ status. exit_status status ≡ 0
+        → IsCheckable choice (input_of S.Source streams.input) (input_of S.Source result.0.input)) }
 {
     let end = match read_task_text(alloc, &mut streams.input, &choice) {
         Ok((tasks, text)) => {
