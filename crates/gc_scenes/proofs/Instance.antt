@@ -17,9 +17,12 @@ use Rattle.gc_instrument.proofs.Keeping.{executes_apart}
 use Rattle.gc_scenes.specs.Laws.{still, all_still, ruleless, TableIsTheInstance}
 use Rattle.gc_scenes.specs.Machine.{seeing}
 use Rattle.gc_scenes.specs.Rules.{seen, drifted, moved_by, is_clear}
-use Rattle.gc_scenes.specs.SceneExecution.{Played, plays, told_of, table_outcome, behind_call, look_of, is_measurement}
+use Rattle.gc_scenes.specs.SceneExecution.{Played, plays, told_of, outcome, behind_call, look_of, is_measurement}
 use Rattle.gc_scenes.specs.SceneReplying.{silent, answers, AnswersRequest, names_call, names_none, unreadable, Gave, again_or_played, handed_call, handed_raw, holding}
+use Rattle.gc_scenes.specs.Acting.{acting}
+use Rattle.gc_scenes.specs.Ways.{no_ways}
 use Rattle.gc_scenes.specs.declared.rules.Prism.{Prism}
+use Rattle.gc_scenes.proofs.Acted.{plain_acting}
 
 -- false isn't true
 never_true : false ≡ true → ⊥
@@ -36,10 +39,10 @@ clear_still : (look : ℕ) (t : Target) → is_clear look (still t) ≡ true
 clear_still look t = no_look look (nat_le 1 look) (nat_le look 0) refl refl
 
 -- all targets that no rule names can be seen
-seen_still : (look : ℕ) (ts : List Target) → seen look (all_still ts) ≡ ts
+seen_still : (look : ℕ) (ts : List Target) → seen false look (all_still ts) ≡ ts
 seen_still look [] = refl
 seen_still look (t ∷ ts) =
-    ap (λ (b : Bool). cond b (t ∷ seen look (all_still ts)) (seen look (all_still ts))) (clear_still look t) ∙ ap (λ (xs : List Target). t ∷ xs) (seen_still look ts)
+    ap (λ (b : Bool). cond b (t ∷ seen false look (all_still ts)) (seen false look (all_still ts))) (clear_still look t) ∙ ap (λ (xs : List Target). t ∷ xs) (seen_still look ts)
 
 -- a target that no rule names stays
 still_stays : (b : Bool) (t : Target) → cond b (moved_by None (still t)) (still t) ≡ still t
@@ -47,48 +50,54 @@ still_stays true t = refl
 still_stays false t = refl
 
 -- targets that no rule names stay
-drifted_still : (look : ℕ) (there : Pointing) (ts : List Target) → drifted look there (all_still ts) ≡ all_still ts
+drifted_still : (look : ℕ) (there : Pointing) (ts : List Target) → drifted false look there (all_still ts) ≡ all_still ts
 drifted_still look there [] = refl
 drifted_still look there (t ∷ ts) =
-    ap (λ (p : Prism). p ∷ drifted look there (all_still ts)) (still_stays (is_clear look (still t) && is_at there t) t) ∙ ap (λ (ps : List Prism). still t ∷ ps) (drifted_still look there ts)
+    ap (λ (p : Prism). p ∷ drifted false look there (all_still ts)) (still_stays (is_clear look (still t) && is_at there t) t) ∙ ap (λ (ps : List Prism). still t ∷ ps) (drifted_still look there ts)
 
 -- the targets behind a call, whether it measures or not
-behind_still : (b : Bool) (look : ℕ) (there : Pointing) (ts : List Target) → cond b (drifted look there (all_still ts)) (all_still ts) ≡ all_still ts
+behind_still : (b : Bool) (look : ℕ) (there : Pointing) (ts : List Target) → cond b (drifted false look there (all_still ts)) (all_still ts) ≡ all_still ts
 behind_still true look there ts = drifted_still look there ts
 behind_still false look there ts = refl
 
-module _ (looks : ℕ) (s : State) (call : Call) where
-  -- the table's outcome is that of the table itself
-  outcome : table_outcome (ruleless looks s) call ≡ exec s call
-  outcome = ap (λ (ts : List Target). exec (seeing ts s) call) (seen_still (look_of looks call) s.scene)
+-- what has this state, this code and this answer
+abbrev same_outcome : Executed → Executed
+same_outcome x = record { state = x.state; rc = x.rc; answer = x.answer }
+
+module _ (looks moment : ℕ) (s : State) (call : Call) where
+  -- the outcome is that of the table itself
+  outcome_is : outcome (ruleless looks moment s) call ≡ same_outcome (exec s call)
+  outcome_is =
+      ap (λ (ts : List Target). same_outcome (acting no_ways None (seeing ts s) call)) (seen_still (look_of false looks call) s.scene) ∙ ap same_outcome (plain_acting s call)
 
   -- a call leaves what is kept
   kept_stays : (exec s call).state.kept ≡ s.kept
   kept_stays = ap (λ (x : Executed). x.state.kept) (executes_apart s s.kept call)
 
   -- the state behind a call, with a reply that is kept
-  behind_is : (kept : Option KeptReply) → ruleless (look_of looks call) (with_kept kept (exec s call).state) ≡ holding kept (behind_call (ruleless looks s) call (exec s call))
+  behind_is : (kept : Option KeptReply) → ruleless (look_of false looks call) moment (with_kept kept (exec s call).state) ≡ holding kept (behind_call (ruleless looks moment s) call (exec s call))
   behind_is kept =
       let x = exec s call in
-      let targets : all_still x.state.scene ≡ cond (is_measurement call) (drifted (look_of looks call) s.pointing (all_still s.scene)) (all_still s.scene) =
-      ap (λ (t : State). all_still t.scene) (exec_outcome s call).same ∙ sym (behind_still (is_measurement call) (look_of looks call) s.pointing s.scene) in
-      ap (λ (ps : List Prism). record (ruleless (look_of looks call) (with_kept kept x.state)) { prisms = ps }) targets
+      let targets : all_still x.state.scene ≡ cond (is_measurement call) (drifted false (look_of false looks call) s.pointing (all_still s.scene)) (all_still s.scene) =
+      ap (λ (t : State). all_still t.scene) (exec_outcome s call).same ∙ sym (behind_still (is_measurement call) (look_of false looks call) s.pointing s.scene) in
+      ap (λ (ps : List Prism). record (ruleless (look_of false looks call) moment (with_kept kept x.state)) { prisms = ps }) targets
 
   -- what comes of the call
-  played : plays (ruleless looks s) call ≡ told_of (ruleless looks s) call (exec s call)
+  played : plays (ruleless looks moment s) call ≡ told_of (ruleless looks moment s) call (exec s call)
   unfolding plays
-  played = ap (told_of (ruleless looks s) call) outcome
+  played = ap (told_of (ruleless looks moment s) call) outcome_is
 
   -- what a request of the call gives that is no repeat
   gave_new : (rpc : ℕ) (id : Option ℕ) (after : State) (reply : List ℕ) → kept_line s.kept id ≡ None → after ≡ with_kept (kept_after s.kept id reply) (exec s call).state
-      → reply ≡ executed_line (unwrap_or id 0) (exec s call) → Gave (handed_call (ruleless looks s) rpc id call) (ruleless (look_of looks call) after) reply
+      → reply ≡ executed_line (unwrap_or id 0) (exec s call) → Gave (handed_call (ruleless looks moment s) rpc id call) (ruleless (look_of false looks call) moment after) reply
   unfolding handed_call
   gave_new rpc id after reply none state line =
-      let p = told_of (ruleless looks s) call (exec s call) in
-      subst (λ (o : Option (List ℕ)). Gave (again_or_played (ruleless looks s) id (plays (ruleless looks s) call) o) (ruleless (look_of looks call) after) reply) (sym none)
-      (subst (λ (y : Played). Gave (again_or_played (ruleless looks s) id y None) (ruleless (look_of looks call) after) reply) (sym played)
+      let p = told_of (ruleless looks moment s) call (exec s call) in
+      subst (λ (o : Option (List ℕ)). Gave (again_or_played (ruleless looks moment s) id (plays (ruleless looks moment s) call) o) (ruleless (look_of false looks call) moment after) reply) (sym none)
+      (subst (λ (y : Played). Gave (again_or_played (ruleless looks moment s) id y None) (ruleless (look_of false looks call) moment after) reply) (sym played)
       (record {
-        state = ap (ruleless (look_of looks call)) state ∙ ap (λ (l : List ℕ). ruleless (look_of looks call) (with_kept (kept_after s.kept id l) (exec s call).state)) line
+        state = ap (ruleless (look_of false looks call) moment) state
+            ∙ ap (λ (l : List ℕ). ruleless (look_of false looks call) moment (with_kept (kept_after s.kept id l) (exec s call).state)) line
             ∙ behind_is (kept_after s.kept id (executed_line (unwrap_or id 0) (exec s call)))
             ∙ ap (λ (k : Option KeptReply). holding (kept_after k id (executed_line (unwrap_or id 0) (exec s call))) p.state) (sym kept_stays);
         line = line;
@@ -96,29 +105,29 @@ module _ (looks : ℕ) (s : State) (call : Call) where
 
   -- what a repeat gives
   gave_kept : (rpc : ℕ) (id : Option ℕ) (after : State) (reply : List ℕ) → kept_line s.kept id ≡ Some reply → after ≡ s
-      → Gave (handed_call (ruleless looks s) rpc id call) (ruleless looks after) reply
+      → Gave (handed_call (ruleless looks moment s) rpc id call) (ruleless looks moment after) reply
   unfolding handed_call
   gave_kept rpc id after reply some same =
-      subst (λ (o : Option (List ℕ)). Gave (again_or_played (ruleless looks s) id (plays (ruleless looks s) call) o) (ruleless looks after) reply) (sym some)
-      (record { state = ap (ruleless looks) same; line = refl })
+      subst (λ (o : Option (List ℕ)). Gave (again_or_played (ruleless looks moment s) id (plays (ruleless looks moment s) call) o) (ruleless looks moment after) reply) (sym some)
+      (record { state = ap (ruleless looks moment) same; line = refl })
 
 -- an unknown procedure is refused
-gave_refusal : (looks rpc : ℕ) (s after : State) (id : Option ℕ) (reply : List ℕ) → after ≡ s → reply ≡ refusal_line (unwrap_or id 0) Unknown
-    → Gave (handed_raw (ruleless looks s) rpc id) (ruleless looks after) reply
+gave_refusal : (looks moment rpc : ℕ) (s after : State) (id : Option ℕ) (reply : List ℕ) → after ≡ s → reply ≡ refusal_line (unwrap_or id 0) Unknown
+    → Gave (handed_raw (ruleless looks moment s) rpc id) (ruleless looks moment after) reply
 unfolding handed_raw
-gave_refusal looks rpc s after id reply same line = record { state = ap (ruleless looks) same; line = line }
+gave_refusal looks moment rpc s after id reply same line = record { state = ap (ruleless looks moment) same; line = line }
 
 -- what the instrument of the table does with a request, that of a scene without rules does
-request_instance : (s t : State) (q : RequestFields) (reply : List ℕ) (looks : ℕ) → table.AnswersRequest s q t reply → (more : ℕ) × AnswersRequest (ruleless looks s) q (ruleless more t) reply
-request_instance s t q reply looks (table.refuses Unknown is same line) = (looks, names_none is (gave_refusal looks q.rpc s t q.id reply same line))
-request_instance s t q reply looks (table.refuses (Parameters e) is same line) = (looks, unreadable e is (ap (ruleless looks) same) line)
-request_instance s t q reply looks (table.answers_call call is (table.repeats some same)) = (looks, names_call call is (gave_kept looks s call q.rpc q.id t reply some same))
-request_instance s t q reply looks (table.answers_call call is (table.executes none state line)) =
-    (look_of looks call, names_call call is (gave_new looks s call q.rpc q.id t reply none state line))
+request_instance : (s t : State) (q : RequestFields) (reply : List ℕ) (looks moment : ℕ) → table.AnswersRequest s q t reply → (more : ℕ) × AnswersRequest (ruleless looks moment s) q (ruleless more moment t) reply
+request_instance s t q reply looks moment (table.refuses Unknown is same line) = (looks, names_none is (gave_refusal looks moment q.rpc s t q.id reply same line))
+request_instance s t q reply looks moment (table.refuses (Parameters e) is same line) = (looks, unreadable e is (ap (ruleless looks moment) same) line)
+request_instance s t q reply looks moment (table.answers_call call is (table.repeats some same)) = (looks, names_call call is (gave_kept looks moment s call q.rpc q.id t reply some same))
+request_instance s t q reply looks moment (table.answers_call call is (table.executes none state line)) =
+    (look_of false looks call, names_call call is (gave_new looks moment s call q.rpc q.id t reply none state line))
 
 -- what the instrument of the table does with a line, that of a scene without rules does
 pub table_is_the_instance : TableIsTheInstance
-table_is_the_instance s t line reply looks (table.silent none same quiet) = (looks, silent none (ap (ruleless looks) same) quiet)
-table_is_the_instance s t line reply looks (table.answers q is text does told) =
-    let h = request_instance s t q text looks does in
+table_is_the_instance s t line reply looks moment (table.silent none same quiet) = (looks, silent none (ap (ruleless looks moment) same) quiet)
+table_is_the_instance s t line reply looks moment (table.answers q is text does told) =
+    let h = request_instance s t q text looks moment does in
     (h.0, answers q is text h.1 told)

@@ -1,5 +1,10 @@
+pub mod Acted
+pub mod Days
 pub mod Instance
+pub mod Nearest
 pub mod Playing
 pub mod Rows
 pub mod Shifts
 pub mod Turns
+pub mod Values
+pub mod Slowly

@@ -17,17 +17,16 @@ use Rattle.gc_catalogue.specs.declared.call.Call.{Call}
 use Rattle.gc_catalogue.specs.declared.fault.CallFault.TheVariants.{Unknown, Parameters}
 use Rattle.gc_instrument.specs.Execution.{Executed}
 use Rattle.gc_instrument.specs.Replying.{refusal_line, reply_id}
-use Rattle.gc_instrument.proofs.Executions.{exec_outcome}
 use Rattle.gc_scenes.specs.Appending.{AppendsGave, AppendsPlayed, AppendsReply}
-use Rattle.gc_scenes.specs.Machine.{seeing}
-use Rattle.gc_scenes.specs.Rules.{fault_of, answer_of, noisy, noise_after, seen}
-use Rattle.gc_scenes.specs.SceneExecution.{Played, plays, table_outcome, behind_call, look_of, played_call, played_raw, unless_faulted_raw, scripted, counting, faulted}
+use Rattle.gc_scenes.specs.Rules.{fault_of, answer_of, noisy, noise_after}
+use Rattle.gc_scenes.specs.SceneExecution.{Played, plays, outcome, behind_call, beside, played_call, played_raw, unless_faulted_raw, scripted, counting, faulted}
 use Rattle.gc_scenes.specs.SceneReplying.{IsPlayed, silent, answers, AnswersRequest, names_call, names_none, unreadable, again_for, again_or_played, handed_call, handed_raw, played_or_refused, holding, kept_behind, line_of}
 use Rattle.gc_scenes.specs.SceneServing.{PlaysFrame}
 use Rattle.gc_scenes.specs.SceneState.{SceneState}
 use Rattle.gc_scenes.specs.declared.rules.Noise.{Noise}
 use Rattle.gc_scenes.specs.declared.rules.Scripted.{Scripted}
 use Rattle.gc_scenes.specs.Params.{scripted_params}
+use Rattle.gc_scenes.proofs.Acted.{outcome_sound}
 
 -- A request that isn't executed, or is.
 
@@ -89,31 +88,30 @@ noise_of_none None a is = is
 noise_of_none (Some n) a is = ap (noisy (Some n)) is
 
 -- with a code that isn't 0 nothing is told
-pub refuses : (s t : SceneState) (call : Call) (x : Executed) (code : ℕ) (said told : Answer) → table_outcome s call ≡ record { state = x.state; rc = code; answer = said }
+pub refuses : (s t : SceneState) (call : Call) (code : ℕ) (said told : Answer) → outcome s call ≡ record { state = (outcome s call).state; rc = code; answer = said }
     → told ≡ noisy t.noise said → code ≢ 0 → told ≡ answer.Nothing
-refuses s t call x code said told is noise some =
-    let outcome = exec_outcome (seeing (seen (look_of s.looks call) s.prisms) s.base) call in
-    noise ∙ noise_of_none t.noise said (sym (ap (λ (y : Executed). y.answer) is) ∙ outcome.refuses (λ none. some (sym (ap (λ (y : Executed). y.rc) is) ∙ none)))
+refuses s t call code said told is noise some =
+    noise ∙ noise_of_none t.noise said (sym (ap (λ (y : Executed). y.answer) is) ∙ (outcome_sound s call).refuses (λ none. some (sym (ap (λ (y : Executed). y.rc) is) ∙ none)))
 
 -- what comes of an executed call
-pub executed : (s t u : SceneState) (call : Call) (number code places : ℕ) (said told : Answer) (old new : List ℕ)
-    → table_outcome s call ≡ record { state = (table_outcome s call).state; rc = code; answer = said }
-    → t ≡ record (behind_call s call (table_outcome s call)) { noise = s.noise } → told ≡ noisy t.noise said → u ≡ record t { noise = noise_after t.noise said } → places ≡ u.base.precision
-    → new ≡ old ++ reply_line number code told places → AppendsPlayed number (plays s call) u old new
+pub executed : (s t u : SceneState) (call : Call) (number code : ℕ) (said told : Answer) (old new : List ℕ)
+    → outcome s call ≡ record { state = (outcome s call).state; rc = code; answer = said }
+    → t ≡ record (behind_call s call (outcome s call)) { noise = s.noise } → told ≡ noisy t.noise said → u ≡ record t { noise = noise_after t.noise said }
+    → new ≡ old ++ reply_line number code (beside u.ways.values u.base.pointing call code told) u.base.precision → AppendsPlayed number (plays s call) u old new
 unfolding plays
-executed s t u call number code places said told old new is state noise drawn precision appended =
-    let x = table_outcome s call in
+executed s t u call number code said told old new is state noise drawn appended =
+    let x = outcome s call in
     let rc : code ≡ x.rc = sym (ap (λ (y : Executed). y.rc) is) in
     let ans : said ≡ x.answer = sym (ap (λ (y : Executed). y.answer) is) in
     let quiet : t.noise ≡ s.noise = ap (λ (y : SceneState). y.noise) state in
     let after : u ≡ behind_call s call x =
     drawn ∙ ap (λ (y : SceneState). record y { noise = noise_after y.noise said }) state ∙ ap (λ (a : Answer). record (behind_call s call x) { noise = noise_after s.noise a }) ans in
     let said_is : told ≡ noisy s.noise x.answer = noise ∙ ap (λ (n : Option Noise). noisy n said) quiet ∙ ap (noisy s.noise) ans in
-    let places_is : places ≡ x.state.precision = precision ∙ ap (λ (y : SceneState). y.base.precision) after in
     record {
       state = after;
-      appended = appended ∙ ap (λ (c : ℕ). old ++ reply_line number c told places) rc ∙ ap (λ (a : Answer). old ++ reply_line number x.rc a places) said_is
-          ∙ ap (λ (p : ℕ). old ++ reply_line number x.rc (noisy s.noise x.answer) p) places_is;
+      appended = appended ∙ ap (λ (y : SceneState). old ++ reply_line number code (beside y.ways.values y.base.pointing call code told) y.base.precision) after
+          ∙ ap (λ (c : ℕ). old ++ reply_line number c (beside s.ways.values x.state.pointing call c told) x.state.precision) rc
+          ∙ ap (λ (a : Answer). old ++ reply_line number x.rc (beside s.ways.values x.state.pointing call x.rc a) x.state.precision) said_is;
     }
 
 -- Lines.

@@ -57,12 +57,12 @@ not_made : (b : Bool) (z : ℤ) (h : nat_le (unsigned_abs z) (10 ^ 13 * 10 ^ 24)
 not_made true z h d out = absurd (out (leb-true (unsigned_abs z) (10 ^ 13 * 10 ^ 24) h))
 not_made false z h d out = refl
 
--- a sum of two numbers of at most 10^37
-sum_small : (x y : ℤ) → unsigned_abs x ≤ 10 ^ 37 → unsigned_abs y ≤ 10 ^ 37 → unsigned_abs (x +ℤ y) ≤ 4 * 10 ^ 37
+-- a sum of a number of at most 10^37 and one of at most 3 * 10^37
+sum_small : (x y : ℤ) → unsigned_abs x ≤ 10 ^ 37 → unsigned_abs y ≤ 3 * 10 ^ 37 → unsigned_abs (x +ℤ y) ≤ 4 * 10 ^ 37
 sum_small x y a b = omega (arith, ints, a, b)
 
 -- what the code adds
-pub sum_is : (d : Decimal) (u by : ℤ) → u ≡ units d → unsigned_abs u ≤ 10 ^ 37 → unsigned_abs by ≤ 10 ^ 37 → held (held u +ℤ held by) ≡ units d +ℤ by
+pub sum_is : (d : Decimal) (u by : ℤ) → u ≡ units d → unsigned_abs u ≤ 10 ^ 37 → unsigned_abs by ≤ 3 * 10 ^ 37 → held (held u +ℤ held by) ≡ units d +ℤ by
 sum_is d u by is a b =
     ap (λ x. held (x +ℤ held by)) (held_is u (omega (arith, a))) ∙ ap (λ x. held (u +ℤ x)) (held_is by (omega (arith, b))) ∙ held_is (u +ℤ by) (sum_small u by a b) ∙ ap (λ x. x +ℤ by) is
 

@@ -2,7 +2,10 @@ pub mod Params
 pub mod Machine
 pub mod Shifting
 pub mod ShiftedFacts
+pub mod Ways
+pub mod Clocks
 pub mod Rules
+pub mod Acting
 pub mod SceneState
 pub mod SceneExecution
 pub mod SceneReplying
@@ -10,3 +13,4 @@ pub mod SceneServing
 pub mod Laws
 pub mod Seen
 pub mod Appending
+pub mod Slow

@@ -7,6 +7,7 @@ use Rattle.gc_instrument.specs.Targets.{is_at}
 use Rattle.gc_instrument.specs.declared.pointing.Pointing.{Pointing}
 use Rattle.gc_instrument.specs.declared.target.Target.{Target}
 use Rattle.gc_scenes.specs.Shifting.{shifted, next, deviation}
+use Rattle.gc_scenes.specs.Ways.{met}
 use Rattle.gc_scenes.specs.declared.rules.Prism.{Prism}
 use Rattle.gc_scenes.specs.declared.rules.Offset.{Offset}
 use Rattle.gc_scenes.specs.declared.rules.Fault.{Fault}
@@ -23,10 +24,10 @@ one_more n = min (n + 1) 4294967295
 abbrev pub is_clear : ℕ → Prism → Bool
 is_clear look p = not (nat_le p.from look && nat_le look p.to)
 
--- the targets that can be seen in this look, where they stand
-abbrev pub seen : ℕ → List Prism → List Target
-seen look [] = []
-seen look (p ∷ ps) = if is_clear look p then p.at ∷ seen look ps else seen look ps
+-- the targets that can be seen in this look, where the telescope has to point to meet them: turned over, or where they stand
+abbrev pub seen : Bool → ℕ → List Prism → List Target
+seen over look [] = []
+seen over look (p ∷ ps) = if is_clear look p then met over p.at ∷ seen over look ps else seen over look ps
 
 -- the target, moved so much
 abbrev pub offset : Offset → Target → Target
@@ -38,13 +39,13 @@ moved_by None p = p
 moved_by (Some o) p = record p { at = offset o p.at }
 
 -- the target after a measurement in this look, with the telescope pointing there: it moves if it was measured
-abbrev pub moved : ℕ → Pointing → Prism → Prism
-moved look there p = if is_clear look p && is_at there p.at then moved_by p.drift p else p
+abbrev pub moved : Bool → ℕ → Pointing → Prism → Prism
+moved over look there p = if is_clear look p && is_at there (met over p.at) then moved_by p.drift p else p
 
 -- the targets after a measurement
-abbrev pub drifted : ℕ → Pointing → List Prism → List Prism
-drifted look there [] = []
-drifted look there (p ∷ ps) = moved look there p ∷ drifted look there ps
+abbrev pub drifted : Bool → ℕ → Pointing → List Prism → List Prism
+drifted over look there [] = []
+drifted over look there (p ∷ ps) = moved over look there p ∷ drifted over look there ps
 
 -- Requests.
 

@@ -1,16 +1,29 @@
--- What a call does to the instrument of a scene: the execution table over the targets that can be seen, and what the scene's rules make of
--- it. This project's own.
-use Rattle.std.specs.Prelude.{ℕ, pos, Bool, true, false, List, [], Option, Some, None, if◌then◌else◌}
+-- What a call does to the instrument of a scene: the execution table over the targets that can be seen, with the ways of real instruments
+-- that it has, and what the scene's rules make of it. This project's own.
+use Rattle.std.specs.Prelude.{ℕ, pos, ◌==◌, ◌&&◌, Bool, true, false, List, [], Option, Some, None, unwrap_or, if◌then◌else◌}
+use Rattle.std.specs.Option.{option_map}
 use Rattle.std.specs.Ordering.{int_eq}
+use Rattle.gc_values.specs.Decimals.{zero}
+use Rattle.gc_values.specs.declared.decimal.Decimal.{Decimal}
 use Rattle.gc_catalogue.specs.Answers.{answer_fields, rounded_answer}
 use Rattle.gc_catalogue.specs.Lists.{params_of}
+use Rattle.gc_catalogue.specs.declared.answer.Answer.{Answer}
+use Rattle.gc_catalogue.specs.declared.answer.Answer.TheVariants as answer
 use Rattle.gc_catalogue.specs.declared.call.Call.{Call}
 use Rattle.gc_catalogue.specs.declared.call.Call.TheVariants as call
-use Rattle.gc_instrument.specs.Execution.{Executed, exec}
+use Rattle.gc_catalogue.specs.declared.call.DateTime.{DateTime}
+use Rattle.gc_instrument.specs.Execution.{Executed}
+use Rattle.gc_instrument.specs.Targets.{first_at}
+use Rattle.gc_instrument.specs.declared.pointing.Pointing.{Pointing}
+use Rattle.gc_instrument.specs.declared.target.Target.{Target}
+use Rattle.gc_scenes.specs.Acting.{acted}
+use Rattle.gc_scenes.specs.Clocks.{shown_at}
 use Rattle.gc_scenes.specs.Params.{scripted_params}
 use Rattle.gc_scenes.specs.Machine.{seeing}
 use Rattle.gc_scenes.specs.Rules.{seen, drifted, one_more, fault_of, counted, answer_of, noisy, noise_after}
 use Rattle.gc_scenes.specs.SceneState.{SceneState}
+use Rattle.gc_scenes.specs.Ways.{is_over, is_warning, has_distance, valued}
+use Rattle.gc_scenes.specs.declared.clock.Clock.{Clock}
 use Rattle.gc_scenes.specs.declared.rules.Scripted.{Scripted}
 
 -- whether the call measures a distance
@@ -20,18 +33,42 @@ is_measurement call.QuickDist = true
 is_measurement (call.MeasDistance mode) = true
 is_measurement other = false
 
--- whether the call is a search
-abbrev pub is_search : Call → Bool
-is_search (call.FineAdjust area_hz area_v dummy) = true
-is_search other = false
+-- whether the call is a search: of an instrument that aims, a positioning with target recognition is one
+abbrev pub is_search : Bool → Call → Bool
+is_search aims (call.FineAdjust area_hz area_v dummy) = true
+is_search aims (call.Position hz v pos_mode atr_mode dummy) = aims && int_eq atr_mode (pos 1)
+is_search aims other = false
 
 -- the number of the last look after this call: each measurement and each search is one
-abbrev pub look_of : ℕ → Call → ℕ
-look_of looks asked = if is_measurement asked then one_more looks else (if is_search asked then one_more looks else looks)
+abbrev pub look_of : Bool → ℕ → Call → ℕ
+look_of aims looks asked = if is_measurement asked then one_more looks else (if is_search aims asked then one_more looks else looks)
 
--- the table's outcome of the call, over the targets that can be seen in its look
-abbrev pub table_outcome : SceneState → Call → Executed
-table_outcome s asked = exec (seeing (seen (look_of s.looks asked) s.prisms) s.base) asked
+-- where the telescope points when the call looks for a target: a positioning turns first
+abbrev pub heading : Pointing → Call → Pointing
+heading there (call.Position hz v pos_mode atr_mode dummy) = record { hz = hz; v = v }
+heading there other = there
+
+-- whether the call meets targets turned over
+abbrev pub over_for : SceneState → Call → Bool
+over_for s asked = is_over s.ways (heading s.base.pointing asked)
+
+-- the targets that can be seen in the look of this call
+abbrev pub seen_by : SceneState → Call → List Target
+seen_by s asked = seen (over_for s asked) (look_of s.ways.aims s.looks asked) s.prisms
+
+-- what a clock shows at the state's moment, if one runs
+abbrev pub shown : SceneState → Option DateTime
+shown s = option_map (shown_at s.moment) s.clock
+
+-- the outcome of the call, by the ways of the instrument, over the targets that can be seen in its look
+abbrev pub outcome : SceneState → Call → Executed
+outcome s asked = acted s.ways (shown s) (seeing (seen_by s asked) s.base) asked
+
+-- the clock behind a call at this moment with this code: it runs from where it is set, where the instrument has such a clock
+abbrev pub wound : Bool → ℕ → Call → ℕ → Option Clock → Option Clock
+wound false moment asked rc c = c
+wound true moment (call.SetDate d) rc c = if rc == 0 then Some (record { set = d; at = moment }) else c
+wound true moment other rc c = c
 
 -- what comes of a request: the state after it, the return code, and the parameters of the reply
 pub record Played : Type 0 where
@@ -39,38 +76,65 @@ pub record Played : Type 0 where
   pub rc : ℕ
   pub params : List ℕ
 
--- the state behind a call that the table gave this outcome
+-- the state behind a call that has this outcome
 abbrev pub behind_call : SceneState → Call → Executed → SceneState
 behind_call s asked x = record s {
   base = seeing s.base.scene x.state;
-  prisms = if is_measurement asked then drifted (look_of s.looks asked) s.base.pointing s.prisms else s.prisms;
+  prisms = if is_measurement asked then drifted (over_for s asked) (look_of s.ways.aims s.looks asked) s.base.pointing s.prisms else s.prisms;
   noise = noise_after s.noise x.answer;
-  looks = look_of s.looks asked;
+  looks = look_of s.ways.aims s.looks asked;
+  clock = wound s.ways.clock s.moment asked x.rc s.clock;
 }
 
--- what comes of a call that the table gave this outcome: its answer with the noise, each double rounded to the precision behind the call
+-- the values that a reply with this code tells of an answer: where they stand beside a warning, the angles, without a distance and without
+-- noise
+abbrev pub beside : Bool → Pointing → Call → ℕ → Answer → Answer
+beside values there asked rc said = if values && is_warning rc then valued there asked zero else said
+
+-- the parameters of an answer, each double rounded to the places
+abbrev pub params_for : ℕ → Answer → List ℕ
+params_for places said = params_of (answer_fields (rounded_answer places said)).values
+
+-- what comes of a call that has this outcome: its answer with the noise, each double rounded to the precision behind the call
 abbrev pub told_of : SceneState → Call → Executed → Played
 told_of s asked x = record {
   state = behind_call s asked x;
   rc = x.rc;
-  params = params_of (answer_fields (rounded_answer x.state.precision (noisy s.noise x.answer))).values;
+  params = params_for x.state.precision (beside s.ways.values x.state.pointing asked x.rc (noisy s.noise x.answer));
 }
 
 -- what comes of a call that no fault answers
 unfoldable pub plays : SceneState → Call → Played
-plays s asked = told_of s asked (table_outcome s asked)
+plays s asked = told_of s asked (outcome s asked)
 
 -- the state behind one more request of this procedure
 abbrev pub counting : ℕ → SceneState → SceneState
 counting rpc s = record s { faults = counted rpc s.faults }
 
+-- the distance that is known to the call: the one that was measured, or that of the target which it would measure
+abbrev pub known : SceneState → Call → Option Decimal
+known s (call.SimpleMea wait mode) = s.base.distance
+known s asked = option_map (λ t. t.distance) (first_at s.base.pointing (seen_by s asked))
+
+-- the distance that stands beside this code of a fault: the one that is known, where the code has one and one is known, and else 0
+abbrev pub distance_beside : SceneState → Call → ℕ → Decimal
+distance_beside s asked code = if has_distance code then unwrap_or (known s asked) zero else zero
+
 -- what comes of a request that a fault answers with this code: nothing is done
 abbrev pub faulted : SceneState → ℕ → Played
 faulted s code = record { state = s; rc = code; params = [] }
 
+-- what comes of a call that a fault answers with this code: nothing is done; where values stand beside a warning, it tells them
+abbrev pub warned : SceneState → Call → ℕ → Played
+warned s asked code = record {
+  state = s;
+  rc = code;
+  params = params_for s.base.precision (if s.ways.values && is_warning code then valued s.base.pointing asked (distance_beside s asked code) else answer.Nothing);
+}
+
 -- what comes of a call, where a fault has this code for it, or none has
 abbrev pub unless_faulted : SceneState → Call → Option ℕ → Played
-unless_faulted s asked (Some code) = faulted s code
+unless_faulted s asked (Some code) = warned s asked code
 unless_faulted s asked None = plays s asked
 
 -- what comes of a call of this procedure

@@ -12,4 +12,7 @@ scene_of i = record {
   noise = i.noise;
   looks = i.looks;
   repeats = i.repeats;
+  ways = i.ways;
+  clock = i.clock;
+  moment = i.moment;
 }

@@ -1,18 +1,22 @@
 //! The instrument of a scene with rules: what it is, how it starts, and how it executes a call.
 
-ghost use Rattle.std.specs.Prelude.{◌≡◌, ◌<◌, ◌≤◌, ◌++◌, ℕ, List, Bool, [], length, true, false, Option};
+ghost use Rattle.std.specs.Prelude.{◌≡◌, ◌<◌, ◌≤◌, ◌++◌, ℕ, List, Bool, [], length, true, false, Option, None};
+ghost use Rattle.std.specs.Option.{option_map};
+ghost use Rattle.gc_instrument.specs.Targets.{first_at};
 ghost use Rattle.gc_instrument.specs.State.{opening};
 ghost use Rattle.gc_scenes.specs.Rules.{seen, drifted, counted, fault_of, answer_of, noisy, noise_after};
-ghost use Rattle.gc_scenes.specs.SceneExecution.{is_measurement, is_search, look_of, table_outcome, behind_call, counting};
-ghost use Rattle.gc_scenes.specs.SceneState.{scene_restarted};
+ghost use Rattle.gc_scenes.specs.SceneExecution.{is_measurement, is_search, look_of, heading, over_for, outcome, behind_call, counting, shown, seen_by, wound, distance_beside, known};
+ghost use Rattle.gc_scenes.specs.SceneState.{scene_restarted, at};
 ghost use Rattle.gc_catalogue.specs.declared.answer.Answer.TheVariants.{Nothing};
 
-use crate::machine::Machine;
+use crate::clock::Clock;
+use crate::machine::{Machine, first_at};
 use crate::rules::{Fault, Noise, Prism, Scripted};
+use crate::ways::{Ways, has_distance, met};
 use arrayvec::ArrayVec;
-use gc_catalogue::{Answer, Call};
+use gc_catalogue::{Answer, Call, DateTime};
 use gc_instrument::{Pointing, Target};
-use gc_values::Text;
+use gc_values::{Decimal, Text};
 use std::marker::Model;
 
 /// The instrument of a scene with rules: at most 32 targets, 32 faults and 16 replies. It holds no allocated memory.
@@ -25,6 +29,9 @@ pub struct SceneInstrument {
     noise: Option<Noise>,
     looks: u32,
     pub(crate) repeats: bool,
+    pub(crate) ways: Ways,
+    clock: Option<Clock>,
+    moment: u64,
 }
 
 impl Model for SceneInstrument {
@@ -39,7 +46,7 @@ impl Model for SceneInstrument {
 
 impl SceneInstrument {
     /// The instrument of these rules, in its opening state. `repeats` says whether it keeps its last reply for a repeat, as the
-    /// simulator does.
+    /// simulator does, and `ways` which ways of real instruments it has. Its moment is 0.
     pub fn new(
         serial: i32,
         name: Text,
@@ -48,8 +55,20 @@ impl SceneInstrument {
         answers: ArrayVec<Scripted, 16>,
         noise: Option<Noise>,
         repeats: bool,
+        ways: Ways,
     ) -> SceneInstrument
-        ensures { result ≡ record { base = opening serial name []; prisms = prisms.items; faults = faults.items; answers = answers.items; noise = noise; looks = 0; repeats = repeats } }
+        ensures { result ≡ record {
+          base = opening serial name [];
+          prisms = prisms.items;
+          faults = faults.items;
+          answers = answers.items;
+          noise = noise;
+          looks = 0;
+          repeats = repeats;
+          ways = ways;
+          clock = None;
+          moment = 0;
+        } }
     {
         SceneInstrument {
             machine: Machine::new(serial, name),
@@ -59,7 +78,25 @@ impl SceneInstrument {
             noise,
             looks: 0,
             repeats,
+            ways,
+            clock: None,
+            moment: 0,
         }
+    }
+
+    /// Sets the moment of the request that comes next, in milliseconds of the program's own clock: a clock of the instrument that runs
+    /// goes by it.
+    pub fn at(&mut self, moment: u64)
+        ensures { self.new ≡ at moment self.old }
+    {
+        self.moment = moment;
+    }
+
+    /// Whether the instrument has a clock that runs, once it is set.
+    pub fn has_clock(&self) -> bool
+        ensures { result ≡ self.now.ways.clock }
+    {
+        self.ways.clock
     }
 
     /// Restarts the instrument, as the simulator is. The scene goes on: its counts, its targets and its noise stay.
@@ -90,22 +127,81 @@ impl SceneInstrument {
         self.faults = counted(rpc, self.faults.as_slice());
     }
 
+    // What a clock shows now, if one runs.
+    fn shown(&self) -> Option<DateTime>
+        ensures { result ≡ shown self.now }
+    {
+        match &self.clock {
+            Some(clock) => Some(clock.shown_at(self.moment)),
+            None => None,
+        }
+    }
+
+    // Whether the call meets targets turned over.
+    fn over_for(&self, call: &Call) -> bool
+        ensures { result ≡ over_for self.now call.now }
+    {
+        self.ways.is_over(&heading(self.machine.pointing(), call))
+    }
+
+    // The targets that can be seen in the look of this call.
+    fn seen_by(&self, call: &Call) -> ArrayVec<Target, 32>
+        ensures { result.items ≡ seen_by self.now call.now }
+    {
+        let look = look_of(self.ways.aims, self.looks, call);
+        seen(self.over_for(call), look, self.prisms.as_slice())
+    }
+
     /// Executes a call that no fault answers, and gives the return code. An answer other than `Answer::Nothing` is written into
     /// `answer`, without the noise.
     pub(crate) fn execute(&mut self, call: &Call, answer: &mut Answer) -> u16
         requires { answer.old ≡ Nothing }
-        ensures gives { table_outcome self.old call.now ≡ record { state = (table_outcome self.old call.now).state; rc = result; answer = answer.new } }
-        ensures state { self.new ≡ record (behind_call self.old call.now (table_outcome self.old call.now)) { noise = self.old.noise } }
+        ensures gives { outcome self.old call.now ≡ record { state = (outcome self.old call.now).state; rc = result; answer = answer.new } }
+        ensures state { self.new ≡ record (behind_call self.old call.now (outcome self.old call.now)) { noise = self.old.noise } }
     {
-        let look = look_of(self.looks, call);
+        let look = look_of(self.ways.aims, self.looks, call);
         let there = self.machine.pointing();
-        let targets = seen(look, self.prisms.as_slice());
-        let rc = self.machine.carry_out(call, targets.as_slice(), answer);
+        let over = self.over_for(call);
+        let targets = self.seen_by(call);
+        let now = self.shown();
+        let rc = self
+            .machine
+            .act(&self.ways, now, call, targets.as_slice(), answer);
         if is_measurement(call) {
-            self.prisms = drifted(look, &there, self.prisms.as_slice());
+            self.prisms = drifted(over, look, &there, self.prisms.as_slice());
         }
         self.looks = look;
+        self.clock = wound(self.ways.clock, self.moment, call, rc, self.clock);
         rc
+    }
+
+    /// The distance that stands beside this code of a fault.
+    pub(crate) fn distance_beside(&self, call: &Call, rc: u16) -> Decimal
+        ensures { result ≡ distance_beside self.now call.now rc }
+    {
+        if !has_distance(rc) {
+            return Decimal::zero();
+        }
+        self.known(call).unwrap_or(Decimal::zero())
+    }
+
+    // The distance that is known to the call: the one that was measured, or that of the target which it would measure.
+    fn known(&self, call: &Call) -> Option<Decimal>
+        ensures { result ≡ known self.now call.now }
+    {
+        match call {
+            Call::SimpleMea { .. } => self.machine.distance(),
+            _ => self.met_by(call),
+        }
+    }
+
+    // The distance of the target that the call would measure.
+    fn met_by(&self, call: &Call) -> Option<Decimal>
+        ensures { result ≡ option_map (λ t. t.distance) (first_at self.now.base.pointing (seen_by self.now call.now)) }
+    {
+        first_at(&self.machine.pointing(), self.seen_by(call).as_slice()).map(
+            |target| target.distance,
+        )
     }
 
     /// Disturbs an answer by the noise, if there is one, which goes on by that.
@@ -133,32 +229,65 @@ fn is_measurement(call: &Call) -> bool
 }
 
 // Whether the call is a search.
-fn is_search(call: &Call) -> bool
-    ensures { result ≡ is_search call.now }
+fn is_search(aims: bool, call: &Call) -> bool
+    ensures { result ≡ is_search aims call.now }
 {
     match call {
         Call::FineAdjust { .. } => true,
+        Call::Position { atr_mode, .. } => aims && *atr_mode == 1,
         _ => false,
     }
 }
 
+// Where the telescope points when the call looks for a target.
+fn heading(there: Pointing, call: &Call) -> Pointing
+    ensures { result ≡ heading there call.now }
+{
+    match call {
+        Call::Position { hz, v, .. } => Pointing { hz: *hz, v: *v },
+        _ => there,
+    }
+}
+
+// The clock behind a call at this moment with this code.
+fn wound(runs: bool, moment: u64, call: &Call, rc: u16, clock: Option<Clock>) -> Option<Clock>
+    ensures { result ≡ wound runs moment call.now rc clock }
+{
+    if !runs {
+        return clock;
+    }
+    match call {
+        Call::SetDate(date) => {
+            if rc == 0 {
+                Some(Clock {
+                    set: *date,
+                    at: moment,
+                })
+            } else {
+                clock
+            }
+        }
+        _ => clock,
+    }
+}
+
 // The number of the last look after this call.
-fn look_of(looks: u32, call: &Call) -> u32
-    ensures { result ≡ look_of looks call.now }
+fn look_of(aims: bool, looks: u32, call: &Call) -> u32
+    ensures { result ≡ look_of aims looks call.now }
 {
     if is_measurement(call) {
         looks.saturating_add(1)
-    } else if is_search(call) {
+    } else if is_search(aims, call) {
         looks.saturating_add(1)
     } else {
         looks
     }
 }
 
-// The targets that can be seen in this look, where they stand.
-fn seen(look: u32, prisms: &[Prism]) -> ArrayVec<Target, 32>
+// The targets that can be seen in this look, where the telescope has to point to meet them.
+fn seen(over: bool, look: u32, prisms: &[Prism]) -> ArrayVec<Target, 32>
     requires { length prisms.now ≤ 32 }
-    ensures { result.items ≡ seen look prisms.now }
+    ensures { result.items ≡ seen over look prisms.now }
 {
     let mut targets = ArrayVec::new();
     for prism in prisms {
@@ -166,20 +295,20 @@ fn seen(look: u32, prisms: &[Prism]) -> ArrayVec<Target, 32>
             continue;
         }
         // There is room, since there are at most as many as prisms.
-        let _ = targets.try_push(prism.at);
+        let _ = targets.try_push(met(over, &prism.at));
     }
     targets
 }
 
 // The targets after a measurement in this look.
-fn drifted(look: u32, there: &Pointing, prisms: &[Prism]) -> ArrayVec<Prism, 32>
+fn drifted(over: bool, look: u32, there: &Pointing, prisms: &[Prism]) -> ArrayVec<Prism, 32>
     requires { length prisms.now ≤ 32 }
-    ensures { result.items ≡ drifted look there.now prisms.now }
+    ensures { result.items ≡ drifted over look there.now prisms.now }
 {
     let mut moved = ArrayVec::new();
     for prism in prisms {
         // There is room, since there are as many as before.
-        let _ = moved.try_push(prism.moved(look, there));
+        let _ = moved.try_push(prism.moved(over, look, there));
     }
     moved
 }

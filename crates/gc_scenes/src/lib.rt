@@ -2,6 +2,10 @@
 //! its own, over the execution table of `gc_instrument`, which is what it does without rules.
 #![tactic(auto)]
 
+mod acting;
+mod beside;
+mod clock;
+mod delay;
 mod instrument;
 pub mod laws;
 mod machine;
@@ -10,7 +14,12 @@ mod rules;
 mod ruling;
 mod serving;
 mod shifting;
+mod slow;
+mod ways;
 
+pub use delay::Delay;
 pub use instrument::SceneInstrument;
 pub use rules::{Fault, Noise, Offset, Prism, Scripted};
 pub use serving::serve_scene;
+pub use slow::SlowInstrument;
+pub use ways::{Way, Ways};

@@ -1,9 +1,10 @@
 //! The instrument of the execution table over targets that are handed to it: an instrument without targets of its own, its
 //! distance, and the reply that is kept.
 
-ghost use Rattle.std.specs.Prelude.{◌≡◌, ◌≤◌, List, None, Some, [], true, length, IfSome};
+ghost use Rattle.std.specs.Prelude.{◌≡◌, ◌≤◌, List, None, Some, [], true, length, IfSome, if◌then◌else◌};
 ghost use Rattle.std.specs.Option.{option_map};
-ghost use Rattle.gc_instrument.specs.Execution.{exec, Gives, done, told, commanded, measured, pointed, turned_over, searched};
+ghost use Rattle.gc_instrument.specs.Execution.{exec, Gives, done, told, commanded, measured, unmeasured, pointed, turned_over, searched};
+ghost use Rattle.gc_instrument.specs.declared.face.Face.TheVariants.{Normal, Turned};
 ghost use Rattle.gc_instrument.specs.Replying.{kept_line, kept_after, with_kept};
 ghost use Rattle.gc_instrument.specs.State.{restarted, opening};
 ghost use Rattle.gc_instrument.specs.Targets.{first_at, first_within, is_at, is_within_areas};
@@ -20,10 +21,10 @@ use std::marker::Model;
 const INVALID_PARAMETER: u16 = 2;
 
 /// The return code where angles are known and no distance is.
-const NO_DISTANCE: u16 = 1285;
+pub(crate) const NO_DISTANCE: u16 = 1285;
 
 /// The return code where no target is met.
-const NO_TARGET: u16 = 8710;
+pub(crate) const NO_TARGET: u16 = 8710;
 
 /// The id of a request, and the line of its reply.
 #[derive(Debug, Drop)]
@@ -90,6 +91,37 @@ impl Machine {
         ensures { result ≡ self.now.pointing }
     {
         self.base.pointing()
+    }
+
+    /// The distance that was measured last.
+    pub(crate) fn distance(&self) -> Option<Decimal>
+        ensures { result ≡ self.now.distance }
+    {
+        self.distance
+    }
+
+    /// Clears the distance.
+    pub(crate) fn clear_distance(&mut self)
+        ensures { self.new ≡ unmeasured self.old }
+    {
+        self.distance = None;
+    }
+
+    /// Gives the telescope this face: turned over, or normal.
+    #[tactic(auto, unfolding(gc_instrument::specs::Execution::exec))]
+    pub(crate) fn turn_to(&mut self, turned: bool)
+        ensures { self.new ≡ record self.old { face = if turned then Turned else Normal } }
+    {
+        let (_, said) = self.base.execute(&Call::GetFace);
+        let is_turned = said == Answer::Long(1);
+        if is_turned != turned {
+            let turn = Call::ChangeFace {
+                pos_mode: 0,
+                atr_mode: 0,
+                dummy: false,
+            };
+            let _ = self.base.execute(&turn);
+        }
     }
 
     /// The line that is kept for this id. `None`: there is no id, or none is kept, or another one is.
@@ -231,7 +263,7 @@ impl Machine {
 
     // Turns the telescope to these angles, which clears the distance.
     #[tactic(auto, unfolding(gc_instrument::specs::Execution::exec))]
-    fn position(&mut self, hz: &Decimal, v: &Decimal) -> u16
+    pub(crate) fn position(&mut self, hz: &Decimal, v: &Decimal) -> u16
         ensures gives { (targets : List Target) → Gives (done (pointed (seeing targets self.old) hz.now v.now) Nothing) (seeing targets self.new) result Nothing }
         ensures same { self.new.scene ≡ self.old.scene }
     {
@@ -288,7 +320,7 @@ fn is_at(there: &Pointing, target: &Target) -> bool
 }
 
 // The first of these targets that lies exactly where the telescope points.
-fn first_at(there: &Pointing, targets: &[Target]) -> Option<Target>
+pub(crate) fn first_at(there: &Pointing, targets: &[Target]) -> Option<Target>
     ensures { result ≡ first_at there.now targets.now }
 {
     targets.iter().copied().find(|target| is_at(there, target))

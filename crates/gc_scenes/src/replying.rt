@@ -1,20 +1,24 @@
 //! What a scene's instrument replies to a line.
 
-ghost use Rattle.std.specs.Prelude.{◌≡◌, ◌<◌, ◌≤◌, ◌+◌, ◌++◌, ℕ, List, Option, Some, None, length, unwrap_or, IfSome};
+ghost use Rattle.std.specs.Prelude.{◌≡◌, ◌≢◌, ◌<◌, ◌≤◌, ◌+◌, ◌++◌, ℕ, List, Option, Some, None, length, unwrap_or, IfSome};
 ghost use Rattle.std.specs.Option.{ForSome, option_map};
 ghost use Rattle.arrayvec.specs.ArrayVec.{array_vec_len};
 ghost use Rattle.gc_lines.specs.Answering.{AppendsAnswer};
 ghost use Rattle.gc_lines.specs.Requests.{request_seen};
 ghost use Rattle.gc_lines.specs.Replies.{reply_text};
 ghost use Rattle.gc_instrument.specs.Replying.{Handed};
-ghost use Rattle.gc_scenes.specs.SceneExecution.{Played, plays, unless_faulted, counting};
+ghost use Rattle.gc_catalogue.specs.Texts.{reply_line};
+ghost use Rattle.gc_scenes.specs.SceneExecution.{Played, plays, unless_faulted, counting, warned, beside};
 ghost use Rattle.gc_scenes.specs.SceneReplying.{IsPlayed, AnswersRequest, Gave, again_for, handed_call, handed_raw, line_of, kept_behind, holding, again_or_played};
 ghost use Rattle.gc_scenes.specs.Appending.{AppendsGave, AppendsPlayed, AppendsReply};
 
+use crate::beside::push_valued;
 use crate::instrument::SceneInstrument;
+use crate::ways::is_warning;
 use arrayvec::ArrayVec;
 use gc_catalogue::{Answer, Call, CallFault, decode_call_into, encode_answer_onto};
 use gc_lines::{Line, Request, append, push_reply, read_request};
+use gc_values::Decimal;
 
 /// The communication code for a procedure that isn't in the catalogue.
 const UNKNOWN_PROCEDURE: u16 = 3081;
@@ -24,6 +28,7 @@ const WRONG_PARAMETERS: u16 = 3080;
 
 impl SceneInstrument {
     ghost use Rattle.gc_catalogue.specs.declared.call.Call.{Call};
+    ghost use Rattle.gc_catalogue.specs.declared.answer.Answer.TheVariants.{Nothing};
 
     /// The reply to a line, if it is a request. It is that of the simulator, but for what the scene's rules say: a request that a
     /// fault answers is not executed, a target that is hidden isn't met, and a procedure that isn't in the catalogue is answered
@@ -134,8 +139,32 @@ impl SceneInstrument {
         ensures bound { length out.new.items ≤ length out.old.items + 512 }
     {
         match fault {
-            Some(rc) => push_reply(out, 0, id, rc),
+            Some(rc) => self.warn_onto(id, call, rc, out),
             None => self.execute_onto(id, call, out),
+        }
+    }
+
+    // Appends the reply to a call that a fault answers with this code.
+    fn warn_onto<const N: usize>(&self, id: u8, call: &Call, rc: u16, out: &mut ArrayVec<u8, N>)
+        requires id { id < 8 }
+        requires room { array_vec_len out.old + 512 ≤ N }
+        ensures line { out.new.items ≡ out.old.items ++ line_of id (warned self.now call.now rc) }
+        ensures bound { length out.new.items ≤ length out.old.items + 512 }
+    {
+        if self.ways.values && is_warning(rc) {
+            let distance = self.distance_beside(call, rc);
+            let there = self.machine.pointing();
+            push_valued(
+                out,
+                id,
+                rc,
+                &there,
+                call,
+                &distance,
+                self.machine.precision(),
+            );
+        } else {
+            push_reply(out, 0, id, rc);
         }
     }
 
@@ -149,7 +178,31 @@ impl SceneInstrument {
         let mut answer = Answer::Nothing;
         let rc = self.execute(call, &mut answer);
         self.disturb(&mut answer);
-        encode_answer_onto(out, id, rc, &answer, self.machine.precision());
+        self.tell_onto(id, rc, call, &answer, out);
+    }
+
+    // Appends the reply to an executed call: this code and this answer, or the values beside a warning.
+    fn tell_onto<const N: usize>(
+        &self,
+        id: u8,
+        rc: u16,
+        call: &Call,
+        answer: &Answer,
+        out: &mut ArrayVec<u8, N>,
+    )
+        requires id { id < 8 }
+        requires refused { rc ≢ 0 → answer.now ≡ Nothing }
+        requires room { array_vec_len out.old + 512 ≤ N }
+        ensures line { out.new.items ≡ out.old.items ++ reply_line id rc (beside self.now.ways.values self.now.base.pointing call.now rc answer.now) self.now.base.precision }
+        ensures bound { length out.new.items ≤ length out.old.items + 512 }
+    {
+        if self.ways.values && is_warning(rc) {
+            let there = self.machine.pointing();
+            let places = self.machine.precision();
+            push_valued(out, id, rc, &there, call, &Decimal::zero(), places);
+        } else {
+            encode_answer_onto(out, id, rc, answer, self.machine.precision());
+        }
     }
 
     // Appends the reply to a request of a procedure that isn't in the table.

@@ -9,6 +9,7 @@ ghost use Rattle.gc_scenes.specs.Shifting.{next, shifted, deviation};
 
 use crate::rules::{Fault, Noise, Offset, Prism, Scripted};
 use crate::shifting::{deviation, next, shifted};
+use crate::ways::met;
 use gc_catalogue::{Answer, RawCall};
 use gc_instrument::{Pointing, Target};
 use gc_values::Decimal;
@@ -148,10 +149,11 @@ impl Prism {
     }
 
     /// The target after a measurement in this look, with the telescope pointing there: it moves if it was measured.
-    pub(crate) fn moved(&self, look: u32, there: &Pointing) -> Prism
-        ensures { result ≡ moved look there.now self.now }
+    pub(crate) fn moved(&self, over: bool, look: u32, there: &Pointing) -> Prism
+        ensures { result ≡ moved over look there.now self.now }
     {
-        if self.is_clear(look) && self.at.hz == there.hz && self.at.v == there.v {
+        let at = met(over, &self.at);
+        if self.is_clear(look) && at.hz == there.hz && at.v == there.v {
             self.moved_by()
         } else {
             *self

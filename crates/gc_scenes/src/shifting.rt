@@ -11,7 +11,7 @@ const PLACES: u8 = 24;
 
 /// The decimal `by` units further on, exactly. Where that is out of a decimal's range it stays as it is.
 pub(crate) fn shifted(d: &Decimal, by: i128) -> Decimal
-    requires { unsigned_abs by ≤ 10 ^ 37 }
+    requires { unsigned_abs by ≤ 3 * 10 ^ 37 }
     ensures { result ≡ shifted d.now by }
 {
     match Decimal::new(d.units() + by, PLACES) {

@@ -1,0 +1,10 @@
+-- One day more.
+use Rattle.std.proofs.Common.{◌≡◌, ℕ, suc, ◌+◌, refl, sym, ap, ◌∙◌, arith}
+use Rattle.gc_catalogue.specs.declared.call.DateTime.{DateTime}
+use Rattle.gc_scenes.specs.Clocks.{days_on, next_day}
+
+-- the day after so many days is one day more
+pub day_more : (n : ℕ) (d day after : DateTime) → day ≡ days_on n d → after ≡ next_day day → after ≡ days_on (n + 1) d
+day_more n d day after is next =
+    let one : suc n ≡ n + 1 = omega arith in
+    next ∙ ap next_day is ∙ ap (λ (k : ℕ). days_on k d) one

@@ -1,0 +1,49 @@
+-- What an instrument whose replies take time does with a line.
+use Rattle.std.proofs.Common.{◌≡◌, ℕ, List, Some, None, Result, Ok, Err, true, false, refl, sym, ◌∙◌, ap, subst}
+use Rattle.gc_lines.specs.Answering.{AppendsAnswer}
+use Rattle.gc_lines.specs.Headers.{Gives}
+use Rattle.gc_lines.specs.Requests.{RequestFields, IsRequest}
+use Rattle.gc_lines.specs.declared.fault.LineFault.{LineFault}
+use Rattle.gc_lines.specs.declared.request.Request.{Request}
+use Rattle.gc_scenes.specs.SceneReplying.{IsPlayed}
+use Rattle.gc_scenes.specs.SceneState.{SceneState}
+use Rattle.gc_scenes.specs.Slow.{SlowState, Hears, silent, replies, IsTaken, IsDelay, delay_of, later, scene_then, taken_up}
+use Rattle.gc_scenes.specs.declared.delay.Delay.{Delay}
+
+-- the delay of the request that was read is that of the line
+pub delay_read : (delays : List Delay) (line : List ℕ) (view : Request → RequestFields) (r : Request) (ms : ℕ)
+    → ((q : RequestFields) → IsRequest line q → Gives view (Ok r) (Ok q)) → ms ≡ delay_of (view r).rpc delays → IsDelay delays line ms
+delay_read delays line view r ms only is = λ q reads.
+    let same : ◌≡◌ {A = Result RequestFields LineFault} (Ok q) (Ok (view r)) = only q reads in
+    let one : q ≡ view r = cc in
+    is ∙ ap (λ (x : RequestFields). delay_of x.rpc delays) (sym one)
+
+-- a line that isn't read as a request is none
+pub delay_unread : (delays : List Delay) (line : List ℕ) (view : Request → RequestFields) (fault : LineFault) (ms : ℕ)
+    → ((q : RequestFields) → IsRequest line q → Gives view (Err fault) (Ok q)) → IsDelay delays line ms
+delay_unread delays line view fault ms only = λ q reads. let wrong : ◌≡◌ {A = Result RequestFields LineFault} (Ok q) (Err fault) = only q reads in cc
+
+-- a line without a reply, where the state `now` is v
+pub silent_heard : (v now : SlowState) → v ≡ now → (line : List ℕ) (at : ℕ) (then scene : SceneState) (old new : List ℕ) → IsTaken now at
+    → then ≡ scene_then now at → AppendsAnswer (IsPlayed then line scene) old new false
+    → AppendsAnswer (Hears now line at (record v { scene = scene })) old new false
+silent_heard v now e line at then scene old new taken is h =
+    subst (λ (b : SlowState). AppendsAnswer (Hears b line at (record v { scene = scene })) old new false) e (
+      silent (subst (λ (b : SlowState). IsTaken b at) (sym e) taken) scene
+          (subst (λ (s : SceneState). IsPlayed s line scene None) (is ∙ ap (λ (b : SlowState). scene_then b at) (sym e)) h.0) refl refl,
+      h.1,
+    )
+
+-- a line with one
+pub reply_heard : (v now : SlowState) → v ≡ now → (line : List ℕ) (at : ℕ) (then scene : SceneState) (ms due : ℕ) (old new : List ℕ) → IsTaken now at
+    → IsDelay now.delays line ms → due ≡ later (taken_up now at) ms → then ≡ scene_then now at → AppendsAnswer (IsPlayed then line scene) old new true
+    → AppendsAnswer (Hears now line at (record v { scene = scene; free_from = due })) old new true
+reply_heard v now e line at then scene ms due old new taken delay is stands h =
+    subst (λ (b : SlowState). AppendsAnswer (Hears b line at (record v { scene = scene; free_from = due })) old new true) e (
+      h.0,
+      replies (subst (λ (b : SlowState). IsTaken b at) (sym e) taken) scene h.0
+          (subst (λ (s : SceneState). IsPlayed s line scene (Some h.0)) (stands ∙ ap (λ (b : SlowState). scene_then b at) (sym e)) h.1) ms
+          (subst (λ (b : SlowState). IsDelay b.delays line ms) (sym e) delay)
+          (ap (λ (d : ℕ). record v { scene = scene; free_from = d }) (is ∙ ap (λ (b : SlowState). later (taken_up b at) ms) (sym e))) refl,
+      h.2,
+    )

@@ -1,0 +1,6 @@
+use Rattle.std.proofs.Common.{◌≡◌, drop, None}
+use Rattle.gc_scenes.specs.Ways.{nearest_of}
+use Rattle.gc_scenes.proofs.ways.nearest.Given as goal
+
+abbrev pub invariant-loop-target : goal.invariant-loop-target
+invariant-loop-target l = nearest_of l.there l.found (drop l.target-index l.targets) ≡ nearest_of l.there None l.targets

@@ -1,0 +1,107 @@
+-- The ways of real instruments that a scene's instrument may have, each by itself: this project's own, from memory, and no statement about
+-- an instrument. Every number of a direction is a whole one, in units of 10^-24 radians.
+use Rattle.std.specs.Prelude.{ℕ, ℤ, pos, ◌+◌, ◌-◌, ◌*◌, ◌/◌, ◌%◌, ◌^◌, ◌==◌, ◌&&◌, ◌||◌, ◌+ℤ◌, ◌-ℤ◌, not, Bool, true, false, List, [], ◌∷◌, Option, Some, None, nat_le, int_le, unsigned_abs, if◌then◌else◌, min, max}
+use Rattle.gc_values.specs.Decimals.{units}
+use Rattle.gc_values.specs.Directions.{half_turn, turn}
+use Rattle.gc_values.specs.Fraction.{signed}
+use Rattle.gc_values.specs.declared.decimal.Decimal.{Decimal}
+use Rattle.gc_catalogue.specs.declared.answer.Answer.{Answer}
+use Rattle.gc_catalogue.specs.declared.answer.Answer.TheVariants as answer
+use Rattle.gc_catalogue.specs.declared.call.Call.{Call}
+use Rattle.gc_catalogue.specs.declared.call.Call.TheVariants as call
+use Rattle.gc_instrument.specs.declared.face.Face.{Face}
+use Rattle.gc_instrument.specs.declared.face.Face.TheVariants.{Normal, Turned}
+use Rattle.gc_instrument.specs.declared.pointing.Pointing.{Pointing}
+use Rattle.gc_instrument.specs.declared.target.Target.{Target}
+use Rattle.gc_scenes.specs.Shifting.{shifted}
+use Rattle.gc_scenes.specs.declared.ways.Ways.{Ways}
+use Rattle.gc_scenes.specs.declared.ways.Way.{Way}
+use Rattle.gc_scenes.specs.declared.ways.Way.TheVariants as way
+
+-- none of the ways
+abbrev pub no_ways : Ways
+no_ways = record { faces = false; aims = false; takes = false; values = false; clock = false }
+
+-- these ways and one more, or all of them
+abbrev pub with_way : Way → Ways → Ways
+with_way way.Faces w = record w { faces = true }
+with_way way.Aims w = record w { aims = true }
+with_way way.Takes w = record w { takes = true }
+with_way way.Values w = record w { values = true }
+with_way way.Clock w = record w { clock = true }
+with_way way.Real w = record { faces = true; aims = true; takes = true; values = true; clock = true }
+
+-- Two faces.
+
+-- whether a vertical angle is one of face II: above half a turn
+abbrev pub is_second : Decimal → Bool
+is_second v = not (int_le (units v) half_turn)
+
+-- the face in which the telescope stands at this vertical angle
+abbrev pub face_at : Decimal → Face
+face_at v = if is_second v then Turned else Normal
+
+-- the horizontal direction h in the other face: h - P where h is at least P, and else h + P
+abbrev pub other_hz : Decimal → Decimal
+other_hz h = shifted h (signed (int_le half_turn (units h)) 3141592653589793238462643)
+
+-- the vertical angle v in the other face: 2P - v
+abbrev pub other_v : Decimal → Decimal
+other_v v = shifted v (turn -ℤ (units v +ℤ units v))
+
+-- where the telescope has to point to meet the target: turned over (true), or as the target stands
+abbrev pub met : Bool → Target → Target
+met true t = record { hz = other_hz t.hz; v = other_v t.v; distance = t.distance }
+met false t = t
+
+-- whether the telescope meets targets turned over, where it points there
+abbrev pub is_over : Ways → Pointing → Bool
+is_over w there = w.faces && is_second there.v
+
+-- Target recognition.
+
+-- how far apart two directions are on the circle, of which this is the difference
+abbrev pub on_circle : ℤ → ℕ
+on_circle z = min (unsigned_abs z % 6283185307179586476925286) (6283185307179586476925286 - unsigned_abs z % 6283185307179586476925286)
+
+-- how far a target is from where the telescope points: the greater of the two differences
+abbrev pub apart : Pointing → Target → ℕ
+apart there t = max (on_circle (units t.hz -ℤ units there.hz)) (unsigned_abs (units t.v -ℤ units there.v))
+
+-- the window of target recognition, each way: 0.0131 radians, three quarters of a degree
+abbrev pub window : ℕ
+window = 13100000000000000000000
+
+-- the nearer one of the target that was found so far, if one was, and this one, where that is within the window; of two that are
+-- equally near the earlier one
+abbrev pub nearer : Pointing → Option Target → Target → Option Target
+nearer there None t = if nat_le (apart there t) window then Some t else None
+nearer there (Some u) t = if nat_le (apart there u) (apart there t) then Some u else Some t
+
+-- the nearest of the target that was found so far and these
+abbrev pub nearest_of : Pointing → Option Target → List Target → Option Target
+nearest_of there found [] = found
+nearest_of there found (t ∷ ts) = nearest_of there (nearer there found t) ts
+
+-- the nearest target within the window
+abbrev pub nearest : Pointing → List Target → Option Target
+nearest there targets = nearest_of there None targets
+
+-- Values beside a code.
+
+-- whether values stand beside this code: measured without all corrections (1283), or without a guarantee of the accuracy (1284); angles
+-- alone (1285), without all corrections (1288), or without a guarantee (1289)
+abbrev pub is_warning : ℕ → Bool
+is_warning rc = (rc == 1283) || ((rc == 1284) || ((rc == 1285) || ((rc == 1288) || (rc == 1289))))
+
+-- whether a distance is among them
+abbrev pub has_distance : ℕ → Bool
+has_distance rc = (rc == 1283) || (rc == 1284)
+
+-- the angles as the call answers them, with this distance
+abbrev pub valued : Pointing → Call → Decimal → Answer
+valued there (call.GetAngle mode) d = answer.Angles there.hz there.v
+valued there (call.SimpleMea wait mode) d = answer.Measured there.hz there.v d
+valued there call.QuickDist d = answer.Measured there.hz there.v d
+valued there (call.MeasDistance mode) d = answer.MeasuredMode there.hz there.v d mode
+valued there other d = answer.Nothing

@@ -1,0 +1,155 @@
+//! What the instrument does by the ways of real instruments that it has, where the execution table has something else.
+
+ghost use Rattle.std.specs.Prelude.{◌≡◌, List, true};
+ghost use Rattle.gc_instrument.specs.Execution.{Gives, done, told, adjusted, pointed, unmeasured};
+ghost use Rattle.gc_scenes.specs.Acting.{Acts, ActsFaceless, faced, is_plain};
+ghost use Rattle.gc_scenes.specs.Machine.{seeing};
+ghost use Rattle.gc_scenes.specs.Ways.{nearest, other_hz, other_v};
+
+use crate::machine::{Machine, NO_DISTANCE, NO_TARGET};
+use crate::ways::{Ways, is_second, nearest, other_hz, other_v};
+use gc_catalogue::{Answer, Call, DateTime};
+use gc_instrument::{Pointing, Target};
+use gc_values::Decimal;
+
+impl Machine {
+    ghost use Rattle.gc_catalogue.specs.declared.answer.Answer.TheVariants.{Nothing, Measured, Date};
+
+    /// Carries out a call over these targets by these ways, and gives the return code. `now` is what a running clock shows, if one
+    /// runs. An answer other than `Answer::Nothing` is written into `answer`.
+    pub(crate) fn act(
+        &mut self,
+        ways: &Ways,
+        now: Option<DateTime>,
+        call: &Call,
+        targets: &[Target],
+        answer: &mut Answer,
+    ) -> u16
+        requires { answer.old ≡ Nothing }
+        ensures { Acts ways.now now targets.now self.old call.now self.new result answer.new }
+    {
+        let rc = self.act_faceless(ways, now, call, targets, answer);
+        if ways.faces {
+            self.face();
+        }
+        rc
+    }
+
+    // Carries out a call by these ways, but for the face.
+    fn act_faceless(
+        &mut self,
+        ways: &Ways,
+        now: Option<DateTime>,
+        call: &Call,
+        targets: &[Target],
+        answer: &mut Answer,
+    ) -> u16
+        requires { answer.old ≡ Nothing }
+        ensures { ActsFaceless ways.now now targets.now self.old call.now self.new result answer.new }
+    {
+        match call {
+            Call::Position {
+                hz,
+                v,
+                atr_mode,
+                ..
+            } => {
+                if ways.aims && *atr_mode == 1 {
+                    self.aim(hz, v, targets)
+                } else {
+                    self.carry_out(call, targets, answer)
+                }
+            }
+            Call::ChangeFace { .. } => {
+                if ways.faces {
+                    self.turn_over()
+                } else {
+                    self.carry_out(call, targets, answer)
+                }
+            }
+            Call::SimpleMea { .. } => {
+                if ways.takes {
+                    self.take_along(answer)
+                } else {
+                    self.carry_out(call, targets, answer)
+                }
+            }
+            Call::GetDate => match now {
+                Some(date) => {
+                    *answer = Answer::Date(date);
+                    0
+                }
+                None => self.carry_out(call, targets, answer),
+            },
+            _ => self.carry_out_plain(ways, now, call, targets, answer),
+        }
+    }
+
+    // Carries out a call that no way changes.
+    fn carry_out_plain(
+        &mut self,
+        ways: &Ways,
+        now: Option<DateTime>,
+        call: &Call,
+        targets: &[Target],
+        answer: &mut Answer,
+    ) -> u16
+        requires plain { is_plain call.now ≡ true }
+        requires none { answer.old ≡ Nothing }
+        ensures { ActsFaceless ways.now now targets.now self.old call.now self.new result answer.new }
+    {
+        self.carry_out(call, targets, answer)
+    }
+
+    // Turns to these angles, and aims at the nearest of these targets within the window. Where there is none the telescope stays, and
+    // the code is 8710. The distance is cleared.
+    fn aim(&mut self, hz: &Decimal, v: &Decimal, targets: &[Target]) -> u16
+        ensures gives { Gives (adjusted (pointed (seeing targets.now self.old) hz.now v.now) (nearest (record { hz = hz.now; v = v.now }) targets.now))
+            (seeing targets.now self.new) result Nothing }
+        ensures same { self.new.scene ≡ self.old.scene }
+    {
+        match nearest(&Pointing { hz: *hz, v: *v }, targets) {
+            Some(target) => self.position(&target.hz, &target.v),
+            None => {
+                self.position(hz, v);
+                NO_TARGET
+            }
+        }
+    }
+
+    // Turns the telescope to the other face's angles, which clears the distance.
+    fn turn_over(&mut self) -> u16
+        ensures gives { (targets : List Target) → Gives (done (pointed (seeing targets self.old) (other_hz self.old.pointing.hz) (other_v self.old.pointing.v)) Nothing)
+            (seeing targets self.new) result Nothing }
+        ensures same { self.new.scene ≡ self.old.scene }
+    {
+        let there = self.pointing();
+        self.position(&other_hz(&there.hz), &other_v(&there.v))
+    }
+
+    // Answers the angles and the distance, and takes it along. Where there is none, the code is 1285, without an answer.
+    fn take_along(&mut self, answer: &mut Answer) -> u16
+        requires { answer.old ≡ Nothing }
+        ensures gives { (targets : List Target) → Gives (told (unmeasured (seeing targets self.old)) (λ d. Measured self.old.pointing.hz self.old.pointing.v d)
+            self.old.distance) (seeing targets self.new) result answer.new }
+        ensures same { self.new.scene ≡ self.old.scene }
+    {
+        let known = self.distance();
+        self.clear_distance();
+        let Some(distance) = known else {
+            return NO_DISTANCE;
+        };
+        let Pointing { hz, v } = self.pointing();
+        *answer = Answer::Measured { hz, v, distance };
+        0
+    }
+
+    // Gives the telescope the face of its vertical angle.
+    fn face(&mut self)
+        ensures { self.new ≡ faced true self.old }
+    {
+        let there = self.pointing();
+        let turned = is_second(&there.v);
+        self.turn_to(turned);
+    }
+}

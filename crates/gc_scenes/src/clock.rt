@@ -1,0 +1,114 @@
+//! A clock that runs from where it was set, by the Gregorian calendar. All arithmetic on dates is here.
+
+ghost use Rattle.std.specs.Prelude.{◌≡◌, ◌≤◌, unsigned_abs};
+ghost use Rattle.gc_scenes.specs.Clocks.{is_leap, days_in, next_year, next_day, days_on, second_of, at_second, later, shown_at};
+
+use gc_catalogue::DateTime;
+
+// The seconds of a day.
+const DAY: u64 = 86_400;
+
+/// A clock that runs: where it was set, and at which moment, in milliseconds of the program's own clock.
+#[derive(Clone, Copy, Debug, PartialEq, Eq)]
+pub struct Clock {
+    pub set: DateTime,
+    pub at: u64,
+}
+
+impl Clock {
+    /// What the clock shows at this moment.
+    pub(crate) fn shown_at(&self, moment: u64) -> DateTime
+        ensures { result ≡ shown_at moment self.now }
+    {
+        later(moment.saturating_sub(self.at) / 1000, &self.set)
+    }
+}
+
+// Whether the year has a 29th of February.
+fn is_leap(year: u16) -> bool
+    ensures { result ≡ is_leap year }
+{
+    year % 4 == 0 && (year % 100 != 0 || year % 400 == 0)
+}
+
+// How many days a month of a year has.
+fn days_in(year: u16, month: u8) -> u8
+    ensures value { result ≡ days_in year month }
+    ensures few { result ≤ 31 }
+{
+    if month == 2 {
+        if is_leap(year) { 29 } else { 28 }
+    } else if month == 4 || month == 6 || month == 9 || month == 11 {
+        30
+    } else {
+        31
+    }
+}
+
+// The year after; the year 9999 is the last one.
+fn next_year(year: i16) -> i16
+    ensures { result ≡ next_year year }
+{
+    if 9999 <= year { year } else { year + 1 }
+}
+
+// The same time of the day after.
+fn next_day(date: DateTime) -> DateTime
+    ensures { result ≡ next_day date }
+{
+    let mut after = date;
+    if u16::from(date.day) + 1 <= u16::from(days_in(date.year.unsigned_abs(), date.month)) {
+        after.day = date.day + 1;
+    } else if u16::from(date.month) + 1 <= 12 {
+        after.day = 1;
+        after.month = date.month + 1;
+    } else {
+        after.day = 1;
+        after.month = 1;
+        after.year = next_year(date.year);
+    }
+    after
+}
+
+// The same time so many days later.
+fn days_on(days: u64, date: &DateTime) -> DateTime
+    ensures { result ≡ days_on days date.now }
+{
+    let mut day = *date;
+    for passed in 0..days {
+        day = next_day(day);
+    }
+    day
+}
+
+// The second of the day.
+fn second_of(date: &DateTime) -> u64
+    ensures value { result ≡ second_of date.now }
+    ensures few { result ≤ 1000000 }
+{
+    u64::from(date.hour) * 3600 + u64::from(date.minute) * 60 + u64::from(date.second)
+}
+
+// The same day, at this second of it.
+fn at_second(second: u64, date: DateTime) -> DateTime
+    requires { second ≤ 86399 }
+    ensures { result ≡ at_second second date }
+{
+    DateTime {
+        year: date.year,
+        month: date.month,
+        day: date.day,
+        hour: (second / 3600) as u8,
+        minute: (second / 60 % 60) as u8,
+        second: (second % 60) as u8,
+    }
+}
+
+// So many seconds later.
+fn later(seconds: u64, date: &DateTime) -> DateTime
+    requires { seconds ≤ 18446744073709551 }
+    ensures { result ≡ later seconds date.now }
+{
+    let all = second_of(date) + seconds;
+    at_second(all % DAY, days_on(all / DAY, date))
+}

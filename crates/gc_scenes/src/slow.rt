@@ -1,0 +1,135 @@
+//! An instrument whose replies take time. It doesn't wait, and has no clock: it is told when each line came, and says when the reply
+//! goes out. Who serves with it waits until then.
+
+ghost use Rattle.std.specs.Prelude.{◌≡◌, ◌+◌, ◌<◌, ◌≤◌, length, true, IsTrue, IsFalse};
+ghost use Rattle.arrayvec.specs.ArrayVec.{array_vec_len};
+ghost use Rattle.gc_lines.specs.Answering.{AppendsAnswer};
+ghost use Rattle.gc_scenes.specs.Slow.{Hears, IsDelay, IsTaken, delay_of, later, slow_restarted, taken_up};
+
+use crate::delay::Delay;
+use crate::instrument::SceneInstrument;
+use arrayvec::ArrayVec;
+use gc_lines::read_request;
+use std::marker::Model;
+
+/// The instrument of a scene, whose replies to some procedures take time. While one is awaited it is busy: what comes then waits in
+/// order, or is dropped. Moments are milliseconds on one clock.
+#[derive(Debug, Drop)]
+pub struct SlowInstrument {
+    scene: SceneInstrument,
+    delays: ArrayVec<Delay, 32>,
+    drops: bool,
+    free_from: u64,
+}
+
+impl Model for SlowInstrument {
+    ghost use Rattle.gc_scenes.specs.Slow.{SlowState};
+
+    ghost Value = { SlowState };
+
+    ghost view = { λ i. record { scene = i.scene; delays = i.delays.items; drops = i.drops; free_from = i.free_from } };
+}
+
+impl SlowInstrument {
+    /// The instrument with these delays, of which the last of a procedure counts. With `drops` it drops what comes while it is busy.
+    pub fn new(scene: SceneInstrument, delays: ArrayVec<Delay, 32>, drops: bool) -> SlowInstrument
+        ensures { result ≡ record { scene = scene; delays = delays.items; drops = drops; free_from = 0 } }
+    {
+        SlowInstrument {
+            scene,
+            delays,
+            drops,
+            free_from: 0,
+        }
+    }
+
+    /// Whether it drops what comes while it is busy.
+    pub fn drops(&self) -> bool
+        ensures { result ≡ self.now.drops }
+    {
+        self.drops
+    }
+
+    /// The moment at which the last reply goes out. The instrument is busy until then.
+    pub fn free_from(&self) -> u64
+        ensures { result ≡ self.now.free_from }
+    {
+        self.free_from
+    }
+
+    /// Restarts the scene's instrument.
+    pub fn restart(&mut self)
+        ensures { self.new ≡ slow_restarted self.old }
+    {
+        self.scene.restart();
+    }
+
+    /// Deals with a line whose last byte came at this moment, and appends the reply to `out`, if there is one. It goes out at
+    /// `free_from`. A line that comes while the instrument is busy is dropped, where it drops such lines: nothing is executed.
+    pub fn hear<const N: usize>(&mut self, line: &[u8], at: u64, out: &mut ArrayVec<u8, N>) -> bool
+        requires { array_vec_len out.old + 512 ≤ N }
+        ensures heard { AppendsAnswer (Hears self.old line.now at self.new) out.old.items out.new.items result }
+        ensures bound { length out.new.items ≤ length out.old.items + 512 }
+    {
+        if self.is_busy(at) {
+            return false;
+        }
+        let from = self.taken_up(at);
+        let due = later(from, self.delay_of_line(line));
+        self.scene.at(from);
+        if !self.scene.reply_onto(line, out) {
+            return false;
+        }
+        self.free_from = due;
+        true
+    }
+
+    // Whether a line that comes at this moment is dropped.
+    fn is_busy(&self, at: u64) -> bool
+        ensures busy { IsTrue result → (self.now.drops ≡ true) × (at < self.now.free_from) }
+        ensures taken { IsFalse result → IsTaken self.now at }
+    {
+        self.drops && at < self.free_from
+    }
+
+    // The moment at which a line is taken up that came at this one.
+    fn taken_up(&self, at: u64) -> u64
+        ensures { result ≡ taken_up self.now at }
+    {
+        if at < self.free_from {
+            self.free_from
+        } else {
+            at
+        }
+    }
+
+    // How long the reply to a line takes, where the line is a request.
+    fn delay_of_line(&self, line: &[u8]) -> u32
+        ensures { IsDelay self.now.delays line.now result }
+    {
+        match read_request(line) {
+            Ok(request) => delay_of(request.rpc, self.delays.as_slice()),
+            Err(_) => 0,
+        }
+    }
+}
+
+// The moment so many milliseconds later.
+fn later(at: u64, ms: u32) -> u64
+    ensures { result ≡ later at ms }
+{
+    at.saturating_add(u64::from(ms))
+}
+
+// How long the reply to a request of this procedure takes: as the last delay of it says.
+fn delay_of(rpc: u16, delays: &[Delay]) -> u32
+    ensures { result ≡ delay_of rpc delays.now }
+{
+    let mut ms = 0;
+    for delay in delays {
+        if delay.rpc == rpc {
+            ms = delay.ms;
+        }
+    }
+    ms
+}

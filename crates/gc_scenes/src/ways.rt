@@ -1,0 +1,205 @@
+//! The ways of real instruments that a scene's instrument may have, from memory, and what each does by itself.
+
+ghost use Rattle.std.specs.Prelude.{◌≡◌, ◌≤◌, ◌*◌, ◌^◌, ◌-ℤ◌, List, unsigned_abs};
+ghost use Rattle.gc_values.specs.Decimals.{units};
+ghost use Rattle.gc_values.specs.Directions.{half_turn};
+ghost use Rattle.gc_scenes.specs.Ways.{no_ways, with_way, is_second, other_hz, other_v, met, is_over, on_circle, apart, nearer, nearest, is_warning, has_distance};
+
+use crate::shifting::shifted;
+use gc_instrument::{Pointing, Target};
+use gc_values::Decimal;
+
+// Half a turn, pi to 24 places, in units of 10^-24 radians: the number by which a station looks whether a direction is near.
+const HALF_TURN: i128 = 3_141_592_653_589_793_238_462_643;
+
+// A whole turn.
+const TURN: i128 = 6_283_185_307_179_586_476_925_286;
+
+// The window of target recognition, each way: 0.0131 radians, three quarters of a degree.
+const WINDOW: u128 = 13_100_000_000_000_000_000_000;
+
+/// Which ways of real instruments a scene's instrument has.
+#[derive(Clone, Copy, Debug, PartialEq, Eq)]
+pub struct Ways {
+    /// In face II the telescope has other angles, and meets targets there; a face change turns it to them.
+    pub faces: bool,
+    /// A positioning with target recognition aims at a target.
+    pub aims: bool,
+    /// TMC_GetSimpleMea takes the distance along.
+    pub takes: bool,
+    /// Values stand beside warnings.
+    pub values: bool,
+    /// The clock runs from where it is set.
+    pub clock: bool,
+}
+
+/// One of these ways, or all of them.
+#[derive(Clone, Copy, Debug, PartialEq, Eq)]
+pub enum Way {
+    Faces,
+    Aims,
+    Takes,
+    Values,
+    Clock,
+    Real,
+}
+
+impl Ways {
+    /// None of the ways.
+    pub fn none() -> Ways
+        ensures { result ≡ no_ways }
+    {
+        Ways {
+            faces: false,
+            aims: false,
+            takes: false,
+            values: false,
+            clock: false,
+        }
+    }
+
+    /// These ways and one more, or all of them.
+    pub fn with(self, way: Way) -> Ways
+        ensures { result ≡ with_way way self }
+    {
+        let mut ways = self;
+        match way {
+            Way::Faces => ways.faces = true,
+            Way::Aims => ways.aims = true,
+            Way::Takes => ways.takes = true,
+            Way::Values => ways.values = true,
+            Way::Clock => ways.clock = true,
+            Way::Real => {
+                ways = Ways {
+                    faces: true,
+                    aims: true,
+                    takes: true,
+                    values: true,
+                    clock: true,
+                }
+            }
+        }
+        ways
+    }
+
+    /// Whether the telescope meets targets turned over, where it points there.
+    pub(crate) fn is_over(&self, there: &Pointing) -> bool
+        ensures { result ≡ is_over self.now there.now }
+    {
+        self.faces && is_second(&there.v)
+    }
+}
+
+/// Whether a vertical angle is one of face II.
+pub(crate) fn is_second(v: &Decimal) -> bool
+    ensures { result ≡ is_second v.now }
+{
+    !(v.units() <= HALF_TURN)
+}
+
+/// The horizontal direction in the other face.
+pub(crate) fn other_hz(hz: &Decimal) -> Decimal
+    ensures { result ≡ other_hz hz.now }
+{
+    let by = if HALF_TURN <= hz.units() {
+        -HALF_TURN
+    } else {
+        HALF_TURN
+    };
+    shifted(hz, by)
+}
+
+/// The vertical angle in the other face.
+pub(crate) fn other_v(v: &Decimal) -> Decimal
+    ensures { result ≡ other_v v.now }
+{
+    let units = v.units();
+    shifted(v, TURN - (units + units))
+}
+
+/// Where the telescope has to point to meet the target: turned over, or as the target stands.
+pub(crate) fn met(over: bool, target: &Target) -> Target
+    ensures { result ≡ met over target.now }
+{
+    if over {
+        Target {
+            hz: other_hz(&target.hz),
+            v: other_v(&target.v),
+            distance: target.distance,
+        }
+    } else {
+        *target
+    }
+}
+
+// How far apart two directions are on the circle, of which this is the difference.
+fn on_circle(difference: i128) -> u128
+    ensures { result ≡ on_circle difference }
+{
+    let rest = difference.unsigned_abs() % 6_283_185_307_179_586_476_925_286;
+    rest.min(6_283_185_307_179_586_476_925_286 - rest)
+}
+
+// How much greater the one decimal is than the other, in units.
+fn difference(one: &Decimal, other: &Decimal) -> i128
+    ensures value { result ≡ units one.now -ℤ units other.now }
+    ensures bound { unsigned_abs result ≤ 2 * 10 ^ 37 }
+{
+    one.units() - other.units()
+}
+
+// How far a target is from where the telescope points: the greater of the two differences.
+fn apart(there: &Pointing, target: &Target) -> u128
+    ensures { result ≡ apart there.now target.now }
+{
+    let hz = on_circle(difference(&target.hz, &there.hz));
+    let v = difference(&target.v, &there.v).unsigned_abs();
+    hz.max(v)
+}
+
+// The nearer one of the target that was found so far, if one was, and this one, where that is within the window.
+fn nearer(there: &Pointing, found: Option<Target>, target: &Target) -> Option<Target>
+    ensures { result ≡ nearer there.now found target.now }
+{
+    match found {
+        None => {
+            if apart(there, target) <= WINDOW {
+                Some(*target)
+            } else {
+                None
+            }
+        }
+        Some(other) => {
+            if apart(there, &other) <= apart(there, target) {
+                Some(other)
+            } else {
+                Some(*target)
+            }
+        }
+    }
+}
+
+/// The nearest of these targets within the window.
+pub(crate) fn nearest(there: &Pointing, targets: &[Target]) -> Option<Target>
+    ensures { result ≡ nearest there.now targets.now }
+{
+    let mut found = None;
+    for target in targets {
+        found = nearer(there, found, target);
+    }
+    found
+}
+
+/// Whether values stand beside this return code.
+pub(crate) fn is_warning(rc: u16) -> bool
+    ensures { result ≡ is_warning rc }
+{
+    rc == 1283 || rc == 1284 || rc == 1285 || rc == 1288 || rc == 1289
+}
+
+/// Whether a distance is among them.
+pub(crate) fn has_distance(rc: u16) -> bool
+    ensures { result ≡ has_distance rc }
+{
+    rc == 1283 || rc == 1284
+}
