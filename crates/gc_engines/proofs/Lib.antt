@@ -6,3 +6,4 @@ mod OneVerdict
 mod Scenes
 mod Shown
 pub mod RuleForms
+mod TimedForms

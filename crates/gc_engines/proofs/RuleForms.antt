@@ -8,11 +8,12 @@ use Rattle.gc_scenes.specs.Params.{scripted_params}
 use Rattle.gc_scenes.specs.declared.rules.Fault.{Fault}
 use Rattle.gc_scenes.specs.declared.rules.Scripted.{Scripted}
 use Rattle.gc_scenes.specs.declared.rules.Noise.{Noise}
+use Rattle.gc_scenes.specs.declared.ways.Way.{Way}
 use Rattle.gc_texts.specs.Cuts.{before, behind}
 use Rattle.gc_texts.specs.Procedures.{IsNumber}
 use Rattle.gc_texts.proofs.Procedures.{one_number}
 use Rattle.gc_engines.specs.Scenes.{IsSerial, IsName, IsTarget}
-use Rattle.gc_engines.specs.RuleScenes.{Begins, IsAnswer, IsFault, IsBlocked, IsDrift, IsNoise, IsRuleLine}
+use Rattle.gc_engines.specs.RuleScenes.{Begins, IsAnswer, IsFault, IsBlocked, IsDrift, IsNoise, IsRuleLine, way_line}
 use Rattle.gc_engines.specs.declared.rule_line.RuleLine.{RuleLine}
 use Rattle.gc_engines.specs.declared.rule_line.RuleLine.TheVariants as says
 use Rattle.gc_engines.specs.declared.rule_line.Blocked.{Blocked}
@@ -50,16 +51,17 @@ answer_is line params rpc rc (Some a) word rpc_is rc_is params_is made = record 
   params = made.2.3 ∙ params_is;
 }
 
--- a line that has none of the nine forms says nothing
+-- a line that has none of the ten forms says nothing
 pub no_rule : (line : List ℕ) → ((n : ℤ) → IsSerial line n → ⊥) → ((bytes : List ℕ) → IsName line bytes → ⊥) → ((t : Target) → IsTarget line t → ⊥)
     → ((f : Fault) → IsFault line f → ⊥) → ((a : Scripted) → IsAnswer line a → ⊥) → ((b : Blocked) → IsBlocked line b → ⊥) → ((d : Drift) → IsDrift line d → ⊥)
-    → ((n : Noise) → IsNoise line n → ⊥) → (line ≡ codes "repeats no" → ⊥) → (rule : RuleLine) → IsRuleLine line rule → ⊥
-no_rule line s n t f a b d x r (says.Serial m) h = s m h
-no_rule line s n t f a b d x r (says.Name bytes) h = n bytes h
-no_rule line s n t f a b d x r (says.Target u) h = t u h
-no_rule line s n t f a b d x r (says.Fault g) h = f g h
-no_rule line s n t f a b d x r (says.Answer g) h = a g h
-no_rule line s n t f a b d x r (says.Blocked g) h = b g h
-no_rule line s n t f a b d x r (says.Drift g) h = d g h
-no_rule line s n t f a b d x r (says.Noise g) h = x g h
-no_rule line s n t f a b d x r says.NoRepeats h = r h
+    → ((n : Noise) → IsNoise line n → ⊥) → ((w : Way) → line ≡ way_line w → ⊥) → (line ≡ codes "repeats no" → ⊥) → (rule : RuleLine) → IsRuleLine line rule → ⊥
+no_rule line s n t f a b d x w r (says.Serial m) h = s m h
+no_rule line s n t f a b d x w r (says.Name bytes) h = n bytes h
+no_rule line s n t f a b d x w r (says.Target u) h = t u h
+no_rule line s n t f a b d x w r (says.Fault g) h = f g h
+no_rule line s n t f a b d x w r (says.Answer g) h = a g h
+no_rule line s n t f a b d x w r (says.Blocked g) h = b g h
+no_rule line s n t f a b d x w r (says.Drift g) h = d g h
+no_rule line s n t f a b d x w r (says.Noise g) h = x g h
+no_rule line s n t f a b d x w r (says.Behave g) h = w g h
+no_rule line s n t f a b d x w r says.NoRepeats h = r h

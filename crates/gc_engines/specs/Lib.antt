@@ -7,3 +7,4 @@ pub mod Checking
 pub mod LogChecking
 pub mod Laws
 pub mod RuleScenes
+pub mod TimedScenes

@@ -10,6 +10,10 @@ use Rattle.gc_scenes.specs.declared.rules.Offset.{Offset}
 use Rattle.gc_scenes.specs.declared.rules.Fault.{Fault}
 use Rattle.gc_scenes.specs.declared.rules.Scripted.{Scripted}
 use Rattle.gc_scenes.specs.declared.rules.Noise.{Noise}
+use Rattle.gc_scenes.specs.Ways.{no_ways, with_way}
+use Rattle.gc_scenes.specs.declared.ways.Ways.{Ways}
+use Rattle.gc_scenes.specs.declared.ways.Way.{Way}
+use Rattle.gc_scenes.specs.declared.ways.Way.TheVariants as way
 use Rattle.gc_texts.specs.Cuts.{before, behind}
 use Rattle.gc_texts.specs.LineForms.{IsText}
 use Rattle.gc_texts.specs.Nears.{IsDouble}
@@ -85,6 +89,15 @@ pub record IsNoise (line : List ℕ) (n : Noise) : Type 0 where
   pub distance : IsDouble (before 32 (behind 32 (behind 32 (behind 32 line)))) n.distance
   pub seed : IsNumber (behind 32 (behind 32 (behind 32 (behind 32 line)))) n.seed 4294967295
 
+-- the line of a way of real instruments, or of all of them
+abbrev pub way_line : Way → List ℕ
+way_line way.Faces = codes "behave faces"
+way_line way.Aims = codes "behave aims"
+way_line way.Takes = codes "behave takes"
+way_line way.Values = codes "behave values"
+way_line way.Clock = codes "behave clock"
+way_line way.Real = codes "behave real"
+
 -- the line says this, in its form
 abbrev pub IsRuleLine : List ℕ → RuleLine → Type 0
 IsRuleLine line (says.Serial n) = IsSerial line n
@@ -95,7 +108,16 @@ IsRuleLine line (says.Answer a) = IsAnswer line a
 IsRuleLine line (says.Blocked b) = IsBlocked line b
 IsRuleLine line (says.Drift d) = IsDrift line d
 IsRuleLine line (says.Noise n) = IsNoise line n
+IsRuleLine line (says.Behave w) = line ≡ way_line w
 IsRuleLine line says.NoRepeats = line ≡ codes "repeats no"
+
+-- the line asks for a clock that runs
+abbrev pub WantsClock : List ℕ → Type 0
+WantsClock line = (line ≡ codes "behave clock") ⊎ (line ≡ codes "behave real")
+
+-- the line says this, and doesn't ask for a clock
+abbrev pub IsStillLine : List ℕ → RuleLine → Type 0
+IsStillLine line rule = IsRuleLine line rule × (WantsClock line → ⊥)
 
 -- What lines say together.
 
@@ -141,6 +163,12 @@ rules_repeat b [] = b
 rules_repeat b (says.NoRepeats ∷ rest) = rules_repeat false rest
 rules_repeat b (other ∷ rest) = rules_repeat b rest
 
+-- these ways of real instruments, and those that the lines name
+abbrev pub rules_ways : Ways → List RuleLine → Ways
+rules_ways w [] = w
+rules_ways w (says.Behave one ∷ rest) = rules_ways (with_way one w) rest
+rules_ways w (other ∷ rest) = rules_ways w rest
+
 -- the target with the looks in which it is blocked, if the line is of the target with this number
 abbrev pub ruled : ℕ → RuleLine → Prism → Prism
 ruled number (says.Blocked b) p = if b.target == number then record p { from = b.from; to = b.to } else p
@@ -167,11 +195,21 @@ rules_opening lines = record {
   noise = rules_noise None lines;
   looks = 0;
   repeats = rules_repeat true lines;
+  ways = rules_ways no_ways lines;
+  clock = None;
+  moment = 0;
 }
 
 -- the text is a scene with rules, of at most 32 targets, 32 faults and 16 replies, and this is the opening state of its instrument
 pub record IsRuleScene (text : List ℕ) (state : SceneState) : Type 0 where
   pub lines : List RuleLine
   pub are : IsText IsRuleLine text lines
+  pub few : length (rules_targets lines) ≤ 32
+  pub opens : state ≡ rules_opening lines
+
+-- the same, and no line asks for a clock
+pub record IsStillScene (text : List ℕ) (state : SceneState) : Type 0 where
+  pub lines : List RuleLine
+  pub are : IsText IsStillLine text lines
   pub few : length (rules_targets lines) ≤ 32
   pub opens : state ≡ rules_opening lines

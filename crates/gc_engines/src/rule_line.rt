@@ -1,6 +1,6 @@
 //! The reading of one line of a scene with rules. The words of rules are known here alone.
 
-ghost use Rattle.std.specs.Prelude.{◌≡◌, ℕ, List, MatchOption, Some};
+ghost use Rattle.std.specs.Prelude.{◌≡◌, ◌↔◌, ℕ, List, MatchOption, Some, IsTrue};
 ghost use Rattle.gc_texts.specs.Cuts.{before, behind};
 ghost use Rattle.gc_texts.specs.Procedures.{IsNumber};
 ghost use Rattle.gc_catalogue.specs.declared.raw.RawCall.{RawCall};
@@ -9,13 +9,14 @@ ghost use Rattle.gc_scenes.specs.declared.rules.Fault.{Fault};
 ghost use Rattle.gc_scenes.specs.declared.rules.Scripted.{Scripted};
 ghost use Rattle.gc_scenes.specs.declared.rules.Offset.{Offset};
 ghost use Rattle.gc_scenes.specs.declared.rules.Noise.{Noise};
-ghost use Rattle.gc_engines.specs.RuleScenes.{IsRuleLine, IsFault, IsAnswer, IsBlocked, IsOffset, IsDrift, IsNoise, IsSpan, IsTimes};
+ghost use Rattle.gc_scenes.specs.declared.ways.Way.{Way};
+ghost use Rattle.gc_engines.specs.RuleScenes.{IsRuleLine, IsFault, IsAnswer, IsBlocked, IsOffset, IsDrift, IsNoise, IsSpan, IsTimes, IsStillLine, WantsClock, way_line};
 
 use crate::event::is_plain;
 use crate::scene_line::{read_name, read_serial, read_target};
 use gc_catalogue::{RawCall, raw_call};
 use gc_instrument::Target;
-use gc_scenes::{Fault, Noise, Offset, Scripted};
+use gc_scenes::{Fault, Noise, Offset, Scripted, Way};
 use gc_texts::{LineForm, before, behind, number_of, read_double};
 use gc_values::Text;
 
@@ -69,6 +70,8 @@ pub enum RuleLine {
     Drift(Drift),
     /// What is added to measurements.
     Noise(Noise),
+    /// The instrument has a way of real instruments, or all of them.
+    Behave(Way),
     /// The instrument keeps no reply.
     NoRepeats,
 }
@@ -96,8 +99,41 @@ impl LineForm for RuleForm {
     }
 }
 
+/// The form of the lines of a scene with rules for an instrument without a clock.
+pub(crate) struct StillForm;
+
+impl LineForm for StillForm {
+    type Item = RuleLine;
+
+    ghost form = { IsStillLine };
+
+    fn blank() -> RuleLine {
+        RuleLine::NoRepeats
+    }
+
+    fn read(line: &[u8], says: &mut RuleLine) -> bool {
+        if wants_clock(line) {
+            return false;
+        }
+        match read_rule_line(line) {
+            Some(found) => {
+                *says = found;
+                true
+            }
+            None => false,
+        }
+    }
+}
+
+// Whether the line asks for a clock that runs.
+fn wants_clock(line: &[u8]) -> bool
+    ensures { IsTrue result ↔ WantsClock line.now }
+{
+    is_plain(b"behave clock", line) || is_plain(b"behave real", line)
+}
+
 // Reads one line of a scene with rules. `None`: it has no form.
-fn read_rule_line(line: &[u8]) -> Option<RuleLine>
+pub(crate) fn read_rule_line(line: &[u8]) -> Option<RuleLine>
     ensures { MatchOption result ((says : RuleLine) → IsRuleLine line.now says → ⊥) (λ says. IsRuleLine line.now says) }
 {
     if let Some(serial) = read_serial(line) {
@@ -123,6 +159,9 @@ fn read_rule_line(line: &[u8]) -> Option<RuleLine>
     }
     if let Some(noise) = read_noise(line) {
         return Some(RuleLine::Noise(noise));
+    }
+    if let Some(way) = read_way(line) {
+        return Some(RuleLine::Behave(way));
     }
     if is_plain(b"repeats no", line) {
         return Some(RuleLine::NoRepeats);
@@ -327,4 +366,29 @@ fn read_noise(line: &[u8]) -> Option<Noise>
         }),
         None => None,
     }
+}
+
+// Reads `behave WORD`. `None`: the line has no such form.
+fn read_way(line: &[u8]) -> Option<Way>
+    ensures { MatchOption result ((w : Way) → line.now ≡ way_line w → ⊥) (λ w. line.now ≡ way_line w) }
+{
+    if is_plain(b"behave faces", line) {
+        return Some(Way::Faces);
+    }
+    if is_plain(b"behave aims", line) {
+        return Some(Way::Aims);
+    }
+    if is_plain(b"behave takes", line) {
+        return Some(Way::Takes);
+    }
+    if is_plain(b"behave values", line) {
+        return Some(Way::Values);
+    }
+    if is_plain(b"behave clock", line) {
+        return Some(Way::Clock);
+    }
+    if is_plain(b"behave real", line) {
+        return Some(Way::Real);
+    }
+    None
 }

@@ -5,12 +5,13 @@ ghost use Rattle.gc_instrument.specs.State.{simulator_opening};
 ghost use Rattle.gc_texts.specs.declared.fault.RunFault.{RunFault};
 ghost use Rattle.gc_texts.specs.declared.text.TheConstants.{TEXT_LIMIT};
 ghost use Rattle.gc_scenes.specs.Laws.{still};
-ghost use Rattle.gc_engines.specs.RuleScenes.{IsRuleScene, rules_opening, rules_serial, rules_name, rules_targets, rules_faults, rules_answers, rules_noise, rules_repeat, rules_prism, rules_prisms, ruled};
+ghost use Rattle.gc_scenes.specs.Ways.{no_ways};
+ghost use Rattle.gc_engines.specs.RuleScenes.{IsRuleScene, rules_opening, rules_serial, rules_name, rules_targets, rules_faults, rules_answers, rules_noise, rules_repeat, rules_prism, rules_prisms, rules_ways, ruled, IsStillScene};
 
-use crate::rule_line::{RuleForm, RuleLine};
+use crate::rule_line::{RuleForm, RuleLine, StillForm};
 use arrayvec::ArrayVec;
 use gc_instrument::Target;
-use gc_scenes::{Fault, Noise, Prism, SceneInstrument, Scripted};
+use gc_scenes::{Fault, Noise, Prism, SceneInstrument, Scripted, Ways};
 use gc_texts::{RunFault, read_items};
 use gc_values::Text;
 use std::alloc::Global;
@@ -18,7 +19,8 @@ use std::alloc::Global;
 /// Reads the text of a scene with rules, and gives the instrument that it sets up, in its opening state.
 ///
 /// A line is one of a scene, or a rule: `fault RPC RC [after COUNT] [for COUNT]`, `answer RPC RC[,PARAMS]`,
-/// `blocked TARGET FROM TO`, `drift TARGET HZ V D`, `noise HZ V D SEED` or `repeats no`. Of several lines `blocked` or `drift` of one
+/// `blocked TARGET FROM TO`, `drift TARGET HZ V D`, `noise HZ V D SEED`, `repeats no`, or `behave` with one of the words `faces`,
+/// `aims`, `takes`, `values`, `clock` and `real`, which is all of them. Of several lines `blocked` or `drift` of one
 /// target, or `noise`, the last one counts.
 ///
 /// `InputTooLong` refuses a text of more than 65,536 bytes, before any line is looked at. `Schedule` names the first line that has
@@ -37,8 +39,22 @@ pub fn read_rule_scene(alloc: Global, text: &[u8]) -> Result<SceneInstrument, Ru
     }
 }
 
+/// As `read_rule_scene`, for an instrument that is served without a clock: `behave clock` and `behave real` have no form.
+pub fn read_still_scene(alloc: Global, text: &[u8]) -> Result<SceneInstrument, RunFault>
+    ensures { IfOk result (λ instrument. IsStillScene text.now instrument) }
+{
+    let lines = match read_items::<StillForm>(alloc, text) {
+        Ok(lines) => lines,
+        Err(fault) => return Err(fault),
+    };
+    match set_up(lines.as_slice()) {
+        Some(instrument) => Ok(instrument),
+        None => Err(RunFault::SceneFull),
+    }
+}
+
 // The instrument that these lines set up. `None`: they have too many targets, faults or replies.
-fn set_up(lines: &[RuleLine]) -> Option<SceneInstrument>
+pub(crate) fn set_up(lines: &[RuleLine]) -> Option<SceneInstrument>
     ensures { IfSome result (λ instrument. (instrument ≡ rules_opening lines.now) × (length (rules_targets lines.now) ≤ 32)) }
 {
     let Some(targets) = targets_of(lines) else {
@@ -58,6 +74,7 @@ fn set_up(lines: &[RuleLine]) -> Option<SceneInstrument>
         answers,
         noise_of(lines),
         repeats(lines),
+        ways_of(lines),
     ))
 }
 
@@ -163,6 +180,20 @@ fn repeats(lines: &[RuleLine]) -> bool
         repeats = false;
     }
     repeats
+}
+
+// The ways of real instruments that these lines name.
+fn ways_of(lines: &[RuleLine]) -> Ways
+    ensures { result ≡ rules_ways no_ways lines.now }
+{
+    let mut ways = Ways::none();
+    for line in lines {
+        let RuleLine::Behave(way) = *line else {
+            continue;
+        };
+        ways = ways.with(way);
+    }
+    ways
 }
 
 // The target with the number, with what the line says of it, if it does.

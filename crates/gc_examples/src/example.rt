@@ -37,13 +37,14 @@ fn parts_of(name: &str) -> Option<(Engine, &str, &'static str)> {
     let (stem, ending) = name.split_once('.')?;
     match ending {
         "requests" => Some((Engine::Exec, stem, ".replies")),
+        "scene-requests" => Some((Engine::Rules, stem, ".scene-replies")),
         "recording" => Some((Engine::Check, stem, ".verdicts")),
         "schedule" => Some((Engine::Drill, stem, ".expected")),
         _ => None,
     }
 }
 
-// Reads the two files of an example.
+// Reads the two files of an example, and of requests to the instrument of a scene that scene.
 fn read(
     rt: &HostRuntime,
     engine: Engine,
@@ -53,8 +54,13 @@ fn read(
 ) -> io::Result<Example> {
     let output = format!(in rt.alloc(); "{stem}{ending}")?;
     let input = fs::read(rt, input)?;
+    let mut setup = Setup::new(rt.alloc(), engine, input);
+    if engine == Engine::Rules {
+        let scene = format!(in rt.alloc(); "{stem}.scene")?;
+        setup.scene = fs::read(rt, scene.as_str())?;
+    }
     Ok(Example {
-        setup: Setup::new(rt.alloc(), engine, input),
+        setup,
         expected: fs::read(rt, output.as_str())?,
     })
 }

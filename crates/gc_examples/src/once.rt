@@ -8,10 +8,11 @@ use crate::outcome::Outcome;
 use gc_cases::Told;
 use gc_catalogue::Call;
 use gc_client::{Client, Ring, Slots, Window};
-use gc_engines::{read_schedule, run_check, run_drill, run_exec};
+use gc_engines::{read_rule_scene, read_schedule, run_check, run_drill, run_exec};
 use gc_instrument::Instrument;
 use gc_lines::ToWriter;
 use gc_probes::{PieceSink, PieceSource};
+use gc_scenes::{SceneInstrument, serve_scene};
 use gc_texts::RunFault;
 use gc_world::{Event, Report, play};
 use std::alloc::Global;
@@ -43,6 +44,7 @@ fn play_example(rt: &HostRuntime, name: &str, example: &Example) -> io::Result<b
     let (input, expected) = (example.setup.input.as_slice(), example.expected.as_slice());
     match example.setup.engine {
         Engine::Exec => tell(rt, name, "served", serves(input, expected)),
+        Engine::Rules => tell(rt, name, "served", serves_scene(rt.alloc(), example)),
         Engine::Check => tell(rt, name, "checked", checks(input, expected)),
         _ => play_schedule(rt, name, input, expected),
     }
@@ -74,6 +76,24 @@ fn serves(input: &[u8], expected: &[u8]) -> Outcome {
 fn is_served(input: &[u8], taken: &mut [u8]) -> bool {
     let mut source = PieceSource::new(input, &[], u64::MAX);
     run_exec(&mut source, &mut ToWriter::new(taken), u32::MAX).is_ok()
+}
+
+// What a stream of requests comes to through the instrument of its scene.
+fn serves_scene(alloc: Global, example: &Example) -> Outcome {
+    match read_rule_scene(alloc, example.setup.scene.as_slice()) {
+        Ok(mut instrument) => serves_on(&mut instrument, example),
+        Err(RunFault::Memory) => Outcome::NoMemory,
+        Err(_) => Outcome::Other,
+    }
+}
+
+// What the example's requests come to through this instrument, whose replies are written into an array.
+fn serves_on(instrument: &mut SceneInstrument, example: &Example) -> Outcome {
+    let mut taken = [0; ROOM];
+    let mut source = PieceSource::new(example.setup.input.as_slice(), &[], u64::MAX);
+    let mut sink = ToWriter::new(&mut taken[..]);
+    let is_done = serve_scene(instrument, &mut source, &mut sink, u32::MAX).is_ok();
+    Outcome::of_answer(is_done && holds(&taken, example.expected.as_slice()))
 }
 
 // What a recording comes to through `check`, whose verdicts are written into an array.

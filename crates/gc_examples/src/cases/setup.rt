@@ -8,12 +8,16 @@ use crate::cases::outcome::Came;
 use crate::cases::sink::Taking;
 use gc_ask::{Duplex, run_ask, run_loop_on};
 use gc_cases::{Case, push_all};
-use gc_engines::{read_rule_scene, read_scene, run_check, run_check_log, run_drill_on, run_exec};
+use gc_engines::{
+    read_rule_scene, read_scene, read_still_scene, read_timed_scene, run_check, run_check_log,
+    run_drill_on, run_exec,
+};
 use gc_instrument::serve;
-use gc_lines::{ServeFault, Served};
+use gc_lines::{Line, Outgoing, ServeFault, Served, append, write_whole};
 use gc_probes::{PieceSource, Pipe};
-use gc_scenes::serve_scene;
-use gc_texts::RunFault;
+use gc_scenes::{SceneInstrument, SlowInstrument, serve_scene};
+use gc_texts::{RunFault, before, behind, number_of};
+use itoa::Buffer;
 use std::alloc::{AllocError, Global};
 
 /// Which engine a case goes through.
@@ -29,6 +33,9 @@ pub enum Engine {
     Scene,
     Rules,
     RuleScene,
+    Slow,
+    TimedScene,
+    StillScene,
     None,
 }
 
@@ -55,6 +62,8 @@ pub struct Setup {
     pub link_sizes: Vec<usize>,
     /// The text of the scene whose instrument answers.
     pub scene: Vec<u8>,
+    /// At which moments the scene's instrument gets the lines of the input, in milliseconds. None: it is told of no moment.
+    pub moments: Vec<usize>,
     /// How many reads are allowed.
     pub allowed: u32,
     pub answers: Answers,
@@ -79,6 +88,9 @@ fn engine_of(word: &str) -> Engine {
         "scene" => Engine::Scene,
         "rules" => Engine::Rules,
         "rule-scene" => Engine::RuleScene,
+        "slow" => Engine::Slow,
+        "timed-scene" => Engine::TimedScene,
+        "still-scene" => Engine::StillScene,
         _ => Engine::None,
     }
 }
@@ -115,6 +127,16 @@ fn push_times(sizes: &mut Vec<usize>, times: &str, size: &str) -> Result<(), All
     Ok(())
 }
 
+// Writes the instrument's reply to a line, which may have a CR at its end, and says whether there is one.
+fn answers_line(instrument: &mut SceneInstrument, line: &[u8], output: &mut Taking) -> bool {
+    let mut text = Outgoing::new();
+    if !instrument.reply_onto(line.strip_suffix(b"\r").unwrap_or(line), &mut text) {
+        return false;
+    }
+    append(&mut text, b"\r\n");
+    write_whole(output, text.as_slice()).is_ok()
+}
+
 impl Setup {
     /// A run of an engine over an input, with ports that don't fail.
     pub fn new(alloc: Global, engine: Engine, input: Vec<u8>) -> Setup {
@@ -125,6 +147,7 @@ impl Setup {
             link: Vec::new(alloc),
             link_sizes: Vec::new(alloc),
             scene: Vec::new(alloc),
+            moments: Vec::new(alloc),
             allowed: u32::MAX,
             answers: Answers {
                 input: u64::MAX,
@@ -163,11 +186,12 @@ impl Setup {
         push_all(&mut self.input, case.value("behind"))
     }
 
-    // Takes the sizes of the input's pieces, what the link gives and in which pieces, and the scene.
+    // Takes the sizes of the input's pieces, what the link gives and in which pieces, the moments, and the scene.
     fn take_bytes(&mut self, case: &Case<'_>) -> Result<(), AllocError> {
         push_sizes(&mut self.sizes, case.value("sizes"))?;
         push_all(&mut self.link, case.value("link"))?;
         push_sizes(&mut self.link_sizes, case.value("link-sizes"))?;
+        push_sizes(&mut self.moments, case.value("moments"))?;
         push_all(&mut self.scene, case.value("scene"))
     }
 
@@ -246,6 +270,7 @@ impl Setup {
             Engine::Exec | Engine::Check | Engine::CheckLog => self.answer(source, came),
             Engine::Serve => self.serve(alloc, source, came),
             Engine::Rules => self.serve_rules(alloc, source, came),
+            Engine::Slow => self.hear_slowly(alloc, came),
             Engine::None => came.end.text.text("no such engine"),
             _ => self.play(alloc, source, came),
         }
@@ -284,12 +309,27 @@ impl Setup {
     // Serves with the instrument of the scene, which has rules.
     fn serve_rules(&self, alloc: Global, source: &mut PieceSource<'_>, came: &mut Came) {
         match read_rule_scene(alloc, self.scene.as_slice()) {
-            Ok(mut instrument) => {
+            Ok(mut instrument) if self.moments.is_empty() => {
                 let end = serve_scene(&mut instrument, source, &mut came.output, self.allowed);
                 came.end.serve(end);
             }
+            Ok(mut instrument) => self.serve_by_moments(&mut instrument, came),
             Err(fault) => came.end.run(Err(fault)),
         }
+    }
+
+    // Serves so many lines of the input as there are moments, each at its own.
+    fn serve_by_moments(&self, instrument: &mut SceneInstrument, came: &mut Came) {
+        let mut left = self.input.as_slice();
+        let mut replies = 0u64;
+        for moment in self.moments.iter() {
+            instrument.at(*moment as u64);
+            if answers_line(instrument, before(b'\n', left), &mut came.output) {
+                replies = replies.saturating_add(1);
+            }
+            left = behind(b'\n', left);
+        }
+        came.end.serve(Ok(Served { replies }));
     }
 
     // Runs an engine that doesn't count its lines.
@@ -311,6 +351,8 @@ impl Setup {
             Engine::Ask => self.ask(alloc, source, link, output),
             Engine::Loop => self.ask_in_a_loop(alloc, source, output),
             Engine::RuleScene => self.read_rules(alloc),
+            Engine::TimedScene => self.read_timed(alloc),
+            Engine::StillScene => self.read_still_rules(alloc),
             _ => self.read(alloc),
         }
     }
@@ -339,6 +381,36 @@ impl Setup {
         match read_rule_scene(alloc, self.input.as_slice()) {
             Ok(_) => Ok(()),
             Err(fault) => Err(fault),
+        }
+    }
+
+    // Reads the input as a scene that `serve` takes.
+    fn read_timed(&self, alloc: Global) -> Result<(), RunFault> {
+        match read_timed_scene(alloc, self.input.as_slice()) {
+            Ok(_) => Ok(()),
+            Err(fault) => Err(fault),
+        }
+    }
+
+    // Reads the input as a scene with rules for an instrument without a clock.
+    fn read_still_rules(&self, alloc: Global) -> Result<(), RunFault> {
+        match read_still_scene(alloc, self.input.as_slice()) {
+            Ok(_) => Ok(()),
+            Err(fault) => Err(fault),
+        }
+    }
+
+    // Tells the scene's instrument, whose replies take time, the lines of the input, each with its moment in front, and writes each reply
+    // behind the moment at which it goes out.
+    fn hear_slowly(&self, alloc: Global, came: &mut Came) {
+        match read_timed_scene(alloc, self.scene.as_slice()) {
+            Ok(mut slow) => {
+                for row in self.input.split(|byte| *byte == b'\n') {
+                    hear_row(&mut slow, row, &mut came.output);
+                }
+                came.end.run(Ok(()));
+            }
+            Err(fault) => came.end.run(Err(fault)),
         }
     }
 
@@ -397,4 +469,19 @@ impl Setup {
             self.allowed,
         )
     }
+}
+
+// Tells an instrument the line of a row, which has its moment in front, and writes the reply behind the moment at which it goes out.
+fn hear_row(slow: &mut SlowInstrument, row: &[u8], output: &mut Taking) {
+    let at = number_of(before(b' ', row), 4_294_967_295).unwrap_or(0);
+    let mut reply = Line::new();
+    if !slow.hear(behind(b' ', row), at, &mut reply) {
+        return;
+    }
+    // An output that fails shows in what it took.
+    let mut digits = Buffer::new();
+    let _ = write_whole(output, digits.format(slow.free_from()).as_bytes());
+    let _ = write_whole(output, b" ");
+    let _ = write_whole(output, reply.as_slice());
+    let _ = write_whole(output, b"\n");
 }

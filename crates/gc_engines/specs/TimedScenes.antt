@@ -1,0 +1,71 @@
+-- A scene's text with words that want a clock, which `serve` alone has, and the instrument that it sets up: this project's own.
+use Rattle.std.specs.Prelude.{◌≡◌, ℕ, ◌≤◌, Bool, true, false, List, [], ◌∷◌, length, codes}
+use Rattle.gc_scenes.specs.Slow.{SlowState}
+use Rattle.gc_scenes.specs.declared.delay.Delay.{Delay}
+use Rattle.gc_texts.specs.Cuts.{before, behind}
+use Rattle.gc_texts.specs.LineForms.{IsText, TextFault}
+use Rattle.gc_texts.specs.Procedures.{IsNumber}
+use Rattle.gc_texts.specs.declared.fault.RunFault.{RunFault}
+use Rattle.gc_texts.specs.declared.fault.RunFault.TheVariants.{SceneFull, Memory}
+use Rattle.gc_engines.specs.RuleScenes.{Begins, IsRuleLine, rules_opening, rules_targets}
+use Rattle.gc_engines.specs.declared.rule_line.RuleLine.{RuleLine}
+use Rattle.gc_engines.specs.declared.timed_line.TimedLine.{TimedLine}
+use Rattle.gc_engines.specs.declared.timed_line.TimedLine.TheVariants as says
+
+-- `delay RPC MS`: at most an hour
+pub record IsDelayLine (line : List ℕ) (d : Delay) : Type 0 where
+  pub word : Begins (codes "delay") line
+  pub rpc : IsNumber (before 32 (behind 32 line)) d.rpc 65535
+  pub ms : IsNumber (behind 32 (behind 32 line)) d.ms 3600000
+
+-- the line says this, in its form
+abbrev pub IsTimedLine : List ℕ → TimedLine → Type 0
+IsTimedLine line (says.Rule rule) = IsRuleLine line rule
+IsTimedLine line (says.Delay d) = IsDelayLine line d
+IsTimedLine line says.Queues = line ≡ codes "busy queue"
+IsTimedLine line says.Drops = line ≡ codes "busy drop"
+
+-- What lines say together.
+
+-- the lines of a scene with rules among them, in order
+abbrev pub rules_of : List TimedLine → List RuleLine
+rules_of [] = []
+rules_of (says.Rule rule ∷ rest) = rule ∷ rules_of rest
+rules_of (other ∷ rest) = rules_of rest
+
+-- the delays, in order
+abbrev pub delays_of : List TimedLine → List Delay
+delays_of [] = []
+delays_of (says.Delay d ∷ rest) = d ∷ delays_of rest
+delays_of (other ∷ rest) = delays_of rest
+
+-- whether the instrument drops what comes while it is busy: as the last line says that says it, and `b` where none does
+abbrev pub drops_from : Bool → List TimedLine → Bool
+drops_from b [] = b
+drops_from b (says.Queues ∷ rest) = drops_from false rest
+drops_from b (says.Drops ∷ rest) = drops_from true rest
+drops_from b (other ∷ rest) = drops_from b rest
+
+-- the opening state of the instrument that these lines set up
+abbrev pub timed_opening : List TimedLine → SlowState
+timed_opening lines = record {
+  scene = rules_opening (rules_of lines);
+  delays = delays_of lines;
+  drops = drops_from false lines;
+  free_from = 0;
+}
+
+-- the text is a scene with words that want a clock, of at most 32 targets, 32 faults, 16 replies and 32 delays, and this is the opening
+-- state of its instrument
+pub record IsTimedScene (text : List ℕ) (state : SlowState) : Type 0 where
+  pub lines : List TimedLine
+  pub are : IsText IsTimedLine text lines
+  pub few : length (rules_targets (rules_of lines)) ≤ 32
+  pub opens : state ≡ timed_opening lines
+
+-- why a text sets up no instrument: each of its lines has a form, and they are more than an instrument has; or memory was refused; or it is no
+-- text of such lines
+abbrev pub TimedFault : List ℕ → RunFault → Type 0
+TimedFault text SceneFull = (lines : List TimedLine) × IsText IsTimedLine text lines
+TimedFault text Memory = Unit {0}
+TimedFault text fault = TextFault IsTimedLine text fault

@@ -1,0 +1,92 @@
+//! The reading of one line of a scene that `serve` takes: a line of a scene with rules, or one that wants a clock. The words that want
+//! one are known here alone.
+
+ghost use Rattle.std.specs.Prelude.{◌≡◌, MatchOption};
+ghost use Rattle.gc_scenes.specs.declared.delay.Delay.{Delay};
+ghost use Rattle.gc_engines.specs.TimedScenes.{IsTimedLine, IsDelayLine};
+
+use crate::event::is_plain;
+use crate::rule_line::{RuleLine, read_rule_line};
+use gc_scenes::Delay;
+use gc_texts::{LineForm, before, behind, number_of};
+
+// The greatest number of a procedure.
+const CODE_MAX: u64 = 65535;
+
+// The longest delay in milliseconds: an hour.
+const LONGEST: u64 = 3_600_000;
+
+/// What a line of a scene says that `serve` takes.
+#[derive(Clone, Copy, Debug, PartialEq, Eq)]
+pub enum TimedLine {
+    /// A line of a scene with rules.
+    Rule(RuleLine),
+    /// The reply to a procedure goes out later.
+    Delay(Delay),
+    /// What comes while a reply is awaited waits in order.
+    Queues,
+    /// What comes while a reply is awaited gets none.
+    Drops,
+}
+
+/// The form of the lines of a scene that `serve` takes.
+pub(crate) struct TimedForm;
+
+impl LineForm for TimedForm {
+    type Item = TimedLine;
+
+    ghost form = { IsTimedLine };
+
+    fn blank() -> TimedLine {
+        TimedLine::Queues
+    }
+
+    fn read(line: &[u8], says: &mut TimedLine) -> bool {
+        match read_timed_line(line) {
+            Some(found) => {
+                *says = found;
+                true
+            }
+            None => false,
+        }
+    }
+}
+
+// Reads one line of a scene. `None`: it has no form.
+fn read_timed_line(line: &[u8]) -> Option<TimedLine>
+    ensures { MatchOption result ((says : TimedLine) → IsTimedLine line.now says → ⊥) (λ says. IsTimedLine line.now says) }
+{
+    if let Some(rule) = read_rule_line(line) {
+        return Some(TimedLine::Rule(rule));
+    }
+    if let Some(delay) = read_delay(line) {
+        return Some(TimedLine::Delay(delay));
+    }
+    if is_plain(b"busy queue", line) {
+        return Some(TimedLine::Queues);
+    }
+    if is_plain(b"busy drop", line) {
+        return Some(TimedLine::Drops);
+    }
+    None
+}
+
+// Reads `delay RPC MS`. `None`: the line has no such form.
+fn read_delay(line: &[u8]) -> Option<Delay>
+    ensures { MatchOption result ((d : Delay) → IsDelayLine line.now d → ⊥) (λ d. IsDelayLine line.now d) }
+{
+    if !is_plain(b"delay", before(b' ', line)) {
+        return None;
+    }
+    let rest = behind(b' ', line);
+    let Some(rpc) = number_of(before(b' ', rest), CODE_MAX) else {
+        return None
+    };
+    match number_of(behind(b' ', rest), LONGEST) {
+        Some(ms) => Some(Delay {
+            rpc: rpc as u16,
+            ms: ms as u32,
+        }),
+        None => None,
+    }
+}

@@ -1,0 +1,83 @@
+//! The text of a scene that `serve` takes, read into the instrument that it sets up, with its delays.
+
+ghost use Rattle.std.specs.Prelude.{◌≡◌, ◌++◌, IfOk, IfErr, IfSome, true, false};
+ghost use Rattle.gc_engines.specs.TimedScenes.{IsTimedScene, TimedFault, rules_of, delays_of, drops_from};
+
+use crate::rule_line::RuleLine;
+use crate::rule_scene::set_up;
+use crate::timed_line::{TimedForm, TimedLine};
+use arrayvec::ArrayVec;
+use gc_scenes::{Delay, SlowInstrument};
+use gc_texts::{RunFault, read_items};
+use std::alloc::{AllocError, Global};
+
+/// Reads the text of a scene with rules, in which also lines `delay RPC MS`, `busy queue` and `busy drop` may stand, and gives the
+/// instrument that it sets up, in its opening state. Of several delays of one procedure, and of several lines `busy`, the last one
+/// counts.
+///
+/// The faults are those of `read_rule_scene`, and `SceneFull` also refuses more than 32 delays.
+pub fn read_timed_scene(alloc: Global, text: &[u8]) -> Result<SlowInstrument, RunFault>
+    ensures found { IfOk result (λ slow. IsTimedScene text.now slow) }
+    ensures faults { IfErr result (λ e. TimedFault text.now e) }
+{
+    let lines = match read_items::<TimedForm>(alloc, text) {
+        Ok(lines) => lines,
+        Err(fault) => return Err(fault),
+    };
+    let Ok(rules) = rules_of(alloc, lines.as_slice()) else {
+        return Err(RunFault::Memory);
+    };
+    let Some(scene) = set_up(rules.as_slice()) else {
+        return Err(RunFault::SceneFull);
+    };
+    match delays_of(lines.as_slice()) {
+        Some(delays) => Ok(SlowInstrument::new(scene, delays, drops(lines.as_slice()))),
+        None => Err(RunFault::SceneFull),
+    }
+}
+
+// The lines of a scene with rules among these, in order. `Err`: memory was refused.
+fn rules_of(alloc: Global, lines: &[TimedLine]) -> Result<Vec<RuleLine>, AllocError>
+    ensures { IfOk result (λ rules. rules.items ≡ rules_of lines.now) }
+{
+    let mut rules = Vec::new(alloc);
+    for line in lines {
+        let TimedLine::Rule(rule) = *line else {
+            continue;
+        };
+        rules.reserve(1)?;
+        rules.push_reserved(rule);
+    }
+    Ok(rules)
+}
+
+// The delays of these lines, in order. `None`: they are more than an instrument has.
+fn delays_of(lines: &[TimedLine]) -> Option<ArrayVec<Delay, 32>>
+    ensures { IfSome result (λ delays. delays.items ≡ delays_of lines.now) }
+{
+    let mut delays = ArrayVec::new();
+    for line in lines {
+        let TimedLine::Delay(delay) = *line else {
+            continue;
+        };
+        if delays.try_push(delay).is_err() {
+            return None;
+        }
+    }
+    Some(delays)
+}
+
+// Whether the instrument drops what comes while it is busy.
+fn drops(lines: &[TimedLine]) -> bool
+    ensures { result ≡ drops_from false lines.now }
+{
+    let mut drops = false;
+    for line in lines {
+        match *line {
+            TimedLine::Queues => drops = false,
+            TimedLine::Drops => drops = true,
+            _ => {}
+        }
+    }
+    drops
+}
