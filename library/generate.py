@@ -1,5 +1,6 @@
 #!/usr/bin/env python3
-"""Writes what the Python package has of the tables of docs/PROTOCOL.md: generate.py [--check], from the top of the repository.
+"""Writes what the Python package has of the tables of docs/PROTOCOL.md: generate.py [--check], from the top of the repository. It compares them
+with the columns of rows in docs/FORMATS.md.
 
 `codes.py` has the return codes, `results.py` the procedures with the tuples that they answer, and `named.py`, of the package and of
 `aio`, a method for each procedure. With --check it writes nothing, and ends with status 1 where a file differs.
@@ -240,7 +241,8 @@ def main():
     text = Path("docs/PROTOCOL.md").read_text(encoding="utf-8")
     procedures = read_procedures(text)
     # The quantities of the answers are called what the columns of a station's rows are called.
-    columns = set(re.findall(r"`(\w+)`", "".join(re.findall(r"^\| (`[^|]*`) \| [\d, ]+ \|$", text, re.M))))
+    formats = Path("docs/FORMATS.md").read_text(encoding="utf-8")
+    columns = set(re.findall(r"`(\w+)`", "".join(re.findall(r"^\| (`[^|]*`) \| [\d, ]+ \|$", formats, re.M))))
     answered = {name for each in procedures for name, _ in each.answer}
     if answered != columns:
         sys.exit(f"generate.py: the columns of rows and the answers differ in {sorted(answered ^ columns)}")

@@ -38,6 +38,12 @@
  *   63        the state is no client's: it was never made by geocom_client_init, or was written over
  *   67        the client hasn't begun: geocom_client_begin comes first, and again behind each restart
  *   68        geocom_client_send_raw: the procedure is one of the table, which geocom_client_send asks
+ * and of an instrument (behind 41 and 51 to 53 none is there, and its other calls answer 69):
+ *   41        the scene has more targets, faults, replies or delays than an instrument
+ *   51        a line of the scene has no form
+ *   52        memory was refused
+ *   53        the scene has more than 65,536 bytes
+ *   69        no instrument is there: its scene was refused
  */
 #ifndef GEOCOM_H
 #define GEOCOM_H
@@ -220,6 +226,52 @@ static inline uint32_t geocom_client_current(const geocom_client *state) {
     for (k = 0; k < waiting; k++) current += state->places[k].given_up == 0;
     return current;
 }
+
+/* An instrument within the process, for tests: that of a scene (docs/SIMULATOR.md, "Scenes" and "Rules of a scene"). It replies to bytes
+ * with bytes, waits for nothing and reads no clock.
+ *
+ *   geocom_instrument *it = malloc(geocom_instrument_size());
+ *   if (geocom_instrument_init(it, scene, strlen(scene)).fault == 0) ..
+ *   free(it);
+ *
+ * What the caller vouches for besides: `at` leads to memory of geocom_instrument_size() bytes whose address 16 divides, as malloc gives
+ * it; of the other calls, to an instrument that geocom_instrument_init wrote there, and that nothing else changed. It may be moved as
+ * bytes. Nothing has to be ended: an instrument holds no memory but its own. geocom_instrument_init alone takes memory, by malloc,
+ * while it reads the scene, and gives it back. */
+typedef struct geocom_instrument geocom_instrument;
+
+/* The room for a reply with its CR LF. */
+#define GEOCOM_REPLY_ROOM 514
+
+/* What came of setting an instrument up: a fault or 0, and the number of the faulty line, from 1, where the fault is 51, else 0. */
+typedef struct geocom_made {
+    uint32_t fault;
+    uint32_t line;
+} geocom_made;
+
+/* What came of a feed; beside a fault all else is 0. */
+typedef struct geocom_replied {
+    size_t used;                      /* how many bytes were used: through the first line feed, or all */
+    uint64_t due;                     /* the moment at which the reply goes out; 0 where there is none */
+    uint32_t fault;                   /* 0 or 69 */
+    uint32_t count;                   /* how many bytes the reply has, with CR LF; 0: there is none */
+    uint8_t reply[GEOCOM_REPLY_ROOM]; /* `count` bytes of it count */
+} geocom_replied;
+
+/* How many bytes an instrument takes. */
+size_t geocom_instrument_size(void);
+
+/* Sets up the instrument of a scene's text, in its opening state. Faults: 41, 51, 52, 53; no instrument is there then. */
+geocom_made geocom_instrument_init(geocom_instrument *at, const uint8_t *scene, size_t length);
+
+/* Takes bytes as they come from a port, in any pieces, through the first line feed, and gives the reply to the line that it ends; call
+ * again with what is left until all are used. `now` is the moment at which they came, in milliseconds of a count of the caller's that
+ * never runs backwards. A reply with a delay of the scene is due later; the next ones aren't due before it. Fault: 69. */
+geocom_replied geocom_instrument_feed(geocom_instrument *at, const uint8_t *bytes, size_t length, uint64_t now);
+
+/* Restarts the instrument, as it is for each connection: half a line is dropped. The scene goes on, with its counts, its targets and its
+ * noise. Answers 0, or 69. */
+uint32_t geocom_instrument_restart(geocom_instrument *at);
 
 /* What follows is written over the calls above, for programs that block until an answer comes: a beginning, a request with its
  * settlement, and a new connection within a run.

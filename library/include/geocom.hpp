@@ -5,9 +5,11 @@
 
 #include <array>
 #include <chrono>
+#include <cstddef>
 #include <cstdint>
 #include <deque>
 #include <functional>
+#include <memory>
 #include <optional>
 #include <stdexcept>
 #include <string>
@@ -158,13 +160,68 @@ private:
     std::array<std::uint64_t, GEOCOM_OVERLONG + 1> kinds_{};
 };
 
+// The text is no scene: its number is 41, 51, 52 or 53, and `line` that of the faulty line, from 1, or 0.
+class bad_scene : public fault {
+public:
+    bad_scene(std::uint32_t number, std::uint32_t line) : fault(number), line(line) {}
+    const std::uint32_t line;
+};
+
+// A reply, and the moment at which it goes out.
+struct reply {
+    std::uint64_t due;
+    std::string text;
+};
+
+// The instrument of a scene within the process, for tests. It has the memory of the instrument, and may be moved.
+class instrument {
+public:
+    explicit instrument(std::string_view scene)
+        : room_(new std::max_align_t[(geocom_instrument_size() + sizeof(std::max_align_t) - 1) / sizeof(std::max_align_t)]) {
+        const char *text = scene.empty() ? "" : scene.data();
+        const geocom_made made = geocom_instrument_init(at(), reinterpret_cast<const std::uint8_t *>(text), scene.size());
+        if (made.fault != 0) throw bad_scene(made.fault, made.line);
+    }
+
+    // Takes bytes that came at the moment `now`, in milliseconds, in any pieces, and gives the replies to the lines that they end.
+    std::vector<reply> hear(std::string_view bytes, std::uint64_t now) {
+        std::vector<reply> replies;
+        while (!bytes.empty()) {
+            const geocom_replied heard =
+                geocom_instrument_feed(at(), reinterpret_cast<const std::uint8_t *>(bytes.data()), bytes.size(), now);
+            if (heard.fault != 0) throw fault(heard.fault);
+            bytes.remove_prefix(heard.used);
+            if (heard.count != 0) replies.push_back({heard.due, std::string(heard.reply, heard.reply + heard.count)});
+        }
+        return replies;
+    }
+
+    // The replies alone, one behind the other, whatever delays the scene has.
+    std::string feed(std::string_view bytes, std::uint64_t now = 0) {
+        std::string all;
+        for (const reply &each : hear(bytes, now)) all += each.text;
+        return all;
+    }
+
+    // Restarts the instrument, as it is for each connection.
+    void restart() {
+        const std::uint32_t number = geocom_instrument_restart(at());
+        if (number != 0) throw fault(number);
+    }
+
+private:
+    geocom_instrument *at() { return reinterpret_cast<geocom_instrument *>(room_.get()); }
+
+    std::unique_ptr<std::max_align_t[]> room_;
+};
+
 // Nothing was answered in time: a null procedure of a beginning, three times in a row. Ask again, or make the connection anew.
 class silent : public std::runtime_error {
 public:
     silent() : std::runtime_error("geocom: no null procedure is answered") {}
 };
 
-// A station over two callables and a clock, by the rules of docs/STATION.md: it begins, asks, gives up at a deadline, and begins
+// A station over two callables and a clock, by the rules of docs/OPERATING.md: it begins, asks, gives up at a deadline, and begins
 // anew where seven requests wait that are all given up; it sends a null procedure where the rule of `send_raw` asks for one. What
 // the callables throw passes through: make the connection anew then, and call `reconnected`. One thread at a time.
 class station {

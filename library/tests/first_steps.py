@@ -6,7 +6,10 @@ import sys
 import textwrap
 
 with open(sys.argv[1], encoding="utf-8") as file:
-    blocks = re.findall(r"^    import geocom\n(?:(?:    .*)?\n)+", file.read(), re.M)
+    text = file.read()
+# A block is fenced, or indented by four spaces.
+blocks = re.findall(r"^```python\n(import geocom\n.*?)^```$", text, re.M | re.S)
+blocks += re.findall(r"^    import geocom\n(?:(?:    .*)?\n)+", text, re.M)
 examples = [textwrap.dedent(block).strip("\n") for block in blocks if "127.0.0.1:4001" in block]
 assert examples, "the page has no example that asks at 127.0.0.1:4001"
 for example in examples:

@@ -22,5 +22,8 @@ int main(void) {
     AT(geocom_beginning, has_begun)
     SIZE(geocom_heard) AT(geocom_heard, used) AT(geocom_heard, fault) AT(geocom_heard, count) AT(geocom_heard, kind)
     AT(geocom_heard, line_fault)
+    SIZE(geocom_made) AT(geocom_made, fault) AT(geocom_made, line)
+    SIZE(geocom_replied) AT(geocom_replied, used) AT(geocom_replied, due) AT(geocom_replied, fault) AT(geocom_replied, count)
+    AT(geocom_replied, reply)
     return 0;
 }

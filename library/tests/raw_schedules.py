@@ -137,11 +137,11 @@ class Program:
     way = "exec"
 
     def __init__(self, program):
-        self.program, self.instrument = program, geocom.Instrument(program, timeout=5)
+        self.program, self.instrument = program, geocom.Program(program, timeout=5)
 
     def start(self):
         self.instrument.close()
-        self.instrument = geocom.Instrument(self.program, timeout=5)
+        self.instrument = geocom.Program(self.program, timeout=5)
 
     def begin(self):
         for id in (6, 5, 4, 3, 2, 1, 0, 7):

@@ -14,7 +14,7 @@ def read(path):
     return Path(path).read_text(encoding="utf-8")
 
 
-source = read("crates/geocom_c/src/header.rt")
+source = read("crates/geocom_c/src/header.rt") + read("crates/geocom_instrument_c/src/header.rt")
 constants = {name: int(value) for name, value in CONSTANT.findall(source)}
 law = dict(re.findall(r"ensures (\w+) \{ (.*?) \}\n", source, re.S))
 clauses = {clause: dict(re.findall(r"\b([A-Z_]+) ≡ (\d+)", text)) for clause, text in law.items()}
@@ -31,10 +31,10 @@ def same(what, want, have):
 
 # Each constant stands in the law. A fault is a constant of the clause `faults`, or a refusal of a call or of a raw request.
 same("the law", constants, {name: int(value) for clause in clauses.values() for name, value in clause.items()})
-faults = {constants[name] for name in clauses["faults"]}
-faults |= {int(number) for text in law.values() for number in re.findall(r"(?:refusal|raw)_number [^≡]*≡ (\d+)", text)}
+faults = {constants[name] for clause in ("faults", "instrument_faults") for name in clauses[clause]}
+faults |= {int(number) for text in law.values() for number in re.findall(r"(?:refusal|raw|run_fault)_number [^≡]*≡ (\d+)", text)}
 groups = {group: {name: constants[name] for name in clauses[group + "s"]} for group in GROUPS}
-plain = {name: constants[name] for clause in ("version", "rooms") for name in clauses[clause]}
+plain = {name: constants[name] for clause in ("version", "rooms", "instrument_rooms") for name in clauses[clause]}
 for path, name in [("crates/gc_client/src/window.rt", "WINDOW"), ("crates/gc_values/src/items.rt", "MOST_ITEMS")]:
     plain[name] = int(dict(CONSTANT.findall(read(path)))[name])
 
@@ -78,6 +78,7 @@ for node in ast.walk(dict(assigned("errors"))["_FAULTS"]):
         raised |= {key.value for key in node.keys}
     if isinstance(node, ast.Call) and node.func.id == "range":
         raised |= set(range(*(argument.value for argument in node.args)))
+raised |= {key.value for key in dict(assigned("errors"))["_SCENE_FAULTS"].keys}
 same("the faults in errors.py", faults, raised)
 version = re.findall(r'^pub const VERSION: &str = "(.*)";', read("crates/gc_words/src/version.rt"), re.M)
 same("_version.py", version, re.findall(r'^__version__ = "(.*)"', read(package / "_version.py"), re.M))

@@ -52,7 +52,7 @@ ANSWERS = b"".join(b"%%R1P,0,%d:0\r\n" % id for id in (6, 5, 4, 3, 2, 1, 0, 7))
 class World:
     def __init__(self, program, steps, expected):
         self.program, self.steps, self.expected = program, steps, expected
-        self.client, self.instrument = geocom.Client(), geocom.Instrument(program, timeout=5)
+        self.client, self.instrument = geocom.Client(), geocom.Program(program, timeout=5)
         self.client.begin(ANSWERS)
         self.up, self.down, self.cut, self.settled = Queue(), Queue(), b"", []
         self.step("init 7", None)
@@ -108,7 +108,7 @@ class World:
                         self.client.begin(ANSWERS)
                         self.step("restart", told)
                     self.instrument.close()
-                    self.instrument = geocom.Instrument(self.program, timeout=5)
+                    self.instrument = geocom.Program(self.program, timeout=5)
             case way:
                 queue, take = (self.up, self.arrive) if way == "up" else (self.down, self.hear)
                 match words[1]:

@@ -40,7 +40,7 @@ setup(
     author="the geocom authors",
     url=HOMEPAGE,
     project_urls={
-        "Documentation": f"{HOMEPAGE}/blob/main/docs/CLIENT.md",
+        "Documentation": f"{HOMEPAGE}/blob/main/docs/LIBRARY.md",
         "Changelog": f"{HOMEPAGE}/blob/main/CHANGELOG.md",
         "Source": HOMEPAGE,
         "Issues": f"{HOMEPAGE}/issues",
@@ -49,7 +49,7 @@ setup(
     license_files=["LICENSE", "copyright"],
     keywords=["GeoCOM", "Leica", "total station", "surveying", "monitoring", "serial"],
     python_requires=">=3.9",
-    extras_require={"serial": ["pyserial>=3.5"]},
+    extras_require={"serial": ["pyserial>=3.5"], "test": ["pytest>=7"]},
     packages=["geocom", "geocom.aio"],
     package_data={"geocom": ["py.typed", "libgeocom.so"]},
     classifiers=[

@@ -16,6 +16,9 @@ and the easy way to it.
   answered, refused, late or lost; `settlement.value()` is the named tuple, or raises.
   `station.raw(number, ..)` asks what isn't in the table.
 
+`Instrument(scene)` is the instrument of a scene, within the process, for tests of your own:
+`geocom.testing` has a fixture of it for pytest.
+
 `station.measure(chain)` runs a `Chain` of commands and gives its rows, `station.cycles(chains,
 every=300)` all of them again and again.
 
@@ -24,7 +27,7 @@ How it is made:
 - `Client` is the library's client (`libgeocom.so`, proved): which reply is whose, ids, deadlines,
   what a reply says. It opens no port and reads no clock; deadlines and moments are milliseconds of
   a count of yours.
-- `rules` decides what is done next, over one client: the rules of `docs/STATION.md`, and nothing of
+- `rules` decides what is done next, over one client: the rules of `docs/OPERATING.md`, and nothing of
   ports or clocks.
 - `Station` and `aio.Station` do it, over `ports`.
 - `codes`, `results` and `named` are written of the tables of `docs/PROTOCOL.md`.
@@ -37,6 +40,7 @@ from __future__ import annotations
 
 from ._library import LINE_ROOM as LINE_ROOM
 from ._library import MOST_ITEMS as MOST_ITEMS
+from ._library import REPLY_ROOM as REPLY_ROOM
 from ._library import STRUCTURES as STRUCTURES
 from ._library import TEXT_ROOM as TEXT_ROOM
 from ._library import VERSION, WINDOW
@@ -44,23 +48,27 @@ from ._version import __version__
 from .chains import Chain, Cycle, Row
 from .client import Client, Kind
 from .codes import RC
-from .errors import BadParameters, Fault, Late, Lost, NotReady, NoValue, Refused, Unreadable
+from .errors import BadParameters, BadScene, Fault, Late, Lost
+from .errors import NotReady, NoValue, Refused, Unreadable
 from .errors import BadWidth as BadWidth
 from .errors import InTable as InTable
 from .errors import LineTooLong as LineTooLong
 from .errors import NoClient as NoClient
+from .errors import NoInstrument as NoInstrument
 from .errors import NoRoom as NoRoom
 from .errors import NotBegun as NotBegun
 from .errors import UnknownProcedure as UnknownProcedure
 from .errors import WindowFull as WindowFull
+from .instrument import SIMULATOR, Instrument, Reply
+from .program import Program as Program
 from .settlement import Outcome, Reading, Settlement
-from .simulator import Instrument
 from .station import Station
 from .values import Face, PrismType
 
 # What `help` shows. Each further fault is public, too, and a `Fault`: `geocom.errors` has them.
 __all__ = [
     "BadParameters",
+    "BadScene",
     "Chain",
     "Client",
     "Cycle",
@@ -77,7 +85,9 @@ __all__ = [
     "RC",
     "Reading",
     "Refused",
+    "Reply",
     "Row",
+    "SIMULATOR",
     "Settlement",
     "Station",
     "Unreadable",

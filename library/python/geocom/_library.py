@@ -8,11 +8,13 @@ import ctypes
 import functools
 import os
 import pathlib
+from typing import Any
 
 VERSION = 2
 WINDOW = 7
 LINE_ROOM = 514
 TEXT_ROOM = 1024
+REPLY_ROOM = 514
 MOST_ITEMS = 16
 
 
@@ -89,6 +91,20 @@ class _Heard(ctypes.Structure):
     ]
 
 
+class _Made(ctypes.Structure):
+    _fields_ = [("fault", ctypes.c_uint32), ("line", ctypes.c_uint32)]
+
+
+class _Replied(ctypes.Structure):
+    _fields_ = [
+        ("used", ctypes.c_size_t),
+        ("due", ctypes.c_uint64),
+        ("fault", ctypes.c_uint32),
+        ("count", ctypes.c_uint32),
+        ("reply", ctypes.c_uint8 * REPLY_ROOM),
+    ]
+
+
 #: The structures of `geocom.h` by their names there.
 STRUCTURES: dict[str, type[ctypes.Structure]] = {
     "geocom_waiting": _Waiting,
@@ -100,6 +116,8 @@ STRUCTURES: dict[str, type[ctypes.Structure]] = {
     "geocom_deadline": _Deadline,
     "geocom_beginning": _Beginning,
     "geocom_heard": _Heard,
+    "geocom_made": _Made,
+    "geocom_replied": _Replied,
 }
 
 _STATE = ctypes.POINTER(_Client)
@@ -107,7 +125,7 @@ _RECORDS = ctypes.POINTER(_Settlement)
 _SIZE = ctypes.c_size_t
 _TEXT = [ctypes.c_char_p, _SIZE]
 _SEND = [_STATE, ctypes.c_uint32, ctypes.c_uint64, ctypes.c_uint16, *_TEXT, *_TEXT]
-_CALLS = {
+_CALLS: dict[str, tuple[Any, list[Any]]] = {
     "geocom_version": (ctypes.c_uint32, []),
     "geocom_client_init": (ctypes.c_uint32, [_STATE, ctypes.c_uint8]),
     "geocom_client_begin": (_Beginning, [_STATE, *_TEXT, *_TEXT]),
@@ -121,6 +139,10 @@ _CALLS = {
     "geocom_client_next_deadline": (_Deadline, [_STATE]),
     "geocom_client_restart": (_Count, [_STATE, _RECORDS, _SIZE]),
     "geocom_client_waiting": (_Count, [_STATE]),
+    "geocom_instrument_size": (_SIZE, []),
+    "geocom_instrument_init": (_Made, [ctypes.c_void_p, *_TEXT]),
+    "geocom_instrument_feed": (_Replied, [ctypes.c_void_p, *_TEXT, ctypes.c_uint64]),
+    "geocom_instrument_restart": (ctypes.c_uint32, [ctypes.c_void_p]),
 }
 
 

@@ -79,6 +79,56 @@ class InTable(Fault):
     text = "the procedure is one of the table: send asks it"
 
 
+class NoInstrument(Fault):
+    """69: no instrument is there: its scene was refused."""
+
+    text = "no instrument is there: its scene was refused"
+
+
+class BadScene(Fault, ValueError):
+    """41, 51, 52 or 53: the text is no scene. `line` is the number of its first faulty line, from
+    1, or 0 where no line is at fault.
+    """
+
+    def __init__(self, number: int, line: int = 0, text: bytes = b""):
+        self.text = _SCENE_FAULTS.get(number, "no scene")
+        if line:
+            self.text = f"line {line}: {_fault_of(text, line)}"
+        super().__init__(number)
+        self.line = line
+
+
+_SCENE_FAULTS = {
+    41: "more targets, faults, replies or delays than an instrument has",
+    51: "a line has no form",
+    52: "memory was refused",
+    53: "more than 65,536 bytes",
+}
+#: The forms of a scene's lines, by their first words.
+FORMS = {
+    "serial": "serial N",
+    "name": "name TEXT",
+    "target": "target HZ V DISTANCE",
+    "fault": "fault RPC RC [after COUNT] [for COUNT]",
+    "answer": "answer RPC RC[,PARAMS]",
+    "blocked": "blocked TARGET FROM TO",
+    "drift": "drift TARGET HZ V D",
+    "noise": "noise HZ V D SEED",
+    "repeats": "repeats no",
+    "behave": "behave WORD",
+    "delay": "delay RPC MS",
+    "busy": "busy queue, or busy drop",
+}
+
+
+def _fault_of(text: bytes, line: int) -> str:
+    """What is at fault in this line of a scene."""
+    faulty = text.split(b"\n")[line - 1].rstrip(b"\r").decode("utf-8", "replace")
+    if not (form := FORMS.get(faulty.split(" ")[0])):
+        return f"{faulty!r} begins with no word of a scene"
+    return f"{faulty!r} isn't of the form '{form}'"
+
+
 _FAULTS: dict[int, type[Fault]] = {
     6: LineTooLong,
     21: UnknownProcedure,
@@ -88,6 +138,7 @@ _FAULTS: dict[int, type[Fault]] = {
     63: NoClient,
     67: NotBegun,
     68: InTable,
+    69: NoInstrument,
 } | {number: BadParameters for number in range(11, 16)}
 
 

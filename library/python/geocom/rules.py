@@ -1,4 +1,4 @@
-"""What a station does next: the rules of `docs/STATION.md` over one `Client`, without a port and
+"""What a station does next: the rules of `docs/OPERATING.md` over one `Client`, without a port and
 without a clock.
 
 `next` says what is to be done now, and what came of it is reported by `opened`, `came` and

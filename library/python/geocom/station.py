@@ -1,4 +1,4 @@
-"""A station: it asks procedures over a port by the rules of `docs/STATION.md`, and blocks until
+"""A station: it asks procedures over a port by the rules of `docs/OPERATING.md`, and blocks until
 each is settled.
 """
 
@@ -103,7 +103,7 @@ class Station:
         seconds behind the moment at which the request goes out. The settlement is answered, with a
         value or a refusal; late, where the reply came with the deadline past; or lost: no answer
         will be taken, and whether the instrument acted isn't known. An answer is the reply to this
-        very request, on the premises of `docs/PROMISE.md`.
+        very request, on the premises of `docs/GUARANTEE.md`.
 
         Raises NotReady where the request could not go out within `timeout`; BadParameters and
         UnknownProcedure as `Client.send` does. Nothing was asked then.

@@ -1,4 +1,4 @@
-"""The simulated instrument of the program `geocom`, as a port for tests."""
+"""The simulated instrument of the program `geocom`, in a process of its own, as a port."""
 
 from __future__ import annotations
 
@@ -7,7 +7,7 @@ import select
 import subprocess
 
 
-class Instrument:
+class Program:
     """The simulated instrument of `geocom exec`: `write`, `read`, `read_until`, `close` and `open`,
     as a serial port has.
     """
@@ -50,7 +50,7 @@ class Instrument:
         self._output.close()
         self._process.wait()
 
-    def __enter__(self) -> Instrument:
+    def __enter__(self) -> Program:
         return self
 
     def __exit__(self, *_: object) -> None:

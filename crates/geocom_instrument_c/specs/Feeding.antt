@@ -1,0 +1,65 @@
+-- What a feed does to an instrument, and what it answers: this project's own.
+use Rattle.std.specs.Prelude.{◌≡◌, ℕ, ◌+◌, List, [], ◌++◌, length, take, Option, Some, None}
+use Rattle.std.specs.List.{position}
+use Rattle.gc_lines.specs.Assembler.{StandsFor}
+use Rattle.gc_lines.specs.Frames.{is_line_feed, frame_of}
+use Rattle.gc_lines.specs.declared.frame.Frame.{Frame}
+use Rattle.gc_scenes.specs.Slow.{SlowState, HearsFrame}
+use Rattle.geocom_instrument_c.specs.Bench.{BenchState}
+use Rattle.geocom_instrument_c.specs.declared.header.TheConstants.{NO_INSTRUMENT}
+use Rattle.geocom_instrument_c.specs.declared.replied.GeocomReplied.{GeocomReplied}
+
+-- there is no reply, and so many bytes were used
+pub record IsNothing (used : ℕ) (r : GeocomReplied) : Type 0 where
+  pub well : r.fault ≡ 0
+  pub used_are : r.used ≡ used
+  pub none : r.count ≡ 0
+  pub unset : r.due ≡ 0
+
+-- there is no instrument that hears: no byte was used
+pub record IsUnheard (r : GeocomReplied) : Type 0 where
+  pub refused : r.fault ≡ NO_INSTRUMENT
+  pub used_are : r.used ≡ 0
+  pub none : r.count ≡ 0
+  pub unset : r.due ≡ 0
+
+-- the text is the reply, which goes out at the moment `due`, and so many bytes were used
+pub record IsSent (text : List ℕ) (used due : ℕ) (r : GeocomReplied) : Type 0 where
+  pub well : r.fault ≡ 0
+  pub used_are : r.used ≡ used
+  pub counted : r.count ≡ length text
+  pub reply : take r.count r.reply ≡ text
+  pub goes_out : r.due ≡ due
+
+-- the text, if there is one, is the reply, which goes out at the moment `due`
+abbrev pub Says : Option (List ℕ) → ℕ → ℕ → GeocomReplied → Type 0
+Says None used due r = IsNothing used r
+Says (Some text) used due r = IsSent text used due r
+
+-- the instrument hears a frame at the moment `now`, and what it replies is the answer
+pub record Answers (before : SlowState) (frame : Frame) (now : ℕ) (after : SlowState) (used : ℕ) (r : GeocomReplied) : Type 0 where
+  pub text : Option (List ℕ)
+  pub hears : HearsFrame before frame now after text
+  pub says : Says text used after.free_from r
+
+-- bytes without a line feed: they are kept, and nothing else is done
+pub record IsKept (before : BenchState) (bytes : List ℕ) (after : BenchState) (r : GeocomReplied) : Type 0 where
+  pub says : IsNothing (length bytes) r
+  pub same : after.slow ≡ before.slow
+  pub more : (rest : List ℕ) → StandsFor before.under_way rest → StandsFor after.under_way (rest ++ bytes)
+
+-- bytes whose first line feed stands at this place: the instrument hears the frame that it ends, at the moment `now`, and what it replies
+-- is the answer. All bytes through the line feed were used, and no byte is under way
+pub record IsAnswered (before : BenchState) (bytes : List ℕ) (at now : ℕ) (after : BenchState) (r : GeocomReplied) : Type 0 where
+  pub answers : (rest : List ℕ) → StandsFor before.under_way rest → Answers before.slow (frame_of (rest ++ take at bytes)) now after.slow (at + 1) r
+  pub start : StandsFor after.under_way []
+
+-- bytes that were fed at the moment `now`
+pub record IsFedTo (before : BenchState) (bytes : List ℕ) (now : ℕ) (after : BenchState) (r : GeocomReplied) : Type 0 where
+  pub none : position is_line_feed bytes ≡ None → IsKept before bytes after r
+  pub some : (at : ℕ) → position is_line_feed bytes ≡ Some at → IsAnswered before bytes at now after r
+
+-- the same where there may be no instrument
+pub record IsFed (before : Option BenchState) (bytes : List ℕ) (now : ℕ) (after : Option BenchState) (r : GeocomReplied) : Type 0 where
+  pub absent : before ≡ None → (after ≡ None) × IsUnheard r
+  pub present : (b : BenchState) → before ≡ Some b → (c : BenchState) × (after ≡ Some c) × IsFedTo b bytes now c r

@@ -1,0 +1,32 @@
+-- What sets an instrument up and what restarts it: this project's own.
+use Rattle.std.specs.Prelude.{◌≡◌, ℕ, List, [], Option, Some, None}
+use Rattle.gc_lines.specs.Assembler.{StandsFor}
+use Rattle.gc_engines.specs.TimedScenes.{IsTimedScene, TimedFault}
+use Rattle.gc_scenes.specs.Slow.{slow_restarted}
+use Rattle.gc_texts.specs.Faults.{run_fault_number}
+use Rattle.gc_texts.specs.declared.fault.RunFault.{RunFault}
+use Rattle.gc_texts.specs.declared.fault.RunFault.TheVariants.{Schedule}
+use Rattle.geocom_instrument_c.specs.Bench.{BenchState}
+use Rattle.geocom_instrument_c.specs.declared.header.TheConstants.{NO_INSTRUMENT}
+use Rattle.geocom_instrument_c.specs.declared.replied.GeocomMade.{GeocomMade}
+
+-- the instrument is restarted, and no byte is under way
+pub record IsAnew (before after : BenchState) : Type 0 where
+  pub slow : after.slow ≡ slow_restarted before.slow
+  pub start : StandsFor after.under_way []
+
+-- the same where there may be no instrument: then it is refused
+pub record IsRestarted (before after : Option BenchState) (fault : ℕ) : Type 0 where
+  pub absent : before ≡ None → (after ≡ None) × (fault ≡ NO_INSTRUMENT)
+  pub present : (b : BenchState) → before ≡ Some b → (c : BenchState) × (after ≡ Some c) × IsAnew b c × (fault ≡ 0)
+
+-- the number of the line that a fault names, or 0
+abbrev pub line_of : RunFault → ℕ
+line_of (Schedule line) = line
+line_of other = 0
+
+-- the scene of this text was set up: it is in its opening state, at the start of a stream. Or it was refused, for a reason that the text
+-- has, and there is no instrument
+pub record IsSetUp (text : List ℕ) (after : Option BenchState) (r : GeocomMade) : Type 0 where
+  pub present : (b : BenchState) → after ≡ Some b → (r.fault ≡ 0) × (r.line ≡ 0) × IsTimedScene text b.slow × StandsFor b.under_way []
+  pub absent : after ≡ None → (e : RunFault) × TimedFault text e × (r.fault ≡ run_fault_number e) × (r.line ≡ line_of e)

@@ -1,0 +1,120 @@
+//! An instrument over bytes: that of a scene, and the bytes of a line under way. What a call does is here; `exports.rt` hands it to C.
+
+ghost use Rattle.std.specs.Prelude.{◌≡◌, [], None};
+ghost use Rattle.gc_lines.specs.Assembler.{StandsFor};
+ghost use Rattle.gc_lines.specs.Lent.{lent_seen};
+ghost use Rattle.geocom_instrument_c.specs.Feeding.{Answers, IsFed, IsFedTo};
+ghost use Rattle.geocom_instrument_c.specs.Setting.{IsRestarted, IsAnew};
+
+use crate::header::{NO_INSTRUMENT, REPLY_ROOM};
+use crate::replied::GeocomReplied;
+use arrayvec::ArrayVec;
+use gc_lines::{Assembler, Lent, Line, append};
+use gc_scenes::SlowInstrument;
+use std::marker::Model;
+
+/// The instrument of a scene at the end of a stream of bytes.
+#[derive(Drop)]
+pub(crate) struct Bench {
+    slow: SlowInstrument,
+    assembler: Assembler,
+}
+
+impl Model for Bench {
+    ghost use Rattle.geocom_instrument_c.specs.Bench.{BenchState};
+
+    ghost Value = { BenchState };
+
+    ghost view = { λ b. record { slow = b.slow; under_way = b.assembler } };
+}
+
+impl Bench {
+    /// The instrument at the start of a stream.
+    pub(crate) fn new(slow: SlowInstrument) -> Bench
+        ensures slow { result.slow ≡ slow }
+        ensures start { StandsFor result.under_way [] }
+    {
+        Bench {
+            slow,
+            assembler: Assembler::new(),
+        }
+    }
+
+    // Takes bytes through the first line feed, and gives the reply to the line that it ends, if there is one.
+    fn feed(&mut self, bytes: &[u8], now: u64) -> GeocomReplied
+        ensures { IsFedTo self.old bytes.now now self.new result }
+    {
+        let mut cut = Line::new();
+        let (used, frame) = self.assembler.next(bytes, &mut cut);
+        answer(&mut self.slow, frame, now, used)
+    }
+
+    // Restarts the instrument, and drops the bytes of a line under way.
+    fn restart(&mut self)
+        ensures { IsAnew self.old self.new }
+    {
+        self.slow.restart();
+        self.assembler = Assembler::new();
+    }
+}
+
+// What the instrument says to a frame that came at this moment, with so many bytes used.
+fn answer(slow: &mut SlowInstrument, frame: Lent<'_>, now: u64, used: usize) -> GeocomReplied
+    ensures { Answers slow.old (lent_seen frame.entry) now slow.new used result }
+{
+    let Lent::Line(line) = frame else {
+        return GeocomReplied::nothing(used);
+    };
+    let mut text: ArrayVec<u8, REPLY_ROOM> = ArrayVec::new();
+    if !slow.hear(line, now, &mut text) {
+        return GeocomReplied::nothing(used);
+    }
+    append(&mut text, b"\r\n");
+    GeocomReplied::sent(used, text.as_slice(), slow.free_from())
+}
+
+/// An instrument over bytes. There is none where its scene was refused.
+#[derive(Drop)]
+pub struct GeocomInstrument {
+    pub(crate) bench: Option<Bench>,
+}
+
+impl Model for GeocomInstrument {
+    ghost use Rattle.std.specs.Prelude.{Option};
+    ghost use Rattle.geocom_instrument_c.specs.Bench.{BenchState};
+
+    ghost Value = { Option BenchState };
+
+    ghost view = { λ i. i.bench };
+}
+
+impl GeocomInstrument {
+    /// No instrument.
+    pub(crate) fn none() -> GeocomInstrument
+        ensures { result ≡ None }
+    {
+        GeocomInstrument { bench: None }
+    }
+
+    /// Takes bytes that came at this moment, through the first line feed, and gives the reply to the line that it ends, if there is
+    /// one.
+    pub(crate) fn feed(&mut self, bytes: &[u8], now: u64) -> GeocomReplied
+        ensures { IsFed self.old bytes.now now self.new result }
+    {
+        let Some(bench) = &mut self.bench else {
+            return GeocomReplied::unheard();
+        };
+        bench.feed(bytes, now)
+    }
+
+    /// Restarts the instrument, if there is one, and gives 0 then.
+    pub(crate) fn restart(&mut self) -> u32
+        ensures { IsRestarted self.old self.new result }
+    {
+        let Some(bench) = &mut self.bench else {
+            return NO_INSTRUMENT;
+        };
+        bench.restart();
+        0
+    }
+}

@@ -1,0 +1,66 @@
+//! The calls for C: an instrument lies in memory of the caller's, at a pointer. What a call does with it is in `bench.rt` and
+//! `setting.rt`; here alone are pointers.
+
+ghost use Rattle.std.specs.Borrow.{full_share, sem};
+ghost use Rattle.std.specs.Prelude.{Option};
+ghost use Rattle.std.specs.Ptr.{lies_at, room_at};
+ghost use Rattle.geocom_instrument_c.specs.Bench.{BenchState};
+ghost use Rattle.geocom_instrument_c.specs.Feeding.{IsFed};
+ghost use Rattle.geocom_instrument_c.specs.Setting.{IsRestarted, IsSetUp};
+ghost use Rattle.geocom_instrument_c.specs.contracts.bench.GeocomInstrument.{the_row};
+
+use crate::bench::GeocomInstrument;
+use crate::replied::{GeocomMade, GeocomReplied};
+use std::alloc::Global;
+
+/// How many bytes an instrument takes. They lie at a place that 16 divides, as `malloc` gives it.
+#[unsafe(no_mangle)]
+pub extern "C" fn geocom_instrument_size() -> usize {
+    std::mem::size_of::<GeocomInstrument>()
+}
+
+/// Sets up the instrument of a scene's text in the room at `at`. It takes memory while it reads, and gives it back.
+///
+/// Faults: 41, more targets, faults, replies or delays than an instrument has; 51, `line` is the first line without a form; 52, memory
+/// was refused; 53, more than 65,536 bytes. After a fault no instrument is there, and each call answers 69.
+#[unsafe(no_mangle)]
+pub unsafe extern "C" fn geocom_instrument_init(
+    alloc: Global,
+    at: *mut u8,
+    scene: &[u8],
+) -> GeocomMade
+    requires* { sem 𝓛 (room_at the_row at) }
+    ensures* { ∃ₛ (λ (after : Option BenchState). sem 𝓛 (lies_at the_row full_share at after) ∗ ⌜ IsSetUp scene.now after result ⌝) }
+{
+    (at as *mut GeocomInstrument).write(GeocomInstrument::none());
+    GeocomInstrument::set_up(&mut *(at as *mut GeocomInstrument), alloc, scene)
+}
+
+/// Takes bytes that came at the moment `now`, in milliseconds, through the first line feed, and gives the reply to the line that it
+/// ends, if there is one, with the moment at which it goes out. Call it again until all bytes are used.
+///
+/// Fault 69: no instrument is there.
+#[unsafe(no_mangle)]
+pub unsafe extern "C" fn geocom_instrument_feed(
+    at: *mut u8,
+    bytes: &[u8],
+    now: u64,
+) -> GeocomReplied
+    ghost before: { Option BenchState }
+    requires* { sem 𝓛 (lies_at the_row full_share at before) }
+    ensures* { ∃ₛ (λ (after : Option BenchState). sem 𝓛 (lies_at the_row full_share at after) ∗ ⌜ IsFed before bytes.now now after result ⌝) }
+{
+    GeocomInstrument::feed(&mut *(at as *mut GeocomInstrument), bytes, now)
+}
+
+/// Restarts the instrument, and drops the bytes of a line under way. The scene goes on: its counts, its targets and its noise stay.
+///
+/// Fault 69: no instrument is there.
+#[unsafe(no_mangle)]
+pub unsafe extern "C" fn geocom_instrument_restart(at: *mut u8) -> u32
+    ghost before: { Option BenchState }
+    requires* { sem 𝓛 (lies_at the_row full_share at before) }
+    ensures* { ∃ₛ (λ (after : Option BenchState). sem 𝓛 (lies_at the_row full_share at after) ∗ ⌜ IsRestarted before after result ⌝) }
+{
+    GeocomInstrument::restart(&mut *(at as *mut GeocomInstrument))
+}

@@ -1,0 +1,41 @@
+//! A scene's text, set up.
+
+ghost use Rattle.std.specs.Prelude.{◌≡◌};
+ghost use Rattle.geocom_instrument_c.specs.Setting.{IsSetUp, line_of};
+
+use crate::bench::{Bench, GeocomInstrument};
+use crate::replied::GeocomMade;
+use gc_engines::read_timed_scene;
+use gc_texts::RunFault;
+use std::alloc::Global;
+
+impl GeocomInstrument {
+    /// Sets up the instrument of a scene's text, in its opening state, or leaves none where the scene is refused.
+    pub(crate) fn set_up(&mut self, alloc: Global, scene: &[u8]) -> GeocomMade
+        ensures { IsSetUp scene.now self.new result }
+    {
+        match read_timed_scene(alloc, scene) {
+            Ok(slow) => {
+                self.bench = Some(Bench::new(slow));
+                GeocomMade { fault: 0, line: 0 }
+            }
+            Err(fault) => {
+                self.bench = None;
+                GeocomMade {
+                    fault: u32::from(fault.number()),
+                    line: line_of(fault),
+                }
+            }
+        }
+    }
+}
+
+// The number of the line that a fault names, or 0.
+fn line_of(fault: RunFault) -> u32
+    ensures { result ≡ line_of fault }
+{
+    match fault {
+        RunFault::Schedule { line } => line,
+        _ => 0,
+    }
+}
