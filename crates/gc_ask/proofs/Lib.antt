@@ -5,3 +5,4 @@ mod Exchanging
 mod Runs
 mod Keeps
 mod ById
+mod Slowly

@@ -1,12 +1,13 @@
 -- What serving a caller does to an instrument, which is restarted for him: this project's own.
 use Rattle.std.specs.Prelude.{ℕ, Result}
-use Rattle.gc_lines.specs.Answering.{Ports}
+use Rattle.gc_lines.specs.Answering.{Ports, AnswersGiven, HasEnded}
 use Rattle.gc_lines.specs.declared.served.Served.{Served}
 use Rattle.gc_lines.specs.declared.served.ServeFault.{ServeFault}
 use Rattle.gc_instrument.specs.Serving.{IsServing}
 use Rattle.gc_instrument.specs.State.{State, restarted}
 use Rattle.gc_scenes.specs.SceneServing.{IsSceneServing}
 use Rattle.gc_scenes.specs.SceneState.{SceneState, scene_restarted}
+use Rattle.gc_scenes.specs.Slow.{SlowState, HearsSometime, slow_restarted}
 
 -- the restarted instrument served
 abbrev pub ServesAnew : State → State → Ports → Ports → ℕ → Result Served ServeFault → Type 0
@@ -15,3 +16,13 @@ ServesAnew before after old new most end = IsServing (restarted before) after ol
 -- the restarted instrument of a scene served
 abbrev pub ServesSceneAnew : SceneState → SceneState → Ports → Ports → ℕ → Result Served ServeFault → Type 0
 ServesSceneAnew before after old new most end = IsSceneServing (scene_restarted before) after old new most end
+
+-- serving in at most `most` reads with an instrument whose replies take time took it from `from` to `to` and the ports from `old` to `new`,
+-- and gave this result: each frame was answered as of some moment
+pub record IsSlowServing (from to : SlowState) (old new : Ports) (most : ℕ) (result : Result Served ServeFault) : Type 0 where
+  pub serves : AnswersGiven HearsSometime from to old new result
+  pub ended : HasEnded old new most result
+
+-- the restarted instrument served, whose replies take time
+abbrev pub ServesSlowAnew : SlowState → SlowState → Ports → Ports → ℕ → Result Served ServeFault → Type 0
+ServesSlowAnew before after old new most end = IsSlowServing (slow_restarted before) after old new most end

@@ -1,34 +1,146 @@
-//! One caller of a kept port, which serves one connection after the other: the reading end of that connection, and how the
-//! caller is served.
+//! One caller of a place that is served: both ends of the connection, and how the caller is served.
 
-ghost use Rattle.std.specs.Prelude.{◌≡◌, Result};
+ghost use Rattle.std.specs.Prelude.{◌≡◌, ◌≤◌, length, IfOk, IfSome, Result};
 ghost use Rattle.gc_ask.specs.Keeping.{end_of_caller};
 ghost use Rattle.gc_lines.specs.declared.served.Served.{Served};
 ghost use Rattle.gc_lines.specs.declared.served.ServeFault.{ServeFault};
 ghost use Rattle.gc_lines.specs.Answering.{ports_of};
 
 use crate::callers::CallerFault;
+use crate::hours::Hours;
 use crate::simulated::Simulates;
 use gc_instrument::ServeFault;
-use gc_lines::{Sink, Source};
-use std::io::{self, ErrorKind, Read};
+use gc_lines::{PortFailed, Sink, Source};
+use gc_links::{Wire, read_stream_within};
+use std::io::{self, ErrorKind, Read, Write};
 use std::net::TcpStream;
+use std::time::{Clock, Duration};
 
 // How often one read is tried again where it was interrupted.
 const MOST_INTERRUPTIONS: u32 = 1000;
 
-/// The reading end of a connection, which notes whether the last read that failed had timed out.
+/// The end of a connection that an instrument reads.
 #[derive(Drop)]
-pub(crate) struct Caller<'a> {
-    stream: &'a TcpStream,
+pub(crate) enum End<'a, R> {
+    /// Over TCP, and how long a read may wait; `None`: without end.
+    Stream(&'a TcpStream, Option<Duration>),
+    /// Over a device.
+    Device(&'a Wire<'a, R>),
+}
+
+impl<'a, R: Clock> End<'a, R> {
+    // Reads what comes within a millisecond or so. `None`: nothing does.
+    fn read_soon(&self, buf: &mut [u8]) -> io::Result<Option<usize>>
+        ensures { IfOk result (λ read. IfSome read (λ n. n ≤ length buf.new)) }
+    {
+        match self {
+            End::Stream(stream, longest) => read_stream_within(stream, buf, 1, *longest),
+            End::Device(wire) => wire.read_within(buf, 1),
+        }
+    }
+
+    // Reads the connection, waiting until something comes.
+    fn read_plain(&self, buf: &mut [u8]) -> io::Result<usize>
+        ensures { IfOk result (λ n. n ≤ length buf.new) }
+    {
+        match self {
+            End::Stream(stream, _) => read_stream(stream, buf),
+            End::Device(wire) => read_wire(wire, buf),
+        }
+    }
+
+    // Reads the connection, and notes when bytes came. What came while the instrument was busy comes first.
+    fn read_noted(&self, rt: &R, hours: &Hours, buf: &mut [u8]) -> io::Result<usize>
+        ensures { IfOk result (λ n. n ≤ length buf.new) }
+    {
+        let early = hours.take_early(buf);
+        if early > 0 {
+            return Ok(early);
+        }
+        let read = self.read_plain(buf);
+        hours.note_now(rt);
+        read
+    }
+
+    // Writes to the connection, as much as it takes at once.
+    fn write_plain(&self, buf: &[u8]) -> io::Result<usize>
+        ensures { IfOk result (λ n. n ≤ length buf.now) }
+    {
+        match self {
+            End::Stream(stream, _) => write_stream(stream, buf),
+            End::Device(wire) => write_wire(wire, buf),
+        }
+    }
+
+    // Takes in what has come while the instrument was busy, as far as there is room for it.
+    fn take_in(&self, hours: &Hours) {
+        let mut buf = [0u8; 256];
+        for _ in 0..32 {
+            match self.read_soon(&mut buf) {
+                Ok(Some(n)) if n > 0 => hours.keep_early(&buf[..n]),
+                _ => return,
+            }
+        }
+    }
+}
+
+/// The writing end of a connection. A reply of an instrument whose replies take time waits here until it is to go out.
+#[derive(Drop)]
+pub(crate) struct Reply<'a, R> {
+    rt: &'a R,
+    end: &'a End<'a, R>,
+    hours: Option<&'a Hours>,
+}
+
+impl<'a, R: Clock> Reply<'a, R> {
+    /// The writing end of a connection.
+    pub(crate) fn new(rt: &'a R, end: &'a End<'a, R>, hours: Option<&'a Hours>) -> Reply<'a, R> {
+        Reply { rt, end, hours }
+    }
+}
+
+// Each write goes out at once, so there is nothing to flush.
+impl<'a, R: Clock> Write for Reply<'a, R> {
+    fn write(&mut self, buf: &[u8]) -> io::Result<usize> {
+        if let Some(hours) = self.hours {
+            if hours.wait(self.rt) && hours.drops() {
+                self.end.take_in(hours);
+            }
+        }
+        self.end.write_plain(buf)
+    }
+
+    fn flush(&mut self) -> io::Result<()> {
+        Ok(())
+    }
+}
+
+/// The reading end of a connection. It notes whether the last read that failed had timed out, and for an instrument whose replies take
+/// time when bytes came.
+#[derive(Drop)]
+pub(crate) struct Caller<'a, R> {
+    rt: &'a R,
+    end: &'a End<'a, R>,
+    hours: Option<&'a Hours>,
+    answered: u64,
+    at_end: bool,
+    broken: bool,
     is_idle: bool,
 }
 
-impl<'a> Caller<'a> {
+impl<'a, R: Clock> Caller<'a, R> {
     /// The reading end of a connection that has its time-outs already. Nothing was read of it yet.
-    pub(crate) fn new(stream: &'a TcpStream) -> Caller<'a> {
+    pub(crate) fn new(rt: &'a R, end: &'a End<'a, R>, hours: Option<&'a Hours>) -> Caller<'a, R> {
+        if let Some(hours) = hours {
+            hours.begin();
+        }
         Caller {
-            stream,
+            rt,
+            end,
+            hours,
+            answered: 0,
+            at_end: false,
+            broken: false,
             is_idle: false,
         }
     }
@@ -39,23 +151,97 @@ impl<'a> Caller<'a> {
     }
 }
 
-impl<'a> Read for Caller<'a> {
-    // Reads the connection. A read that is interrupted is made again, at most `MOST_INTERRUPTIONS` times in all: the system
-    // interrupts a read with a time-out where the program was stopped and goes on.
-    fn read(&mut self, buf: &mut [u8]) -> io::Result<usize> {
-        let mut stream = self.stream;
-        for _ in 0..MOST_INTERRUPTIONS {
-            match stream.read(buf) {
-                Ok(n) => return Ok(n),
-                Err(error) if error.kind() == ErrorKind::Interrupted => {}
-                Err(error) => {
-                    self.is_idle = is_time_out(error.kind());
-                    return Err(error);
-                }
+// Bytes that come over a connection are not known. It fails as `FromReader` does, at the first error and at the read after 2^64 - 1
+// answered ones.
+impl<'a, R: Clock> Source for Caller<'a, R> {
+    ghost use Rattle.std.specs.Prelude.{None};
+
+    ghost remaining = { λ _. None };
+
+    ghost reads = { λ c. c.answered };
+
+    ghost ended = { λ c. c.at_end };
+
+    ghost failed = { λ c. c.broken };
+
+    fn read(&mut self, buf: &mut [u8]) -> Result<usize, PortFailed> {
+        if self.broken || self.answered == u64::MAX {
+            self.broken = true;
+            return Err(PortFailed);
+        }
+        let read = read_end(self.rt, self.end, self.hours, buf);
+        match read {
+            Ok(n) => {
+                self.answered += 1;
+                self.at_end = n == 0;
+                Ok(n)
+            }
+            Err(error) => {
+                self.is_idle = is_time_out(error.kind());
+                self.broken = true;
+                Err(PortFailed)
             }
         }
-        Err(io::Error::from(ErrorKind::Interrupted))
     }
+
+    fn has_failed(&self) -> bool {
+        self.broken
+    }
+}
+
+// Reads a connection, and notes when bytes came, where there is a clock.
+fn read_end<R: Clock>(
+    rt: &R,
+    end: &End<'_, R>,
+    hours: Option<&Hours>,
+    buf: &mut [u8],
+) -> io::Result<usize>
+    ensures { IfOk result (λ n. n ≤ length buf.new) }
+{
+    match hours {
+        Some(hours) => end.read_noted(rt, hours, buf),
+        None => end.read_plain(buf),
+    }
+}
+
+// Reads a connection over TCP. A read that is interrupted is made again, at most `MOST_INTERRUPTIONS` times in all: the system
+// interrupts a read with a time-out where the program was stopped and goes on.
+fn read_stream(stream: &TcpStream, buf: &mut [u8]) -> io::Result<usize>
+    ensures { IfOk result (λ n. n ≤ length buf.new) }
+{
+    let mut stream = stream;
+    for _ in 0..MOST_INTERRUPTIONS {
+        match stream.read(buf) {
+            Ok(n) => return Ok(n),
+            Err(error) if error.kind() == ErrorKind::Interrupted => {}
+            Err(error) => return Err(error),
+        }
+    }
+    Err(io::Error::from(ErrorKind::Interrupted))
+}
+
+// Reads a device.
+fn read_wire<R: Clock>(wire: &Wire<'_, R>, buf: &mut [u8]) -> io::Result<usize>
+    ensures { IfOk result (λ n. n ≤ length buf.new) }
+{
+    let mut wire = wire;
+    wire.read(buf)
+}
+
+// Writes to a connection over TCP.
+fn write_stream(stream: &TcpStream, buf: &[u8]) -> io::Result<usize>
+    ensures { IfOk result (λ n. n ≤ length buf.now) }
+{
+    let mut stream = stream;
+    stream.write(buf)
+}
+
+// Writes to a device.
+fn write_wire<R: Clock>(wire: &Wire<'_, R>, buf: &[u8]) -> io::Result<usize>
+    ensures { IfOk result (λ n. n ≤ length buf.now) }
+{
+    let mut wire = wire;
+    wire.write(buf)
 }
 
 // Whether a read failed only because nothing came before its time-out.

@@ -13,14 +13,17 @@ ghost use Rattle.gc_links.specs.declared.device.Unusable.{Unusable};
 ghost use Rattle.gc_texts.specs.WholeTexts.{input_of};
 ghost use Rattle.gc_texts.specs.declared.fault.RunFault.{RunFault};
 
+use crate::address::Address;
 use crate::ask::ask_all;
+use crate::caller::{Caller, End, Reply};
+use crate::hours::Hours;
 use crate::instrument_end::InstrumentEnd;
 use crate::link::Alone;
 use crate::looped::Loop;
 use crate::simulated::Simulates;
 use gc_instrument::{Instrument, ServeFault};
 use gc_lines::{FromReader, Sink, Source, ToWriter};
-use gc_links::{Place, Unusable, accept, both_ends, connect_here, listen, wire_to};
+use gc_links::{Place, Unusable, accept, both_ends, connect_here, wire_to};
 use gc_texts::{Command, RunFault, read_command_text};
 use std::alloc::Global;
 use std::fs::File;
@@ -111,26 +114,26 @@ pub fn loop_tcp<R: Net<Listener = TcpListener, Stream = TcpStream>, S: Source, K
     )
 }
 
-/// Binds a port, accepts `connections` connections one after the other, and serves each with the instrument, which is restarted
-/// for it, in at most `max_reads` reads.
+/// Listens at an address, accepts `connections` connections one after the other, and serves each with the instrument, which is
+/// restarted for it, in at most `max_reads` reads. `hours` is the clock of an instrument whose replies take time.
 ///
 /// `Socket` comes where a bind or an accept failed. A fault of a connection ends the call with it: `Read`, `Write` and
 /// `TooManyReads` as `serve` has them. The instrument is left in the state after the lines that it answered last.
-pub fn serve_tcp<R: Net<Listener = TcpListener, Stream = TcpStream>, I: Simulates>(
+pub fn serve_tcp<R: Net<Listener = TcpListener, Stream = TcpStream> + Clock, I: Simulates>(
     rt: &R,
-    port: u16,
+    address: Address<'_>,
     connections: u32,
     instrument: &mut I,
+    hours: Option<&Hours>,
     max_reads: u32,
 ) -> Result<(), RunFault>
-    requires port { 1 ≤ port }
     requires some { 1 ≤ connections }
     requires few { connections ≤ 1000 }
 {
-    let Ok(listener) = listen(rt, port) else {
+    let Ok(listener) = address.listen(rt) else {
         return Err(RunFault::Socket);
     };
-    serve_on(&listener, connections, instrument, max_reads)
+    serve_on(rt, &listener, connections, instrument, hours, max_reads)
 }
 
 /// Accepts `connections` connections of a port one after the other, and serves each with the instrument, which is restarted for
@@ -138,10 +141,12 @@ pub fn serve_tcp<R: Net<Listener = TcpListener, Stream = TcpStream>, I: Simulate
 ///
 /// `Socket` comes where an accept failed. A fault of a connection ends the call with it: `Read`, `Write` and `TooManyReads` as
 /// `serve` has them.
-pub fn serve_on<I: Simulates>(
+pub fn serve_on<R: Clock, I: Simulates>(
+    rt: &R,
     listener: &TcpListener,
     connections: u32,
     instrument: &mut I,
+    hours: Option<&Hours>,
     max_reads: u32,
 ) -> Result<(), RunFault>
     requires { connections ≤ 1000 }
@@ -150,10 +155,11 @@ pub fn serve_on<I: Simulates>(
         let Ok(stream) = accept(listener) else {
             return Err(RunFault::Socket);
         };
+        let end = End::Stream(&stream, None);
         serve_connection(
             instrument,
-            &mut FromReader::new(&stream),
-            &mut ToWriter::new(&stream),
+            &mut Caller::new(rt, &end, hours),
+            &mut ToWriter::new(Reply::new(rt, &end, hours)),
             max_reads,
         )?;
     }
@@ -235,7 +241,7 @@ fn ask_over<I: Read + Drop, O: Write + Drop, K: Sink>(
     ask_all(commands, &mut link, sink, max_reads)
 }
 
-/// The fault that is told where no connection to a place could be had: the one for why a device can't be used, or `Socket` where
+/// The fault that is reported if no connection to a place could be made: the one for why a device can't be used, or `Socket` if
 /// there is no such reason.
 pub fn fault_of(reason: Option<Unusable>) -> RunFault
     ensures { result ≡ fault_of_reason reason }

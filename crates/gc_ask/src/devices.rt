@@ -5,12 +5,13 @@ ghost use Rattle.gc_ask.specs.Keeping.{Kept, most_callers};
 ghost use Rattle.gc_ask.specs.Places.{fault_of_reason};
 ghost use Rattle.gc_links.specs.declared.device.Unusable.{Unusable};
 
-use crate::caller::serve_caller;
+use crate::caller::{Caller, End, Reply, serve_caller};
 use crate::callers::{CallerFault, Callers, keep};
 use crate::connections::{fault_of, serve_connection};
+use crate::hours::Hours;
 use crate::kept_port::Keeping;
 use crate::simulated::Simulates;
-use gc_lines::{FromReader, ToWriter};
+use gc_lines::ToWriter;
 use gc_links::{Unusable, Wire, wire_on};
 use gc_texts::RunFault;
 use std::fs::File;
@@ -32,6 +33,7 @@ pub fn serve_device<R: Files<File = File> + Clock, I: Simulates>(
     path: &str,
     connections: u32,
     instrument: &mut I,
+    hours: Option<&Hours>,
     max_reads: u32,
 ) -> Result<(), RunFault>
     requires { connections ≤ 1000 }
@@ -41,10 +43,11 @@ pub fn serve_device<R: Files<File = File> + Clock, I: Simulates>(
             Ok(wire) => wire,
             Err(reason) => return Err(fault_of(reason)),
         };
+        let end = End::Device(&wire);
         serve_connection(
             instrument,
-            &mut FromReader::new(&wire),
-            &mut ToWriter::new(&wire),
+            &mut Caller::new(rt, &end, hours),
+            &mut ToWriter::new(Reply::new(rt, &end, hours)),
             max_reads,
         )?;
     }
@@ -62,6 +65,7 @@ pub fn keep_device<R: Files<File = File> + Clock, I: Simulates, E: Write>(
     path: &str,
     keeping: Keeping,
     instrument: &mut I,
+    hours: Option<&Hours>,
     messages: &mut E,
 ) -> Result<bool, RunFault>
     ensures kept { IfOk result (λ told. Kept (most_callers keeping.connections) told None None (E.contents messages.old) (E.contents messages.new)) }
@@ -77,6 +81,7 @@ pub fn keep_device<R: Files<File = File> + Clock, I: Simulates, E: Write>(
         path,
         first,
         instrument,
+        hours,
         max_reads: keeping.max_reads,
     };
     Ok(keep(&mut callers, keeping.most(), messages))
@@ -90,6 +95,7 @@ struct DeviceCallers<'a, R, I> {
     // The device as it was opened already, for the first caller.
     first: Option<Wire<'a, R>>,
     instrument: &'a mut I,
+    hours: Option<&'a Hours>,
     max_reads: u32,
 }
 
@@ -109,6 +115,20 @@ impl<'a, R: Files<File = File> + Clock, I> DeviceCallers<'a, R, I> {
         Err(CallerFault::Socket)
     }
 
+    // Serves the device until its end.
+    fn serve(&mut self, wire: Wire<'a, R>) -> Result<(), CallerFault>
+    where
+        I: Simulates,
+    {
+        let end = End::Device(&wire);
+        serve_caller(
+            self.instrument,
+            &mut Caller::new(self.rt, &end, self.hours),
+            &mut ToWriter::new(Reply::new(self.rt, &end, self.hours)),
+            self.max_reads,
+        )
+    }
+
     // Sleeps for a second.
     fn rest(&self) {
         thread::sleep(self.rt, Duration::from_secs(REST));
@@ -121,12 +141,7 @@ impl<'a, R: Files<File = File> + Clock, I: Simulates> Callers for DeviceCallers<
     // Serves the device until its end, once it is there, and then rests for a second, however that ended.
     fn serve_next(&mut self) -> Result<(), CallerFault> {
         let ended = match self.wait() {
-            Ok(wire) => serve_caller(
-                self.instrument,
-                &mut FromReader::new(&wire),
-                &mut ToWriter::new(&wire),
-                self.max_reads,
-            ),
+            Ok(wire) => self.serve(wire),
             Err(fault) => Err(fault),
         };
         self.rest();

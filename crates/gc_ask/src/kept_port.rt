@@ -1,14 +1,16 @@
 //! A port of this machine that is kept: each connection is served with a restarted instrument, and none waits for ever.
 
-ghost use Rattle.std.specs.Prelude.{◌≡◌, ◌≤◌, None, IfErr, IfOk};
+ghost use Rattle.std.specs.Prelude.{◌≡◌, None, IfErr, IfOk};
 ghost use Rattle.gc_ask.specs.Keeping.{Kept, most_callers};
 ghost use Rattle.gc_texts.specs.declared.fault.RunFault.{RunFault};
 
-use crate::caller::{Caller, serve_caller};
+use crate::address::Address;
+use crate::caller::{Caller, End, Reply, serve_caller};
 use crate::callers::{CallerFault, Callers, keep};
+use crate::hours::Hours;
 use crate::simulated::Simulates;
-use gc_lines::{FromReader, ToWriter};
-use gc_links::{accept, listen};
+use gc_lines::ToWriter;
+use gc_links::accept;
 use gc_texts::RunFault;
 use std::io::{self, Write};
 use std::net::{Net, TcpListener, TcpStream};
@@ -41,26 +43,26 @@ impl Keeping {
     }
 }
 
-/// Binds a port, and serves its connections one after the other, each with the instrument, which is restarted for it. A fault of
-/// a connection ends that connection alone; its line is written on `messages`. Returns whether all of these lines were written.
+/// Listens at an address, and serves its connections one after the other, each with the instrument, which is restarted for it. `hours` is
+/// the clock of an instrument whose replies take time. A fault of a connection ends that connection alone; its line is written on `messages`. Returns whether all of these lines were written.
 ///
 /// `Socket` comes where the bind failed, and nothing was written. A connection that couldn't be accepted counts as one, with this
 /// fault, and a rest of a second follows it. The instrument is left in the state after the lines that it answered last.
 pub fn keep_tcp<R: Net<Listener = TcpListener, Stream = TcpStream> + Clock, I: Simulates, E: Write>(
     rt: &R,
-    port: u16,
+    address: Address<'_>,
     keeping: Keeping,
     instrument: &mut I,
+    hours: Option<&Hours>,
     messages: &mut E,
 ) -> Result<bool, RunFault>
-    requires { 1 ≤ port }
     ensures kept { IfOk result (λ told. Kept (most_callers keeping.connections) told None None (E.contents messages.old) (E.contents messages.new)) }
     ensures fault { IfErr result (λ fault. (fault ≡ RunFault.Socket) × (messages.new ≡ messages.old)) }
 {
-    let Ok(listener) = listen(rt, port) else {
+    let Ok(listener) = address.listen(rt) else {
         return Err(RunFault::Socket);
     };
-    Ok(keep_on(rt, &listener, keeping, instrument, messages))
+    Ok(keep_on(rt, &listener, keeping, instrument, hours, messages))
 }
 
 /// Serves the connections of a port that is bound, as `keep_tcp` does. Further callers wait in the system's queue. Returns
@@ -70,6 +72,7 @@ pub fn keep_on<R: Clock, I: Simulates, E: Write>(
     listener: &TcpListener,
     keeping: Keeping,
     instrument: &mut I,
+    hours: Option<&Hours>,
     messages: &mut E,
 ) -> bool
     ensures { Kept (most_callers keeping.connections) result None None (E.contents messages.old) (E.contents messages.new) }
@@ -78,6 +81,7 @@ pub fn keep_on<R: Clock, I: Simulates, E: Write>(
         rt,
         listener,
         instrument,
+        hours,
         idle: Duration::from_secs(u64::from(keeping.idle.max(1))),
         max_reads: keeping.max_reads,
     };
@@ -90,6 +94,7 @@ struct PortCallers<'a, R, I> {
     rt: &'a R,
     listener: &'a TcpListener,
     instrument: &'a mut I,
+    hours: Option<&'a Hours>,
     idle: Duration,
     max_reads: u32,
 }
@@ -108,11 +113,12 @@ impl<'a, R: Clock, I: Simulates> Callers for PortCallers<'a, R, I> {
         let Ok(()) = bound_waits(&stream, self.idle) else {
             return Err(CallerFault::Socket);
         };
-        let mut caller = Caller::new(&stream);
+        let line = End::Stream(&stream, Some(self.idle));
+        let mut caller = Caller::new(self.rt, &line, self.hours);
         let end = serve_caller(
             self.instrument,
-            &mut FromReader::new(&mut caller),
-            &mut ToWriter::new(&stream),
+            &mut caller,
+            &mut ToWriter::new(Reply::new(self.rt, &line, self.hours)),
             self.max_reads,
         );
         match end {

@@ -1,26 +1,32 @@
 //! Commands asked over a link, one at a time.
 #![tactic(auto)]
 
+mod address;
 mod ask;
 mod caller;
 mod callers;
 mod client_end;
 mod connections;
 mod devices;
+mod hours;
 mod instrument_end;
 mod kept_port;
 pub mod laws;
 mod link;
 mod looped;
 mod simulated;
+mod slow;
 mod unheard;
 
+pub use address::Address;
 pub use ask::run_ask;
 pub use callers::{CallerFault, Callers, keep};
 pub use connections::{
     MOST_CONNECTIONS, ask_at, ask_tcp, fault_of, loop_tcp, loop_tcp_on, serve_on, serve_tcp,
 };
 pub use devices::{keep_device, serve_device};
+pub use hours::Hours;
 pub use kept_port::{Keeping, keep_on, keep_tcp};
 pub use looped::{Duplex, run_loop, run_loop_on};
 pub use simulated::Simulates;
+pub use slow::Slow;

@@ -1,8 +1,9 @@
-//! Ports of 127.0.0.1: listening at one, accepting its connections, and connecting to one.
+//! Ports of this machine: listening at one, accepting its connections, and connecting to one. Where no address is named they are
+//! those of 127.0.0.1.
 
 use crate::connection::{PATIENCE, Peer, connect, here, send_at_once};
-use std::io;
-use std::net::{Net, TcpListener, TcpStream};
+use std::io::{self, ErrorKind};
+use std::net::{Net, TcpListener, TcpStream, ToSocketAddrs};
 use std::time::Duration;
 
 /// Listens at a port of 127.0.0.1. Port 0 stands for any free one.
@@ -11,6 +12,22 @@ pub fn listen<R: Net<Listener = TcpListener, Stream = TcpStream>>(
     port: u16,
 ) -> io::Result<TcpListener> {
     TcpListener::bind(rt, here(port))
+}
+
+/// Listens at an address of this machine, which a word names with its port: `HOST:PORT`. It is the first of the name's addresses at
+/// which that can be done. It fails where the name isn't found, and where no address can be listened at.
+pub fn listen_at<R: Net<Listener = TcpListener, Stream = TcpStream>>(
+    rt: &R,
+    host: &str,
+) -> io::Result<TcpListener> {
+    let mut ended = Err(io::Error::from(ErrorKind::NotFound));
+    for address in host.to_socket_addrs(rt)? {
+        ended = TcpListener::bind(rt, address);
+        if ended.is_ok() {
+            break;
+        }
+    }
+    ended
 }
 
 /// Waits for the next connection, and has it send each line as it is written.

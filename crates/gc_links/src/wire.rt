@@ -1,6 +1,6 @@
 //! A connection whose reads have no deadline, as `ask` and `serve` use it.
 
-ghost use Rattle.std.specs.Prelude.{◌≤◌, length, IfOk};
+ghost use Rattle.std.specs.Prelude.{◌≤◌, length, IfOk, IfSome};
 
 use crate::connection::{PATIENCE, Peer, connect};
 use crate::device::{Unusable, is_rest, open_device, rest, write_some};
@@ -49,6 +49,18 @@ pub fn wire_on<'a, R: Files<File = File>>(
     Ok(Wire::Device(rt, open_device(rt, path)?))
 }
 
+impl<'a, R: Clock> Wire<'a, R> {
+    /// Reads as `read` does, but waits no longer than about so many milliseconds, and at least one. `None`: nothing came in that time.
+    pub fn read_within(&self, buf: &mut [u8], millis: u64) -> io::Result<Option<usize>>
+        ensures { IfOk result (λ read. IfSome read (λ n. n ≤ length buf.new)) }
+    {
+        match self {
+            Wire::Tcp(stream) => read_stream_within(stream, buf, millis, None),
+            Wire::Device(rt, file) => read_device_within(*rt, file, buf, millis),
+        }
+    }
+}
+
 // A read waits until something comes.
 impl<'a, R: Clock> Read for &Wire<'a, R> {
     fn read(&mut self, buf: &mut [u8]) -> io::Result<usize> {
@@ -87,6 +99,57 @@ fn write_to(stream: &TcpStream, buf: &[u8]) -> io::Result<usize>
 {
     let mut stream = stream;
     stream.write(buf)
+}
+
+/// Reads what comes over a connection within so many milliseconds, at least one. `None`: nothing came in that time. Behind it each
+/// read may wait as long as `longest` says, without end where that is `None`.
+pub fn read_stream_within(
+    stream: &TcpStream,
+    buf: &mut [u8],
+    millis: u64,
+    longest: Option<Duration>,
+) -> io::Result<Option<usize>>
+    ensures { IfOk result (λ read. IfSome read (λ n. n ≤ length buf.new)) }
+{
+    // A timeout of zero would be an error.
+    stream.set_read_timeout(Some(Duration::from_millis(millis.max(1))))?;
+    let read = read_from(stream, buf);
+    stream.set_read_timeout(longest)?;
+    match read {
+        Ok(n) => Ok(Some(n)),
+        Err(error) if is_over(error.kind()) => Ok(None),
+        Err(error) => Err(error),
+    }
+}
+
+// Whether a read failed only because nothing came in its time.
+fn is_over(kind: ErrorKind) -> bool {
+    matches!(
+        kind,
+        ErrorKind::WouldBlock | ErrorKind::TimedOut | ErrorKind::Interrupted
+    )
+}
+
+// Reads what has come over a device, and rests for about so many milliseconds at most until something has. A device that was pulled
+// out is at its end.
+fn read_device_within<R: Clock>(
+    rt: &R,
+    file: &File,
+    buf: &mut [u8],
+    millis: u64,
+) -> io::Result<Option<usize>>
+    ensures { IfOk result (λ read. IfSome read (λ n. n ≤ length buf.new)) }
+{
+    let mut file = file;
+    for _ in 0..millis / 2 + 1 {
+        match file.read(buf) {
+            Ok(n) => return Ok(Some(n)),
+            Err(error) if is_rest(error.kind()) => rest(rt),
+            Err(error) if error.raw_os_error() == Some(PULLED_OUT) => return Ok(Some(0)),
+            Err(error) => return Err(error),
+        }
+    }
+    Ok(None)
 }
 
 // Reads what has come over a device, and rests until something has. A device that was pulled out is at its end.

@@ -43,7 +43,7 @@ pub fn refuse_place<E: Write>(serves: bool, messages: &mut E) -> io::Result<Exit
     if serves {
         writeln!(
             messages,
-            "error: a simulator is served on a port of 127.0.0.1, from 1 to 65535, or on the path of a device, which has a /"
+            "error: a simulator is served on a port of 127.0.0.1, from 1 to 65535, on the path of a device, which has a /, or with --any-address at HOST:PORT"
         )?;
     } else {
         writeln!(

@@ -98,6 +98,7 @@ pub fn tell_place<E: Write>(place: Place<'_>, fault: RunFault, messages: &mut E)
     let why = match fault {
         RunFault::LinkClosed => "the connection ended",
         RunFault::Mute => "no reply came any more",
+        RunFault::SetUp => "a command of the set-up wasn't answered well",
         RunFault::Write { .. } => "a write failed",
         RunFault::NoTerminal => "it is no terminal",
         RunFault::Held => "another program holds it",

@@ -6,6 +6,8 @@
 //!     do shut, leave           the last caller writes no more, or goes away
 //!     do serve 2 9             so many callers are served, in so many reads each
 //!     do keep 3                so many callers are served at a kept port, which leaves one that is idle for a second
+//!     do slow drop 5003 200    a caller is served by an instrument whose reply to this procedure takes so many milliseconds, and that drops
+//!                              what comes meanwhile, or queues it (`queue`)
 //!     do hear 0                what this caller, counted from 0, has heard at the end of its connection, or that it waits
 //!     do ask 9 7 5003\n        these commands are asked at the port, in so many reads
 //!     do accept                the connection that an asking made is accepted, and its end here is one more caller
@@ -18,15 +20,19 @@ ghost use Rattle.std.specs.Prelude.{◌≤◌};
 
 use crate::ends::{tell_cut_ends, tell_ends, told_word};
 use crate::streams::{accepted, at, bounded, hear};
-use gc_ask::{Keeping, ask_at, ask_tcp, keep_on, serve_on, serve_tcp};
+use arrayvec::ArrayVec;
+use gc_ask::{Address, Hours, Keeping, Slow, ask_at, ask_tcp, keep_on, serve_on, serve_tcp};
 use gc_cases::{Case, Player, Rows, Told, bytes_behind, cut_word, play_rows};
 use gc_instrument::Instrument;
 use gc_links::Place;
 use gc_probes::{PieceSink, PieceSource};
+use gc_scenes::{Delay, SceneInstrument, SlowInstrument, Ways};
 use gc_texts::{RunFault, number_of};
+use gc_values::Text;
 use std::alloc::Global;
 use std::io::{self, Write};
 use std::net::{Ipv6Addr, Shutdown, SocketAddr, TcpListener, TcpStream};
+use std::time::Instant;
 
 /// Plays `.callers`.
 pub struct Callers;
@@ -69,6 +75,7 @@ impl<'a> Rows for Played<'a> {
         match word {
             "serve" => self.serve(what, came),
             "keep" => self.keep(alloc, what, came),
+            "slow" => self.serve_slowly(what, came),
             "hear" => self.hear(alloc, what, came),
             "ask" => self.ask(alloc, cut_word(what).0, bytes, came),
             "at" => self.ask_at(alloc, what, came),
@@ -198,8 +205,55 @@ impl<'a> Played<'a> {
         let (count, reads) = cut_word(what);
         let count = small_number(count, 9).min(1000);
         let reads = small_number(reads, 9);
-        let end = serve_on(&self.listener, count, &mut self.instrument, reads);
+        let end = serve_on(
+            self.rt,
+            &self.listener,
+            count,
+            &mut self.instrument,
+            None,
+            reads,
+        );
         tell_end(end, came)
+    }
+
+    // Serves a caller with an instrument whose reply to a procedure takes time, and tells how that ended, and whether it took so long.
+    fn serve_slowly(&mut self, what: &str, came: &mut Told) {
+        let (busy, rest) = cut_word(what);
+        let (rpc, ms) = cut_word(rest);
+        let delay = Delay {
+            rpc: u16::try_from(number(rpc, 65535)).unwrap_or(0),
+            ms: small_number(ms, 9_999),
+        };
+        let drops = busy == "drop";
+        let (Ok(hours), Ok(begun)) = (Hours::new(self.rt, drops), Instant::now(self.rt)) else {
+            return came.text("no clock");
+        };
+        let mut delays = ArrayVec::new();
+        delays.push(delay);
+        let scene = SceneInstrument::new(
+            7,
+            named(),
+            ArrayVec::new(),
+            ArrayVec::new(),
+            ArrayVec::new(),
+            None,
+            true,
+            Ways::none(),
+        );
+        let slow = SlowInstrument::new(scene, delays, drops);
+        let mut instrument = Slow::new(&hours, slow);
+        let end = serve_on(
+            self.rt,
+            &self.listener,
+            1,
+            &mut instrument,
+            Some(&hours),
+            99,
+        );
+        tell_end(end, came);
+        if has_passed(self.rt, &begun, delay.ms) {
+            came.text(" late");
+        }
     }
 
     // Serves as many callers as `what` says at a kept port, which leaves one that is idle for a second, and tells the lines of
@@ -216,6 +270,7 @@ impl<'a> Played<'a> {
             &self.listener,
             keeping,
             &mut self.instrument,
+            None,
             &mut messages,
         );
         tell_kept(all, messages.as_slice(), came);
@@ -268,7 +323,28 @@ impl<'a> Played<'a> {
         tell_asked(self.rt, alloc, port, came);
         // Serving fails then: the port is in use, or this user can't bind it.
         let _taken = TcpListener::bind(self.rt, at(port));
-        tell_end(serve_tcp(self.rt, port, 1, &mut self.instrument, 9), came)
+        let end = serve_tcp(
+            self.rt,
+            Address::Here(port),
+            1,
+            &mut self.instrument,
+            None,
+            9,
+        );
+        tell_end(end, came)
+    }
+}
+
+// A name for an instrument. These plain bytes make a text.
+fn named() -> Text {
+    Text::new(b"SLOW").unwrap_or(Text::empty())
+}
+
+// Whether so many milliseconds have passed since this moment.
+fn has_passed(rt: &HostRuntime, begun: &Instant, ms: u32) -> bool {
+    match begun.elapsed(rt) {
+        Ok(time) => time.as_millis() >= u128::from(ms),
+        Err(_) => false,
     }
 }
 

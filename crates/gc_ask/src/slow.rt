@@ -1,0 +1,89 @@
+//! An instrument whose replies take time, served to callers. When bytes came is noted by the reading end of their connection, and the
+//! writing end waits until a reply is to go out (`caller.rt`).
+
+ghost use Rattle.std.specs.Prelude.{◌≡◌, ◌+◌, ◌≤◌, length};
+ghost use Rattle.arrayvec.specs.ArrayVec.{array_vec_len};
+ghost use Rattle.gc_ask.specs.Simulating.{ServesSlowAnew};
+ghost use Rattle.gc_lines.specs.Answering.{AppendsAnswer};
+ghost use Rattle.gc_lines.specs.declared.frame.Frame.{Frame};
+ghost use Rattle.gc_scenes.specs.Slow.{HearsSometime};
+
+use crate::hours::Hours;
+use crate::simulated::Simulates;
+use gc_instrument::{ServeFault, Served};
+use gc_lines::{Answers, Lent, Outgoing, Sink, Source, answer_frames, append};
+use gc_scenes::SlowInstrument;
+use std::marker::Model;
+
+/// An instrument whose replies take time, and its clock.
+#[derive(Drop)]
+pub struct Slow<'a> {
+    hours: &'a Hours,
+    slow: SlowInstrument,
+}
+
+impl<'a> Model for Slow<'a> {
+    ghost use Rattle.gc_scenes.specs.Slow.{SlowState};
+
+    ghost Value = { SlowState };
+
+    ghost view = { λ s. s.slow };
+}
+
+impl<'a> Slow<'a> {
+    /// The instrument by this clock. The connections of its callers have to have the same one.
+    pub fn new(hours: &'a Hours, slow: SlowInstrument) -> Slow<'a>
+        ensures { result ≡ slow }
+    {
+        Slow { hours, slow }
+    }
+
+    // Appends the reply to a line that came at this moment, with CR LF, if there is one.
+    fn hear(&mut self, line: &[u8], at: u64, text: &mut Outgoing) -> bool
+        requires { array_vec_len text.old + 514 ≤ 8192 }
+        ensures heard { AppendsAnswer (HearsSometime self.old (Frame.Line (record { items = line.now })) self.new) text.old.items text.new.items result }
+        ensures bound { length text.new.items ≤ length text.old.items + 514 }
+    {
+        if !self.slow.hear(line, at, text) {
+            return false;
+        }
+        append(text, b"\r\n");
+        true
+    }
+}
+
+// The instrument answers a line that came when the last bytes did, and says how long it is busy.
+impl<'a> Answers for Slow<'a> {
+    ghost use Rattle.gc_scenes.specs.Slow.{HearsSometime};
+
+    ghost answers = { HearsSometime };
+
+    fn answer(&mut self, frame: Lent<'_>, text: &mut Outgoing) -> bool {
+        let Lent::Line(line) = frame else {
+            return false;
+        };
+        let hours = self.hours;
+        if !self.hear(line, hours.came(), text) {
+            return false;
+        }
+        let due = self.slow.free_from();
+        hours.note_busy(due);
+        true
+    }
+}
+
+impl<'a> Simulates for Slow<'a> {
+    ghost use Rattle.gc_ask.specs.Simulating.{ServesSlowAnew};
+
+    ghost served = { ServesSlowAnew };
+
+    fn serve_anew<S: Source, K: Sink>(
+        &mut self,
+        source: &mut S,
+        sink: &mut K,
+        max_reads: u32,
+    ) -> Result<Served, ServeFault> {
+        self.slow.restart();
+        answer_frames(self, source, sink, max_reads, false)
+    }
+}
