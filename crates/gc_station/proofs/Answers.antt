@@ -1,10 +1,9 @@
 -- Each record is of its very request: an answer came after it, with its id, and in time; a late reply came too late; and a lost
 -- one is lost for a cause. Each act keeps `IsHonest` (of `Waiting`): the requests that wait were put among the acts, and the
 -- records are true. An act is one call of the link, with what came of it.
-use Rattle.std.proofs.Common.{◌≡◌, ◌⊎◌, inl, inr, ℕ, ◌+◌, ◌-◌, ◌%◌, ◌<◌, ◌≤◌, Bool, true, false, List, [], ◌∷◌, ◌++◌, length, drop, if◌then◌else◌, Option, Some, None, nat_eq, refl, sym, ap, ◌∙◌, subst, arith, append_assoc, append-nil, length-append}
+use Rattle.std.proofs.Common.{◌≡◌, inl, inr, ℕ, ◌+◌, ◌%◌, ◌<◌, ◌≤◌, Bool, true, false, List, [], ◌∷◌, ◌++◌, length, drop, if◌then◌else◌, Option, Some, None, nat_eq, refl, sym, ap, ◌∙◌, subst, arith, append_assoc, append-nil, length-append}
 use Rattle.std.specs.List.{AllByRecursion}
 use Rattle.std.proofs.lemmas.Bool.Decides.{nat_tests}
-use Rattle.std.proofs.lemmas.List.{length-drop}
 use Rattle.gc_catalogue.specs.declared.asked.Asked.{Asked}
 use Rattle.gc_catalogue.specs.declared.asked.Asked.TheVariants.{Table}
 use Rattle.gc_catalogue.specs.declared.call.Call.TheVariants.{NullProc}
@@ -12,6 +11,7 @@ use Rattle.gc_client.specs.declared.window.TheConstants.{WINDOW}
 use Rattle.gc_client.specs.Rule.{ById, id_send, pending_of, sends}
 use Rattle.gc_client.proofs.Digits.{sending}
 use Rattle.gc_texts.specs.declared.wish.Wish.{Wish}
+use Rattle.gc_texts.specs.Tasks.{call_at}
 use Rattle.gc_texts.specs.declared.tasks.Task.{Task}
 use Rattle.gc_texts.specs.Endings.{Skipped, Missed}
 use Rattle.gc_station.specs.declared.mark.Mark.{Mark}
@@ -26,13 +26,14 @@ use Rattle.gc_station.specs.Answers.{IsBefore, first_deadline, deadline_behind, 
 use Rattle.gc_station.specs.Ends.{IsTrulyLate, IsTrulyLost}
 use Rattle.gc_station.specs.Deciding.{later}
 use Rattle.gc_station.specs.Quiet.{IsAsking}
-use Rattle.gc_station.specs.Progressing.{turned, told, reckoned_early, begun, skipped, passed, skipped_at, cleared, null_sent, renewed, sent, asking, loses_all}
+use Rattle.gc_station.specs.Progressing.{turned, told, reckoned_early, begun, skipped, passed, skipped_at, cleared, null_sent, renewed, sent, asking, loses_all, setup_sent}
 use Rattle.gc_station.specs.Marks.{commands_in}
 use Rattle.gc_station.specs.Reasons.{IsFor}
 use Rattle.gc_station.specs.Records.{Record}
 use Rattle.gc_station.specs.Runs.{stood}
-use Rattle.gc_station.specs.Model.{Model, opening, action_at, waiting_of, mark_next, place_next, request_text, null_text, first_text, with_progress, is_heard, client_sent, asks_null, asks_first, asks_next, is_chained_behind_next, others_behind_next, is_chained_behind, others_behind, after_pass, with_passes, passes_next, with_listed, skip_listed, with_records, skips, skips_first, after_clock, after_put, after_open, after_read, Puts, ReadsClock, IsOpening, IsReading, Performs, moved, Runs}
+use Rattle.gc_station.specs.Model.{Model, opening, action_at, waiting_of, mark_next, place_next, request_text, null_text, first_text, with_progress, is_heard, client_sent, asks_null, asks_first, asks_next, is_chained_behind_next, others_behind_next, is_chained_behind, others_behind, after_pass, with_passes, passes_next, with_listed, skip_listed, with_records, skips, skips_first, after_clock, after_put, after_open, after_read, Puts, ReadsClock, IsOpening, IsReading, Performs, moved, Runs, cycle_length, place_out, mark_setup, text_or_null, asks_or_null, asks_setup}
 use Rattle.gc_station.proofs.EachRun.{fine_stood}
+use Rattle.gc_station.proofs.Outs.{prepare_cycle, prepare_place, send_cycle, send_place, sending_asks}
 use Rattle.gc_station.proofs.Facts.{action_for}
 use Rattle.gc_station.proofs.Invariant.{Invariant}
 use Rattle.gc_station.proofs.Going.{after_all-append}
@@ -117,55 +118,38 @@ asked_here plan commands scope acts act target call deadline mark fine room asks
       stays = tt;
     }
 
--- `Send` and `Flush` send a request of the client
-is_asking : (o : Action) → (o ≡ actions.Send) ⊎ (o ≡ actions.Flush) → IsAsking o
-is_asking o (inl is) = subst (λ (x : Action). IsAsking x) (sym is) tt
-is_asking o (inr is) = subst (λ (x : Action). IsAsking x) (sym is) tt
-
 -- an act that sends a command keeps `Honest`
-command_honest : (plan : Plan) (commands : List Task) (scope : Scope) (acts : List Act) (act : Act) (target : ℕ) (call : Asked)
+command_honest : (plan : Plan) (commands : List Task) (scope : Scope) (acts : List Act) (act : Act) (target : ℕ) (call : Asked) (mark : Mark)
     → Invariant plan commands (stood plan commands scope acts) → IsHonest plan commands scope acts (acts ++ act ∷ []) (stood plan commands scope acts)
-    → action_at plan (stood plan commands scope acts) ≡ actions.Send → length (stood plan commands scope acts).client.waiting < 7
+    → Marked plan commands scope acts mark → length (stood plan commands scope acts).client.waiting < 7
     → Puts (request_text (stood plan commands scope acts).client call) act
     → Honest plan commands scope (acts ++ act ∷ []) (acts ++ act ∷ []) (with_sent (stood plan commands scope acts).client target call (deadline_behind plan commands scope acts))
-    ((stood plan commands scope acts).marks ++ Some (mark_next plan commands (stood plan commands scope acts).progress) ∷ []) (stood plan commands scope acts).records
-command_honest plan commands scope acts act target call fine h is room puts =
+    ((stood plan commands scope acts).marks ++ Some mark ∷ []) (stood plan commands scope acts).records
+command_honest plan commands scope acts act target call mark fine h is room puts =
     let s = stood plan commands scope acts in
     let c = s.client in
     sent_honest plan commands scope acts act c s.marks s.records target call (deadline_behind plan commands scope acts)
-    (Some (mark_next plan commands s.progress)) (puts_still _ act puts) fine.digit room fine.paired
-    (asked_here plan commands scope acts act target call (deadline_behind plan commands scope acts) (Some (mark_next plan commands s.progress)) fine room (λ above. is_asking _ (inl is))
-    (λ m its. let same : mark_next plan commands s.progress ≡ m = cc in
-    record {
-      sends = is;
-      cycle = ap (λ (x : Mark). x.cycle) (sym same);
-      place = ap (λ (x : Mark). x.place) (sym same);
-      sent =
-          ap (λ (x : Mark). x.sent) (sym same);
-    }) (λ m its. refl) puts) h
+    (Some mark) (puts_still _ act puts) fine.digit room fine.paired
+    (asked_here plan commands scope acts act target call (deadline_behind plan commands scope acts) (Some mark) fine room (λ above. sending_asks plan s is.sends)
+    (λ m its. let same : mark ≡ m = cc in subst (λ (x : Mark). Marked plan commands scope acts x) same is) (λ m its. refl) puts) h
 
--- the act that sends the next command keeps `IsHonest`
-first_honest : (plan : Plan) (commands : List Task) (scope : Scope) (acts : List Act) (act : Act) (next_is_chained : Bool) (behind : ℕ) (left : List Task)
+-- the act that sends the first of these commands, with this mark, keeps `IsHonest`
+first_honest : (plan : Plan) (commands : List Task) (scope : Scope) (acts : List Act) (act : Act) (next_is_chained : Bool) (behind : ℕ) (left : List Task) (mark : Mark)
     → Invariant plan commands (stood plan commands scope acts) → IsHonest plan commands scope acts (acts ++ act ∷ []) (stood plan commands scope acts)
-    → action_at plan (stood plan commands scope acts) ≡ actions.Send → length (stood plan commands scope acts).client.waiting < 7
-    → 0 < (stood plan commands scope acts).progress.unsent
-    → drop (place_next commands (stood plan commands scope acts).progress) commands ≡ left
-    → Puts (first_text (stood plan commands scope acts).client left) act
+    → Marked plan commands scope acts mark → length (stood plan commands scope acts).client.waiting < 7
+    → drop (place_out plan commands (stood plan commands scope acts)) commands ≡ left
+    → Puts (first_text mark.sent (stood plan commands scope acts).client left) act
     → IsHonest plan commands scope (acts ++ act ∷ []) (acts ++ act ∷ [])
-    (with_progress (sent next_is_chained behind) (asks_first (mark_next plan commands (stood plan commands scope acts).progress) left
-    (with_progress turned (stood plan commands scope acts))))
-first_honest plan commands scope acts act next_is_chained behind [] fine h is room some at puts =
-    let s = stood plan commands scope acts in
-    let none : length commands - place_next commands s.progress ≡ 0 = sym (length-drop (place_next commands s.progress) commands) ∙ ap length at in
-    let within = fine.unsent in
-    absurd (omega (arith, none, some, within))
-first_honest plan commands scope acts act next_is_chained behind (task ∷ others) fine h is room some at puts =
+    (with_progress (sent next_is_chained behind) (asks_first mark left (with_progress turned (stood plan commands scope acts))))
+first_honest plan commands scope acts act next_is_chained behind [] mark fine h is room at puts =
+    still plan commands scope acts act _ _ _ (puts_still [] act puts) h
+first_honest plan commands scope acts act next_is_chained behind (task ∷ others) mark fine h is room at puts =
     let s = stood plan commands scope acts in
     let d : later s.progress.moment.elapsed task.deadline ≡ deadline_behind plan commands scope acts = ap (λ (left : List Task). later s.progress.moment.elapsed (first_deadline left)) (sym at) in
-    subst (λ (c : ById Asked). Honest plan commands scope (acts ++ act ∷ []) (acts ++ act ∷ []) c (s.marks ++ Some (mark_next plan commands s.progress) ∷ []) s.records)
-    (sym (ap (λ (e : ℕ). client_sent s.client (sends WINDOW s.client task.command.target task.command.call e)) d
-    ∙ client_is s.client task.command.target task.command.call (deadline_behind plan commands scope acts) room))
-    (command_honest plan commands scope acts act task.command.target task.command.call fine h is room puts)
+    subst (λ (c : ById Asked). Honest plan commands scope (acts ++ act ∷ []) (acts ++ act ∷ []) c (s.marks ++ Some mark ∷ []) s.records)
+    (sym (ap (λ (e : ℕ). client_sent s.client (sends WINDOW s.client task.command.target (call_at task mark.sent) e)) d
+    ∙ client_is s.client task.command.target (call_at task mark.sent) (deadline_behind plan commands scope acts) room))
+    (command_honest plan commands scope acts act task.command.target (call_at task mark.sent) mark fine h is room puts)
 
 -- an act that sends a null procedure after commands keeps `IsHonest`
 null_honest : (plan : Plan) (commands : List Task) (scope : Scope) (acts : List Act) (act : Act) (f : Progress → Progress)
@@ -182,6 +166,23 @@ null_honest plan commands scope acts act f fine h room asks puts =
       -- a null procedure has no mark
       never : (m : Mark) → None ≡ Some m → ⊥
       never m e = cc
+
+-- the act that sends the first of these commands of the set-up, with this mark, keeps `IsHonest`
+setup_honest : (plan : Plan) (commands : List Task) (scope : Scope) (acts : List Act) (act : Act) (left : List Task) (mark : Mark)
+    → Invariant plan commands (stood plan commands scope acts) → IsHonest plan commands scope acts (acts ++ act ∷ []) (stood plan commands scope acts)
+    → Marked plan commands scope acts mark → length (stood plan commands scope acts).client.waiting < 7
+    → drop (place_out plan commands (stood plan commands scope acts)) commands ≡ left
+    → Puts (text_or_null mark.sent (stood plan commands scope acts).client left) act
+    → IsHonest plan commands scope (acts ++ act ∷ []) (acts ++ act ∷ []) (with_progress (setup_sent plan) (asks_or_null plan mark left (with_progress turned (stood plan commands scope acts))))
+setup_honest plan commands scope acts act [] mark fine h is room at puts =
+    null_honest plan commands scope acts act (setup_sent plan) fine h room (λ above. sending_asks plan (stood plan commands scope acts) is.sends) puts
+setup_honest plan commands scope acts act (task ∷ others) mark fine h is room at puts =
+    let s = stood plan commands scope acts in
+    let d : later s.progress.moment.elapsed task.deadline ≡ deadline_behind plan commands scope acts = ap (λ (left : List Task). later s.progress.moment.elapsed (first_deadline left)) (sym at) in
+    subst (λ (c : ById Asked). Honest plan commands scope (acts ++ act ∷ []) (acts ++ act ∷ []) c (s.marks ++ Some mark ∷ []) s.records)
+    (sym (ap (λ (e : ℕ). client_sent s.client (sends WINDOW s.client task.command.target (call_at task mark.sent) e)) d
+    ∙ client_is s.client task.command.target (call_at task mark.sent) (deadline_behind plan commands scope acts) room))
+    (command_honest plan commands scope acts act task.command.target (call_at task mark.sent) mark fine h is room puts)
 
 -- `IsHonest` holds after a write, whole or cut, if it holds after a whole one
 put_honest : (plan : Plan) (commands : List Task) (scope : Scope) (acts : List Act) (requests : ℕ) (f : Model → Model) (t : Model) (act : Act)
@@ -267,7 +268,7 @@ moved_honest plan commands scope acts actions.ReadClock act tail fine h is needs
     let s = stood plan commands scope acts in clock_honest plan commands scope acts act (λ m p. reckoned_early plan (commands_in s.marks) (told m p)) s h o
 moved_honest plan commands scope acts actions.Renew act tail fine h is needs o ends =
     clock_honest plan commands scope acts act (λ m p. reckoned_early plan 0 (renewed plan m p)) (stood plan commands scope acts) h o
-moved_honest plan commands scope acts actions.Begin act tail fine h is needs o ends = clock_honest plan commands scope acts act (begun plan (length commands)) (stood plan commands scope acts) h o
+moved_honest plan commands scope acts actions.Begin act tail fine h is needs o ends = clock_honest plan commands scope acts act (begun plan (cycle_length plan commands)) (stood plan commands scope acts) h o
 moved_honest plan commands scope acts actions.Open act tail fine h is needs o ends = open_honest plan commands scope acts act (stood plan commands scope acts) h o
 moved_honest plan commands scope acts actions.Clear act tail fine h is needs o ends =
     let s = stood plan commands scope acts in
@@ -276,10 +277,18 @@ moved_honest plan commands scope acts actions.Ask act tail fine h is needs o end
     let s = stood plan commands scope acts in
     put_honest plan commands scope (acts ++ act ∷ []) _ (with_progress (null_sent plan)) (with_progress turned s) act
     (still plan commands scope acts act _ _ _ (puts_still (null_text s.progress.word) act o) h)
+moved_honest plan commands scope acts actions.Prepare act tail fine h is needs o ends =
+    let s = stood plan commands scope acts in
+    put_honest plan commands scope (acts ++ act ∷ []) _ (λ (x : Model). with_progress (setup_sent plan) (asks_setup plan commands x)) (with_progress turned s) act
+    (setup_honest plan commands scope acts act (drop s.progress.prepared commands) (mark_setup commands s.progress) fine h
+    (record { sends = inr is; cycle = sym (prepare_cycle plan s is); place = sym (prepare_place plan commands s is); sent = refl }) needs.3.1
+    (ap (λ n. drop n commands) (prepare_place plan commands s is)) o)
 moved_honest plan commands scope acts actions.Send act tail fine h is needs o ends =
     let s = stood plan commands scope acts in
     put_honest plan commands scope (acts ++ act ∷ []) _ (λ (x : Model). with_progress (sent (is_chained_behind_next commands x.progress) (others_behind_next commands x.progress)) (asks_next plan commands x)) (with_progress turned s) act
-    (first_honest plan commands scope acts act (is_chained_behind_next commands s.progress) (others_behind_next commands s.progress) (drop (place_next commands s.progress) commands) fine h is needs.3.1 needs.2 refl o)
+    (first_honest plan commands scope acts act (is_chained_behind_next commands s.progress) (others_behind_next commands s.progress) (drop (place_next commands s.progress) commands) (mark_next plan commands s.progress) fine h
+    (record { sends = inl is; cycle = sym (send_cycle plan s is); place = sym (send_place plan commands s is); sent = refl }) needs.3.1
+    (ap (λ n. drop n commands) (send_place plan commands s is)) o)
 moved_honest plan commands scope acts actions.Skip act tail fine h is needs o ends =
     let s = stood plan commands scope acts in
     clock_honest plan commands scope acts act (λ m p. reckoned_early plan (commands_in s.marks) (skipped (is_chained_behind_next commands s.progress) (others_behind_next commands s.progress) m p))
@@ -293,7 +302,7 @@ moved_honest plan commands scope acts actions.Pass act tail fine h is needs o en
 moved_honest plan commands scope acts actions.Flush act tail fine h is needs o ends =
     let s = stood plan commands scope acts in
     put_honest plan commands scope (acts ++ act ∷ []) _ (λ (x : Model). with_progress asking (asks_null plan x)) (with_progress turned s) act
-    (null_honest plan commands scope acts act asking fine h needs.4.1 (λ above. is_asking _ (inr is)) o)
+    (null_honest plan commands scope acts act asking fine h needs.4.1 (λ above. subst IsAsking (sym is) tt) o)
 moved_honest plan commands scope acts (actions.Read until) act tail fine h is needs o ends = read_honest plan commands scope acts until act tail fine h o ends
 moved_honest plan commands scope acts (actions.Close why) act tail fine h is needs o ends = still plan commands scope acts act _ _ _ (close_still act o) h
 moved_honest plan commands scope acts (actions.Stop why) act tail fine h is needs o ends = absurd o

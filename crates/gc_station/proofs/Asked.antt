@@ -19,7 +19,7 @@ use Rattle.gc_station.specs.Deciding.{has_begun, is_none_left}
 use Rattle.gc_station.specs.Parts as part
 use Rattle.gc_station.specs.Parts.{Part, acting, beginning, doing, ends_part, in_front, joined, nothing, parts_of}
 use Rattle.gc_station.specs.Progressing.{is_over, loses_all}
-use Rattle.gc_station.specs.Model.{Performs, Runs, Model, after, is_heard, lines_behind, mark_next, action_at, place_next}
+use Rattle.gc_station.specs.Model.{Performs, Runs, Model, after, is_heard, lines_behind, mark_next, action_at, place_next, mark_setup}
 use Rattle.gc_station.proofs.Beginnings.{word_after as word_left, word_anew}
 use Rattle.gc_station.proofs.Turns.{over_stays}
 use Rattle.gc_station.proofs.Words.{left_none}
@@ -206,9 +206,15 @@ module _ (plan : Plan) (commands : List Task) where
   none_asking now mark [] = refl
   none_asking now mark (task ∷ others) = refl
 
+  -- the part of a command of the set-up that goes out has no turns
+  none_setup : (now : ℕ) (mark : Mark) (tasks : List Task) → (part.asking_or_null plan now mark tasks).turns ≡ []
+  none_setup now mark [] = refl
+  none_setup now mark (task ∷ others) = refl
+
   -- the part of an action that puts bytes has no turns
   none_putting : (s : Model) (o : Action) → (part.putting plan commands s o).turns ≡ []
   none_putting s action.Flush = refl
+  none_putting s action.Prepare = none_setup s.progress.moment.elapsed (mark_setup commands s.progress) (drop s.progress.prepared commands)
   none_putting s action.Send = none_asking s.progress.moment.elapsed (mark_next plan commands s.progress) (drop (place_next commands s.progress) commands)
   none_putting s o = refl
 

@@ -104,6 +104,7 @@ module _ (plan : Plan) (commands : List Task) where
 
 -- where a command or a null procedure after commands goes out, the station has begun
 asking_begun : (plan : Plan) (s : Model) (o : Action) → IsAsking o → IsFor plan s.progress (waiting_of s) o → has_begun s.progress ≡ true
+asking_begun plan s actions.Prepare asks needs = needs.1
 asking_begun plan s actions.Send asks needs = needs.1
 asking_begun plan s actions.Flush asks needs = needs.1
 asking_begun plan s o asks needs = absurd asks

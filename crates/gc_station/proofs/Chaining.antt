@@ -14,14 +14,14 @@ use Rattle.gc_station.specs.declared.cause.Cause.{Cause}
 use Rattle.gc_station.specs.declared.cause.Cause.TheVariants as cause
 use Rattle.gc_station.specs.declared.plan.Plan.{Plan}
 use Rattle.gc_station.specs.declared.progress.Action.{Action}
-use Rattle.gc_station.specs.declared.progress.Action.TheVariants.{Begin, Renew, Open, Send, Skip, Pass, Read, Close, Stop}
+use Rattle.gc_station.specs.declared.progress.Action.TheVariants.{Begin, Renew, Open, Send, Skip, Pass, Read, Close, Stop, Prepare}
 use Rattle.gc_station.specs.declared.progress.Progress.{Progress}
 use Rattle.gc_station.specs.declared.progress.Waiting.{Waiting}
 use Rattle.gc_links.specs.Acts.{Act, Told, Cut, Opened}
 use Rattle.gc_station.specs.Answers.{IsTrueRecord, answer_of}
 use Rattle.gc_station.specs.Chains.{IsChained, IsLinked}
 use Rattle.gc_station.specs.Deciding.{has_begun}
-use Rattle.gc_station.specs.EachOnce.{Parted, Request, of_record, of_task, requests, sent_by, still_waiting}
+use Rattle.gc_station.specs.EachOnce.{Parted, Request, of_record, of_task, requests, sent_by, still_waiting, of_text, in_text}
 use Rattle.gc_station.specs.Marks.{commands_in, is_well, last_well}
 use Rattle.gc_station.specs.Qualities.{IsAsListed}
 use Rattle.gc_station.specs.Quiet.{KeepsOpen}
@@ -30,19 +30,20 @@ use Rattle.gc_station.specs.Reasons.{IsFor, MayGo}
 use Rattle.gc_station.specs.Records.{Record}
 use Rattle.gc_station.specs.Runs.{stood}
 use Rattle.gc_station.specs.Scopes.{Scope}
-use Rattle.gc_station.specs.Model.{Model, requests_out, Performs, Runs, opening, action_at, waiting_of, place_next, cycles_begun, is_chained, is_chained_behind_next, is_chained_behind, ended, with_progress, with_rest, moved, after, after_all}
+use Rattle.gc_station.specs.Model.{Model, requests_out, Performs, Runs, opening, action_at, waiting_of, place_next, cycles_begun, is_chained, is_chained_behind_next, is_chained_behind, ended, with_progress, with_rest, moved, after, after_all, cycle_length}
 use Rattle.gc_station.proofs.Answers.{answers_true}
 use Rattle.gc_station.proofs.Counts.{ended_progress, ended_passes}
 use Rattle.gc_station.proofs.Each.{each_settled, sent_next}
 use Rattle.gc_station.proofs.Parted.{IsInFront, drop_past, parted_all, parted_last, sent_before}
 use Rattle.gc_station.proofs.EachRun.{fine_stood}
+use Rattle.gc_station.proofs.Row.{last_of_cycle, listed_last}
 use Rattle.gc_station.proofs.Facts.{or_true, action_for}
 use Rattle.gc_station.proofs.Invariant.{Invariant}
 use Rattle.gc_station.proofs.Going.{after_all-append}
 use Rattle.gc_station.proofs.Lists.{all_append}
 use Rattle.gc_station.proofs.Midway.{clash}
 use Rattle.gc_station.proofs.Nearly.{as_listed}
-use Rattle.gc_station.proofs.Walk.{closed_along, is_sent, moved_changed, walk}
+use Rattle.gc_station.proofs.Walk.{closed_along, is_prepared, is_sent, moved_changed, walk}
 use Rattle.gc_station.proofs.Words.{begun_kept}
 
 -- What an act does to the place in a cycle, and to the chain that is there.
@@ -79,14 +80,15 @@ record Past (commands : List Task) (p q : Progress) : Type 0 where
 
 -- what an act of an action does to the fields on chains, from p to q: it leaves them, breaks the chain, goes on to the next
 -- command, passes over attempts, or begins a cycle. Where an action has two cases, the first is that the clock couldn't be read
-abbrev Steps : List Task → Action → Progress → Progress → Type 0
-Steps commands Begin p q = Still p q ⊎ Anew (length commands) q
-Steps commands Renew p q = Still p q ⊎ (Still p q × (q.chain_unbroken ≡ false))
-Steps commands Send p q = Next (is_chained_behind_next commands p) p q
-Steps commands Skip p q = Still p q ⊎ (Next (is_chained_behind_next commands p) p q × (q.chain_unbroken ≡ false))
-Steps commands Pass p q = Still p q ⊎ Past commands p q
-Steps commands (Close why) p q = Still p q × (q.chain_unbroken ≡ false)
-Steps commands _ p q = Still p q
+abbrev Steps : Plan → List Task → Action → Progress → Progress → Type 0
+Steps plan commands Begin p q = Still p q ⊎ Anew (cycle_length plan commands) q
+Steps plan commands Renew p q = Still p q ⊎ (Still p q × (q.chain_unbroken ≡ false))
+Steps plan commands Send p q = Next (is_chained_behind_next commands p) p q
+Steps plan commands Skip p q = Still p q ⊎ (Next (is_chained_behind_next commands p) p q × (q.chain_unbroken ≡ false))
+Steps plan commands Pass p q = Still p q ⊎ Past commands p q
+Steps plan commands Prepare p q = Still p q × (q.chain_unbroken ≡ false)
+Steps plan commands (Close why) p q = Still p q × (q.chain_unbroken ≡ false)
+Steps plan commands _ p q = Still p q
 
 -- where these fields are the same, `Still` holds
 still : (p q : Progress) → q.left ≡ p.left → q.unsent ≡ p.unsent → q.missed ≡ p.missed → q.next_is_chained ≡ p.next_is_chained → q.chain_unbroken ≡ p.chain_unbroken → Still p q
@@ -108,13 +110,18 @@ broken p q left unsent missed next_is_chained chain_unbroken = (
 
 -- an act of each action does to these fields what `Steps` says
 moved_steps : (plan : Plan) (commands : List Task) (action : Action) (s : Model) (act : Act)
-    → Steps commands action s.progress (moved plan commands action s act).progress
+    → Steps plan commands action s.progress (moved plan commands action s act).progress
 moved_steps plan commands Begin s (Told m) = inr (record { unsent = refl; chain_unbroken = refl })
 moved_steps plan commands Begin s act = inl (still s.progress _ refl refl refl refl refl)
 moved_steps plan commands Renew s (Told m) = inr (broken s.progress _ refl refl refl refl refl)
 moved_steps plan commands Renew s act = inl (still s.progress _ refl refl refl refl refl)
 moved_steps plan commands Open s Opened = still s.progress _ refl refl refl refl refl
 moved_steps plan commands Open s act = (broken s.progress _ refl refl refl refl refl).0
+moved_steps plan commands Prepare s (Cut bytes n) =
+    subst (λ (x : Model). Still s.progress (failing (cause.Write (requests_out plan commands s.progress) n) x.progress) × (x.progress.chain_unbroken ≡ false)) (is_prepared plan commands s)
+    (broken s.progress _ refl refl refl refl refl)
+moved_steps plan commands Prepare s act =
+    subst (λ (x : Model). Still s.progress x.progress × (x.progress.chain_unbroken ≡ false)) (is_prepared plan commands s) (broken s.progress _ refl refl refl refl refl)
 moved_steps plan commands Send s (Cut bytes n) =
     subst (λ (x : Model). Next (is_chained_behind_next commands s.progress) s.progress (failing (cause.Write (requests_out plan commands s.progress) n) x.progress)) (is_sent plan commands s)
     (record { left = refl; unsent = refl; missed = refl; is_bound = refl })
@@ -134,7 +141,7 @@ moved_steps plan commands action s act =
     (ap (λ (x : Model). x.progress.chain_unbroken) is)
 
 -- no act but that of a close closes the connection
-stays_open : (plan : Plan) (commands : List Task) (next : Action) (s : Model) (act : Act) → Performs commands s next act → ((why : Cause) → next ≡ Close why → ⊥) → KeepsOpen act
+pub stays_open : (plan : Plan) (commands : List Task) (next : Action) (s : Model) (act : Act) → Performs commands s next act → ((why : Cause) → next ≡ Close why → ⊥) → KeepsOpen act
 stays_open plan commands (Read until) s act o other = walk plan commands (λ a (t : Model). KeepsOpen a) (Read until) s act o (λ bytes m. tt, λ m. tt, tt, tt, tt)
 stays_open plan commands (Close why) s act o other = absurd (other why refl)
 stays_open plan commands (Stop why) s act o other = absurd o
@@ -153,8 +160,19 @@ stays_more : (plan : Plan) (commands : List Task) (s : Model) (acts : List Act) 
 stays_more plan commands s [] act h e = (e, tt)
 stays_more plan commands s (x ∷ acts) act h e = (h.0, stays_more plan commands (after plan commands s x) acts act h.1 e)
 
+-- none of these acts sends a command of the set-up
+abbrev pub PreparesNothing : Plan → List Task → Model → List Act → Type 0
+PreparesNothing plan commands s [] = Unit {0}
+PreparesNothing plan commands s (act ∷ acts) = (action_at plan s ≡ Prepare → ⊥) × PreparesNothing plan commands (after plan commands s act) acts
+
+-- `PreparesNothing` holds of two lists of acts, the second behind the first, if it holds of each
+pub prepares_none : (plan : Plan) (commands : List Task) (s : Model) (xs ys : List Act) → PreparesNothing plan commands s xs
+    → PreparesNothing plan commands (after_all plan commands s xs) ys → PreparesNothing plan commands s (xs ++ ys)
+prepares_none plan commands s [] ys h k = k
+prepares_none plan commands s (x ∷ xs) ys h k = (h.0, prepares_none plan commands (after plan commands s x) xs ys h.1 k)
+
 -- where a station has the progress p: the command before the next one, of the same cycle, went out among these acts, and since
--- then no connection was closed, and the station didn't begin anew
+-- then no connection was closed, the station didn't begin anew, and no command of the set-up went out
 record Whole (plan : Plan) (commands : List Task) (scope : Scope) (acts : List Act) (p : Progress) : Type 0 where
   before : List Act
   request : Act
@@ -167,6 +185,7 @@ record Whole (plan : Plan) (commands : List Task) (scope : Scope) (acts : List A
   begun : has_begun p ≡ true
   passes : (stood plan commands scope acts).passes ≡ (stood plan commands scope before).passes
   keeps : StaysBegun plan commands (stood plan commands scope before) (request ∷ between)
+  cycles : PreparesNothing plan commands (stood plan commands scope before) (request ∷ between)
 
 -- where all acts (`all`) are `before` and then `behind`, and the station has begun after all of them, it has begun after
 -- `behind`, counted from the model after `before`
@@ -179,7 +198,7 @@ begun_there plan commands scope before behind all q action there begun =
 -- the two fields on chains of p are true after these acts: `next_is_chained` is what the text says of the next command, or true
 -- in a missed cycle; and if `chain_unbroken` is true, `Whole` holds
 record Chain (plan : Plan) (commands : List Task) (scope : Scope) (acts : List Act) (p : Progress) : Type 0 where
-  next_is_chained : 0 < place_next commands p → p.next_is_chained ≡ (p.missed || is_chained (drop (place_next commands p) commands))
+  next_is_chained : plan.setup < place_next commands p → p.next_is_chained ≡ (p.missed || is_chained (drop (place_next commands p) commands))
   chain_unbroken : p.chain_unbroken ≡ true → Whole plan commands scope acts p
 
 -- from one model to another nothing is passed over, or no chain goes on there
@@ -200,12 +219,13 @@ still_passes s t before (inr none) e is = absurd (clash t.progress.chain_unbroke
 -- `Chain` lasts over an act that leaves these fields and doesn't close the connection
 chain_still : (plan : Plan) (commands : List Task) (scope : Scope) (acts : List Act) (act : Act) (p q : Progress)
     → (stood plan commands scope (acts ++ act ∷ [])).progress ≡ q → Still p q → (has_begun p ≡ true → q.chain_unbroken ≡ true → has_begun q ≡ true)
-    → Keeps (stood plan commands scope acts) (stood plan commands scope (acts ++ act ∷ [])) → KeepsOpen act → Chain plan commands scope acts p → Chain plan commands scope (acts ++ act ∷ []) q
-chain_still plan commands scope acts act p q there k begins keeps stays h =
+    → Keeps (stood plan commands scope acts) (stood plan commands scope (acts ++ act ∷ [])) → KeepsOpen act → (action_at plan (stood plan commands scope acts) ≡ Prepare → ⊥)
+    → Chain plan commands scope acts p → Chain plan commands scope (acts ++ act ∷ []) q
+chain_still plan commands scope acts act p q there k begins keeps stays other h =
     let place_is : place_next commands q ≡ place_next commands p = ap (λ (n : ℕ). length commands - n) k.unsent in
     record {
       next_is_chained = λ above.
-          k.next_is_chained ∙ h.next_is_chained (subst (λ (n : ℕ). 0 < n) place_is above) ∙ ap (λ (b : Bool). b || is_chained (drop (place_next commands p) commands)) (sym k.missed)
+          k.next_is_chained ∙ h.next_is_chained (subst (λ (n : ℕ). plan.setup < n) place_is above) ∙ ap (λ (b : Bool). b || is_chained (drop (place_next commands p) commands)) (sym k.missed)
           ∙ ap (λ (n : ℕ). q.missed || is_chained (drop n commands)) (sym place_is);
       chain_unbroken = λ e.
           let w = h.chain_unbroken (k.chain_unbroken e) in
@@ -225,6 +245,11 @@ chain_still plan commands scope acts act p q there k begins keeps stays h =
             keeps =
                 stays_more plan commands (stood plan commands scope w.before) (w.request ∷ w.between) act w.keeps
                 (begun_there plan commands scope w.before (w.request ∷ (w.between ++ act ∷ [])) (acts ++ act ∷ []) q order there begun);
+            cycles =
+                let back = after_all-append plan commands (opening plan scope) w.before (w.request ∷ w.between) in
+                let here : after_all plan commands (stood plan commands scope w.before) (w.request ∷ w.between) ≡ stood plan commands scope acts = sym back ∙ ap (stood plan commands scope) (sym w.order) in
+                prepares_none plan commands (stood plan commands scope w.before) (w.request ∷ w.between) (act ∷ []) w.cycles
+                (subst (λ (x : Model). PreparesNothing plan commands x (act ∷ [])) (sym here) (other, tt));
           };
     }
 
@@ -235,15 +260,15 @@ chain_closed plan commands scope acts all p q k broken h =
     let place_is : place_next commands q ≡ place_next commands p = ap (λ (n : ℕ). length commands - n) k.unsent in
     record {
       next_is_chained = λ above.
-          k.next_is_chained ∙ h.next_is_chained (subst (λ (n : ℕ). 0 < n) place_is above) ∙ ap (λ (b : Bool). b || is_chained (drop (place_next commands p) commands)) (sym k.missed)
+          k.next_is_chained ∙ h.next_is_chained (subst (λ (n : ℕ). plan.setup < n) place_is above) ∙ ap (λ (b : Bool). b || is_chained (drop (place_next commands p) commands)) (sym k.missed)
           ∙ ap (λ (n : ℕ). q.missed || is_chained (drop n commands)) (sym place_is);
       chain_unbroken = λ e. absurd (clash q.chain_unbroken e broken);
     }
 
 -- `Chain` holds at the beginning of a cycle
-chain_anew : (plan : Plan) (commands : List Task) (scope : Scope) (acts : List Act) (q : Progress) → Anew (length commands) q → Chain plan commands scope acts q
+chain_anew : (plan : Plan) (commands : List Task) (scope : Scope) (acts : List Act) (q : Progress) → Anew (cycle_length plan commands) q → Chain plan commands scope acts q
 chain_anew plan commands scope acts q a =
-    let none : place_next commands q ≡ 0 = omega (arith, a.unsent) in
+    let none : place_next commands q ≤ plan.setup = omega (arith, a.unsent) in
     record { next_is_chained = λ above. absurd (omega (arith, none, above)); chain_unbroken = λ e. absurd (clash q.chain_unbroken e a.chain_unbroken) }
 
 -- where one command less is left, the next one stands one place further
@@ -297,6 +322,7 @@ chain_sent plan commands scope acts act p q here there is begins n some within k
         begun = begins e;
         passes = still_passes (stood plan commands scope acts) (stood plan commands scope (acts ++ act ∷ [])) (stood plan commands scope acts).passes keeps (ap (λ (x : Progress). x.chain_unbroken) there ∙ e) refl;
         keeps = (begun_there plan commands scope acts (act ∷ []) (acts ++ act ∷ []) q refl there (begins e), tt);
+        cycles = (λ prepares. let both : Send ≡ Prepare = sym is ∙ prepares in cc, tt);
       };
     }
 
@@ -305,29 +331,35 @@ chain_moved : (plan : Plan) (commands : List Task) (scope : Scope) (acts : List 
     → Invariant plan commands (stood plan commands scope acts)
     → action_at plan (stood plan commands scope acts) ≡ action → IsFor plan (stood plan commands scope acts).progress w action → Performs commands (stood plan commands scope acts) action act
     → (stood plan commands scope (acts ++ act ∷ [])).progress ≡ q → (has_begun (stood plan commands scope acts).progress ≡ true → q.chain_unbroken ≡ true → has_begun q ≡ true)
-    → Steps commands action (turned (stood plan commands scope acts).progress) q
+    → Steps plan commands action (turned (stood plan commands scope acts).progress) q
     → Keeps (stood plan commands scope acts) (stood plan commands scope (acts ++ act ∷ []))
     → Chain plan commands scope acts (turned (stood plan commands scope acts).progress) → Chain plan commands scope (acts ++ act ∷ []) q
 chain_moved plan commands scope acts act Begin w q fine is needs o at begins (inl k) keeps h =
-    chain_still plan commands scope acts act _ q at k begins keeps (stays_open plan commands Begin (stood plan commands scope acts) act o (λ why e. cc)) h
+    chain_still plan commands scope acts act _ q at k begins keeps (stays_open plan commands Begin (stood plan commands scope acts) act o (λ why e. cc))
+    (λ e. let both : Begin ≡ Prepare = sym is ∙ e in cc) h
 chain_moved plan commands scope acts act Begin w q fine is needs o at begins (inr a) keeps h = chain_anew plan commands scope (acts ++ act ∷ []) q a
 chain_moved plan commands scope acts act Renew w q fine is needs o at begins (inl k) keeps h =
-    chain_still plan commands scope acts act _ q at k begins keeps (stays_open plan commands Renew (stood plan commands scope acts) act o (λ why e. cc)) h
+    chain_still plan commands scope acts act _ q at k begins keeps (stays_open plan commands Renew (stood plan commands scope acts) act o (λ why e. cc))
+    (λ e. let both : Renew ≡ Prepare = sym is ∙ e in cc) h
 chain_moved plan commands scope acts act Renew w q fine is needs o at begins (inr k) keeps h = chain_closed plan commands scope acts (acts ++ act ∷ []) _ q k.0 k.1 h
 chain_moved plan commands scope acts act Send w q fine is needs o at begins n keeps h =
-    chain_sent plan commands scope acts act (turned (stood plan commands scope acts).progress) q refl at is (begins needs.1) n needs.2 fine.unsent keeps
+    chain_sent plan commands scope acts act (turned (stood plan commands scope acts).progress) q refl at is (begins needs.1) n needs.2 (omega (arith, fine.unsent)) keeps
 chain_moved plan commands scope acts act Skip w q fine is needs o at begins (inl k) keeps h =
-    chain_still plan commands scope acts act _ q at k begins keeps (stays_open plan commands Skip (stood plan commands scope acts) act o (λ why e. cc)) h
+    chain_still plan commands scope acts act _ q at k begins keeps (stays_open plan commands Skip (stood plan commands scope acts) act o (λ why e. cc))
+    (λ e. let both : Skip ≡ Prepare = sym is ∙ e in cc) h
 chain_moved plan commands scope acts act Skip w q fine is needs o at begins (inr n) keeps h =
-    chain_skipped plan commands scope (acts ++ act ∷ []) (turned (stood plan commands scope acts).progress) q n.0 n.1 needs.2 fine.unsent
+    chain_skipped plan commands scope (acts ++ act ∷ []) (turned (stood plan commands scope acts).progress) q n.0 n.1 needs.2 (omega (arith, fine.unsent))
 chain_moved plan commands scope acts act Pass w q fine is needs o at begins (inl k) keeps h =
-    chain_still plan commands scope acts act _ q at k begins keeps (stays_open plan commands Pass (stood plan commands scope acts) act o (λ why e. cc)) h
+    chain_still plan commands scope acts act _ q at k begins keeps (stays_open plan commands Pass (stood plan commands scope acts) act o (λ why e. cc))
+    (λ e. let both : Pass ≡ Prepare = sym is ∙ e in cc) h
 chain_moved plan commands scope acts act Pass w q fine is needs o at begins (inr k) keeps h =
-    chain_past plan commands scope (acts ++ act ∷ []) (turned (stood plan commands scope acts).progress) q k fine.unsent
+    chain_past plan commands scope (acts ++ act ∷ []) (turned (stood plan commands scope acts).progress) q k (omega (arith, fine.unsent))
+chain_moved plan commands scope acts act Prepare w q fine is needs o at begins k keeps h = chain_closed plan commands scope acts (acts ++ act ∷ []) _ q k.0 k.1 h
 chain_moved plan commands scope acts act (Close why) w q fine is needs o at begins k keeps h = chain_closed plan commands scope acts (acts ++ act ∷ []) _ q k.0 k.1 h
 chain_moved plan commands scope acts act (Stop why) w q fine is needs o at begins k keeps h = absurd o
 chain_moved plan commands scope acts act next w q fine is needs o at begins k keeps h =
-    chain_still plan commands scope acts act _ q at k begins keeps (stays_open plan commands next (stood plan commands scope acts) act o (λ why e. cc)) h
+    chain_still plan commands scope acts act _ q at k begins keeps (stays_open plan commands next (stood plan commands scope acts) act o (λ why e. cc))
+    (λ e. let both : next ≡ Prepare = sym is ∙ e in cc) h
 
 -- what is lost after an act leaves `Keeps`
 kept_ended : (s t : Model) → Keeps s t → Keeps s (ended t)
@@ -364,6 +396,7 @@ chain_along plan commands scope done (act ∷ acts) runs h =
             begun = w.begun;
             passes = w.passes;
             keeps = w.keeps;
+            cycles = w.cycles;
           };
     } in
     let one = chain_moved plan commands scope done act (action_at plan s) (waiting_of s) t.progress (fine_stood plan commands scope done) refl (action_for plan s.progress (waiting_of s)) runs.0 far
@@ -389,7 +422,7 @@ chain_stood plan commands scope acts runs = chain_along plan commands scope [] a
 
 -- after every run, where the next command isn't the first of its cycle, it counts as chained as the text says, or in a missed cycle
 pub bound_stood : (plan : Plan) (commands : List Task) (scope : Scope) (acts : List Act) → Runs plan commands (opening plan scope) acts
-    → 0 < place_next commands (stood plan commands scope acts).progress
+    → plan.setup < place_next commands (stood plan commands scope acts).progress
     → (stood plan commands scope acts).progress.next_is_chained
     ≡ ((stood plan commands scope acts).progress.missed || is_chained (drop (place_next commands (stood plan commands scope acts).progress) commands))
 bound_stood plan commands scope acts runs above = (chain_stood plan commands scope acts runs).next_is_chained above
@@ -443,10 +476,11 @@ all_last P [] x all = all.0
 all_last P (y ∷ xs) x all = all_last P xs x all.1
 
 -- the commands that had their turn, with the next one behind them, are those that had their turn one place later
-last_sent : (commands : List Task) (begun place : ℕ) (left : List Task) → drop place commands ≡ left → 0 < length left → 0 < begun
-    → (task : Task) × (sent_by commands begun place ++ requests begun place (of_task task ∷ []) ≡ sent_by commands begun (place + 1))
-last_sent commands begun place [] at some many = absurd (omega (arith, some))
-last_sent commands begun place (task ∷ others) at some many = (task, sent_next commands begun place task others at many)
+last_sent : (plan : Plan) (commands : List Task) (begun place : ℕ) (left : List Task) → drop place commands ≡ left → 0 < length left → 0 < begun
+    → plan.setup ≤ place
+    → (task : Task) × (sent_by plan.setup commands begun place ++ requests begun place (of_task task ∷ []) ≡ sent_by plan.setup commands begun (place + 1))
+last_sent plan commands begun place [] at some many within = absurd (omega (arith, some))
+last_sent plan commands begun place (task ∷ others) at some many within = (task, sent_next plan.setup commands begun place task others at within many)
 
 -- a request of this very place isn't in front of it
 not_in_front : (cycle place : ℕ) (r : Request) → r.cycle ≡ cycle → r.place ≡ place → IsInFront cycle place r → ⊥
@@ -454,10 +488,11 @@ not_in_front cycle place r at is (inl less) = omega (arith, less, at)
 not_in_front cycle place r at is (inr same) = omega (arith, same.1, is)
 
 -- where a chained command is to go out, `IsLinked` holds: the command before it went out and was answered well, and the station
--- has begun after each act since
+-- has begun after each act since, none of which sends a command of the set-up
 pub chain_whole : (plan : Plan) (commands : List Task) (scope : Scope) (acts : List Act) → Runs plan commands (opening plan scope) acts
-    → action_at plan (stood plan commands scope acts) ≡ Send → IsChained commands (stood plan commands scope acts)
+    → action_at plan (stood plan commands scope acts) ≡ Send → IsChained plan commands (stood plan commands scope acts)
     → (l : IsLinked plan commands scope acts) × StaysBegun plan commands (stood plan commands scope l.before) (l.request ∷ l.between)
+    × PreparesNothing plan commands (stood plan commands scope l.before) (l.request ∷ l.between)
 chain_whole plan commands scope acts runs is chained = of_may needs.4 where
   -- the station as it stands
   s : Model
@@ -481,9 +516,10 @@ chain_whole plan commands scope acts runs is chained = of_may needs.4 where
 
   -- the command before the next one, where no command waits: `Whole` says that it went out, and `Last` that the last record was
   -- answered well; that record is its own, so `IsLinked` holds of it
-  of_last : commands_in s.marks ≡ 0 → Last s.records → Whole plan commands scope acts s.progress
+  of_last : commands_in s.marks ≡ 0 → s.progress.chain_unbroken ≡ true → Last s.records → Whole plan commands scope acts s.progress
       → (l : IsLinked plan commands scope acts) × StaysBegun plan commands (stood plan commands scope l.before) (l.request ∷ l.between)
-  of_last settled l w =
+      × PreparesNothing plan commands (stood plan commands scope l.before) (l.request ∷ l.between)
+  of_last settled it l w =
       let b = stood plan commands scope w.before in
       let before = fine_stood plan commands scope w.before in
       let asked = subst (λ (o : Action). IsFor plan b.progress (waiting_of b) o) w.sends (action_for plan b.progress (waiting_of b)) in
@@ -493,22 +529,27 @@ chain_whole plan commands scope acts runs is chained = of_may needs.4 where
       let place = place_next commands b.progress in
       let cycle = cycles_begun plan b.progress in
       let left : 0 < length (drop place commands) = let n = length-drop place commands in omega (arith, n, some, before.unsent) in
-      let sent = last_sent commands cycle place (drop place commands) refl left many in
+      let within : plan.setup ≤ place = omega (arith, some, before.unsent) in
+      let sent = last_sent plan commands cycle place (drop place commands) refl left many within in
       let b_passes = b.passes in
-      let there : sent_by commands (cycles_begun plan s.progress) (place_next commands s.progress) ≡ sent_by commands cycle (place + 1) =
-      ap (λ (n : ℕ). sent_by commands n (place_next commands s.progress)) w.cycle ∙ ap (λ (n : ℕ). sent_by commands cycle n) w.place in
+      let there : sent_by plan.setup commands (cycles_begun plan s.progress) (place_next commands s.progress) ≡ sent_by plan.setup commands cycle (place + 1) =
+      ap (λ (n : ℕ). sent_by plan.setup commands n (place_next commands s.progress)) w.cycle ∙ ap (λ (n : ℕ). sent_by plan.setup commands cycle n) w.place in
       let one : Request = record { cycle = cycle; place = place; asked = of_task sent.0 } in
-      let all : Parted (map of_record s.records) b_passes (sent_by commands cycle place ++ one ∷ []) =
-      subst (λ (xs : List Request). Parted (map of_record s.records) b_passes xs) (there ∙ sym sent.1)
-      (subst (λ (ys : List Request). Parted (map of_record s.records) ys (sent_by commands (cycles_begun plan s.progress) (place_next commands s.progress))) w.passes
-      (subst (λ (xs : List Request). Parted xs s.passes (sent_by commands (cycles_begun plan s.progress) (place_next commands s.progress)))
-      (sym (each_settled s.marks s.client.waiting s.records (map of_record s.records ++ still_waiting s.marks s.client.waiting) settled refl)) fine.each)) in
-      let front = parted_all (IsInFront cycle place) (map of_record b.records ++ still_waiting b.marks b.client.waiting) b_passes (sent_by commands cycle place) before.each (sent_before commands cycle place) in
-      let kept = parted_last one (map of_record s.records) b_passes (sent_by commands cycle place) all
+      let all : Parted (of_text commands (map of_record s.records)) b_passes (sent_by plan.setup commands cycle place ++ one ∷ []) =
+      subst (λ (xs : List Request). Parted (of_text commands (map of_record s.records)) b_passes xs) (there ∙ sym sent.1)
+      (subst (λ (ys : List Request). Parted (of_text commands (map of_record s.records)) ys (sent_by plan.setup commands (cycles_begun plan s.progress) (place_next commands s.progress))) w.passes
+      (subst (λ (xs : List Request). Parted xs s.passes (sent_by plan.setup commands (cycles_begun plan s.progress) (place_next commands s.progress)))
+      (sym (each_settled commands s.marks s.client.waiting s.records (of_text commands (map of_record s.records ++ still_waiting s.marks s.client.waiting)) settled refl)) fine.each)) in
+      let front = parted_all (IsInFront cycle place) (of_text commands (map of_record b.records ++ still_waiting b.marks b.client.waiting)) b_passes (sent_by plan.setup commands cycle place) before.each
+      (sent_before plan.setup commands cycle place within) in
+      let kept = parted_last one (of_text commands (map of_record s.records)) b_passes (sent_by plan.setup commands cycle place) all
       (λ xs e. not_in_front cycle place one refl refl (all_last (IsInFront cycle place) xs one (subst (AllByRecursion (IsInFront cycle place)) e front))) in
-      let ends : map of_record l.earlier ++ of_record l.answer ∷ [] ≡ kept.0 ++ one ∷ [] =
-      sym (map-append of_record l.earlier (l.answer ∷ [])) ∙ ap (map of_record) (sym l.last) ∙ kept.1 in
-      let own = end_same (map of_record l.earlier) kept.0 (of_record l.answer) one ends in
+      let split = map-append of_record l.earlier (l.answer ∷ []) in
+      let listed_all : map of_record s.records ≡ map of_record l.earlier ++ of_record l.answer ∷ [] = ap (map of_record) l.last ∙ split in
+      let of_a_cycle : 0 < l.answer.cycle = last_of_cycle plan commands scope acts runs settled it (map of_record l.earlier) (of_record l.answer) listed_all in
+      let ends : of_text commands (map of_record l.earlier) ++ in_text commands (of_record l.answer) ∷ [] ≡ kept.0 ++ one ∷ [] =
+      sym (listed_last commands (map of_record l.earlier) (of_record l.answer) of_a_cycle) ∙ ap (of_text commands) (sym listed_all) ∙ kept.1 in
+      let own = end_same (of_text commands (map of_record l.earlier)) kept.0 (in_text commands (of_record l.answer)) one ends in
       let true_one = all_last (IsTrueRecord plan commands scope acts) l.earlier l.answer
       (subst (λ (rs : List Record). AllByRecursion (IsTrueRecord plan commands scope acts) rs) l.last (answers_true plan commands scope acts runs)) in
       let listed = all_last (λ (r : Record). IsAsListed scope.reads commands r) l.earlier l.answer
@@ -535,15 +576,16 @@ chain_whole plan commands scope acts runs is chained = of_may needs.4 where
         says = listed l.quality l.said l.line l.answered;
         in_time = true_one l.line (ap answer_of l.answered);
       } in
-      (linked, w.keeps)
+      (linked, w.keeps, w.cycles)
 
   -- the lemma above, where the next command may go out (`MayGo`): as it is chained, that is because the one before it was
   -- answered well
   of_may : MayGo s.progress (waiting_of s) → (l : IsLinked plan commands scope acts) × StaysBegun plan commands (stood plan commands scope l.before) (l.request ∷ l.between)
+      × PreparesNothing plan commands (stood plan commands scope l.before) (l.request ∷ l.between)
   of_may (inl free) = absurd (clash s.progress.next_is_chained next_is_chained free)
-  of_may (inr it) = of_last it.0 (last_of s.records it.1) (h.chain_unbroken it.2)
+  of_may (inr it) = of_last it.0 it.2 (last_of s.records it.1) (h.chain_unbroken it.2)
 
 -- a chained command goes out only after the answer of the one before it
 pub chain_kept : (plan : Plan) (commands : List Task) (scope : Scope) (acts : List Act) → Runs plan commands (opening plan scope) acts
-    → action_at plan (stood plan commands scope acts) ≡ Send → IsChained commands (stood plan commands scope acts) → IsLinked plan commands scope acts
+    → action_at plan (stood plan commands scope acts) ≡ Send → IsChained plan commands (stood plan commands scope acts) → IsLinked plan commands scope acts
 chain_kept plan commands scope acts runs is chained = (chain_whole plan commands scope acts runs is chained).0

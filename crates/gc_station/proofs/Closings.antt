@@ -25,7 +25,7 @@ use Rattle.gc_station.specs.Progressing.{turned, told, failing, quieted, time_pa
 use Rattle.gc_station.specs.Closing.{IsAlone, IsReasoned, Shows, ClosesForACause, EndsDone, EndsBehind, EndsGone, Ends, StopsForACause}
 use Rattle.gc_station.specs.Reasons.{IsFor, IsAtItsEnd}
 use Rattle.gc_station.specs.Runs.{stood}
-use Rattle.gc_station.specs.Model.{Model, requests_out, request_text, null_text, first_text, waiting_of, opening, action_at, place_next, with_progress, with_moment, is_heard, lines_behind, came, Performs, moved, after, after_all, Runs}
+use Rattle.gc_station.specs.Model.{Model, requests_out, request_text, null_text, first_text, waiting_of, opening, action_at, place_next, with_progress, with_moment, is_heard, lines_behind, came, Performs, moved, after, after_all, Runs, text_or_null}
 use Rattle.gc_station.proofs.Counts.{ended_progress}
 use Rattle.gc_station.proofs.EachRun.{fine_stood}
 use Rattle.gc_station.proofs.Facts.{action_for}
@@ -160,8 +160,13 @@ moved_decides plan commands action.Ask s act c o done e =
     let at = s.progress.phase in
     walk plan commands (DecidesSo plan s action.Ask c) action.Ask (with_progress turned s) act o
     (λ m g. inr (inr refl), λ n g. fail_decides at at (is_up at) (cause.Write (requests_out plan commands (turned s.progress)) n) c (Cut text n) refl (text, refl) (λ d. d) g) e
+moved_decides plan commands action.Prepare s act c o done e =
+    let text = text_or_null s.progress.moment.utc s.client (drop s.progress.prepared commands) in
+    let at = s.progress.phase in
+    walk plan commands (DecidesSo plan s action.Prepare c) action.Prepare (with_progress turned s) act o
+    (λ m g. inr (inr refl), λ n g. fail_decides at at (is_up at) (cause.Write (requests_out plan commands (turned s.progress)) n) c (Cut text n) refl (text, refl) (λ d. d) g) e
 moved_decides plan commands action.Send s act c o done e =
-    let text = first_text s.client (drop (place_next commands s.progress) commands) in
+    let text = first_text s.progress.moment.utc s.client (drop (place_next commands s.progress) commands) in
     let at = s.progress.phase in
     walk plan commands (DecidesSo plan s action.Send c) action.Send (with_progress turned s) act o
     (λ m g. inr (inr refl), λ n g. fail_decides at at (is_up at) (cause.Write (requests_out plan commands (turned s.progress)) n) c (Cut text n) refl (text, refl) (λ d. d) g) e

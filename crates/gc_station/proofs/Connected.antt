@@ -1,7 +1,7 @@
 -- Facts F of a progress and the acts so far that concern a connection in use alone: they hold trivially where there is no
 -- connection, and where it is to be closed. So a call that fails keeps them, and so does a close. What each other act has to
 -- keep is `OnLine`. An act is one call of the link, with what came of it.
-use Rattle.std.proofs.Common.{◌≡◌, ℕ, ◌&&◌, Bool, true, false, not, List, [], ◌∷◌, ◌++◌, drop, length, if◌then◌else◌, refl, ap}
+use Rattle.std.proofs.Common.{◌≡◌, ℕ, ◌&&◌, Bool, true, false, not, List, [], ◌∷◌, ◌++◌, drop, if◌then◌else◌, refl, ap}
 use Rattle.gc_catalogue.specs.declared.asked.Asked.TheVariants.{Table}
 use Rattle.gc_catalogue.specs.declared.call.Call.TheVariants.{NullProc}
 use Rattle.gc_texts.specs.declared.tasks.Task.{Task}
@@ -18,8 +18,8 @@ use Rattle.gc_station.specs.declared.progress.Until.{Until}
 use Rattle.gc_links.specs.Acts.{Act, Told, Put, Gave, Silent, Opened}
 use Rattle.gc_station.specs.Deciding.{is_up, is_past, is_quiet}
 use Rattle.gc_station.specs.Marks.{commands_in}
-use Rattle.gc_station.specs.Progressing.{turned, told, begun, skipped, passed, opened, cleared, asking, null_sent, renewed, sent, reckoned_early, time_passed, quieted, is_idle, drained}
-use Rattle.gc_station.specs.Model.{Model, requests_out, request_text, null_text, first_text, place_next, is_chained_behind_next, others_behind_next, is_chained_behind, others_behind, waiting_of, piece_at, with_progress, Performs, moved}
+use Rattle.gc_station.specs.Progressing.{turned, told, begun, skipped, passed, opened, cleared, asking, null_sent, renewed, sent, reckoned_early, time_passed, quieted, is_idle, drained, setup_sent}
+use Rattle.gc_station.specs.Model.{Model, requests_out, request_text, null_text, first_text, place_next, is_chained_behind_next, others_behind_next, is_chained_behind, others_behind, waiting_of, piece_at, with_progress, Performs, moved, cycle_length, text_or_null}
 use Rattle.gc_station.proofs.Turns.{again_down, closed_down}
 use Rattle.gc_station.proofs.Walk.{walk}
 
@@ -62,12 +62,13 @@ Silenced plan F until m p acts =
 abbrev pub OnLine : Plan → List Task → (Progress → List Act → Type 0) → Action → Model → List Act → Type 0
 OnLine plan commands F actions.ReadClock s acts = (m : Moment) → F (reckoned_early plan (commands_in s.marks) (told m s.progress)) (acts ++ Told m ∷ [])
 OnLine plan commands F actions.Renew s acts = (m : Moment) → F (reckoned_early plan 0 (renewed plan m s.progress)) (acts ++ Told m ∷ [])
-OnLine plan commands F actions.Begin s acts = (m : Moment) → F (begun plan (length commands) m s.progress) (acts ++ Told m ∷ [])
+OnLine plan commands F actions.Begin s acts = (m : Moment) → F (begun plan (cycle_length plan commands) m s.progress) (acts ++ Told m ∷ [])
 OnLine plan commands F actions.Open s acts = (m : Moment) → F (opened s.progress) (acts ++ Opened ∷ [])
 OnLine plan commands F actions.Clear s acts = (m : Moment) → F (cleared s.progress) (acts ++ Put (10 ∷ []) ∷ [])
 OnLine plan commands F actions.Ask s acts = (m : Moment) → F (null_sent plan s.progress) (acts ++ Put (null_text s.progress.word) ∷ [])
+OnLine plan commands F actions.Prepare s acts = (m : Moment) → F (setup_sent plan s.progress) (acts ++ Put (text_or_null s.progress.moment.utc s.client (drop s.progress.prepared commands)) ∷ [])
 OnLine plan commands F actions.Send s acts = (m : Moment) → F (sent (is_chained_behind_next commands s.progress) (others_behind_next commands s.progress) s.progress)
-    (acts ++ Put (first_text s.client (drop (place_next commands s.progress) commands)) ∷ [])
+    (acts ++ Put (first_text s.progress.moment.utc s.client (drop (place_next commands s.progress) commands)) ∷ [])
 OnLine plan commands F actions.Skip s acts = (m : Moment) → F (reckoned_early plan (commands_in s.marks) (skipped (is_chained_behind_next commands s.progress) (others_behind_next commands s.progress) m s.progress)) (acts ++ Told m ∷ [])
 OnLine plan commands F actions.Pass s acts =
     (m : Moment) → F (reckoned_early plan (commands_in s.marks)
@@ -116,6 +117,8 @@ module _ (plan : Plan) (commands : List Task) (F : Progress → List Act → Typ
       )
   on_line (actions.Close why) s act acts o h = unused _ _ (down_unused _ (closed_down plan (waiting_of s) why (turned s.progress)))
   on_line (actions.Stop why) s act acts o h = absurd o
+  on_line actions.Prepare s act acts o h = walk plan commands (FactBehind acts) actions.Prepare (with_progress turned s) act o
+      (h, λ n. unused _ _ (failed_unused (is_up s.progress.phase) (cause.Write (requests_out plan commands (turned s.progress)) n)))
   on_line actions.Send s act acts o h = walk plan commands (FactBehind acts) actions.Send (with_progress turned s) act o
       (h, λ n. unused _ _ (failed_unused (is_up s.progress.phase) (cause.Write (requests_out plan commands (turned s.progress)) n)))
   on_line actions.Flush s act acts o h = walk plan commands (FactBehind acts) actions.Flush (with_progress turned s) act o

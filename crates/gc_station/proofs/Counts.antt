@@ -1,6 +1,6 @@
 -- What each act leaves of the counts: the turns, the cycles that haven't begun, and the commands of the cycle that weren't
 -- sent. An act is one call of the link, with what came of it.
-use Rattle.std.proofs.Common.{◌≡◌, ℕ, ◌-◌, ◌≤◌, ◌⊎◌, inl, inr, Bool, true, false, List, length, refl, ap, subst, arith}
+use Rattle.std.proofs.Common.{◌≡◌, ℕ, ◌-◌, ◌≤◌, ◌⊎◌, inl, inr, Bool, true, false, List, refl, ap, subst, arith}
 use Rattle.gc_texts.specs.declared.tasks.Task.{Task}
 use Rattle.gc_station.specs.declared.plan.Plan.{Plan}
 use Rattle.gc_station.specs.declared.cause.Cause.TheVariants as cause
@@ -9,7 +9,7 @@ use Rattle.gc_station.specs.declared.progress.Action.TheVariants.{Begin, Send, S
 use Rattle.gc_station.specs.declared.progress.Progress.{Progress}
 use Rattle.gc_links.specs.Acts.{Act, Told, Cut}
 use Rattle.gc_station.proofs.Walk.{moved_changed, is_sent}
-use Rattle.gc_station.specs.Model.{Model, requests_out, moved, losing, ended}
+use Rattle.gc_station.specs.Model.{Model, cycle_length, requests_out, moved, losing, ended}
 use Rattle.gc_station.specs.Progressing.{failing, skipped, loses_all}
 
 -- from p to q the turns, the cycles that are left and the commands that are unsent stay the same
@@ -44,8 +44,8 @@ Counts count Pass p q = Kept p q ⊎ Kept (counted_passed p) q
 Counts count _ p q = Kept p q
 
 -- each act does to the counts what `Counts` says
-pub moved_counts : (plan : Plan) (commands : List Task) (action : Action) (s : Model) (act : Act) → Counts (length commands) action s.progress (moved plan commands action s act).progress
-moved_counts plan commands Begin s (Told m) = inr (kept (counted_begun (length commands) s.progress) _ refl refl refl)
+pub moved_counts : (plan : Plan) (commands : List Task) (action : Action) (s : Model) (act : Act) → Counts (cycle_length plan commands) action s.progress (moved plan commands action s act).progress
+moved_counts plan commands Begin s (Told m) = inr (kept (counted_begun (cycle_length plan commands) s.progress) _ refl refl refl)
 moved_counts plan commands Begin s act = inl (kept s.progress _ refl refl refl)
 moved_counts plan commands Skip s (Told m) = inr (kept (counted_sent s.progress) _ refl refl refl)
 moved_counts plan commands Skip s act = inl (kept s.progress _ refl refl refl)
@@ -91,6 +91,6 @@ counts_within count Pass p q (inr passed) h = omega (arith, passed.unsent, h)
 counts_within count action p q is h = omega (arith, is.unsent, h)
 
 -- no more commands are unsent after an act than there are, if no more were before
-pub unsent_within : (plan : Plan) (commands : List Task) (action : Action) (s : Model) (act : Act) → s.progress.unsent ≤ length commands
-    → (moved plan commands action s act).progress.unsent ≤ length commands
-unsent_within plan commands action s act h = counts_within (length commands) action s.progress (moved plan commands action s act).progress (moved_counts plan commands action s act) h
+pub unsent_within : (plan : Plan) (commands : List Task) (action : Action) (s : Model) (act : Act) → s.progress.unsent ≤ cycle_length plan commands
+    → (moved plan commands action s act).progress.unsent ≤ cycle_length plan commands
+unsent_within plan commands action s act h = counts_within (cycle_length plan commands) action s.progress (moved plan commands action s act).progress (moved_counts plan commands action s act) h

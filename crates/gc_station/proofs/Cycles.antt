@@ -14,7 +14,7 @@ use Rattle.gc_station.specs.Progressing.{turned, told, begun, beginning, failing
 use Rattle.gc_station.specs.Reasons.{IsFor, MayGo}
 use Rattle.gc_station.specs.Runs.{stood}
 use Rattle.gc_station.specs.Scopes.{Scope}
-use Rattle.gc_station.specs.Model.{Model, opening, action_at, waiting_of, cycles_begun, place_next, is_chained, is_chained_behind_next, is_chained_behind, is_heard, with_progress, with_moment, lines_behind, piece_at, moved, Performs, Runs}
+use Rattle.gc_station.specs.Model.{Model, opening, action_at, waiting_of, cycles_begun, place_next, is_chained, is_chained_behind_next, is_chained_behind, is_heard, with_progress, with_moment, lines_behind, piece_at, moved, Performs, Runs, cycle_length}
 use Rattle.gc_station.specs.declared.cause.Cause.{Cause}
 use Rattle.gc_station.specs.declared.cause.Cause.TheVariants as cause
 use Rattle.gc_station.specs.declared.plan.Plan.{Plan}
@@ -55,7 +55,7 @@ module _ (plan : Plan) (commands : List Task) (scope : Scope) (some : 0 < plan.e
     pub missed : p.missed ≡ nat_le plan.every late
     pub due : p.due ≡ m.utc - late
     pub held : p.missed ≡ true → (p.next_is_chained ≡ true) × (p.chain_unbroken ≡ false)
-    pub chained : p.next_is_chained ≡ true → (p.missed ≡ true) ⊎ ((0 < place_next commands p) × (is_chained (drop (place_next commands p) commands) ≡ true))
+    pub chained : p.next_is_chained ≡ true → (p.missed ≡ true) ⊎ ((plan.setup < place_next commands p) × (is_chained (drop (place_next commands p) commands) ≡ true))
 
   -- no cycle has begun yet, and nothing is unsent; or `Cycling` holds
   abbrev pub Begun : List Act → Progress → Type 0
@@ -121,17 +121,17 @@ module _ (plan : Plan) (commands : List Task) (scope : Scope) (some : 0 < plan.e
         chained = λ e. by_chain (c.chained (sym k.next_is_chained ∙ e)) place_is k.missed;
       }) where
         -- what makes the next command wait still does: its cycle is missed, or the text chains it
-        by_chain : ((p.missed ≡ true) ⊎ ((0 < place_next commands p) × (is_chained (drop (place_next commands p) commands) ≡ true)))
+        by_chain : ((p.missed ≡ true) ⊎ ((plan.setup < place_next commands p) × (is_chained (drop (place_next commands p) commands) ≡ true)))
             → place_next commands q ≡ place_next commands p → q.missed ≡ p.missed
-            → (q.missed ≡ true) ⊎ ((0 < place_next commands q) × (is_chained (drop (place_next commands q) commands) ≡ true))
+            → (q.missed ≡ true) ⊎ ((plan.setup < place_next commands q) × (is_chained (drop (place_next commands q) commands) ≡ true))
         by_chain (inl missed) at same = inl (same ∙ missed)
-        by_chain (inr (above, is)) at same = inr (subst (λ (x : ℕ). 0 < x) (sym at) above, ap (λ (x : ℕ). is_chained (drop x commands)) at ∙ is)
+        by_chain (inr (above, is)) at same = inr (subst (λ (x : ℕ). plan.setup < x) (sym at) above, ap (λ (x : ℕ). is_chained (drop x commands)) at ∙ is)
 
   -- `Begun` lasts over an act that sends or passes over the next command, if the command behind that waits for its answer as
   -- `is_chained_behind_next` says
   pub begun_next : (acts : List Act) (act : Act) (p q : Progress) → q.left ≡ p.left → q.unsent ≡ p.unsent - 1 → q.missed ≡ p.missed → q.due ≡ p.due
       → q.next_is_chained ≡ is_chained_behind_next commands p
-      → (p.missed ≡ true → q.chain_unbroken ≡ false) → Ticks p act q → Rises p.moment.elapsed (act ∷ []) → 0 < p.unsent → p.unsent ≤ length commands → Begun acts p → Begun (acts ++ act ∷ []) q
+      → (p.missed ≡ true → q.chain_unbroken ≡ false) → Ticks p act q → Rises p.moment.elapsed (act ∷ []) → 0 < p.unsent → p.unsent ≤ cycle_length plan commands → Begun acts p → Begun (acts ++ act ∷ []) q
   begun_next acts act p q left unsent missed due next_is_chained chain_unbroken t rises here within (inl none) = let nothing = none.1 in absurd (omega (arith, nothing, here))
   begun_next acts act p q left unsent missed due next_is_chained chain_unbroken t rises here within (inr c) =
       let tick = ticked p q act t rises c.past in
@@ -151,28 +151,28 @@ module _ (plan : Plan) (commands : List Task) (scope : Scope) (some : 0 < plan.e
         missed = missed ∙ c.missed;
         due = due ∙ c.due;
         held = λ e. let was : p.missed ≡ true = sym missed ∙ e in (next_is_chained ∙ or_some p.missed (is_chained (drop (place_next commands p + 1) commands)) was, chain_unbroken was);
-        chained = λ e. by_missed p.missed refl (sym next_is_chained ∙ e) at;
+        chained = λ e. by_missed p.missed refl (sym next_is_chained ∙ e) at (omega (arith, here, within));
       }) where
         -- what makes the new next command wait: its cycle is missed (`true`), or the text chains it
-        by_missed : (b : Bool) → p.missed ≡ b → is_chained_behind_next commands p ≡ true → place_next commands q ≡ place_next commands p + 1
-            → (q.missed ≡ true) ⊎ ((0 < place_next commands q) × (is_chained (drop (place_next commands q) commands) ≡ true))
-        by_missed true is e at = inl (missed ∙ is)
-        by_missed false is e at =
-            inr (omega (arith, at), ap (λ (x : ℕ). is_chained (drop x commands)) at ∙ or_second p.missed (is_chained (drop (place_next commands p + 1) commands)) e is)
+        by_missed : (b : Bool) → p.missed ≡ b → is_chained_behind_next commands p ≡ true → place_next commands q ≡ place_next commands p + 1 → plan.setup ≤ place_next commands p
+            → (q.missed ≡ true) ⊎ ((plan.setup < place_next commands q) × (is_chained (drop (place_next commands q) commands) ≡ true))
+        by_missed true is e at low = inl (missed ∙ is)
+        by_missed false is e at low =
+            inr (omega (arith, at, low), ap (λ (x : ℕ). is_chained (drop x commands)) at ∙ or_second p.missed (is_chained (drop (place_next commands p + 1) commands)) e is)
 
   -- `Begun` lasts over an act that passes over the further attempts of a chain
   pub begun_past : (acts : List Act) (act : Act) (p q : Progress) → q.left ≡ p.left → q.unsent ≡ p.unsent - p.next_others → q.missed ≡ p.missed → q.due ≡ p.due
       → q.next_is_chained ≡ is_chained_behind p.next_others commands p
-      → 0 < p.next_others → (p.missed ≡ true → q.chain_unbroken ≡ false) → Ticks p act q → Rises p.moment.elapsed (act ∷ []) → 0 < p.unsent → p.unsent ≤ length commands → Begun acts p → Begun (acts ++ act ∷ []) q
+      → 0 < p.next_others → (p.missed ≡ true → q.chain_unbroken ≡ false) → Ticks p act q → Rises p.moment.elapsed (act ∷ []) → 0 < p.unsent → p.unsent ≤ length commands - plan.setup → Begun acts p → Begun (acts ++ act ∷ []) q
   begun_past acts act p q left unsent missed due next_is_chained more chain_unbroken t rises here within (inl none) = let nothing = none.1 in absurd (omega (arith, nothing, here))
   begun_past acts act p q left unsent missed due next_is_chained more chain_unbroken t rises here within (inr c) =
       let tick = ticked p q act t rises c.past in
       let same = tick.0 in
       let before = c.began in
       let few = c.fewer in
-      let above : 0 < place_next commands q = omega (arith, unsent, here, within, more) in
+      let above : plan.setup < place_next commands q = omega (arith, unsent, here, within, more) in
       let at : drop (place_next commands p + p.next_others) commands ≡ drop (place_next commands q) commands =
-      drop_past commands p.unsent p.next_others within ∙ ap (λ (x : ℕ). drop (length commands - x) commands) (sym unsent) in
+      drop_past commands p.unsent p.next_others (omega (arith, within)) ∙ ap (λ (x : ℕ). drop (length commands - x) commands) (sym unsent) in
       inr (record {
         n = c.n;
         m = c.m;
@@ -188,15 +188,15 @@ module _ (plan : Plan) (commands : List Task) (scope : Scope) (some : 0 < plan.e
         chained = λ e. by_missed p.missed refl (sym next_is_chained ∙ e) above at;
       }) where
         -- what makes the new next command wait: its cycle is missed (`true`), or the text chains it
-        by_missed : (b : Bool) → p.missed ≡ b → is_chained_behind p.next_others commands p ≡ true → 0 < place_next commands q → drop (place_next commands p + p.next_others) commands ≡ drop (place_next commands q) commands
-            → (q.missed ≡ true) ⊎ ((0 < place_next commands q) × (is_chained (drop (place_next commands q) commands) ≡ true))
+        by_missed : (b : Bool) → p.missed ≡ b → is_chained_behind p.next_others commands p ≡ true → plan.setup < place_next commands q → drop (place_next commands p + p.next_others) commands ≡ drop (place_next commands q) commands
+            → (q.missed ≡ true) ⊎ ((plan.setup < place_next commands q) × (is_chained (drop (place_next commands q) commands) ≡ true))
         by_missed true is e above at = inl (missed ∙ is)
         by_missed false is e above at =
             inr (above, ap is_chained (sym at) ∙ or_second p.missed (is_chained (drop (place_next commands p + p.next_others) commands)) e is)
 
   -- `Cycling` holds after the act that begins a cycle at the moment m, if the cycle counts as begun at b and b is its due moment
   pub begins_cycle : (acts : List Act) (m : Moment) (p : Progress) (n : ℕ) (b : ℕ) → beginning plan m p ≡ b → b ≤ m.elapsed → cycles_begun plan p ≡ n → 0 < p.left → p.left ≤ plan.cycles
-      → BeginsLate plan commands scope (acts ++ Told m ∷ []) n m (m.elapsed - b) → Cycling (acts ++ Told m ∷ []) (begun plan (length commands) m p)
+      → BeginsLate plan commands scope (acts ++ Told m ∷ []) n m (m.elapsed - b) → Cycling (acts ++ Told m ∷ []) (begun plan (cycle_length plan commands) m p)
   begins_cycle acts m p n b is past number left within late = record {
     n = n;
     m = m;
@@ -278,7 +278,7 @@ module _ (plan : Plan) (commands : List Task) (scope : Scope) (some : 0 < plan.e
   -- `Begun` holds after the act that begins a cycle
   pub begun_begins : (acts : List Act) (m : Moment) (p : Progress) → action_at plan (stood plan commands scope acts) ≡ actions.Begin
       → cycles_begun plan (stood plan commands scope acts).progress ≡ cycles_begun plan p
-      → is_due plan p ≡ true → 0 < p.left → p.left ≤ plan.cycles → Rises p.moment.elapsed (Told m ∷ []) → Begun acts p → Cycling (acts ++ Told m ∷ []) (begun plan (length commands) m p)
+      → is_due plan p ≡ true → 0 < p.left → p.left ≤ plan.cycles → Rises p.moment.elapsed (Told m ∷ []) → Begun acts p → Cycling (acts ++ Told m ∷ []) (begun plan (cycle_length plan commands) m p)
   begun_begins acts m p is same due left within rises h =
       let x = starts acts m p is same due rises h in
       begins_cycle acts m p x.n x.b x.is x.past x.number left within x.late
@@ -385,6 +385,12 @@ module _ (plan : Plan) (commands : List Task) (scope : Scope) (some : 0 < plan.e
       walk plan commands (On acts s.progress) actions.Send s act o (
         λ m. (refl, λ rises. begun_next acts _ s.progress _ refl refl refl refl refl (λ e. absurd (clash s.progress.missed e free)) (refl, refl) rises needs.2 fine.unsent h),
         λ n. (refl, λ rises. begun_next acts _ s.progress _ refl refl refl refl refl (λ e. absurd (clash s.progress.missed e free)) (refl, refl) rises needs.2 fine.unsent h),
+      )
+  on_moved acts actions.Prepare act is o fine needs h =
+      let s = with_progress turned (stood plan commands scope acts) in
+      walk plan commands (On acts s.progress) actions.Prepare s act o (
+        λ m. on_same acts s.progress _ _ h (stays s.progress _ refl refl refl refl refl (inr refl), (refl, refl)),
+        λ n. on_same acts s.progress _ _ h (stays s.progress _ refl refl refl refl refl (inr refl), (refl, refl)),
       )
   on_moved acts actions.Skip act is o fine needs h =
       let s = with_progress turned (stood plan commands scope acts) in

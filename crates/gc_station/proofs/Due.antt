@@ -2,7 +2,7 @@
 -- under some conditions. `BeginsDue` says of an action: if it begins a cycle, the cycle is due.
 use Rattle.std.proofs.Common.{◌≡◌, ◌&&◌, Bool, true, false, nat_lt, nat_le, nat_eq, if◌then◌else◌, not}
 use Rattle.gc_client.specs.declared.window.TheConstants.{WINDOW}
-use Rattle.gc_station.specs.Deciding.{is_up, is_idle, is_finished, has_begun, is_dead, is_due, has_room, action_of, action_in, action_on, action_told, may_go, waits_for_all, action_again, action_ready, action_begun, action_beginning, action_sent, action_settled, action_done, action_next, action_room, action_waiting, action_up, is_stale, is_stopping, is_held_back}
+use Rattle.gc_station.specs.Deciding.{is_up, is_idle, is_finished, has_begun, is_dead, is_due, has_room, action_of, action_in, action_on, action_told, may_go, waits_for_all, action_again, action_ready, action_begun, action_beginning, action_sent, action_settled, action_done, action_next, action_room, action_waiting, action_up, is_stale, is_stopping, is_held_back, action_cycle, action_prepare, action_turn, action_preparing, is_preparing}
 use Rattle.gc_station.specs.declared.cause.Cause.TheVariants as cause
 use Rattle.gc_station.specs.declared.plan.Plan.{Plan}
 use Rattle.gc_station.specs.declared.progress.Action.{Action}
@@ -56,11 +56,34 @@ module _ (plan : Plan) (p : Progress) (w : Waiting) where
       either (BeginsDue plan p) (action_settled plan p w) (if nat_eq w.current 0 then action_room plan p w actions.Flush else action_waiting plan p w) (nat_eq w.commands 0) (λ e. settled_due)
       (λ e. either (BeginsDue plan p) (action_room plan p w actions.Flush) (action_waiting plan p w) (nat_eq w.current 0) (λ d. room_not actions.Flush (λ b. cc)) (λ d. waits_not))
 
+  -- no cycle begins where it is the turn of a command of the set-up
+  pub turn_not : BeginsDue plan p (action_turn plan p w)
+  turn_not =
+      either (BeginsDue plan p) (action_prepare plan p w) (actions.Read Limit) (nat_lt p.prepared plan.setup)
+      (λ n. either (BeginsDue plan p) (action_room plan p w actions.Prepare) _ (nat_lt p.behind WINDOW) (λ e. room_not actions.Prepare (λ b. cc))
+      (λ e. either (BeginsDue plan p) (action_room plan p w actions.Flush) (action_waiting plan p w) (nat_eq w.current 0) (λ d. room_not actions.Flush (λ b. cc)) (λ d. waits_not)))
+      (λ n b. cc)
+
+  -- no cycle begins while the set-up isn't done
+  pub preparing_not : BeginsDue plan p (action_preparing plan p w)
+  preparing_not =
+      let B = BeginsDue plan p in
+      either B (actions.Close cause.Done) _ (is_finished w.commands p) (λ e b. cc)
+      (λ e. either B (actions.Read Due) _ (is_idle plan p) (λ d b. cc)
+      (λ d. either B _ _ (nat_eq p.prepared 0) (λ f. turn_not)
+      (λ f. either B _ _ (nat_eq w.commands 0) (λ g. either B _ (actions.Close cause.SetUp) w.well (λ h. turn_not) (λ h b. cc))
+      (λ g. either B (action_room plan p w actions.Flush) (action_waiting plan p w) (nat_eq w.current 0) (λ h. room_not actions.Flush (λ b. cc)) (λ h. waits_not)))))
+
+  -- once the set-up is done, a cycle begins only when it is due
+  pub cycle_due : BeginsDue plan p (action_cycle plan p w)
+  cycle_due =
+      either (BeginsDue plan p) (action_next plan p w) (action_sent plan p w) (nat_lt 0 p.unsent && not (waits_for_all p)) (λ d. next_not) (λ d. sent_due)
+
   -- once the station has begun, a cycle begins only when it is due
   pub begun_due : BeginsDue plan p (action_begun plan p w)
   begun_due =
       either (BeginsDue plan p) (action_waiting plan p w) _ (is_held_back p w) (λ h. waits_not)
-      (λ h. either (BeginsDue plan p) (action_next plan p w) (action_sent plan p w) (nat_lt 0 p.unsent && not (waits_for_all p)) (λ d. next_not) (λ d. sent_due))
+      (λ h. either (BeginsDue plan p) (action_preparing plan p w) (action_cycle plan p w) (is_preparing plan p w) (λ on. preparing_not) (λ done. cycle_due))
 
   -- no cycle begins where a null procedure goes out or is waited for
   pub asks_not : BeginsDue plan p (if nat_le p.again p.moment.elapsed then actions.Ask else actions.Read Limit)

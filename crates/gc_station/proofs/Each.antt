@@ -1,8 +1,9 @@
 -- The records and the commands that wait are, in order, the commands that had their turn, whatever the link tells. (`sent`
 -- stands for these commands, whether they went out or were passed over.) A mark says which command a waiting request is of, or
 -- `None` of a null procedure.
-use Rattle.std.proofs.Common.{◌≡◌, ℕ, zero, suc, ◌+◌, ◌<◌, List, [], ◌∷◌, ◌++◌, length, take, drop, map, Option, Some, None, refl, sym, ap, ◌∙◌, arith, append_assoc, append-nil}
-use Rattle.std.proofs.lemmas.List.{length-map, map-append}
+use Rattle.std.proofs.Common.{◌≡◌, ℕ, zero, suc, ◌+◌, ◌-◌, ◌<◌, ◌≤◌, Bool, true, false, nat_eq, List, [], ◌∷◌, ◌++◌, length, take, drop, map, Option, Some, None, refl, sym, ap, ◌∙◌, arith, append_assoc, append-nil}
+use Rattle.std.proofs.lemmas.Bool.Decides.{nat_tests}
+use Rattle.std.proofs.lemmas.List.{length-map, length-drop, map-append}
 use Rattle.gc_catalogue.specs.declared.answer.Reading.{Reading}
 use Rattle.gc_catalogue.specs.declared.asked.Asked.{Asked}
 use Rattle.gc_client.specs.declared.pending.Pending.{Pending}
@@ -12,7 +13,9 @@ use Rattle.gc_client.proofs.OneForOne.{expired_parts}
 use Rattle.gc_texts.specs.declared.near.Expected.{Expected}
 use Rattle.gc_texts.specs.declared.tasks.Task.{Task}
 use Rattle.gc_station.specs.declared.mark.Mark.{Mark}
-use Rattle.gc_station.specs.EachOnce.{Request, requests, of_task, all_cycles, sent_by, of_record, of_waiting, still_waiting}
+use Rattle.gc_station.specs.EachOnce.{Request, requests, of_task, all_cycles, sent_by, of_record, of_waiting, still_waiting, cycle_with, of_cycles, of_text, in_text}
+use Rattle.gc_station.specs.Requests.{asked_at, of_command}
+use Rattle.gc_station.proofs.Timing.{asked_text, unsent_text}
 use Rattle.gc_station.specs.Marks.{commands_in, record_of, records_of}
 use Rattle.gc_station.specs.Records.{Record}
 
@@ -33,7 +36,7 @@ marked (None ∷ ms) (a ∷ asks) = marked ms asks
 marked (Some mark ∷ ms) (a ∷ asks) = record { cycle = mark.cycle; place = mark.place; asked = a } ∷ marked ms asks
 
 -- the commands that wait are the requests of their marks
-waiting_marked : (ms : List (Option Mark)) (ws : List (Pending Asked)) → still_waiting ms ws ≡ marked ms (map of_pending ws)
+pub waiting_marked : (ms : List (Option Mark)) (ws : List (Pending Asked)) → still_waiting ms ws ≡ marked ms (map of_pending ws)
 waiting_marked [] ws = refl
 waiting_marked (m ∷ ms) [] = refl
 waiting_marked (None ∷ ms) (w ∷ ws) = waiting_marked ms ws
@@ -65,46 +68,79 @@ marked_more (None ∷ ms) (x ∷ xs) m a e = marked_more ms xs m a (omega (arith
 marked_more (Some mark ∷ ms) (x ∷ xs) m a e = ap (λ rs. record { cycle = mark.cycle; place = mark.place; asked = x } ∷ rs) (marked_more ms xs m a (omega (arith, e)))
 
 -- where no mark is of a command, there is no request of a command
-marked_none : (ms : List (Option Mark)) (asks : List (Wanted Asked)) → commands_in ms ≡ 0 → marked ms asks ≡ []
+pub marked_none : (ms : List (Option Mark)) (asks : List (Wanted Asked)) → commands_in ms ≡ 0 → marked ms asks ≡ []
 marked_none [] asks e = refl
 marked_none (m ∷ ms) [] e = refl
 marked_none (None ∷ ms) (a ∷ asks) e = marked_none ms asks e
 marked_none (Some mark ∷ ms) (a ∷ asks) e = absurd (omega (arith, e))
 
--- the requests of the records, followed by those of the commands that wait (by the marks and the requests that wait), are the
--- requests given last
-abbrev pub EachIs : List (Option Mark) → List (Pending Asked) → List Record → List Request → Type 0
-EachIs ms ws rs sent = map of_record rs ++ still_waiting ms ws ≡ sent
+-- those of two lists of requests that are of a cycle are those of the first list, and behind them those of the second
+pub cycles_append : (xs ys : List Request) → of_cycles (xs ++ ys) ≡ of_cycles xs ++ of_cycles ys
+cycles_append [] ys = refl
+cycles_append (x ∷ xs) ys = by_cycle (nat_eq x.cycle 0) (cycles_append xs ys) where
+  -- the lemma above, whether the first request is of the set-up (`true`) or of a cycle
+  by_cycle : (b : Bool) → of_cycles (xs ++ ys) ≡ of_cycles xs ++ of_cycles ys → cycle_with b x (of_cycles (xs ++ ys)) ≡ cycle_with b x (of_cycles xs) ++ of_cycles ys
+  by_cycle true others = others
+  by_cycle false others = ap (λ zs. x ∷ zs) others
+
+-- those of two lists of requests that are of a cycle, as the text has them, are those of the first list, and behind them those of the second
+pub listed_append : (commands : List Task) (xs ys : List Request) → of_text commands (xs ++ ys) ≡ of_text commands xs ++ of_text commands ys
+listed_append commands xs ys = ap (map (in_text commands)) (cycles_append xs ys) ∙ map-append (in_text commands) (of_cycles xs) (of_cycles ys)
+
+-- the requests of one cycle are all of a cycle
+cycles_all : (cycle place : ℕ) (asks : List (Wanted Asked)) → 0 < cycle → of_cycles (requests cycle place asks) ≡ requests cycle place asks
+cycles_all cycle place [] some = refl
+cycles_all cycle place (a ∷ others) some =
+    let one : Request = record { cycle = cycle; place = place; asked = a } in
+    ap (λ b. cycle_with b one (of_cycles (requests cycle (place + 1) others))) (not_none cycle some) ∙ ap (λ xs. one ∷ xs) (cycles_all cycle (place + 1) others some) where
+      -- a number above 0 isn't 0
+      not_none : (n : ℕ) → 0 < n → nat_eq n 0 ≡ false
+      not_none n some = grind (arith, nat_tests, some)
+
+-- the requests of the records, followed by those of the commands that wait (by the marks and the requests that wait), are, as far as they
+-- are of a cycle, and as the text has them, the requests given last
+abbrev pub EachIs : List Task → List (Option Mark) → List (Pending Asked) → List Record → List Request → Type 0
+EachIs commands ms ws rs sent = of_text commands (map of_record rs ++ still_waiting ms ws) ≡ sent
+
+-- the requests of the records, followed by those of the commands that wait
+abbrev pub row : List (Option Mark) → List (Pending Asked) → List Record → List Request
+row ms ws rs = map of_record rs ++ still_waiting ms ws
+
+-- a moment that gives requests up leaves the row
+pub row_moment : (ms : List (Option Mark)) (ws : List (Pending Asked)) (rs : List Record) (m : ℕ) → row ms (map (expired m) ws) rs ≡ row ms ws rs
+row_moment ms ws rs m = ap (λ xs. map of_record rs ++ xs) (waiting_marked ms (map (expired m) ws) ∙ ap (marked ms) (expired_parts m ws) ∙ sym (waiting_marked ms ws))
 
 -- a moment that gives requests up keeps `EachIs`
-pub each_moment : (ms : List (Option Mark)) (ws : List (Pending Asked)) (rs : List Record) (sent : List Request) (m : ℕ) → EachIs ms ws rs sent → EachIs ms (map (expired m) ws) rs sent
-each_moment ms ws rs sent m h =
-    ap (λ xs. map of_record rs ++ xs) (waiting_marked ms (map (expired m) ws) ∙ ap (marked ms) (expired_parts m ws) ∙ sym (waiting_marked ms ws)) ∙ h
+pub each_moment : (commands : List Task) (ms : List (Option Mark)) (ws : List (Pending Asked)) (rs : List Record) (sent : List Request) (m : ℕ)
+    → EachIs commands ms ws rs sent → EachIs commands ms (map (expired m) ws) rs sent
+each_moment commands ms ws rs sent m h = ap (of_text commands) (row_moment ms ws rs m) ∙ h
 
 -- where no command waits, the records alone are what was sent
-pub each_settled : (ms : List (Option Mark)) (ws : List (Pending Asked)) (rs : List Record) (sent : List Request) → commands_in ms ≡ 0 → EachIs ms ws rs sent → map of_record rs ≡ sent
-each_settled ms ws rs sent none h =
-    sym (append-nil (map of_record rs)) ∙ sym (ap (λ xs. map of_record rs ++ xs) (waiting_marked ms ws ∙ marked_none ms (map of_pending ws) none)) ∙ h
+pub each_settled : (commands : List Task) (ms : List (Option Mark)) (ws : List (Pending Asked)) (rs : List Record) (sent : List Request)
+    → commands_in ms ≡ 0 → EachIs commands ms ws rs sent → of_text commands (map of_record rs) ≡ sent
+each_settled commands ms ws rs sent none h =
+    ap (of_text commands) (sym (append-nil (map of_record rs)) ∙ sym (ap (λ xs. map of_record rs ++ xs) (waiting_marked ms ws ∙ marked_none ms (map of_pending ws) none))) ∙ h
 
 -- where no command waits, and the records are what was sent, `EachIs` holds
-pub each_nothing : (ms : List (Option Mark)) (ws : List (Pending Asked)) (rs : List Record) (sent : List Request) → commands_in ms ≡ 0 → map of_record rs ≡ sent → EachIs ms ws rs sent
-each_nothing ms ws rs sent none h =
-    ap (λ xs. map of_record rs ++ xs) (waiting_marked ms ws ∙ marked_none ms (map of_pending ws) none) ∙ append-nil (map of_record rs) ∙ h
+pub each_nothing : (commands : List Task) (ms : List (Option Mark)) (ws : List (Pending Asked)) (rs : List Record) (sent : List Request)
+    → commands_in ms ≡ 0 → of_text commands (map of_record rs) ≡ sent → EachIs commands ms ws rs sent
+each_nothing commands ms ws rs sent none h =
+    ap (of_text commands) (ap (λ xs. map of_record rs ++ xs) (waiting_marked ms ws ∙ marked_none ms (map of_pending ws) none) ∙ append-nil (map of_record rs)) ∙ h
 
 -- where nothing waits, the records alone are what was sent, whatever the marks
-pub each_empty : (ms : List (Option Mark)) (ws : List (Pending Asked)) (rs : List Record) (sent : List Request) → ws ≡ [] → EachIs ms ws rs sent → map of_record rs ≡ sent
-each_empty ms ws rs sent none h =
-    sym (append-nil (map of_record rs)) ∙ sym (ap (λ xs. map of_record rs ++ xs) (ap (still_waiting ms) none ∙ nothing ms)) ∙ h where
+pub each_empty : (commands : List Task) (ms : List (Option Mark)) (ws : List (Pending Asked)) (rs : List Record) (sent : List Request)
+    → ws ≡ [] → EachIs commands ms ws rs sent → of_text commands (map of_record rs) ≡ sent
+each_empty commands ms ws rs sent none h =
+    ap (of_text commands) (sym (append-nil (map of_record rs)) ∙ sym (ap (λ xs. map of_record rs ++ xs) (ap (still_waiting ms) none ∙ nothing ms))) ∙ h where
       -- where no request waits, no command does
       nothing : (ms : List (Option Mark)) → still_waiting ms [] ≡ []
       nothing [] = refl
       nothing (m ∷ ms) = refl
 
--- settlements of the oldest requests keep `EachIs`: their records take the place of the requests
-pub each_settles : (reads : Asked → List ℕ → Reading) (utc : ℕ) (ms : List (Option Mark)) (ws left : List (Pending Asked)) (ss : List (Settlement Asked)) (rs : List Record)
-    (sent : List Request) → map of_settled ss ++ map of_pending left ≡ map of_pending ws
-    → EachIs ms ws rs sent → EachIs (drop (length ss) ms) left (rs ++ records_of reads utc ms ss) sent
-each_settles reads utc ms ws left ss rs sent parts h =
+-- settlements of the oldest requests leave the row: their records take the place of the requests
+pub row_settles : (reads : Asked → List ℕ → Reading) (utc : ℕ) (ms : List (Option Mark)) (ws left : List (Pending Asked)) (ss : List (Settlement Asked)) (rs : List Record)
+    → map of_settled ss ++ map of_pending left ≡ map of_pending ws → row (drop (length ss) ms) left (rs ++ records_of reads utc ms ss) ≡ row ms ws rs
+row_settles reads utc ms ws left ss rs parts =
     let front = map of_record rs in
     let ended = map of_settled ss in
     let waits = map of_pending left in
@@ -114,10 +150,15 @@ each_settles reads utc ms ws left ss rs sent parts h =
     ∙ ap (λ xs. front ++ (xs ++ still_waiting (drop (length ss) ms) left)) (records_marked reads utc ms ss)
     ∙ ap (λ xs. front ++ (marked ms ended ++ xs)) (waiting_marked (drop (length ss) ms) left ∙ ap (λ n. marked (drop n ms) waits) (sym count))
     ∙ ap (λ xs. front ++ xs) (sym (marked_append ms ended waits) ∙ ap (marked ms) parts ∙ sym (waiting_marked ms ws))
-    ∙ h
+
+-- settlements of the oldest requests keep `EachIs`
+pub each_settles : (reads : Asked → List ℕ → Reading) (commands : List Task) (utc : ℕ) (ms : List (Option Mark)) (ws left : List (Pending Asked)) (ss : List (Settlement Asked)) (rs : List Record)
+    (sent : List Request) → map of_settled ss ++ map of_pending left ≡ map of_pending ws
+    → EachIs commands ms ws rs sent → EachIs commands (drop (length ss) ms) left (rs ++ records_of reads utc ms ss) sent
+each_settles reads commands utc ms ws left ss rs sent parts h = ap (of_text commands) (row_settles reads utc ms ws left ss rs parts) ∙ h
 
 -- where one more request waits behind the others, its command, if it has one, is added behind the commands that wait
-more_waiting : (ms : List (Option Mark)) (ws : List (Pending Asked)) (m : Option Mark) (p : Pending Asked) → length ms ≡ length ws
+pub more_waiting : (ms : List (Option Mark)) (ws : List (Pending Asked)) (m : Option Mark) (p : Pending Asked) → length ms ≡ length ws
     → still_waiting (ms ++ m ∷ []) (ws ++ p ∷ []) ≡ still_waiting ms ws ++ marked (m ∷ []) (of_pending p ∷ [])
 more_waiting ms ws m p paired =
     let asked = map of_pending ws in
@@ -126,9 +167,9 @@ more_waiting ms ws m p paired =
     ∙ marked_more ms asked m (of_pending p) count ∙ ap (λ xs. xs ++ marked (m ∷ []) (of_pending p ∷ [])) (sym (waiting_marked ms ws))
 
 -- a null procedure that is sent keeps `EachIs`
-pub each_null : (ms : List (Option Mark)) (ws : List (Pending Asked)) (p : Pending Asked) (rs : List Record) (sent : List Request) → length ms ≡ length ws
-    → EachIs ms ws rs sent → EachIs (ms ++ None ∷ []) (ws ++ p ∷ []) rs sent
-each_null ms ws p rs sent paired h = ap (λ xs. map of_record rs ++ xs) (more_waiting ms ws None p paired ∙ append-nil (still_waiting ms ws)) ∙ h
+pub each_null : (commands : List Task) (ms : List (Option Mark)) (ws : List (Pending Asked)) (p : Pending Asked) (rs : List Record) (sent : List Request) → length ms ≡ length ws
+    → EachIs commands ms ws rs sent → EachIs commands (ms ++ None ∷ []) (ws ++ p ∷ []) rs sent
+each_null commands ms ws p rs sent paired h = ap (λ xs. of_text commands (map of_record rs ++ xs)) (more_waiting ms ws None p paired ∙ append-nil (still_waiting ms ws)) ∙ h
 
 -- the commands in front of the next place are those in front of this place, and the one at it
 take_next : (commands : List Task) (place : ℕ) (task : Task) (others : List Task) → drop place commands ≡ task ∷ others → take (place + 1) commands ≡ take place commands ++ task ∷ []
@@ -146,52 +187,93 @@ take_place commands zero task others e = refl
 take_place [] (suc n) task others e = cc
 take_place (c ∷ cs) (suc n) task others e = ap suc (take_place cs n task others e)
 
+-- a command of the set-up that is sent keeps `EachIs`
+pub each_prepared : (commands : List Task) (mark : Mark) (ms : List (Option Mark)) (ws : List (Pending Asked)) (p : Pending Asked) (rs : List Record) (sent : List Request) → mark.cycle ≡ 0
+    → length ms ≡ length ws → EachIs commands ms ws rs sent → EachIs commands (ms ++ Some mark ∷ []) (ws ++ p ∷ []) rs sent
+each_prepared commands mark ms ws p rs sent none paired h =
+    let front = map of_record rs in
+    let waits = still_waiting ms ws in
+    let one : Request = record { cycle = mark.cycle; place = mark.place; asked = of_pending p } in
+    ap (of_text commands) (ap (λ xs. front ++ xs) (more_waiting ms ws (Some mark) p paired) ∙ sym (append_assoc front waits (one ∷ [])))
+    ∙ listed_append commands (front ++ waits) (one ∷ [])
+    ∙ ap (λ n. of_text commands (front ++ waits) ++ map (in_text commands) (cycle_with (nat_eq n 0) one [])) none
+    ∙ append-nil (of_text commands (front ++ waits)) ∙ h
+
+-- of two lists, the elements behind the first n, where the first list has as many, are those of the first list, and the second list
+pub drop_front : (n : ℕ) (xs ys : List Task) → n ≤ length xs → drop n (xs ++ ys) ≡ drop n xs ++ ys
+drop_front zero xs ys h = refl
+drop_front (suc n) [] ys h = absurd (omega (arith, h))
+drop_front (suc n) (x ∷ xs) ys h = drop_front n xs ys (omega (arith, h))
+
+-- nothing is behind the first `setup` of the first `place` commands, where these are no more
+none_taken : (setup place : ℕ) (commands : List Task) → place ≤ setup → drop setup (take place commands) ≡ []
+none_taken zero zero commands e = refl
+none_taken (suc s) zero commands e = refl
+none_taken zero (suc p) commands e = absurd (omega (arith, e))
+none_taken (suc s) (suc p) [] e = refl
+none_taken (suc s) (suc p) (c ∷ cs) e = none_taken s p cs (omega (arith, e))
+
 -- the commands that had their turn, with the next one behind them, are those that had their turn one place later
-pub sent_next : (commands : List Task) (begun place : ℕ) (task : Task) (others : List Task) → drop place commands ≡ task ∷ others → 0 < begun
-    → sent_by commands begun place ++ requests begun place (of_task task ∷ []) ≡ sent_by commands begun (place + 1)
-sent_next commands zero place task others at some = absurd (omega (arith, some))
-sent_next commands (suc n) place task others at some =
+pub sent_next : (setup : ℕ) (commands : List Task) (begun place : ℕ) (task : Task) (others : List Task) → drop place commands ≡ task ∷ others → setup ≤ place → 0 < begun
+    → sent_by setup commands begun place ++ requests begun place (of_task task ∷ []) ≡ sent_by setup commands begun (place + 1)
+sent_next setup commands zero place task others at within some = absurd (omega (arith, some))
+sent_next setup commands (suc n) place task others at within some =
     let one : List (Wanted Asked) = of_task task ∷ [] in
-    let taken = map of_task (take place commands) in
-    let cycles = all_cycles commands n in
-    let taken_len : length taken ≡ place = length-map (take place commands) of_task ∙ take_place commands place task others at in
-    let taken_at : 0 + length taken ≡ place = omega (arith, taken_len) in
-    append_assoc cycles (requests (suc n) 0 taken) (requests (suc n) place one)
-    ∙ ap (λ b. cycles ++ (requests (suc n) 0 taken ++ requests (suc n) b one)) (sym taken_at)
-    ∙ ap (λ xs. cycles ++ xs) (sym (requests-append (suc n) 0 taken one))
-    ∙ ap (λ xs. cycles ++ requests (suc n) 0 xs) (sym (map-append of_task (take place commands) (task ∷ [])) ∙ ap (map of_task) (sym (take_next commands place task others at)))
+    let front = drop setup (take place commands) in
+    let taken = map of_task front in
+    let cycles = all_cycles setup commands n in
+    let size : length (take place commands) ≡ place = take_place commands place task others at in
+    let taken_len : length taken ≡ length (take place commands) - setup = length-map front of_task ∙ length-drop setup (take place commands) in
+    let taken_at : setup + length taken ≡ place = omega (arith, taken_len, size, within) in
+    let more : drop setup (take (place + 1) commands) ≡ front ++ task ∷ [] =
+    ap (drop setup) (take_next commands place task others at) ∙ drop_front setup (take place commands) (task ∷ []) (omega (arith, size, within)) in
+    append_assoc cycles (requests (suc n) setup taken) (requests (suc n) place one)
+    ∙ ap (λ b. cycles ++ (requests (suc n) setup taken ++ requests (suc n) b one)) (sym taken_at)
+    ∙ ap (λ xs. cycles ++ xs) (sym (requests-append (suc n) setup taken one))
+    ∙ ap (λ xs. cycles ++ requests (suc n) setup xs) (sym (map-append of_task front (task ∷ [])) ∙ ap (map of_task) (sym more))
 
 -- a command that is sent keeps `EachIs`
 pub each_sent : (commands : List Task) (begun place utc : ℕ) (expected : Expected) (ms : List (Option Mark)) (ws : List (Pending Asked)) (p : Pending Asked) (rs : List Record) (task : Task) (others : List Task)
-    → length ms ≡ length ws → drop place commands ≡ task ∷ others → of_pending p ≡ of_task task → 0 < begun
-    → (kept : List Request) → EachIs ms ws rs kept
-    → EachIs (ms ++ Some (record { cycle = begun; place = place; sent = utc; expected = expected }) ∷ []) (ws ++ p ∷ []) rs (kept ++ requests begun place (of_task task ∷ []))
+    → length ms ≡ length ws → drop place commands ≡ task ∷ others → of_pending p ≡ asked_at utc task → 0 < begun
+    → (kept : List Request) → EachIs commands ms ws rs kept
+    → EachIs commands (ms ++ Some (record { cycle = begun; place = place; sent = utc; expected = expected }) ∷ []) (ws ++ p ∷ []) rs (kept ++ requests begun place (of_task task ∷ []))
 each_sent commands begun place utc expected ms ws p rs task others paired at is some kept h =
     let front = map of_record rs in
     let mark : Mark = record { cycle = begun; place = place; sent = utc; expected = expected } in
-    ap (λ xs. front ++ xs) (more_waiting ms ws (Some mark) p paired ∙ ap (λ a. still_waiting ms ws ++ requests begun place (a ∷ [])) is)
-    ∙ sym (append_assoc front (still_waiting ms ws) (requests begun place (of_task task ∷ [])))
+    let one = requests begun place (asked_at utc task ∷ []) in
+    let waits = still_waiting ms ws in
+    ap (of_text commands) (ap (λ xs. front ++ xs) (more_waiting ms ws (Some mark) p paired ∙ ap (λ a. waits ++ requests begun place (a ∷ [])) is)
+    ∙ sym (append_assoc front waits one))
+    ∙ listed_append commands (front ++ waits) one
+    ∙ ap (λ xs. of_text commands (front ++ waits) ++ map (in_text commands) xs) (cycles_all begun place (asked_at utc task ∷ []) some)
+    ∙ ap (λ x. of_text commands (front ++ waits) ++ x ∷ []) (asked_text commands begun place utc task others at)
     ∙ ap (λ xs. xs ++ requests begun place (of_task task ∷ [])) h
 
 -- a command that isn't sent keeps `EachIs`: its record is added behind the others, and no command waits then
 pub each_skipped : (commands : List Task) (begun place : ℕ) (ms : List (Option Mark)) (ws : List (Pending Asked)) (rs : List Record) (r : Record) (task : Task) (others : List Task)
-    → commands_in ms ≡ 0 → drop place commands ≡ task ∷ others → of_record r ∷ [] ≡ requests begun place (of_task task ∷ []) → 0 < begun
-    → (kept : List Request) → EachIs ms ws rs kept → EachIs ms ws (rs ++ r ∷ []) (kept ++ requests begun place (of_task task ∷ []))
+    → commands_in ms ≡ 0 → drop place commands ≡ task ∷ others → of_record r ∷ [] ≡ requests begun place (of_command task.command ∷ []) → 0 < begun
+    → (kept : List Request) → EachIs commands ms ws rs kept → EachIs commands ms ws (rs ++ r ∷ []) (kept ++ requests begun place (of_task task ∷ []))
 each_skipped commands begun place ms ws rs r task others none at is some kept h =
-    each_nothing ms ws (rs ++ r ∷ []) (kept ++ requests begun place (of_task task ∷ [])) none
-    (map-append of_record rs (r ∷ []) ∙ ap (λ xs. map of_record rs ++ xs) is
-    ∙ ap (λ xs. xs ++ requests begun place (of_task task ∷ [])) (each_settled ms ws rs kept none h))
+    let one = requests begun place (of_command task.command ∷ []) in
+    let listed = requests begun place (of_task task ∷ []) in
+    let front = map of_record rs in
+    each_nothing commands ms ws (rs ++ r ∷ []) (kept ++ listed) none
+    (ap (of_text commands) (map-append of_record rs (r ∷ []) ∙ ap (λ xs. front ++ xs) is)
+    ∙ listed_append commands front one ∙ ap (λ xs. of_text commands front ++ map (in_text commands) xs) (cycles_all begun place (of_command task.command ∷ []) some)
+    ∙ ap (λ x. of_text commands front ++ x ∷ []) (unsent_text commands begun place task others at)
+    ∙ ap (λ xs. xs ++ listed) (each_settled commands ms ws rs kept none h))
 
 -- at the end of a cycle, all commands of the cycles so far had their turn
-pub sent_whole : (commands : List Task) (begun place : ℕ) → place ≡ length commands → sent_by commands begun place ≡ all_cycles commands begun
-sent_whole commands zero place e = refl
-sent_whole commands (suc n) place e = ap (λ xs. all_cycles commands n ++ requests (suc n) 0 (map of_task xs)) (ap (λ m. take m commands) e ∙ whole commands) where
+pub sent_whole : (setup : ℕ) (commands : List Task) (begun place : ℕ) → place ≡ length commands → sent_by setup commands begun place ≡ all_cycles setup commands begun
+sent_whole setup commands zero place e = refl
+sent_whole setup commands (suc n) place e = ap (λ xs. all_cycles setup commands n ++ requests (suc n) setup (map of_task (drop setup xs))) (ap (λ m. take m commands) e ∙ whole commands) where
   -- a list has all its elements among its first ones, counted by its length
   whole : (xs : List Task) → take (length xs) xs ≡ xs
   whole [] = refl
   whole (x ∷ xs) = ap (λ ys. x ∷ ys) (whole xs)
 
 -- at the beginning of a cycle, all commands of the cycles before it had their turn
-pub sent_none : (commands : List Task) (begun next place : ℕ) → next ≡ suc begun → place ≡ 0 → sent_by commands next place ≡ all_cycles commands begun
-sent_none commands begun next place is none =
-    ap (λ n. sent_by commands n place) is ∙ ap (λ m. all_cycles commands begun ++ requests (suc begun) 0 (map of_task (take m commands))) none ∙ append-nil (all_cycles commands begun)
+pub sent_none : (setup : ℕ) (commands : List Task) (begun next place : ℕ) → next ≡ suc begun → place ≤ setup → sent_by setup commands next place ≡ all_cycles setup commands begun
+sent_none setup commands begun next place is none =
+    ap (λ n. sent_by setup commands n place) is
+    ∙ ap (λ xs. all_cycles setup commands begun ++ requests (suc begun) setup (map of_task xs)) (none_taken setup place commands none) ∙ append-nil (all_cycles setup commands begun)

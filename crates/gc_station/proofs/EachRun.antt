@@ -20,19 +20,21 @@ use Rattle.gc_station.specs.declared.progress.Progress.{Progress}
 use Rattle.gc_station.specs.declared.progress.Waiting.{Waiting}
 use Rattle.gc_links.specs.Acts.{Act, Told}
 use Rattle.gc_station.specs.Deciding.{later, has_begun, is_up}
-use Rattle.gc_station.specs.EachOnce.{EachOnce, Parted, Request, still_waiting, sent_by, of_record, all_cycles}
+use Rattle.gc_station.specs.EachOnce.{EachOnce, Parted, Request, still_waiting, sent_by, of_record, all_cycles, of_text}
 use Rattle.gc_station.specs.Marks.{commands_in}
-use Rattle.gc_station.specs.Progressing.{turned, told, skipped_at, reckoned_early, begun, skipped, passed, cleared, asking, null_sent, renewed, sent, is_over, is_over_in}
+use Rattle.gc_station.specs.Progressing.{turned, told, skipped_at, reckoned_early, begun, skipped, passed, cleared, asking, null_sent, renewed, sent, is_over, is_over_in, setup_sent}
 use Rattle.gc_station.specs.Reasons.{IsFor}
 use Rattle.gc_station.specs.Records.{Record}
 use Rattle.gc_station.specs.Runs.{stood}
+use Rattle.gc_station.specs.Tasked.{CommandsAreTheirTasks}
 use Rattle.gc_texts.specs.Endings.{Skipped, Missed}
-use Rattle.gc_station.specs.Model.{Model, opening, action_at, waiting_of, place_next, expected_first, mark_next, with_progress, asks_null, asks_first, asks_next, is_chained_behind_next, others_behind_next, is_chained_behind, others_behind, passes_next, with_passes, with_listed, skip_listed, after_pass, with_records, skips, skips_first, after_clock, moved, after, after_all}
+use Rattle.gc_station.specs.Model.{Model, opening, action_at, waiting_of, place_next, expected_first, mark_next, with_progress, asks_null, asks_first, asks_next, is_chained_behind_next, others_behind_next, is_chained_behind, others_behind, passes_next, with_passes, with_listed, skip_listed, after_pass, with_records, skips, skips_first, after_clock, moved, after, after_all, cycle_length, mark_setup, asks_or_null, asks_setup}
 use Rattle.gc_station.proofs.Acting.{mid_fail, mid_moment, mid_clock, mid_put, mid_open, mid_close, mid_read}
 use Rattle.gc_station.proofs.Each.{each_empty, sent_whole}
 use Rattle.gc_station.proofs.Facts.{action_for}
 use Rattle.gc_station.proofs.Invariant.{Invariant, is_bare, says_done}
-use Rattle.gc_station.proofs.Midway.{Placed, Mid, mid_of, clash, sound_null, sound_sent, sound_skipped, sound_passed, sound_begun, fine_ended}
+use Rattle.gc_station.proofs.Midway.{Placed, Mid, mid_of, clash, sound_null, sound_sent, sound_skipped, sound_passed, sound_begun, fine_ended, sound_prepared}
+use Rattle.gc_station.proofs.Tasked.{at_place, unsent_end}
 use Rattle.gc_station.specs.Scopes.{Scope}
 
 -- no records behind the others keep the weaker record
@@ -45,11 +47,11 @@ going_placed phase left unsent rest marks is = record { empty = λ e. absurd (cl
 
 -- the beginning of a cycle keeps the weaker record
 mid_begun : (plan : Plan) (commands : List Task) (s : Model) (m : Moment) → s.progress.phase ≡ Ready → s.progress.unsent ≡ 0 → commands_in s.marks ≡ 0 → 0 < s.progress.left → Mid plan commands s
-    → Mid plan commands (with_progress (begun plan (length commands) m) s)
+    → Mid plan commands (with_progress (begun plan (cycle_length plan commands) m) s)
 mid_begun plan commands s m is none settled some mid =
     let p = s.progress in (
       sound_begun plan commands p.left p.unsent s.client s.marks s.records s.passes none some mid.0,
-      going_placed p.phase (p.left - 1) (length commands) s.rest s.marks is,
+      going_placed p.phase (p.left - 1) (cycle_length plan commands) s.rest s.marks is,
     )
 
 -- a line feed that went out keeps the weaker record
@@ -65,7 +67,7 @@ mid_flushed : (plan : Plan) (commands : List Task) (s : Model) → s.progress.ph
     → Mid plan commands (with_progress asking (asks_null plan s))
 mid_flushed plan commands s is room mid =
     let p = s.progress in (
-      sound_null plan commands p.left p.unsent s.client s.marks s.records s.passes 0 (Table NullProc) (later p.moment.elapsed plan.deadline) room mid.0,
+      sound_null plan commands p.left p.unsent s.client s.marks s.records s.passes 0 (Table NullProc) (later p.moment.elapsed plan.deadline) room refl mid.0,
       going_placed p.phase p.left p.unsent s.rest (asks_null plan s).marks is,
     )
 
@@ -89,6 +91,21 @@ mid_sent : (plan : Plan) (commands : List Task) (next_is_chained : Bool) (behind
     → length s.client.waiting < 7 → Mid plan commands s → Mid plan commands (with_progress (sent next_is_chained behind) (asks_next plan commands s))
 mid_sent plan commands next_is_chained behind s is some room mid = mid_first plan commands next_is_chained behind s (drop (place_next commands s.progress) commands) refl is some room mid
 
+-- the first of these commands, where it is sent as the next one of the set-up, keeps the weaker record
+mid_prepares : (plan : Plan) (commands : List Task) (s : Model) (left : List Task) → drop s.progress.prepared commands ≡ left → s.progress.phase ≡ Ready → length s.client.waiting < 7 → Mid plan commands s
+    → Mid plan commands (with_progress (setup_sent plan) (asks_or_null plan (mark_setup commands s.progress) left s))
+mid_prepares plan commands s [] at is room mid =
+    let p = s.progress in (
+      sound_null plan commands p.left p.unsent s.client s.marks s.records s.passes 0 (Table NullProc) (later p.moment.elapsed plan.deadline) room refl mid.0,
+      going_placed p.phase p.left p.unsent s.rest (asks_null plan s).marks is,
+    )
+mid_prepares plan commands s (task ∷ others) at is room mid =
+    let p = s.progress in
+    let t = asks_or_null plan (mark_setup commands p) (task ∷ others) s in (
+      sound_prepared plan commands p.left p.unsent s.client s.marks s.records s.passes (later p.moment.elapsed task.deadline) (mark_setup commands p) task room refl (at_place p.prepared commands task others at) mid.0,
+      going_placed p.phase p.left p.unsent s.rest t.marks is,
+    )
+
 -- the first of these commands, where it is passed over as the next one, keeps the weaker record
 mid_skips : (plan : Plan) (commands : List Task) (next_is_chained : Bool) (behind : ℕ) (s : Model) (m : Moment) (left : List Task) → drop (place_next commands s.progress) commands ≡ left
     → s.progress.phase ≡ Ready → 0 < s.progress.unsent → commands_in s.marks ≡ 0 → Mid plan commands s
@@ -100,7 +117,7 @@ mid_skips plan commands next_is_chained behind s m [] at is some none mid =
     absurd (omega (arith, n, some, sound.unsents))
 mid_skips plan commands next_is_chained behind s m (task ∷ others) at is some none mid =
     let p = s.progress in (
-      sound_skipped plan commands p.left p.unsent s.client s.marks s.records s.passes (skipped_at m p) (if p.missed then Missed else Skipped) (mark_next plan commands p).expected.turn task others none some at mid.0,
+      sound_skipped plan commands p.left p.unsent s.client s.marks s.records s.passes (skipped_at m p) (if p.missed then Missed else Skipped) (mark_next plan commands p).expected.turn task others none some at (unsent_end p.missed) mid.0,
       going_placed p.phase p.left (p.unsent - 1) s.rest s.marks is,
     )
 
@@ -141,12 +158,16 @@ mid_moved plan commands s action.Renew act fine is =
 mid_moved plan commands s action.Begin act fine is =
     let t = with_progress turned s in
     let mid = mid_of plan commands s fine in
-    mid_clock plan commands (begun plan (length commands)) t act mid (λ m. mid_begun plan commands t m is.0 is.2 is.3 is.4 mid)
+    mid_clock plan commands (begun plan (cycle_length plan commands)) t act mid (λ m. mid_begun plan commands t m is.0 is.2 is.3 is.4 mid)
 mid_moved plan commands s action.Open act fine is = mid_open plan commands (with_progress turned s) act is (mid_of plan commands s fine)
 mid_moved plan commands s action.Clear act fine is =
     let t = with_progress turned s in mid_put plan commands _ (with_progress cleared) t act (mid_cleared plan commands t is (mid_of plan commands s fine))
 mid_moved plan commands s action.Ask act fine is = let t = with_progress turned s in
     mid_put plan commands _ (with_progress (null_sent plan)) t act (let mid = mid_of plan commands s fine in (mid.0, mid.1))
+mid_moved plan commands s action.Prepare act fine is =
+    let t = with_progress turned s in
+    mid_put plan commands _ (λ (x : Model). with_progress (setup_sent plan) (asks_setup plan commands x)) t act
+    (mid_prepares plan commands t (drop t.progress.prepared commands) refl is.0 is.3.1 (mid_of plan commands s fine))
 mid_moved plan commands s action.Send act fine is =
     let t = with_progress turned s in
     mid_put plan commands _ (λ (x : Model). with_progress (sent (is_chained_behind_next commands x.progress) (others_behind_next commands x.progress)) (asks_next plan commands x)) t act
@@ -169,7 +190,7 @@ fine_after plan commands s act fine =
     fine_ended plan commands (moved plan commands (action_at plan s) (with_progress turned s) act) (mid_moved plan commands s (action_at plan s) act fine (action_for plan s.progress (waiting_of s)))
 
 -- acts keep what every run keeps
-fine_all : (plan : Plan) (commands : List Task) (s : Model) (acts : List Act) → Invariant plan commands s → Invariant plan commands (after_all plan commands s acts)
+pub fine_all : (plan : Plan) (commands : List Task) (s : Model) (acts : List Act) → Invariant plan commands s → Invariant plan commands (after_all plan commands s acts)
 fine_all plan commands s [] fine = fine
 fine_all plan commands s (act ∷ acts) fine = fine_all plan commands (after plan commands s act) acts (fine_after plan commands s act fine)
 
@@ -188,7 +209,9 @@ fine_opening plan commands scope =
       rest = λ e. refl;
       over = λ e. refl;
       finished = λ e. cc;
-      each = subst (λ (xs : List Request). Parted [] [] xs) (sym (ap (λ n. sent_by commands n (length commands - 0)) none)) (refl, refl);
+      each = subst (λ (xs : List Request). Parted [] [] xs) (sym (ap (λ n. sent_by plan.setup commands n (length commands - 0)) none)) (refl, refl);
+      own = tt;
+      told = tt;
     }
 
 -- what every run keeps holds after all acts
@@ -209,7 +232,7 @@ stop_over plan p w why (down, inr turns) = either_way (is_over_in p.phase) (is_u
 -- where a run stops nothing waits, and the records are of the commands that had their turn, in order; where it stops as done,
 -- no cycle and no command is left
 pub stopped : (plan : Plan) (commands : List Task) (s : Model) (why : Cause) → Invariant plan commands s → action_at plan s ≡ action.Stop why
-    → (s.client.waiting ≡ []) × Parted (map of_record s.records) s.passes (sent_by commands (plan.cycles - s.progress.left) (place_next commands s.progress))
+    → (s.client.waiting ≡ []) × Parted (of_text commands (map of_record s.records)) s.passes (sent_by plan.setup commands (plan.cycles - s.progress.left) (place_next commands s.progress))
     × (why ≡ cause.Done → (s.progress.left ≡ 0) × (s.progress.unsent ≡ 0))
 stopped plan commands s why fine stop =
     let p = s.progress in
@@ -217,8 +240,8 @@ stopped plan commands s why fine stop =
     let is : IsFor plan p w (action.Stop why) = subst (λ (o : Action). IsFor plan p w o) stop (action_for plan p w) in
     let nothing = fine.over (stop_over plan p w why is) in (
       nothing,
-      subst (λ (xs : List Request). Parted xs s.passes (sent_by commands (plan.cycles - p.left) (place_next commands p)))
-          (sym (each_empty s.marks s.client.waiting s.records (map of_record s.records ++ still_waiting s.marks s.client.waiting) nothing refl)) fine.each,
+      subst (λ (xs : List Request). Parted xs s.passes (sent_by plan.setup commands (plan.cycles - p.left) (place_next commands p)))
+          (sym (each_empty commands s.marks s.client.waiting s.records (of_text commands (map of_record s.records ++ still_waiting s.marks s.client.waiting)) nothing refl)) fine.each,
       by_reason is.1,
     ) where
       -- where the run stops as done nothing is left: its phase says that it is done, as it isn't for its turns
@@ -239,5 +262,9 @@ each_once plan commands scope acts =
           let none = it.2 refl in
           let cycles : plan.cycles - s.progress.left ≡ plan.cycles = omega (arith, none.0) in
           let place : place_next commands s.progress ≡ length commands = omega (arith, none.1) in
-          subst (λ (xs : List Request). Parted (map of_record s.records) s.passes xs) (sent_whole commands (plan.cycles - s.progress.left) (place_next commands s.progress) place ∙ ap (all_cycles commands) cycles) it.1;
+          subst (λ (xs : List Request). Parted (of_text commands (map of_record s.records)) s.passes xs) (sent_whole plan.setup commands (plan.cycles - s.progress.left) (place_next commands s.progress) place ∙ ap (all_cycles plan.setup commands) cycles) it.1;
     }
+
+-- each record after any acts is of its task
+pub of_tasks : CommandsAreTheirTasks
+of_tasks plan commands scope acts = (fine_stood plan commands scope acts).told

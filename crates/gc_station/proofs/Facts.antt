@@ -14,8 +14,8 @@ use Rattle.gc_station.specs.declared.progress.Action.TheVariants as action
 use Rattle.gc_station.specs.declared.progress.Progress.{Progress}
 use Rattle.gc_station.specs.declared.progress.Until.TheVariants.{Limit, Due}
 use Rattle.gc_station.specs.declared.progress.Waiting.{Waiting}
-use Rattle.gc_station.specs.Reasons.{IsFor, IsHeld, HasRoom, MayGo, MayRetry, NothingMayGo, IsResting, StaysInItsChain, HasOneFor}
-use Rattle.gc_station.specs.Deciding.{width_of, has_begun, is_up, is_dead, is_due, is_idle, is_finished, has_room, action_of, action_in, action_on, action_told, may_go, waits_for_all, action_again, action_ready, action_begun, action_beginning, action_sent, action_settled, action_done, action_next, action_room, action_waiting, action_up, is_stale, is_between, is_resting, is_stopping, is_held_back}
+use Rattle.gc_station.specs.Reasons.{IsFor, IsHeld, HasRoom, MayGo, MayRetry, NothingMayGo, IsResting, StaysInItsChain, HasOneFor, MayPrepare}
+use Rattle.gc_station.specs.Deciding.{width_of, has_begun, is_up, is_dead, is_due, is_idle, is_finished, has_room, action_of, action_in, action_on, action_told, may_go, waits_for_all, action_again, action_ready, action_begun, action_beginning, action_sent, action_settled, action_done, action_next, action_room, action_waiting, action_up, is_stale, is_between, is_resting, is_stopping, is_held_back, action_cycle, action_prepare, action_turn, action_preparing, is_preparing}
 use Rattle.gc_station.specs.Stations.{IsFitting}
 
 -- what holds of x where a test holds, and of y where it doesn't, holds of the one that the test chooses
@@ -98,6 +98,7 @@ Awake p = (p.stale ≡ false) × (p.phase ≡ Ready)
 abbrev pub Wakes : Progress → Action → Type 0
 Wakes p action.Renew = Awake p
 Wakes p action.Ask = Awake p
+Wakes p action.Prepare = Awake p
 Wakes p action.Send = Awake p
 Wakes p action.Flush = Awake p
 Wakes p (action.Close cause.Dead) = (p.phase ≡ Closing cause.Dead) ⊎ Awake p
@@ -145,21 +146,21 @@ room_for plan p w o awake begun step =
     (λ e. let none = one_false (nat_lt w.current (width_of plan)) (nat_lt w.all WINDOW) e in waits plan p w awake begun (no_room plan p w none) (no_room_full plan w none))
 
 -- `Holds` is true where the next command may go out
-next_for : (plan : Plan) (p : Progress) (w : Waiting) → Awake p → has_begun p ≡ true → 0 < p.unsent → MayGo p w → MayRetry p w → StaysInItsChain p → Holds plan p w (action_next plan p w)
-next_for plan p w awake begun some may retry stays =
+next_for : (plan : Plan) (p : Progress) (w : Waiting) → Awake p → has_begun p ≡ true → 0 < p.unsent → MayGo p w → MayRetry p w → StaysInItsChain p → is_preparing plan p w ≡ false → Holds plan p w (action_next plan p w)
+next_for plan p w awake begun some may retry stays ready =
     let P = Holds plan p w in
     either P _ _ (nat_lt p.behind WINDOW)
-    (λ near. room_for plan p w action.Send awake begun (λ room. ((awake.1, begun, some, room, may, ltb-true p.behind WINDOW near, retry, stays), tt, awake)))
+    (λ near. room_for plan p w action.Send awake begun (λ room. ((awake.1, begun, some, room, may, ltb-true p.behind WINDOW near, retry, stays, ready), tt, awake)))
     (λ far. let many = ltb-false p.behind WINDOW far in either P _ _ (nat_eq w.current 0)
-    (λ given. room_for plan p w action.Flush awake begun (λ room. ((awake.1, begun, inr (some, may, many), eqb-true w.current 0 given, room), tt, awake)))
+    (λ given. room_for plan p w action.Flush awake begun (λ room. ((awake.1, begun, inr (inl (some, may), many), eqb-true w.current 0 given, room), tt, awake)))
     (λ current. let under = some_left w.current current in
     waits plan p w awake begun (inr (inr (inr (inr (inl (many, under)))))) (λ none. absurd (omega (arith, none, under)))))
 
 -- Where the end of the run was asked for.
 
--- where the end of the run was asked for, a command is left, and it goes on with a chain that has begun
+-- where the end of the run was asked for, a command is left, and it goes on with a chain that has begun, and no set-up comes first
 abbrev GoesOnly : Progress → Type 0
-GoesOnly p = p.stops ≡ true → (0 < p.unsent) × (p.next_is_chained ≡ true)
+GoesOnly p = p.stops ≡ true → (0 < p.unsent) × (p.next_is_chained ≡ true) × (p.preparing ≡ false)
 
 -- what isn't true is false
 never_true : (b : Bool) → (b ≡ true → ⊥) → b ≡ false
@@ -186,29 +187,31 @@ not_between false up begun none true some u b e f g is = cc
 above_none : (n : ℕ) → nat_eq n 0 ≡ false → nat_lt 0 n ≡ true
 above_none n e = grind (arith, nat_tests, e)
 
--- where the station isn't between two chains, a command is left, and it is chained
-midway : (n : ℕ) (chained : Bool) → (nat_eq n 0 || not chained) ≡ false → (0 < n) × (chained ≡ true)
-midway n chained e = by_test (nat_eq n 0) chained refl e where
+-- where the station isn't between two chains, a command is left, and it is chained, and no set-up comes first
+midway : (n : ℕ) (chained prepares : Bool) → ((nat_eq n 0 || not chained) || prepares) ≡ false → (0 < n) × (chained ≡ true) × (prepares ≡ false)
+midway n chained prepares e = by_test (nat_eq n 0) chained prepares refl e where
   -- the lemma above, by whether a command is left
-  by_test : (none c : Bool) → nat_eq n 0 ≡ none → (none || not c) ≡ false → (0 < n) × (c ≡ true)
-  by_test true c is f = cc
-  by_test false true is f = (some_left n is, refl)
-  by_test false false is f = cc
+  by_test : (none c b : Bool) → nat_eq n 0 ≡ none → ((none || not c) || b) ≡ false → (0 < n) × (c ≡ true) × (b ≡ false)
+  by_test true c b is f = cc
+  by_test false true false is f = (some_left n is, refl, refl)
+  by_test false true true is f = cc
+  by_test false false b is f = cc
 
 -- where the run doesn't end, and no further chain is held back, `GoesOnly` holds
 goes_only : (p : Progress) (w : Waiting) → is_up p.phase ≡ true → has_begun p ≡ true → is_stopping p w ≡ false → is_held_back p w ≡ false → GoesOnly p
 goes_only p w up begun goes free stops =
-    midway p.unsent p.next_is_chained
+    midway p.unsent p.next_is_chained p.preparing
     (not_between p.stops (is_up p.phase) (has_begun p) (nat_eq w.current 0) (is_between p) (nat_lt 0 w.current) up begun goes free (above_none w.current) stops)
 
 -- a station that is between two chains, by its test, is
-between_so : (n : ℕ) (chained : Bool) → (nat_eq n 0 || not chained) ≡ true → (n ≡ 0) ⊎ (chained ≡ false)
-between_so n chained e = by_test (nat_eq n 0) chained refl e where
+between_so : (n : ℕ) (chained prepares : Bool) → ((nat_eq n 0 || not chained) || prepares) ≡ true → (n ≡ 0) ⊎ ((chained ≡ false) ⊎ (prepares ≡ true))
+between_so n chained prepares e = by_test (nat_eq n 0) chained prepares refl e where
   -- the lemma above, by whether a command is left
-  by_test : (none c : Bool) → nat_eq n 0 ≡ none → (none || not c) ≡ true → (n ≡ 0) ⊎ (c ≡ false)
-  by_test true c is f = inl (eqb-true n 0 is)
-  by_test false true is f = cc
-  by_test false false is f = inr refl
+  by_test : (none c b : Bool) → nat_eq n 0 ≡ none → ((none || not c) || b) ≡ true → (n ≡ 0) ⊎ ((c ≡ false) ⊎ (b ≡ true))
+  by_test true c b is f = inl (eqb-true n 0 is)
+  by_test false true false is f = cc
+  by_test false true true is f = inr (inr refl)
+  by_test false false b is f = inr (inl refl)
 
 -- where the test says that the run may end, it may
 resting_so : (p : Progress) (w : Waiting) → is_resting p w ≡ true → IsResting p w
@@ -218,7 +221,7 @@ resting_so p w e = by_tests (is_up p.phase) (has_begun p) (nat_eq w.current 0) (
       → ((not up || not begun) || (none && between)) ≡ true → IsResting p w
   by_tests false begun none between u b n t f = inl u
   by_tests true false none between u b n t f = inr (inl b)
-  by_tests true true true true u b n t f = inr (inr (eqb-true w.current 0 n, between_so p.unsent p.next_is_chained t))
+  by_tests true true true true u b n t f = inr (inr (eqb-true w.current 0 n, between_so p.unsent p.next_is_chained p.preparing t))
   by_tests true true true false u b n t f = cc
   by_tests true true false between u b n t f = cc
 
@@ -234,14 +237,14 @@ held_back_for plan p w awake begun held =
     let it = both_true (p.stops && is_between p) (nat_lt 0 w.current) held in
     let asked = both_true p.stops (is_between p) it.0 in
     let under : 0 < w.current = ltb-true 0 w.current it.1 in
-    waits plan p w awake begun (inr (inr (inr (inr (inr (asked.0, between_so p.unsent p.next_is_chained asked.1, under)))))) (λ none. absurd (omega (arith, none, under)))
+    waits plan p w awake begun (inr (inr (inr (inr (inr (asked.0, between_so p.unsent p.next_is_chained p.preparing asked.1, under)))))) (λ none. absurd (omega (arith, none, under)))
 
 -- `Holds` is true where each command of the cycle is settled
-done_for : (plan : Plan) (p : Progress) (w : Waiting) → Awake p → has_begun p ≡ true → p.unsent ≡ 0 → w.commands ≡ 0 → p.stops ≡ false → Holds plan p w (action_done plan p)
-done_for plan p w awake begun sent settled unasked =
+done_for : (plan : Plan) (p : Progress) (w : Waiting) → Awake p → has_begun p ≡ true → p.unsent ≡ 0 → w.commands ≡ 0 → p.stops ≡ false → is_preparing plan p w ≡ false → Holds plan p w (action_done plan p)
+done_for plan p w awake begun sent settled unasked ready =
     let P = Holds plan p w in
     either P (action.Close cause.Done) _ (nat_eq p.left 0) (λ e. ((awake_up p awake, inr (eqb-true p.left 0 e, sent, settled)), tt, tt))
-    (λ e. either P action.Begin (action.Read Due) (is_due plan p) (λ d. ((awake.1, begun, sent, settled, some_left p.left e, unasked), tt, tt)) (λ d. (tt, awake_reads p awake, tt)))
+    (λ e. either P action.Begin (action.Read Due) (is_due plan p) (λ d. ((awake.1, begun, sent, settled, some_left p.left e, unasked, ready), tt, tt)) (λ d. (tt, awake_reads p awake, tt)))
 
 -- where no command may go out before those that wait are settled (`IsHeld`), one is unsent, and it begins no further attempt, that
 -- one is chained
@@ -251,35 +254,35 @@ chained p (inr (inl next_is_chained)) e first = next_is_chained
 chained p (inr (inr more)) e first = absurd (omega (arith, more, first))
 
 -- `Holds` is true where the next command begins a further attempt, and each command that was sent is settled
-again_for : (plan : Plan) (p : Progress) (w : Waiting) → Awake p → has_begun p ≡ true → 0 < p.unsent → w.commands ≡ 0 → 0 < p.next_others → StaysInItsChain p → Holds plan p w (action_again plan p w)
-again_for plan p w awake begun some settled more stays =
+again_for : (plan : Plan) (p : Progress) (w : Waiting) → Awake p → has_begun p ≡ true → 0 < p.unsent → w.commands ≡ 0 → 0 < p.next_others → StaysInItsChain p → is_preparing plan p w ≡ false → Holds plan p w (action_again plan p w)
+again_for plan p w awake begun some settled more stays ready =
     either (Holds plan p w) _ action.Pass (w.listed && not p.next_is_chained)
     (λ e. let it = both_true w.listed (not p.next_is_chained) e in
-    next_for plan p w awake begun some (inl (free_so p.next_is_chained it.1)) (inr (settled, it.0)) stays)
-    (λ e. ((awake.1, begun, some, settled, more, by_test (one_false w.listed (not p.next_is_chained) e)), tt, tt)) where
+    next_for plan p w awake begun some (inl (free_so p.next_is_chained it.1)) (inr (settled, it.0)) stays ready)
+    (λ e. ((awake.1, begun, some, settled, more, by_test (one_false w.listed (not p.next_is_chained) e), ready), tt, tt)) where
       -- why the attempt is passed over, by which of the two tests fails
       by_test : ((w.listed ≡ false) ⊎ (not p.next_is_chained ≡ false)) → (w.listed ≡ false) ⊎ (p.next_is_chained ≡ true)
       by_test (inl none) = inl none
       by_test (inr bound) = inr (negated p.next_is_chained bound)
 
 -- `Holds` is true where each command that was sent is settled
-settled_for : (plan : Plan) (p : Progress) (w : Waiting) → Awake p → has_begun p ≡ true → IsHeld p → w.commands ≡ 0 → GoesOnly p → Holds plan p w (action_settled plan p w)
-settled_for plan p w awake begun held settled only =
+settled_for : (plan : Plan) (p : Progress) (w : Waiting) → Awake p → has_begun p ≡ true → IsHeld p → w.commands ≡ 0 → GoesOnly p → is_preparing plan p w ≡ false → Holds plan p w (action_settled plan p w)
+settled_for plan p w awake begun held settled only ready =
     let P = Holds plan p w in
-    either P _ _ (nat_eq p.unsent 0) (λ e. done_for plan p w awake begun (eqb-true p.unsent 0 e) settled (none_asked p only (eqb-true p.unsent 0 e)))
-    (λ e. either P _ _ (nat_lt 0 p.next_others) (λ more. again_for plan p w awake begun (some_left p.unsent e) settled (ltb-true 0 p.next_others more) (λ stops. (only stops).1))
+    either P _ _ (nat_eq p.unsent 0) (λ e. done_for plan p w awake begun (eqb-true p.unsent 0 e) settled (none_asked p only (eqb-true p.unsent 0 e)) ready)
+    (λ e. either P _ _ (nat_lt 0 p.next_others) (λ more. again_for plan p w awake begun (some_left p.unsent e) settled (ltb-true 0 p.next_others more) (λ stops. (only stops).1) ready)
     (λ first. let none = none_left p.next_others first in either P _ action.Skip (may_go p w)
-    (λ well. let it = both_true w.well p.chain_unbroken well in next_for plan p w awake begun (some_left p.unsent e) (inr (settled, it.0, it.1)) (inl none) (λ stops. (only stops).1))
-    (λ broken. ((awake.1, begun, some_left p.unsent e, settled, chained p held e none, broken), tt, tt))))
+    (λ well. let it = both_true w.well p.chain_unbroken well in next_for plan p w awake begun (some_left p.unsent e) (inr (settled, it.0, it.1)) (inl none) (λ stops. (only stops).1) ready)
+    (λ broken. ((awake.1, begun, some_left p.unsent e, settled, chained p held e none, broken, ready), tt, tt))))
 
 -- `Holds` is true where no command may go out before those that wait are settled
-sent_for : (plan : Plan) (p : Progress) (w : Waiting) → Awake p → has_begun p ≡ true → IsHeld p → GoesOnly p → Holds plan p w (action_sent plan p w)
-sent_for plan p w awake begun held only =
+sent_for : (plan : Plan) (p : Progress) (w : Waiting) → Awake p → has_begun p ≡ true → IsHeld p → GoesOnly p → is_preparing plan p w ≡ false → Holds plan p w (action_sent plan p w)
+sent_for plan p w awake begun held only ready =
     let P = Holds plan p w in
-    either P _ _ (nat_eq w.commands 0) (λ e. settled_for plan p w awake begun held (eqb-true w.commands 0 e) only)
+    either P _ _ (nat_eq w.commands 0) (λ e. settled_for plan p w awake begun held (eqb-true w.commands 0 e) only ready)
     (λ e. either P _ _ (nat_eq w.current 0)
-    (λ given. room_for plan p w action.Flush awake begun (λ room. ((awake.1, begun, inl (held, some_left w.commands e), eqb-true w.current 0 given, room), tt, awake)))
-    (λ some. let many = some_left w.current some in waits plan p w awake begun (inr (inr (inr (inl (held, some_left w.commands e, many))))) (λ none. absurd (omega (arith, none, many)))))
+    (λ given. room_for plan p w action.Flush awake begun (λ room. ((awake.1, begun, inl (inl held, some_left w.commands e), eqb-true w.current 0 given, room), tt, awake)))
+    (λ some. let many = some_left w.current some in waits plan p w awake begun (inr (inr (inr (inl (inl held, some_left w.commands e, many))))) (λ none. absurd (omega (arith, none, many)))))
 
 -- a command that may not go out at once waits for those before it (`IsHeld`)
 held_so : (p : Progress) → (nat_lt 0 p.unsent && not (waits_for_all p)) ≡ false → IsHeld p
@@ -305,16 +308,14 @@ free_both p e = by_test p.next_is_chained (nat_lt 0 p.next_others) refl refl e w
   by_test false true bound more e = cc
   by_test false false bound more e = (bound, none_left p.next_others more)
 
--- `Holds` is true once the station has begun
-begun_for : (plan : Plan) (p : Progress) (w : Waiting) → Awake p → has_begun p ≡ true → is_stopping p w ≡ false → Holds plan p w (action_begun plan p w)
-begun_for plan p w awake begun goes =
-    either (Holds plan p w) (action_waiting plan p w) _ (is_held_back p w) (λ held. held_back_for plan p w awake begun held) (λ free.
-    let only = goes_only p w (awake_up p awake) begun goes free in
+-- `Holds` is true once the station has begun and its set-up is done
+cycle_for : (plan : Plan) (p : Progress) (w : Waiting) → Awake p → has_begun p ≡ true → GoesOnly p → is_preparing plan p w ≡ false → Holds plan p w (action_cycle plan p w)
+cycle_for plan p w awake begun only ready =
     either (Holds plan p w) _ _ (nat_lt 0 p.unsent && not (waits_for_all p))
     (λ some. let it = both_true (nat_lt 0 p.unsent) (not (waits_for_all p)) some in
     let free = free_both p it.1 in
-    next_for plan p w awake begun (ltb-true 0 p.unsent it.0) (inl free.0) (inl free.1) (λ stops. (only stops).1))
-    (λ none. sent_for plan p w awake begun (held_so p none) only))
+    next_for plan p w awake begun (ltb-true 0 p.unsent it.0) (inl free.0) (inl free.1) (λ stops. (only stops).1) ready)
+    (λ none. sent_for plan p w awake begun (held_so p none) only ready)
 
 -- what `is_finished` says: no cycle and no command is left, and none waits
 pub finished_so : (commands : ℕ) (p : Progress) → is_finished commands p ≡ true → (p.left ≡ 0) × (p.unsent ≡ 0) × (commands ≡ 0)
@@ -322,6 +323,48 @@ finished_so commands p e =
     let it = both_true (nat_eq p.left 0 && nat_eq p.unsent 0) (nat_eq commands 0) e in
     let sent = both_true (nat_eq p.left 0) (nat_eq p.unsent 0) it.0 in
     (eqb-true p.left 0 sent.0, eqb-true p.unsent 0 sent.1, eqb-true commands 0 it.1)
+
+-- `Holds` is true where the next command of the set-up may go out
+prepare_for : (plan : Plan) (p : Progress) (w : Waiting) → Awake p → has_begun p ≡ true → p.stops ≡ false → MayPrepare plan p w → Holds plan p w (action_prepare plan p w)
+prepare_for plan p w awake begun unasked may =
+    let P = Holds plan p w in
+    either P _ _ (nat_lt p.behind WINDOW)
+    (λ near. room_for plan p w action.Prepare awake begun (λ room. ((awake.1, begun, may, room, ltb-true p.behind WINDOW near, unasked), tt, awake)))
+    (λ far. let many = ltb-false p.behind WINDOW far in either P _ _ (nat_eq w.current 0)
+    (λ given. room_for plan p w action.Flush awake begun (λ room. ((awake.1, begun, inr (inr may, many), eqb-true w.current 0 given, room), tt, awake)))
+    (λ current. let under = some_left w.current current in
+    waits plan p w awake begun (inr (inr (inr (inr (inl (many, under)))))) (λ none. absurd (omega (arith, none, under)))))
+
+-- `Holds` is true where it is the turn of the next command of the set-up
+turn_for : (plan : Plan) (p : Progress) (w : Waiting) → Awake p → has_begun p ≡ true → p.stops ≡ false → is_preparing plan p w ≡ true → (p.prepared ≡ 0) ⊎ ((w.commands ≡ 0) × (w.well ≡ true))
+    → Holds plan p w (action_turn plan p w)
+turn_for plan p w awake begun unasked on first =
+    either (Holds plan p w) _ (action.Read Limit) (nat_lt p.prepared plan.setup) (λ e. prepare_for plan p w awake begun unasked (on, ltb-true p.prepared plan.setup e, first)) (λ e. (tt, awake_reads p awake, tt))
+
+-- `Holds` is true while the set-up isn't done
+preparing_for : (plan : Plan) (p : Progress) (w : Waiting) → Awake p → has_begun p ≡ true → p.stops ≡ false → is_preparing plan p w ≡ true → Holds plan p w (action_preparing plan p w)
+preparing_for plan p w awake begun unasked on =
+    let P = Holds plan p w in
+    either P (action.Close cause.Done) _ (is_finished w.commands p) (λ none. ((awake_up p awake, inr (finished_so w.commands p none)), tt, tt))
+    (λ more. either P (action.Read Due) _ (is_idle plan p) (λ idle. (tt, awake_reads p awake, tt))
+    (λ busy. either P _ _ (nat_eq p.prepared 0) (λ e. turn_for plan p w awake begun unasked on (inl (eqb-true p.prepared 0 e)))
+    (λ sent. either P _ _ (nat_eq w.commands 0) (λ e. either P _ (action.Close cause.SetUp) w.well (λ well. turn_for plan p w awake begun unasked on (inr (eqb-true w.commands 0 e, well)))
+    (λ ill. ((awake_up p awake, inr (on, some_left p.prepared sent, eqb-true w.commands 0 e, ill)), tt, tt)))
+    (λ waiting. either P _ _ (nat_eq w.current 0)
+    (λ given. room_for plan p w action.Flush awake begun (λ room.
+    ((awake.1, begun, inl (inr (on, some_left p.prepared sent), some_left w.commands waiting), eqb-true w.current 0 given, room), tt, awake)))
+    (λ some. let many = some_left w.current some in
+    waits plan p w awake begun (inr (inr (inr (inl (inr (on, some_left p.prepared sent), some_left w.commands waiting, many))))) (λ none. absurd (omega (arith, none, many))))))))
+
+-- `Holds` is true once the station has begun
+begun_for : (plan : Plan) (p : Progress) (w : Waiting) → Awake p → has_begun p ≡ true → is_stopping p w ≡ false → Holds plan p w (action_begun plan p w)
+begun_for plan p w awake begun goes =
+    either (Holds plan p w) (action_waiting plan p w) _ (is_held_back p w) (λ held. held_back_for plan p w awake begun held)
+    (λ free. let only = goes_only p w (awake_up p awake) begun goes free in either (Holds plan p w) _ _ (is_preparing plan p w)
+    (λ on. preparing_for plan p w awake begun (unasked only (both_true p.preparing _ on).0) on) (λ done. cycle_for plan p w awake begun only done)) where
+      -- while the set-up isn't done, the end of the run wasn't asked for
+      unasked : GoesOnly p → p.preparing ≡ true → p.stops ≡ false
+      unasked only on = never_true p.stops (λ stops. let ready = (only stops).2 in let both : true ≡ false = sym on ∙ ready in cc)
 
 -- `Holds` is true while the station begins
 beginning_for : (plan : Plan) (p : Progress) (w : Waiting) → Awake p → has_begun p ≡ false → Holds plan p w (action_beginning plan p w)
@@ -388,6 +431,7 @@ order_wakes plan p w = (in_for plan p.phase p w refl).2
 -- the conditions of an action give what the call needs: room for a request, and a command for one of a command
 fits : (plan : Plan) (p : Progress) (w : Waiting) (next : Action) → IsFor plan p w next → IsFitting p w.all next
 fits plan p w action.Ask is = is.1
+fits plan p w action.Prepare is = is.3.1
 fits plan p w action.Send is = (is.2, is.3.1)
 fits plan p w action.Skip is = is.2
 fits plan p w action.Flush is = is.4.1

@@ -10,7 +10,7 @@ use Rattle.gc_station.specs.Records.{Record}
 use Rattle.gc_station.specs.Runs.{Ran, RanTo}
 use Rattle.gc_station.specs.Scopes.{Scope}
 use Rattle.gc_station.specs.declared.cause.Cause.{Cause}
-use Rattle.gc_station.specs.declared.cause.Cause.TheVariants.{Done, Dead, Read, End, Write, Clock, Open, Turns, Stale, Stopped}
+use Rattle.gc_station.specs.declared.cause.Cause.TheVariants.{Done, Dead, Read, End, Write, Clock, Open, Turns, Stale, Stopped, SetUp}
 use Rattle.gc_station.specs.declared.plan.Plan.{Plan}
 use Rattle.gc_station.specs.declared.tally.Tally.{Tally}
 
@@ -32,6 +32,7 @@ module _ (plan : Plan) (commands : List Task) (scope : Scope) (text : Record →
   faulty (Write requests bytes) why e ran = let same : fault.Write requests bytes ≡ why = cc in subst With same (Write requests bytes, tally, ran, refl)
   faulty Clock why e ran = let same : fault.Clock ≡ why = cc in subst With same (Clock, tally, ran, refl)
   faulty Open why e ran = let same : fault.Socket ≡ why = cc in subst With same (Open, tally, ran, refl)
+  faulty SetUp why e ran = let same : fault.SetUp ≡ why = cc in subst With same (SetUp, tally, ran, refl)
   faulty Turns why e ran = let same : fault.TooManyReads ≡ why = cc in subst With same (Turns, tally, ran, refl)
   faulty Stale why e ran = let same : fault.Stale ≡ why = cc in subst With same (Stale, tally, ran, refl)
   faulty Stopped why e ran = absurd (cc)

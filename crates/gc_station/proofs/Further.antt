@@ -1,6 +1,6 @@
 -- A run never goes back: after a send the station is at a later place of the cycle, or in a later cycle. An act is one call of
 -- the link, with what came of it. `NotBack p q`: the progress q isn't at an earlier cycle or place than p.
-use Rattle.std.proofs.Common.{◌≡◌, ◌⊎◌, inl, inr, ℕ, ◌-◌, ◌<◌, ◌≤◌, List, [], ◌∷◌, ◌++◌, length, refl, sym, ap, ◌∙◌, subst, arith}
+use Rattle.std.proofs.Common.{◌≡◌, ◌⊎◌, inl, inr, ℕ, ◌-◌, ◌<◌, ◌≤◌, List, [], ◌∷◌, ◌++◌, refl, sym, ap, ◌∙◌, subst, arith}
 use Rattle.gc_texts.specs.declared.tasks.Task.{Task}
 use Rattle.gc_station.specs.declared.plan.Plan.{Plan}
 use Rattle.gc_station.specs.declared.progress.Action.{Action}
@@ -12,7 +12,7 @@ use Rattle.gc_station.specs.EachOnce.{IsFurther}
 use Rattle.gc_station.specs.Progressing.{turned}
 use Rattle.gc_station.specs.Reasons.{IsFor}
 use Rattle.gc_station.specs.Runs.{stood}
-use Rattle.gc_station.specs.Model.{Model, opening, action_at, waiting_of, with_progress, moved, after, after_all}
+use Rattle.gc_station.specs.Model.{Model, cycle_length, opening, action_at, waiting_of, with_progress, moved, after, after_all}
 use Rattle.gc_station.proofs.Going.{after_all-append}
 use Rattle.gc_station.proofs.Counts.{Kept, Counts, moved_counts, ended_progress}
 use Rattle.gc_station.proofs.EachRun.{fine_stood}
@@ -43,7 +43,7 @@ counts_on plan count w o p t q left unsent needs k = kept_there p t q left unsen
 after_on : (plan : Plan) (commands : List Task) (s : Model) (act : Act) → NotBack s.progress (after plan commands s act).progress
 after_on plan commands s act =
     let done = moved plan commands (action_at plan s) (with_progress turned s) act in
-    let on = counts_on plan (length commands) (waiting_of s) (action_at plan s) s.progress (turned s.progress) done.progress refl refl
+    let on = counts_on plan (cycle_length plan commands) (waiting_of s) (action_at plan s) s.progress (turned s.progress) done.progress refl refl
     (action_for plan s.progress (waiting_of s)) (moved_counts plan commands (action_at plan s) (with_progress turned s) act) in
     subst (λ (p : Progress). NotBack s.progress p) (sym (ended_progress done)) on
 

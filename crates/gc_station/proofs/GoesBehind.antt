@@ -19,10 +19,10 @@ use Rattle.gc_station.specs.declared.progress.Action.TheVariants as action
 use Rattle.gc_station.specs.declared.progress.Progress.{Progress}
 use Rattle.gc_station.specs.Behind.{IsNearTheTable, CommandsGoOutBehindTheTable}
 use Rattle.gc_station.specs.Deciding.{has_begun, is_none_left}
-use Rattle.gc_station.specs.Parts.{Part, joined, putting, asking_first, hearing, doing, beginning, acting, in_front, parts_of}
+use Rattle.gc_station.specs.Parts.{Part, joined, putting, asking_first, hearing, doing, beginning, acting, in_front, parts_of, asking_or_null}
 use Rattle.gc_station.specs.Progressing.{one_more, turned, told, time_passed, loses_all}
 use Rattle.gc_station.specs.Reasons.{IsFor}
-use Rattle.gc_station.specs.Model.{Model, opening, action_at, waiting_of, place_next, mark_next, is_heard, with_progress, with_moment, with_rest, line_came, lines_came, lines_behind, came, moved, losing, after, Performs, Runs}
+use Rattle.gc_station.specs.Model.{Model, opening, action_at, waiting_of, place_next, mark_next, is_heard, with_progress, with_moment, with_rest, line_came, lines_came, lines_behind, came, moved, losing, after, Performs, Runs, mark_setup}
 use Rattle.gc_station.proofs.Behind.{behind_by, Counts, counts_steps, near_so, reached, get_behind, course_append}
 use Rattle.gc_station.proofs.Booking.{client_after, sent_by, course_sent, course_client, sent_append, of_length}
 use Rattle.gc_station.proofs.Counts.{losing_progress}
@@ -51,6 +51,11 @@ first_counted : (c : ById Asked) (b now : ℕ) (mark : Mark) (left : List Task) 
 first_counted c b now mark [] some = absurd (omega (arith, some))
 first_counted c b now mark (task ∷ others) some = refl
 
+-- the first of some commands of the set-up is one request more
+setup_counted : (plan : Plan) (c : ById Asked) (b now : ℕ) (mark : Mark) (left : List Task) → one_more b ≡ behind_by c b (asking_or_null plan now mark left).steps
+setup_counted plan c b now mark [] = refl
+setup_counted plan c b now mark (task ∷ others) = refl
+
 module _ (plan : Plan) (commands : List Task) where
   -- an act does what the steps of its part do
   abbrev IsCounted : Action → Model → Act → Model → Type 0
@@ -63,6 +68,9 @@ module _ (plan : Plan) (commands : List Task) where
   counted s action.Renew Untold fine is obeys begun still = refl
   counted s action.Renew act fine is obeys begun still = absurd obeys
   counted s action.Ask act fine is obeys begun still = absurd (clash (has_begun s.progress) begun is.1)
+  counted s action.Prepare act fine is obeys begun still =
+      let one = setup_counted plan s.client s.progress.behind s.progress.moment.elapsed (mark_setup commands s.progress) (drop s.progress.prepared commands) in
+      walk plan commands (IsCounted action.Prepare s) action.Prepare (with_progress turned s) act obeys (λ m. one, λ n. one)
   counted s action.Send act fine is obeys begun still =
       let left = drop (place_next commands s.progress) commands in
       let many : length left ≡ length commands - place_next commands s.progress = length-drop (place_next commands s.progress) commands in
@@ -122,18 +130,28 @@ module _ (plan : Plan) (commands : List Task) (s : Model) (k : ById Asked) (more
   first_so now its [] h = absurd (no_send [] front later target call deadline tt h.0)
   first_so now its (task ∷ others) h = one_step _ front later target call deadline h.0
 
+  -- where one of some commands of the set-up goes out, or a null procedure for it, it is the first
+  setup_so : (now : ℕ) (its : Mark) (left : List Task) → GoesOut (asking_or_null plan now its left) → front ≡ []
+  setup_so now its [] h = one_step _ front later target call deadline h.0
+  setup_so now its (task ∷ others) h = one_step _ front later target call deadline h.0
+
+  -- this action sends a command: of a cycle, or of the set-up
+  abbrev Sends : Action → Type 0
+  Sends o = (o ≡ action.Send) ⊎ (o ≡ action.Prepare)
+
   -- a null procedure isn't a command
   null_not : front ≡ [] → slice_get ((None ∷ []) ++ more) (length (sent_by k front)) ≡ Some (Some mark) → ⊥
   null_not e at = let first : ◌≡◌ {A = Option (Option Mark)} (Some None) (Some (Some mark)) = ap (λ l. slice_get ((None ∷ []) ++ more) (length (sent_by k l))) (sym e) ∙ at in cc
 
   -- an act that puts bytes, and with them a command, sends the next command
-  put_so : (o : Action) → GoesOut (putting plan commands s o) → (front ≡ []) × (o ≡ action.Send)
+  put_so : (o : Action) → GoesOut (putting plan commands s o) → (front ≡ []) × Sends o
   put_so action.Flush h = absurd (null_not (one_step _ front later target call deadline h.0) h.1)
-  put_so action.Send h = (first_so s.progress.moment.elapsed (mark_next plan commands s.progress) (drop (place_next commands s.progress) commands) h, refl)
+  put_so action.Send h = (first_so s.progress.moment.elapsed (mark_next plan commands s.progress) (drop (place_next commands s.progress) commands) h, inl refl)
+  put_so action.Prepare h = (setup_so s.progress.moment.elapsed (mark_setup commands s.progress) (drop s.progress.prepared commands) h, inr refl)
   put_so o h = absurd (no_send [] front later target call deadline tt h.0)
 
   -- an act at which a command goes out, once the station has begun, sends the next command
-  do_so : (o : Action) (act : Act) → GoesOut (doing plan commands s o act) → (front ≡ []) × (o ≡ action.Send)
+  do_so : (o : Action) (act : Act) → GoesOut (doing plan commands s o act) → (front ≡ []) × Sends o
   do_so o (Told m) h = absurd (no_send (Expire m.elapsed ∷ []) front later target call deadline (tt, tt) h.0)
   do_so o (Silent m) h = absurd (no_send (Expire m.elapsed ∷ []) front later target call deadline (tt, tt) h.0)
   do_so o (Gave piece m) h =
@@ -152,7 +170,7 @@ module _ (plan : Plan) (commands : List Task) (s : Model) (k : ById Asked) (more
   begin_not o act h = no_send [] front later target call deadline tt h.0
 
   -- an act at which a command goes out sends the next command
-  act_so : (o : Action) (act : Act) (b : Bool) → GoesOut (if b then doing plan commands s o act else beginning s o act) → (front ≡ []) × (o ≡ action.Send)
+  act_so : (o : Action) (act : Act) (b : Bool) → GoesOut (if b then doing plan commands s o act else beginning s o act) → (front ≡ []) × Sends o
   act_so o act true h = do_so o act h
   act_so o act false h = absurd (begin_not o act h)
 
@@ -215,9 +233,13 @@ module _ (plan : Plan) (commands : List Task) (s : Model) (o : Action) (act : Ac
       → slice_get (p.marks ++ more) (length (sent_by (reached done).client front)) ≡ Some (Some mark) → IsNearTheTable (reached (done ++ front))
   sends_near more front later target call deadline mark e at =
       let so = act_so plan commands s (reached done).client more front later target call deadline mark o act (has_begun s.progress) (e, at) in
-      let needs = subst (λ (x : Action). IsFor plan s.progress (waiting_of s) x) so.1 is in
+      let near = by_action so.1 in
       subst (λ (l : List (Step Asked)). IsNearTheTable (reached l)) (sym (ap (λ l. done ++ l) so.0 ∙ append-nil done))
-      (near_so (reached done) s.progress.behind counts needs.5)
+      (near_so (reached done) s.progress.behind counts near) where
+        -- fewer than seven are behind, where a command goes out
+        by_action : (o ≡ action.Send) ⊎ (o ≡ action.Prepare) → s.progress.behind < 7
+        by_action (inl sends) = (subst (λ (x : Action). IsFor plan s.progress (waiting_of s) x) sends is).5
+        by_action (inr prepares) = (subst (λ (x : Action). IsFor plan s.progress (waiting_of s) x) prepares is).4
 
   -- the marks of the act's requests are as many as these
   as_many : length p.marks ≡ length (sent_by (reached done).client p.steps)

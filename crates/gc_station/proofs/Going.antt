@@ -1,7 +1,7 @@
 -- A run on the way: what was done so far (`Went`), and one act more. An act is one call of the link, with what came of it. At
 -- the start the link had told `told` and the book had taken `taken`, by now `told'` and `taken'`, and later those with more
 -- primes; each is `None` where it isn't known. `text` is how a record is written.
-use Rattle.std.proofs.Common.{◌≡◌, ℕ, ◌<◌, ◌≤◌, List, [], ◌∷◌, ◌++◌, length, Option, Some, None, Result, Ok, Err, refl, sym, ap, ◌∙◌, subst, append-nil}
+use Rattle.std.proofs.Common.{◌≡◌, ℕ, ◌<◌, ◌≤◌, List, [], ◌∷◌, ◌++◌, length, Option, Some, None, Result, Ok, Err, refl, sym, ap, ◌∙◌, subst, append-nil, ◌-◌}
 use Rattle.std.specs.Io.KnownBytes.{Appends, Keeps}
 use Rattle.std.proofs.KnownBytes.{Appends-kept, Keeps-refl}
 use Rattle.gc_lines.proofs.Known.{Appends-nil}
@@ -228,8 +228,8 @@ went_wrong plan commands scope text told told' told'' told''' taken taken' taken
     }
 
 -- an act leaves no more commands unsent than there are, and less to be done than before (`left_to_do`), so that a run ends
-pub record IsNearer (commands : List Task) (from to : Progress) : Type 0 where
-  pub within : to.unsent ≤ length commands
+pub record IsNearer (plan : Plan) (commands : List Task) (from to : Progress) : Type 0 where
+  pub within : to.unsent ≤ length commands - plan.setup
   pub less : left_to_do to < left_to_do from
 
 -- a station stands for some model (`Refines`)
@@ -247,7 +247,7 @@ somewhere_on plan commands text told told' taken taken' station new action makes
 pub went_nearer : (plan : Plan) (commands : List Task) (text : Record → List ℕ) (told told' : Option (List Act)) (taken taken' : Option (List ℕ)) (station new : Station) (action : Action)
     → action ≡ action_of plan station.progress (waiting_in station) → Somewhere station
     → Makes commands action (stepped plan commands action) (seen told text taken station) (seen told' text taken' new)
-    → station.progress.unsent ≤ length commands → IsNearer commands station.progress new.progress
+    → station.progress.unsent ≤ length commands - plan.setup → IsNearer plan commands station.progress new.progress
 went_nearer plan commands text told told' taken taken' station new action is some makes within =
     let s = some.0 in
     let p = station.progress in
@@ -257,9 +257,9 @@ went_nearer plan commands text told told' taken taken' station new action is som
     let obeys : Performs commands s (action_of plan s.progress w) makes.act = subst (λ (x : Action). Performs commands s x makes.act) o one.0 in
     let mid : Model = moved plan commands action (with_progress turned s) makes.act in
     let next : new.progress ≡ (ended mid).progress = one.1.progress in
-    let below : s.progress.unsent ≤ length commands = subst (λ (p : Progress). p.unsent ≤ length commands) some.1.progress within in
+    let below : s.progress.unsent ≤ length commands - plan.setup = subst (λ (p : Progress). p.unsent ≤ length commands - plan.setup) some.1.progress within in
     record {
-      within = subst (λ (p : Progress). p.unsent ≤ length commands) (sym (next ∙ ended_progress mid)) (unsent_within plan commands action (with_progress turned s) makes.act below);
+      within = subst (λ (p : Progress). p.unsent ≤ length commands - plan.setup) (sym (next ∙ ended_progress mid)) (unsent_within plan commands action (with_progress turned s) makes.act below);
       less = subst (λ (q : Progress). left_to_do q < left_to_do p) (sym (next ∙ ap (λ (x : Action). (stepped plan commands x s makes.act).progress) o))
           (subst (λ (q : Progress). left_to_do (stepped plan commands (action_of plan s.progress w) s makes.act).progress < left_to_do q)
           (sym some.1.progress) (less_stepped plan commands s w makes.act obeys));

@@ -9,10 +9,14 @@ use Rattle.std.proofs.lemmas.Bool.Decides.{nat_tests}
 use Rattle.std.proofs.lemmas.List.{length-map, length-append}
 use Rattle.gc_catalogue.specs.Asked.{is_of_table}
 use Rattle.gc_catalogue.specs.declared.asked.Asked.{Asked}
+use Rattle.gc_catalogue.specs.declared.asked.Asked.TheVariants.{Table}
+use Rattle.gc_catalogue.specs.declared.call.Call.TheVariants.{SetDate}
 use Rattle.gc_client.specs.OneForOne.{Step, Send, Hear, Expire, Restart, sent_on}
 use Rattle.gc_client.specs.Rule.{ById, fresh, heard, hears, id_settled, id_send, settle, expired, pending_of}
 use Rattle.gc_client.specs.declared.pending.Pending.{Pending}
 use Rattle.gc_client.specs.declared.window.TheConstants.{WINDOW}
+use Rattle.gc_texts.specs.Stamps.{date_time}
+use Rattle.gc_texts.specs.Tasks.{call_at}
 use Rattle.gc_texts.specs.declared.tasks.Task.{Task}
 use Rattle.gc_links.specs.declared.link.Moment.{Moment}
 use Rattle.gc_links.specs.Acts.{Act, Told, Put, Cut, Gave, Silent}
@@ -23,12 +27,12 @@ use Rattle.gc_station.specs.declared.progress.Action.TheVariants as action
 use Rattle.gc_station.specs.declared.progress.Progress.{Progress}
 use Rattle.gc_station.specs.declared.progress.Waiting.{Waiting}
 use Rattle.gc_station.specs.Behind.{AreOfTable, TheTableIsNeverHeldUp}
-use Rattle.gc_station.specs.Deciding.{has_begun, is_none_left, action_next, action_room, action_waiting, width_of}
-use Rattle.gc_station.specs.Parts.{putting, asking_first, hearing, doing, beginning, acting}
+use Rattle.gc_station.specs.Deciding.{has_begun, is_none_left, action_room, action_waiting, width_of}
+use Rattle.gc_station.specs.Parts.{putting, asking_first, hearing, doing, beginning, acting, asking_or_null}
 use Rattle.gc_station.specs.Progressing.{one_more, turned, told, time_passed, is_over, loses_all}
 use Rattle.gc_station.specs.Reasons.{IsFor}
 use Rattle.gc_station.specs.Runs.{stood}
-use Rattle.gc_station.specs.Model.{Model, opening, action_at, waiting_of, place_next, mark_next, is_tables, ends_with_table, is_heard, with_progress, with_moment, with_rest, lines_behind, came, moved, losing, after, Performs}
+use Rattle.gc_station.specs.Model.{Model, opening, action_at, waiting_of, place_next, mark_next, is_tables, ends_with_table, is_heard, with_progress, with_moment, with_rest, lines_behind, came, moved, losing, after, Performs, mark_setup}
 use Rattle.gc_station.proofs.Always.{always}
 use Rattle.gc_station.proofs.Behind.{behind_by, behind_step}
 use Rattle.gc_station.proofs.Booking.{stepped, client_after}
@@ -162,15 +166,31 @@ hearing_tables : (h : Bool) (rest piece : List ℕ) → AllByRecursion SendsTabl
 hearing_tables true rest piece = hears_tables (lines_behind rest piece)
 hearing_tables false rest piece = tt
 
+-- where a task asks for a call of the table, it does so at any moment
+table_at : (task : Task) (utc : ℕ) → is_of_table task.command.call ≡ true → is_of_table (call_at task utc) ≡ true
+table_at task utc is = by_clock task.now where
+  -- the lemma above, whether the task sets the clock (`true`)
+  by_clock : (b : Bool) → is_of_table (if b then Table (SetDate (date_time utc)) else task.command.call) ≡ true
+  by_clock true = refl
+  by_clock false = is
+
 -- the first of some calls of the table is one
 first_tables : (now : ℕ) (mark : Mark) (left : List Task) → AreOfTable left → AllByRecursion SendsTables (asking_first now mark left).steps
 first_tables now mark [] all = tt
-first_tables now mark (task ∷ others) all = (all.0, tt)
+first_tables now mark (task ∷ others) all = (table_at task mark.sent all.0, tt)
+
+-- the first of some calls of the table, as a command of the set-up, is one, and so is the null procedure in its place
+setup_tables : (plan : Plan) (now : ℕ) (mark : Mark) (left : List Task) → AreOfTable left → AllByRecursion SendsTables (asking_or_null plan now mark left).steps
+setup_tables plan now mark [] all = (refl, tt)
+setup_tables plan now mark (task ∷ others) all = (table_at task mark.sent all.0, tt)
 
 module _ (plan : Plan) (commands : List Task) (all : AreOfTable commands) where
   -- an act that puts bytes sends calls of the table alone
   put_tables : (s : Model) (o : Action) → AllByRecursion SendsTables (putting plan commands s o).steps
   put_tables s action.Flush = (refl, tt)
+  put_tables s action.Prepare =
+      setup_tables plan s.progress.moment.elapsed (mark_setup commands s.progress) (drop s.progress.prepared commands)
+      (all_drop (λ task. is_of_table task.command.call ≡ true) s.progress.prepared commands all)
   put_tables s action.Send =
       first_tables s.progress.moment.elapsed (mark_next plan commands s.progress) (drop (place_next commands s.progress) commands)
       (all_drop (λ task. is_of_table task.command.call ≡ true) (place_next commands s.progress) commands all)
@@ -206,6 +226,7 @@ module _ (plan : Plan) (commands : List Task) (all : AreOfTable commands) where
       → NoneBehind act (moved plan commands o (with_progress turned s) act)
   none_behind s action.Renew act is obeys begins e = absurd (clash (has_begun s.progress) is.1 begins)
   none_behind s action.Begin act is obeys begins e = absurd (clash (has_begun s.progress) is.1 begins)
+  none_behind s action.Prepare act is obeys begins e = absurd (clash (has_begun s.progress) is.1 begins)
   none_behind s action.Send act is obeys begins e = absurd (clash (has_begun s.progress) is.1 begins)
   none_behind s action.Skip act is obeys begins e = absurd (clash (has_begun s.progress) is.1 begins)
   none_behind s action.Flush act is obeys begins e = absurd (clash (has_begun s.progress) is.1 begins)
@@ -313,15 +334,16 @@ full_waits plan p w o full = ap (λ (b : Bool). if b then o else action_waiting 
   both_false false b e = refl
 
 -- where as many are behind as wait, a command goes out as soon as there is room
-sends_on : (plan : Plan) (p : Progress) (w : Waiting) → p.behind ≡ w.all → action_next plan p w ≡ action_room plan p w action.Send
-sends_on plan p w e = by_test (nat_lt p.behind WINDOW) refl where
+sends_on : (plan : Plan) (p : Progress) (w : Waiting) (o : Action) → p.behind ≡ w.all
+    → (if nat_lt p.behind WINDOW then action_room plan p w o else (if nat_eq w.current 0 then action_room plan p w action.Flush else action_waiting plan p w)) ≡ action_room plan p w o
+sends_on plan p w o e = by_test (nat_lt p.behind WINDOW) refl where
   -- the lemma above, by whether fewer than seven are behind
   by_test : (b : Bool) → nat_lt p.behind WINDOW ≡ b
-      → (if b then action_room plan p w action.Send else (if nat_eq w.current 0 then action_room plan p w action.Flush else action_waiting plan p w)) ≡ action_room plan p w action.Send
+      → (if b then action_room plan p w o else (if nat_eq w.current 0 then action_room plan p w action.Flush else action_waiting plan p w)) ≡ action_room plan p w o
   by_test true is = refl
   by_test false is =
       let full : nat_lt w.all WINDOW ≡ false = ap (λ n. nat_lt n WINDOW) (sym e) ∙ is in
-      either_way (nat_eq w.current 0) (full_waits plan p w action.Flush full) ∙ sym (full_waits plan p w action.Send full) where
+      either_way (nat_eq w.current 0) (full_waits plan p w action.Flush full) ∙ sym (full_waits plan p w o full) where
         -- a null procedure doesn't go out either
         either_way : (b : Bool) → action_room plan p w action.Flush ≡ action_waiting plan p w → (if b then action_room plan p w action.Flush else action_waiting plan p w) ≡ action_waiting plan p w
         either_way true f = f
@@ -335,4 +357,4 @@ never_held_up plan commands scope acts runs all begun going =
     (λ done act before obeys h. free_after plan commands all (stood plan commands scope done) act (fine_stood plan commands scope done) obeys h)
     (record { begins = λ e. refl; level = λ e f. cc }) acts runs in
     let level = free.level begun going in
-    (level.same, sends_on plan s.progress (waiting_of s) level.same)
+    (level.same, sends_on plan s.progress (waiting_of s) action.Send level.same, sends_on plan s.progress (waiting_of s) action.Prepare level.same)

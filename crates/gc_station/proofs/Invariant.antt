@@ -1,5 +1,7 @@
 -- What every run keeps, after each of its acts, whatever the link tells.
-use Rattle.std.proofs.Common.{◌≡◌, ◌<◌, ◌≤◌, Bool, true, false, List, [], length}
+use Rattle.std.proofs.Common.{◌≡◌, ◌<◌, ◌≤◌, Bool, true, false, List, [], length, map, ◌-◌}
+use Rattle.std.specs.List.{AllByRecursion}
+use Rattle.gc_client.specs.OneForOne.{of_pending}
 use Rattle.gc_client.specs.Rule.{fresh}
 use Rattle.gc_texts.specs.declared.tasks.Task.{Task}
 use Rattle.gc_station.specs.declared.plan.Plan.{Plan}
@@ -12,6 +14,8 @@ use Rattle.gc_station.specs.Marks.{commands_in}
 use Rattle.gc_station.specs.Progressing.{is_over}
 use Rattle.gc_station.specs.EachOnce.{IsEachOnce}
 use Rattle.gc_station.specs.Model.{Model}
+use Rattle.gc_station.specs.Parts.{AreOf}
+use Rattle.gc_station.specs.Tasked.{IsOfItsTask}
 
 -- whether a phase is without a connection, or before requests go out: no byte of a line is kept in it
 abbrev pub is_bare : Phase → Bool
@@ -38,7 +42,7 @@ says_done _ = false
 -- wait, and the next id is below 8; no bytes of a line are kept in a phase that `is_bare`; where the run is over nothing waits,
 -- and where it is done nothing is left; and each command had its turn once, in order
 pub record Invariant (plan : Plan) (commands : List Task) (s : Model) : Type 0 where
-  pub unsent : s.progress.unsent ≤ length commands
+  pub unsent : s.progress.unsent ≤ length commands - plan.setup
   pub left : s.progress.left ≤ plan.cycles
   pub begun : 0 < s.progress.unsent → s.progress.left < plan.cycles
   pub paired : length s.marks ≡ length s.client.waiting
@@ -50,3 +54,6 @@ pub record Invariant (plan : Plan) (commands : List Task) (s : Model) : Type 0 w
   pub over : is_over s.progress ≡ true → s.client.waiting ≡ []
   pub finished : says_done s.progress.phase ≡ true → (s.progress.left ≡ 0) × (s.progress.unsent ≡ 0) × (commands_in s.marks ≡ 0)
   pub each : IsEachOnce plan commands s
+  -- each request that waits asks what its mark says, and each record is of its task
+  pub own : AreOf commands s.marks (map of_pending s.client.waiting)
+  pub told : AllByRecursion (IsOfItsTask commands) s.records

@@ -29,11 +29,14 @@ pub mod Midway
 mod Mute
 mod Noting
 mod Opens
+mod Outs
 pub mod Parting
 mod Pieces
 mod Quiets
 pub mod Readings
 mod Records
+mod Setups
+mod Prepared
 mod Silences
 mod Since
 mod Tries
@@ -49,7 +52,10 @@ pub mod Linking
 mod Codes
 mod Counting
 mod Room
+mod Row
 mod Ticking
+mod Timing
+mod Tasked
 mod Due
 mod Cycles
 mod Unsent

@@ -9,7 +9,7 @@ use Rattle.gc_texts.specs.declared.tasks.Task.{Task}
 use Rattle.gc_station.specs.declared.mark.Mark.{Mark}
 use Rattle.gc_station.specs.declared.plan.Plan.{Plan}
 use Rattle.gc_station.specs.declared.progress.Action.{Action}
-use Rattle.gc_station.specs.declared.progress.Action.TheVariants.{Send}
+use Rattle.gc_station.specs.declared.progress.Action.TheVariants.{Prepare, Send}
 use Rattle.gc_station.specs.declared.progress.Phase.TheVariants as phase
 use Rattle.gc_station.specs.declared.progress.Progress.{Progress}
 use Rattle.gc_links.specs.Acts.{Act, Put, Cut}
@@ -24,18 +24,19 @@ use Rattle.gc_station.specs.Records.{Record}
 use Rattle.gc_station.specs.Runs.{stood}
 use Rattle.gc_station.specs.Scopes.{Scope}
 use Rattle.gc_station.specs.Qualities.{IsOfQuality, accepted_at}
-use Rattle.gc_station.specs.Model.{Model, Performs, Puts, Runs, opening, action_at, waiting_of, place_next, cycles_begun, expected_first, mark_next, first_text, after, after_all}
+use Rattle.gc_station.specs.Model.{Model, Performs, Puts, Runs, opening, action_at, waiting_of, place_next, cycles_begun, cycle_out, expected_first, mark_next, first_text, after, after_all}
 use Rattle.gc_texts.specs.Endings.{Answered}
 use Rattle.gc_texts.specs.Qualities.{is_good}
 use Rattle.gc_texts.specs.declared.quality.Quality.{Quality}
 use Rattle.gc_catalogue.specs.declared.answer.Answer.{Answer}
-use Rattle.gc_station.proofs.Chaining.{StaysBegun, chain_whole}
+use Rattle.gc_station.proofs.Chaining.{StaysBegun, PreparesNothing, prepares_none, chain_whole}
 use Rattle.gc_station.proofs.EachRun.{fine_stood}
 use Rattle.gc_station.proofs.Facts.{action_for}
+use Rattle.gc_station.proofs.Outs.{of_a_cycle, send_cycle, send_place, sends_of_cycle}
 use Rattle.gc_station.proofs.Further.{send_goes_on}
 use Rattle.gc_station.proofs.Going.{after_all-append, runs_behind}
 use Rattle.gc_station.proofs.Turns.{over_stays}
-use Rattle.gc_station.proofs.SentAt.{some_is, none_is_not, get_behind, fronts, records_stay, SentAt, joined_length, sent_at}
+use Rattle.gc_station.proofs.SentAt.{some_is, none_is_not, get_behind, fronts, records_stay, SentAt, joined_length, sent_at, act_head, act_tail}
 
 -- The parts of a front of acts.
 
@@ -113,13 +114,12 @@ module _ (plan : Plan) (commands : List Task) (scope : Scope) where
   further_on xs ys (act ∷ more) sends e some =
       subst (λ l. IsFurther plan commands (stood plan commands scope xs) (stood plan commands scope l)) (sym e) (send_goes_on plan commands scope xs more act sends)
 
-  -- of two commands that went out (x before y, in the order of parts and requests), the second one is of a later place or cycle
-  further_than : (acts : List Act) (i j m n : ℕ) (a b : Mark) → IsBefore i m j n → (x : SentAt plan commands (opening plan scope) acts i m a)
-      → (y : SentAt plan commands (opening plan scope) acts j n b)
-      → IsFurther plan commands (stood plan commands scope x.before) (stood plan commands scope y.before)
-  further_than acts i j m n a b l x y =
+  -- of two commands that went out (x before y, in the order of parts and requests), the second one did so at least one act later
+  goes_before : (acts : List Act) (i j m n : ℕ) (a b : Mark) → IsBefore i m j n → (x : SentAt plan commands (opening plan scope) acts i m a)
+      → (y : SentAt plan commands (opening plan scope) acts j n b) → (more : List Act) × (y.before ≡ x.before ++ more) × (more ≡ [] → ⊥)
+  goes_before acts i j m n a b l x y =
       elim (fronts x.before (x.act ∷ x.rest) y.before (y.act ∷ y.rest) (sym x.order ∙ y.order)) [
-        | inl h ↦ further_on x.before y.before h.0 x.sends h.1 (λ none. behind [] (sym (h.1 ∙ ap (λ l. x.before ++ l) none ∙ nil x.before) ∙ sym (nil y.before)))
+        | inl h ↦ (h.0, h.1, λ none. behind [] (sym (h.1 ∙ ap (λ l. x.before ++ l) none ∙ nil x.before) ∙ sym (nil y.before)))
         | inr h ↦ absurd (behind h.0 h.1)
       ]
     where
@@ -142,14 +142,22 @@ module _ (plan : Plan) (commands : List Task) (scope : Scope) where
             | inr k ↦ (let le : length y.first.marks ≤ length x.first.marks = k.1 in inr (k.0, omega (arith, le, counts_x, counts_y)))
           ])
 
--- the law: of two commands that go out, the later one is of a later place in its cycle, or of a later cycle
+  -- of two commands that went out, as above, the second one is of a later place or cycle
+  further_than : (acts : List Act) (i j m n : ℕ) (a b : Mark) → IsBefore i m j n → (x : SentAt plan commands (opening plan scope) acts i m a)
+      → action_at plan (stood plan commands scope x.before) ≡ Send → (y : SentAt plan commands (opening plan scope) acts j n b)
+      → IsFurther plan commands (stood plan commands scope x.before) (stood plan commands scope y.before)
+  further_than acts i j m n a b l x sends y = let h = goes_before acts i j m n a b l x y in further_on x.before y.before h.0 sends h.1 h.2
+
+-- the law: of two commands of cycles that go out, the later one is of a later place in its cycle, or of a later cycle
 pub marks_go_on : MarksGoOn
-marks_go_on plan commands scope acts runs i j m n p q a b e f g h l =
+marks_go_on plan commands scope acts runs i j m n p q a b e f g h l above below =
     let x = sent_at plan commands (opening plan scope) acts i m p a e g in
     let y = sent_at plan commands (opening plan scope) acts j n q b f h in
     let at_x = mark_next plan commands (stood plan commands scope x.before).progress in
-    subst (λ (u : Mark). IsBefore u.cycle u.place b.cycle b.place) (sym x.is)
-    (subst (λ (u : Mark). IsBefore at_x.cycle at_x.place u.cycle u.place) (sym y.is) (further_than plan commands scope acts i j m n a b l x y))
+    let x_is = of_a_cycle plan commands (stood plan commands scope x.before) (action_at plan (stood plan commands scope x.before)) a x.its above in
+    let y_is = of_a_cycle plan commands (stood plan commands scope y.before) (action_at plan (stood plan commands scope y.before)) b y.its below in
+    subst (λ (u : Mark). IsBefore u.cycle u.place b.cycle b.place) (sym x_is.1)
+    (subst (λ (u : Mark). IsBefore at_x.cycle at_x.place u.cycle u.place) (sym y_is.1) (further_than plan commands scope acts i j m n a b l x x_is.0 y))
 
 -- While a station doesn't begin anew, all its acts are of one part.
 
@@ -209,7 +217,7 @@ needs_send plan s is = subst (λ (o : Action). IsFor plan s.progress (waiting_of
 
 -- an act that sends puts the line of the next command
 puts_text : (commands : List Task) (plan : Plan) (s : Model) (act : Act) → action_at plan s ≡ Send → Performs commands s (action_at plan s) act
-    → Puts (first_text s.client (drop (place_next commands s.progress) commands)) act
+    → Puts (first_text s.progress.moment.utc s.client (drop (place_next commands s.progress) commands)) act
 puts_text commands plan s act is obeys = subst (λ (o : Action). Performs commands s o act) is obeys
 
 -- a request and the acts after it, in which the station doesn't begin anew, are of one part
@@ -359,6 +367,7 @@ module _ (plan : Plan) (commands : List Task) (scope : Scope) where
     sends : action_at plan (at start) ≡ Send
     mark : mark_of (expected_first (drop (place_next commands (at start).progress) commands)) answer ≡ mark_next plan commands (at start).progress
     same : length (parts plan commands scope before) ≡ length (parts plan commands scope start)
+    cycles : PreparesNothing plan commands (at start) (act ∷ rest)
 
   -- the last element stands behind all others
   get_last : (xs : List Record) (x : Record) → slice_get (xs ++ x ∷ []) (length xs) ≡ Some x
@@ -376,10 +385,17 @@ module _ (plan : Plan) (commands : List Task) (scope : Scope) where
   -- after acts where a chained command is to go out, `Back` holds of the command before it
   one_back : (acts : List Act) (a : ℕ) → Runs plan commands (opening plan scope) acts → action_at plan (at acts) ≡ Send
       → place_next commands (at acts).progress ≡ a + 1 → (l : IsLinked plan commands scope acts)
-      → StaysBegun plan commands (at l.before) (l.request ∷ l.between) → Back acts (cycles_begun plan (at acts).progress) a
-  one_back acts a runs next place l keeps =
+      → StaysBegun plan commands (at l.before) (l.request ∷ l.between) → PreparesNothing plan commands (at l.before) (l.request ∷ l.between)
+      → Back acts (cycles_begun plan (at acts).progress) a
+  one_back acts a runs next place l keeps cycles =
       let t = l.in_time in
-      let one : t.before ≡ l.before = same_send acts t.before _ l.before (l.request ∷ l.between) t.order l.order t.sends l.sends (sym t.cycle ∙ l.own_cycle) (sym t.place ∙ l.own_place) in
+      let b = at l.before in
+      let begun = (fine_stood plan commands scope l.before).begun (needs_send plan b l.sends).2 in
+      let own : l.answer.cycle ≡ cycles_begun plan b.progress = l.own_cycle in
+      let its : l.answer.cycle ≡ cycle_out plan (at t.before) = t.cycle in
+      let sends = sends_of_cycle plan (at t.before) t.sends (omega (arith, own, its, begun)) in
+      let one : t.before ≡ l.before = same_send acts t.before _ l.before (l.request ∷ l.between) t.order l.order sends l.sends
+      (sym (send_cycle plan (at t.before) sends) ∙ sym t.cycle ∙ l.own_cycle) (sym (send_place plan commands (at t.before) sends) ∙ sym t.place ∙ l.own_place) in
       let utc : l.answer.sent ≡ Some (at l.before).progress.moment.utc = t.sent ∙ ap (λ xs. Some (at xs).progress.moment.utc) one in
       let before_place : place_next commands (at acts).progress ≡ place_next commands (at l.before).progress + 1 = l.place in
       let here : place_next commands (at l.before).progress ≡ a = omega (arith, before_place, place) in
@@ -406,14 +422,16 @@ module _ (plan : Plan) (commands : List Task) (scope : Scope) where
             ∙ ap (λ p. record { cycle = cycles_begun plan (at l.before).progress; place = p; sent = unwrap_or l.answer.sent 0; expected = expected }) l.own_place
             ∙ ap (λ o. record { cycle = cycles_begun plan (at l.before).progress; place = place_next commands (at l.before).progress; sent = unwrap_or o 0; expected = expected }) utc;
         same = same_link acts runs next l keeps;
+        cycles = cycles;
       }
 
   -- `l` has the acts before the command that precedes the next one (`l.before`). If `Back` holds there of an earlier command of
   -- the chain, it holds of it still where the next one is to go out
   more_back : (acts : List Act) (a : ℕ) → Runs plan commands (opening plan scope) acts → action_at plan (at acts) ≡ Send
       → (l : IsLinked plan commands scope acts) → StaysBegun plan commands (at l.before) (l.request ∷ l.between)
+      → PreparesNothing plan commands (at l.before) (l.request ∷ l.between)
       → Back l.before (cycles_begun plan (at l.before).progress) a → Back acts (cycles_begun plan (at acts).progress) a
-  more_back acts a runs next l keeps h =
+  more_back acts a runs next l keeps cycles h =
       let grown = records_stay plan commands scope l.before (l.request ∷ l.between) in
       record {
         k = h.k;
@@ -434,23 +452,68 @@ module _ (plan : Plan) (commands : List Task) (scope : Scope) where
         sends = h.sends;
         mark = h.mark;
         same = same_link acts runs next l keeps ∙ h.same;
+        cycles =
+            let back = after_all-append plan commands (opening plan scope) h.start (h.act ∷ h.rest) in
+            let here : after_all plan commands (at h.start) (h.act ∷ h.rest) ≡ at l.before = sym back ∙ ap at (sym h.order) in
+            prepares_none plan commands (at h.start) (h.act ∷ h.rest) (l.request ∷ l.between) h.cycles
+            (subst (λ (x : Model). PreparesNothing plan commands x (l.request ∷ l.between)) (sym here) cycles);
       }
 
   -- where a command is to go out, `Back` holds of each earlier command of its chain, which is d + 1 places before it
   back_to : (d a : ℕ) (acts : List Act) → Runs plan commands (opening plan scope) acts → action_at plan (at acts) ≡ Send
-      → place_next commands (at acts).progress ≡ a + suc d → AreChained commands a (place_next commands (at acts).progress)
+      → place_next commands (at acts).progress ≡ a + suc d → plan.setup ≤ a → AreChained commands a (place_next commands (at acts).progress)
       → Back acts (cycles_begun plan (at acts).progress) a
-  back_to zero a acts runs next place chained =
-      let x = chain_whole plan commands scope acts runs next (omega (arith, place), chained (place_next commands (at acts).progress) (omega (arith, place)) (omega arith)) in
-      one_back acts a runs next (omega (arith, place)) x.0 x.1
-  back_to (suc d) a acts runs next place chained =
-      let x = chain_whole plan commands scope acts runs next (omega (arith, place), chained (place_next commands (at acts).progress) (omega (arith, place)) (omega arith)) in
+  back_to zero a acts runs next place low chained =
+      let x = chain_whole plan commands scope acts runs next (omega (arith, place, low), chained (place_next commands (at acts).progress) (omega (arith, place)) (omega arith)) in
+      one_back acts a runs next (omega (arith, place)) x.0 x.1 x.2
+  back_to (suc d) a acts runs next place low chained =
+      let x = chain_whole plan commands scope acts runs next (omega (arith, place, low), chained (place_next commands (at acts).progress) (omega (arith, place)) (omega arith)) in
       let l = x.0 in
       let on : place_next commands (at acts).progress ≡ place_next commands (at l.before).progress + 1 = l.place in
-      more_back acts a runs next l x.1
+      more_back acts a runs next l x.1 x.2
       (back_to d a l.before (runs_front plan commands (opening plan scope) l.before (l.request ∷ l.between)
-      (subst (λ xs. Runs plan commands (opening plan scope) xs) l.order runs)) l.sends (omega (arith, on, place))
+      (subst (λ xs. Runs plan commands (opening plan scope) xs) l.order runs)) l.sends (omega (arith, on, place)) low
       (λ p above upto. chained p above (omega (arith, on, upto))))
+
+  -- none of these acts sends a command of the set-up, so it isn't next after any of them
+  no_prepare : (s : Model) (xs ys zs : List Act) (act : Act) → PreparesNothing plan commands s xs → xs ≡ ys ++ act ∷ zs → action_at plan (after_all plan commands s ys) ≡ Prepare → ⊥
+  no_prepare s [] [] zs act h e is = cc
+  no_prepare s [] (y ∷ ys) zs act h e is = cc
+  no_prepare s (x ∷ xs) [] zs act h e is = h.0 is
+  no_prepare s (x ∷ xs) (y ∷ ys) zs act h e is =
+      no_prepare (after plan commands s x) xs ys zs act h.1 (act_tail x y xs (ys ++ act ∷ zs) e)
+      (subst (λ (a : Act). action_at plan (after_all plan commands (after plan commands s a) ys) ≡ Prepare) (sym (act_head x y xs (ys ++ act ∷ zs) e)) is)
+
+  -- what stands behind the same front of equal lists is the same
+  same_behind : (xs ys zs : List Act) → xs ++ ys ≡ xs ++ zs → ys ≡ zs
+  same_behind [] ys zs e = e
+  same_behind (x ∷ xs) ys zs e = same_behind xs ys zs (act_tail x x (xs ++ ys) (xs ++ zs) e)
+
+  -- of the part that still goes on, each command behind the one that `Back` speaks of, which is request m, is of a cycle: one of the set-up
+  -- would be sent by an act behind that one
+  cycles_behind : (acts : List Act) (i m cycle a : ℕ) (first : Part) → slice_get (parts plan commands scope acts) i ≡ Some first → (h : Back acts cycle a)
+      → slice_get first.marks m ≡ Some (Some (mark_next plan commands (at h.start).progress)) → action_at plan (at h.start) ≡ Send → 0 < cycles_begun plan (at h.start).progress
+      → (x : ℕ) (mark : Mark) → m < x → slice_get first.marks x ≡ Some (Some mark) → 0 < mark.cycle
+  cycles_behind acts i m cycle a first of_parts h got sends many x mark later found =
+      let own = mark_next plan commands (at h.start).progress in
+      let p = sent_at plan commands (opening plan scope) acts i m first own of_parts got in
+      let q = sent_at plan commands (opening plan scope) acts i x first mark of_parts found in
+      let p_is = of_a_cycle plan commands (at p.before) (action_at plan (at p.before)) own p.its many in
+      let one : p.before ≡ h.start = same_send acts p.before (p.act ∷ p.rest) h.start (h.act ∷ h.rest) p.order h.order p_is.0 sends
+      (ap (λ (k : Mark). k.cycle) (sym p_is.1)) (ap (λ (k : Mark). k.place) (sym p_is.1)) in
+      let more = goes_before plan commands scope acts i i m x own mark (inr (refl, later)) p q in
+      let behind : q.before ≡ h.start ++ more.0 = more.1 ∙ ap (λ xs. xs ++ more.0) one in
+      let rest : h.act ∷ h.rest ≡ more.0 ++ q.act ∷ q.rest = same_behind h.start (h.act ∷ h.rest) (more.0 ++ q.act ∷ q.rest)
+      (sym h.order ∙ q.order ∙ ap (λ xs. xs ++ q.act ∷ q.rest) behind ∙ append_assoc h.start more.0 (q.act ∷ q.rest)) in
+      let there : at q.before ≡ after_all plan commands (at h.start) more.0 = ap at behind ∙ after_all-append plan commands (opening plan scope) h.start more.0 in
+      elim q.its [
+        | inl it ↦ (
+            let own : mark.cycle ≡ cycles_begun plan (at q.before).progress = ap (λ (k : Mark). k.cycle) it.1 in
+            let below = (fine_stood plan commands scope q.before).begun (needs_send plan (at q.before) it.0).2 in
+            omega (arith, own, below)
+            )
+        | inr it ↦ absurd (no_prepare (at h.start) (h.act ∷ h.rest) more.0 q.rest q.act h.cycles rest (ap (action_at plan) (sym there) ∙ it.0))
+      ]
 
   -- where `Back` holds of a command, `IsAnsweredBack` does: its request is one of the last part
   in_part : (acts : List Act) (i cycle a : ℕ) (first : Part) → Runs plan commands (opening plan scope) acts
@@ -481,16 +544,22 @@ module _ (plan : Plan) (commands : List Task) (scope : Scope) where
         says = h.says;
         m = has.2;
         expected = expected_first (drop (place_next commands s.progress) commands);
-        mark = subst (λ (p : Part). slice_get p.marks has.2 ≡ Some (Some (mark_of (expected_first (drop (place_next commands s.progress) commands)) h.answer))) same (subst (λ (k : Mark). slice_get has.0.marks has.2 ≡ Some (Some k)) (sym h.mark) has.3);
+        mark =
+            subst (λ (p : Part). slice_get p.marks has.2 ≡ Some (Some (mark_of (expected_first (drop (place_next commands s.progress) commands)) h.answer))) same
+            (subst (λ (k : Mark). slice_get has.0.marks has.2 ≡ Some (Some k)) (sym h.mark) has.3);
+        of_cycles =
+            cycles_behind acts i has.2 cycle a first of_parts h (subst (λ (p : Part). slice_get p.marks has.2 ≡ Some (Some (mark_next plan commands s.progress))) same has.3) h.sends
+            (let below = fine.begun unsent in omega (arith, below));
       }
 
 -- the law: each command of a chain goes out after the answers of the earlier ones, as a request of the same part
 pub chains_stay : ChainsStay
-chains_stay plan commands scope acts runs i n part mark e f =
+chains_stay plan commands scope acts runs i n part mark e f above =
     let x = sent_at plan commands (opening plan scope) acts i n part mark e f in
     let runs_there = runs_front plan commands (opening plan scope) x.before (x.act ∷ x.rest) (subst (λ xs. Runs plan commands (opening plan scope) xs) x.order runs) in
-    let cycle : mark.cycle ≡ cycles_begun plan (stood plan commands scope x.before).progress = ap (λ (k : Mark). k.cycle) x.is in
-    let place : mark.place ≡ place_next commands (stood plan commands scope x.before).progress = ap (λ (k : Mark). k.place) x.is in
+    let is = of_a_cycle plan commands (stood plan commands scope x.before) (action_at plan (stood plan commands scope x.before)) mark x.its above in
+    let cycle : mark.cycle ≡ cycles_begun plan (stood plan commands scope x.before).progress = ap (λ (k : Mark). k.cycle) is.1 in
+    let place : mark.place ≡ place_next commands (stood plan commands scope x.before).progress = ap (λ (k : Mark). k.place) is.1 in
     record {
       before = x.before;
       rest = x.act ∷ x.rest;
@@ -499,8 +568,8 @@ chains_stay plan commands scope acts runs i n part mark e f =
       of_parts = x.of_parts;
       last = x.last;
       count = x.count;
-      chain = λ a less chained.
+      chain = λ a low less chained.
           subst (λ c. IsAnsweredBack plan commands scope x.before x.first c a) (sym cycle)
           (in_part plan commands scope x.before i (cycles_begun plan (stood plan commands scope x.before).progress) a x.first runs_there x.of_parts x.last
-          (back_to plan commands scope (mark.place - suc a) a x.before runs_there x.sends (omega (arith, place, less)) (subst (λ p. AreChained commands a p) place chained)));
+          (back_to plan commands scope (mark.place - suc a) a x.before runs_there is.0 (omega (arith, place, less)) low (subst (λ p. AreChained commands a p) place chained)));
     }

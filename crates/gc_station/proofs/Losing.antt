@@ -24,11 +24,11 @@ use Rattle.gc_links.specs.Acts.{Act, Cut}
 use Rattle.gc_station.specs.Deciding.{has_begun, is_up, action_of, action_in, action_up}
 use Rattle.gc_station.specs.Ends.{IsWrittenAt, BeginsAnew, IsLast, IsLostIn}
 use Rattle.gc_station.specs.Marks.{records_of}
-use Rattle.gc_station.specs.Progressing.{turned, sent, failing, is_over, is_over_in, loses_all}
+use Rattle.gc_station.specs.Progressing.{turned, sent, failing, is_over, is_over_in, loses_all, setup_sent}
 use Rattle.gc_station.specs.Reasons.{IsFor}
 use Rattle.gc_station.specs.Records.{Record}
 use Rattle.gc_station.specs.Runs.{stood}
-use Rattle.gc_station.specs.Model.{Model, opening, action_at, waiting_of, request_text, Puts, Performs, with_progress, asks_next, is_chained_behind_next, others_behind_next, after_put, moved, losing, ended, after}
+use Rattle.gc_station.specs.Model.{Model, opening, action_at, waiting_of, request_text, Puts, Performs, with_progress, asks_next, is_chained_behind_next, others_behind_next, after_put, moved, losing, ended, after, IsSending, asks_setup}
 use Rattle.gc_station.proofs.Counts.{ended_progress}
 use Rattle.gc_station.proofs.Facts.{action_for}
 use Rattle.gc_station.proofs.Invariant.{Invariant}
@@ -39,7 +39,7 @@ use Rattle.gc_station.proofs.Meets.{IsRecordOf, records_all, was_answered, was_l
 use Rattle.gc_station.proofs.Midway.{clash}
 use Rattle.gc_station.proofs.Waiting.{WasAsked, Stayed, Waits, IsTrue, IsHonest}
 use Rattle.gc_station.proofs.Parting.{keeps_action}
-use Rattle.gc_station.proofs.Walk.{is_sent, moved_changed}
+use Rattle.gc_station.proofs.Walk.{is_sent, moved_changed, is_prepared}
 use Rattle.gc_station.proofs.Words.{renews_only, renews_needs}
 use Rattle.gc_station.specs.Scopes.{Scope}
 
@@ -140,6 +140,25 @@ send_loses_none plan commands s act fine needs =
     neither (has_begun (moved plan commands actions.Send t act).progress) _ (ap (λ (x : Model). has_begun x.progress) (moved_changed plan commands actions.Send t act) ∙ needs.1)
     (put_goes _ f t act (sym (ap (λ (x : Model). x.progress.phase) (is_sent plan commands t)) ∙ needs.0))
 
+-- nothing is lost where a command of the set-up goes out
+prepare_loses_none : (plan : Plan) (commands : List Task) (s : Model) (act : Act) → Invariant plan commands s → IsFor plan s.progress (waiting_of s) actions.Prepare
+    → loses_all (moved plan commands actions.Prepare (with_progress turned s) act).progress ≡ false
+prepare_loses_none plan commands s act fine needs =
+    let t = with_progress turned s in
+    let f = λ (x : Model). with_progress (setup_sent plan) (asks_setup plan commands x) in
+    neither (has_begun (moved plan commands actions.Prepare t act).progress) _ (ap (λ (x : Model). has_begun x.progress) (moved_changed plan commands actions.Prepare t act) ∙ needs.1)
+    (put_goes _ f t act (sym (ap (λ (x : Model). x.progress.phase) (is_prepared plan commands t)) ∙ needs.0))
+
+-- nothing is lost where a command goes out, of a cycle or of the set-up
+sending_loses_none : (plan : Plan) (commands : List Task) (s : Model) (act : Act) → Invariant plan commands s → IsSending plan s
+    → loses_all (moved plan commands (action_at plan s) (with_progress turned s) act).progress ≡ false
+sending_loses_none plan commands s act fine (inl sends) =
+    let needs = subst (λ (o : Action). IsFor plan s.progress (waiting_of s) o) sends (action_for plan s.progress (waiting_of s)) in
+    ap (λ (o : Action). loses_all (moved plan commands o (with_progress turned s) act).progress) sends ∙ send_loses_none plan commands s act fine needs
+sending_loses_none plan commands s act fine (inr sends) =
+    let needs = subst (λ (o : Action). IsFor plan s.progress (waiting_of s) o) sends (action_for plan s.progress (waiting_of s)) in
+    ap (λ (o : Action). loses_all (moved plan commands o (with_progress turned s) act).progress) sends ∙ prepare_loses_none plan commands s act fine needs
+
 -- The records of those that are lost.
 
 -- this settlement is of a request that is lost, with this mark; that request was put among these acts
@@ -201,9 +220,8 @@ lost_true plan commands scope acts act r news earlier later fine loses why ends 
   on : CutOf acts act a.before a.between a.request → IsLostIn plan commands scope (acts ++ act ∷ []) r
   on (AtEnd same) =
       let s = stood plan commands scope acts in
-      let sends : action_at plan s ≡ actions.Send = ap (λ (xs : List Act). action_at plan (stood plan commands scope xs)) same ∙ (a.its it.0 refl).sends in
-      let needs = subst (λ (o : Action). IsFor plan s.progress (waiting_of s) o) sends (action_for plan s.progress (waiting_of s)) in
-      absurd (clash _ loses (ap (λ (o : Action). loses_all (moved plan commands o (with_progress turned s) act).progress) sends ∙ send_loses_none plan commands s act fine needs))
+      let sends : IsSending plan s = subst (λ (xs : List Act). IsSending plan (stood plan commands scope xs)) (sym same) (a.its it.0 refl).sends in
+      absurd (clash _ loses (sending_loses_none plan commands s act fine sends))
   on (Before between at rest) =
       let its = a.its it.0 refl in
       record {

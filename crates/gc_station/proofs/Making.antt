@@ -11,6 +11,7 @@ use Rattle.gc_client.specs.declared.window.TheConstants.{WINDOW}
 use Rattle.gc_client.specs.Rule.{ById, sends, id_send}
 use Rattle.gc_texts.specs.Endings.{End, Skipped, Missed}
 use Rattle.gc_texts.specs.declared.wish.Wish.{Wish}
+use Rattle.gc_texts.specs.Tasks.{call_at}
 use Rattle.gc_texts.specs.declared.tasks.Task.{Task}
 use Rattle.gc_links.specs.declared.link.Moment.{Moment}
 use Rattle.gc_station.specs.declared.mark.Mark.{Mark}
@@ -25,10 +26,11 @@ use Rattle.gc_station.specs.Deciding.{later}
 use Rattle.gc_station.specs.Marks.{is_well, last_well}
 use Rattle.gc_station.specs.Progressing.{failing, skipped_at}
 use Rattle.gc_station.specs.Records.{Record}
-use Rattle.gc_station.specs.Model.{Model, Puts, IsReading, client_sent, asks, asks_first, skips_first, with_progress, with_listed, with_records, after_put, after_read, moved}
-use Rattle.gc_station.specs.Stations.{Refines, Took, Makes, Made, ComesTo, cut_progress, seen}
+use Rattle.gc_station.specs.Model.{Model, Puts, IsReading, client_sent, asks, asks_first, skips_first, with_progress, with_listed, with_records, after_put, after_read, moved, asks_or_null, text_or_null, request_text}
+use Rattle.gc_station.specs.Stations.{Refines, Took, Makes, Made, ComesTo, cut_progress, seen, setup_asked}
 use Rattle.gc_station.specs.Scopes.{AreReadings}
 use Rattle.gc_station.specs.Tallies.{nothing_yet, tallied}
+use Rattle.gc_station.specs.declared.station.sending.Asking.{Asking}
 use Rattle.gc_station.proofs.Records.{tallied-append, last-append}
 
 -- a station whose progress changes is as the model whose progress changes so
@@ -124,14 +126,37 @@ drop_some (y ∷ ys) (suc i) below = drop_some ys i (omega (arith, below))
 
 -- a station that sent the first of these commands is as the model that sent it
 pub first_stands : (new : Station) (s : Model) (mark mark' : Mark) (list : List Task) (task : Task) (others : List Task) → list ≡ task ∷ others → mark ≡ mark'
-    → Refines new (asks task.deadline task.command.target task.command.call (Some mark) s) → Refines new (asks_first mark' list s)
+    → Refines new (asks task.deadline task.command.target (call_at task mark.sent) (Some mark) s) → Refines new (asks_first mark' list s)
 first_stands new s mark mark' list task others is e stands =
-    subst (λ (ts : List Task). Refines new (asks_first mark' ts s)) (sym is) (subst (λ (m : Mark). Refines new (asks task.deadline task.command.target task.command.call (Some m) s)) e stands)
+    subst (λ (ts : List Task). Refines new (asks_first mark' ts s)) (sym is) (subst (λ (m : Mark). Refines new (asks task.deadline task.command.target (call_at task m.sent) (Some m) s)) e stands)
 
 -- a send adds no records, so a book that has the model's records still has them
 pub first_took : (text : Record → List ℕ) (start taken : Option (List ℕ)) (s : Model) (mark : Mark) (list : List Task) → Took text start taken s → Took text start taken (asks_first mark list s)
 first_took text start taken s mark [] so = so
 first_took text start taken s mark (task ∷ others) so = so
+
+-- the model that sent what `setup_asked` says is that which sent the first of these commands of the set-up, or a null procedure where there is none
+pub setup_stands : (plan : Plan) (station : Station) (s : Model) (asking : Asking) (mark : Mark) (list : List Task) → asking ≡ setup_asked plan mark list
+    → Refines station (asks asking.wait asking.command.target asking.command.call asking.mark s) → Refines station (asks_or_null plan mark list s)
+setup_stands plan station s asking mark list is stands =
+    subst (λ (t : Model). Refines station t) (by_list list)
+    (subst (λ (a : Asking). Refines station (asks a.wait a.command.target a.command.call a.mark s)) is stands) where
+      -- the two models are the same, whether there is a command or not
+      by_list : (xs : List Task) → asks (setup_asked plan mark xs).wait (setup_asked plan mark xs).command.target (setup_asked plan mark xs).command.call (setup_asked plan mark xs).mark s
+          ≡ asks_or_null plan mark xs s
+      by_list [] = refl
+      by_list (task ∷ others) = refl
+
+-- its bytes are those of the first of these commands of the set-up, or of a null procedure where there is none
+pub setup_text : (plan : Plan) (client : ById Asked) (mark : Mark) (list : List Task) → request_text client (setup_asked plan mark list).command.call ≡ text_or_null mark.sent client list
+setup_text plan client mark [] = refl
+setup_text plan client mark (task ∷ others) = refl
+
+-- a book that has a model's records has those of the model that sent the first of these commands of the set-up, as that adds none
+pub setup_took : (plan : Plan) (text : Record → List ℕ) (start taken : Option (List ℕ)) (s : Model) (mark : Mark) (list : List Task) → Took text start taken s
+    → Took text start taken (asks_or_null plan mark list s)
+setup_took plan text start taken s mark [] so = so
+setup_took plan text start taken s mark (task ∷ others) so = so
 
 -- A command is skipped.
 

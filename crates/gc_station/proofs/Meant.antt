@@ -5,6 +5,7 @@ use Rattle.gc_lines.specs.Frames.{rest_behind}
 use Rattle.gc_catalogue.specs.declared.asked.Asked.{Asked}
 use Rattle.gc_catalogue.specs.declared.asked.Asked.TheVariants.{Table}
 use Rattle.gc_catalogue.specs.declared.call.Call.TheVariants.{NullProc}
+use Rattle.gc_texts.specs.Tasks.{call_at}
 use Rattle.gc_texts.specs.declared.tasks.Task.{Task}
 use Rattle.gc_station.specs.declared.mark.Mark.{Mark}
 use Rattle.gc_station.specs.declared.plan.Plan.{Plan}
@@ -12,9 +13,9 @@ use Rattle.gc_station.specs.declared.progress.Action.{Action}
 use Rattle.gc_station.specs.declared.progress.Action.TheVariants as action
 use Rattle.gc_links.specs.Acts.{Act, Put, Cut, Gave, Closed}
 use Rattle.gc_station.specs.Deciding.{later, has_begun}
-use Rattle.gc_station.specs.Parts.{Asks, Part, only_turns, nothing, asking, asking_first, putting, beginning}
+use Rattle.gc_station.specs.Parts.{Asks, Part, only_turns, nothing, asking, asking_first, putting, beginning, asking_or_null}
 use Rattle.gc_station.specs.Reasons.{IsFor}
-use Rattle.gc_station.specs.Model.{Model, action_at, waiting_of, place_next, mark_next, request_text, null_text, first_text, Puts, ReadsClock, IsOpening, IsReading, Performs, is_heard, after}
+use Rattle.gc_station.specs.Model.{Model, action_at, waiting_of, place_next, mark_next, request_text, null_text, first_text, Puts, ReadsClock, IsOpening, IsReading, Performs, is_heard, after, mark_setup, text_or_null}
 use Rattle.gc_station.proofs.Facts.{action_for}
 use Rattle.gc_station.proofs.Invariant.{Invariant}
 use Rattle.gc_station.proofs.Midway.{clash}
@@ -61,12 +62,12 @@ module _ (plan : Plan) (commands : List Task) where
   never_puts act bytes e h = cc
 
   -- the bytes of the next command are the line of the request of its part
-  first_put : (s : Model) (left : List Task) (bytes : List ℕ) → 0 < length left → length s.client.waiting < 7 → bytes ≡ first_text s.client left
+  first_put : (s : Model) (left : List Task) (bytes : List ℕ) → 0 < length left → length s.client.waiting < 7 → bytes ≡ first_text s.progress.moment.utc s.client left
       → IsSent s bytes (asking_first s.progress.moment.elapsed (mark_next plan commands s.progress) left)
   first_put s [] bytes some room e = absurd (omega (arith, some))
   first_put s (task ∷ others) bytes some room e = record {
     target = task.command.target;
-    call = task.command.call;
+    call = call_at task s.progress.moment.utc;
     deadline = later s.progress.moment.elapsed task.deadline;
     mark = Some (mark_next plan commands s.progress);
     part = refl;
@@ -79,6 +80,20 @@ module _ (plan : Plan) (commands : List Task) where
       → IsSent s bytes (asking 0 (Table NullProc) (later s.progress.moment.elapsed plan.deadline) None)
   null_put s bytes room e = record { target = 0; call = Table NullProc; deadline = later s.progress.moment.elapsed plan.deadline; mark = None; part = refl; text = e; room = room }
 
+  -- the bytes of the next command of the set-up are the line of the request of its part
+  setup_put : (s : Model) (left : List Task) (bytes : List ℕ) → length s.client.waiting < 7 → bytes ≡ text_or_null s.progress.moment.utc s.client left
+      → IsSent s bytes (asking_or_null plan s.progress.moment.elapsed (mark_setup commands s.progress) left)
+  setup_put s [] bytes room e = null_put s bytes room e
+  setup_put s (task ∷ others) bytes room e = record {
+    target = task.command.target;
+    call = call_at task s.progress.moment.utc;
+    deadline = later s.progress.moment.elapsed task.deadline;
+    mark = Some (mark_setup commands s.progress);
+    part = refl;
+    text = e;
+    room = room;
+  }
+
   -- once the station has begun, the bytes that an act of this action puts are as `IsPut` says of the action's part
   put_order : (s : Model) (o : Action) (act : Act) (bytes : List ℕ) → Invariant plan commands s → IsFor plan s.progress (waiting_of s) o
       → Performs commands s o act → put_by act ≡ Some bytes → has_begun s.progress ≡ true → IsPut s bytes (putting plan commands s o)
@@ -86,10 +101,12 @@ module _ (plan : Plan) (commands : List Task) where
   put_order s action.Ask act bytes fine is obeys e begun = absurd (clash (has_begun s.progress) begun is.1)
   put_order s action.Renew act bytes fine is obeys e begun = absurd (never_puts act bytes e (inl obeys))
   put_order s action.Flush act bytes fine is obeys e begun = inr (null_put s bytes is.4.1 (puts_same (request_text s.client (Table NullProc)) bytes act e obeys))
+  put_order s action.Prepare act bytes fine is obeys e begun =
+      let left = drop s.progress.prepared commands in inr (setup_put s left bytes is.3.1 (puts_same (text_or_null s.progress.moment.utc s.client left) bytes act e obeys))
   put_order s action.Send act bytes fine is obeys e begun =
       let left = drop (place_next commands s.progress) commands in
       let many : length left ≡ length commands - place_next commands s.progress = length-drop (place_next commands s.progress) commands in
-      inr (first_put s left bytes (omega (arith, many, is.2, fine.unsent)) is.3.1 (puts_same (first_text s.client left) bytes act e obeys))
+      inr (first_put s left bytes (omega (arith, many, is.2, fine.unsent)) is.3.1 (puts_same (first_text s.progress.moment.utc s.client left) bytes act e obeys))
   put_order s action.ReadClock act bytes fine is obeys e begun = absurd (never_puts act bytes e (inl obeys))
   put_order s action.Skip act bytes fine is obeys e begun = absurd (never_puts act bytes e (inl obeys))
   put_order s action.Pass act bytes fine is obeys e begun = absurd (never_puts act bytes e (inl obeys))
@@ -122,6 +139,7 @@ module _ (plan : Plan) (commands : List Task) where
   asked_order s action.Clear act bytes is obeys e begins = inl (puts_same (10 ∷ []) bytes act e obeys, refl)
   asked_order s action.Ask act bytes is obeys e begins = inr (puts_same (null_text s.progress.word) bytes act e obeys, asked_turn s act bytes e)
   asked_order s action.Flush act bytes is obeys e begins = absurd (clash (has_begun s.progress) is.1 begins)
+  asked_order s action.Prepare act bytes is obeys e begins = absurd (clash (has_begun s.progress) is.1 begins)
   asked_order s action.Send act bytes is obeys e begins = absurd (clash (has_begun s.progress) is.1 begins)
   asked_order s action.Renew act bytes is obeys e begins = absurd (never_puts act bytes e (inl obeys))
   asked_order s action.ReadClock act bytes is obeys e begins = absurd (never_puts act bytes e (inl obeys))

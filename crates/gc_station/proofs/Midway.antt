@@ -1,6 +1,8 @@
 -- What holds in the midst of an act, before what waits is lost: `Mid`, the weaker record, which has the counts and the records,
 -- and what the phase says. At the end of an act it gives what every run keeps (`Invariant`).
 use Rattle.std.proofs.Common.{◌≡◌, ℕ, nat_lt, ltb-true, ltb-false, take, ◌+◌, ◌-◌, ◌%◌, ◌<◌, ◌≤◌, ◌⊎◌, inl, inr, ◌&&◌, ◌||◌, Bool, true, false, not, List, [], ◌∷◌, ◌++◌, length, drop, map, nat_eq, Option, Some, None, refl, sym, ap, ◌∙◌, subst, arith, length-append}
+use Rattle.std.specs.Prelude.{slice_get}
+use Rattle.std.specs.List.{AllByRecursion}
 use Rattle.std.proofs.Math.Nat.{mod-lt}
 use Rattle.std.proofs.lemmas.Bool.Decides.{nat_tests}
 use Rattle.std.proofs.lemmas.List.{length-map, length-drop, nil_from_length}
@@ -10,9 +12,10 @@ use Rattle.gc_client.specs.declared.window.TheConstants.{WINDOW, IDS}
 use Rattle.gc_client.specs.declared.pending.Pending.{Pending}
 use Rattle.gc_client.specs.Rule.{ById, Settlement, expires, expired, fresh, lost, pending_of, id_send, sends}
 use Rattle.gc_client.specs.OneForOne.{of_settled, of_pending}
-use Rattle.gc_client.proofs.OneForOne.{lost_parts}
+use Rattle.gc_client.proofs.OneForOne.{expired_parts, lost_parts}
 use Rattle.gc_texts.specs.declared.turn.Turn.{Turn}
 use Rattle.gc_texts.specs.declared.near.Expected.{Expected}
+use Rattle.gc_texts.specs.Tasks.{call_at}
 use Rattle.gc_texts.specs.declared.tasks.Task.{Task}
 use Rattle.gc_texts.specs.Endings.{End}
 use Rattle.gc_station.specs.declared.mark.Mark.{Mark}
@@ -20,26 +23,32 @@ use Rattle.gc_station.specs.declared.plan.Plan.{Plan}
 use Rattle.gc_station.specs.declared.progress.Phase.{Phase}
 use Rattle.gc_station.specs.declared.progress.Progress.{Progress}
 use Rattle.gc_station.specs.Deciding.{has_begun, is_up}
-use Rattle.gc_station.specs.EachOnce.{Parted, Request, requests, of_task, of_record, still_waiting, sent_by}
+use Rattle.gc_station.specs.EachOnce.{of_text, Parted, Request, requests, of_task, of_record, still_waiting, sent_by}
 use Rattle.gc_station.proofs.Parted.{parted_more, parted_past, sent_past}
 use Rattle.gc_station.specs.Marks.{commands_in, records_of}
 use Rattle.gc_station.specs.Progressing.{is_over_in, is_over, loses_all}
+use Rattle.gc_station.specs.Parts.{AreOf, IsOf, went_out}
 use Rattle.gc_station.specs.Records.{Record}
+use Rattle.gc_station.specs.Tasked.{IsOfItsTask}
 use Rattle.gc_station.specs.Model.{Model, client_sent, losing, ended}
-use Rattle.gc_station.proofs.Each.{each_moment, each_settles, each_null, each_sent, each_skipped, sent_next, sent_whole, sent_none}
+use Rattle.gc_station.proofs.Each.{each_moment, each_settles, each_null, each_sent, each_skipped, sent_next, sent_whole, sent_none, each_prepared}
 use Rattle.gc_station.proofs.Invariant.{Invariant, is_bare, says_done}
+use Rattle.gc_station.proofs.Lists.{all_append}
+use Rattle.gc_station.proofs.Tasked.{at_place, own_more, own_settled, settled_told, unsent_told}
 
 -- where `left` cycles haven't begun, and `unsent` commands of the present one haven't had their turn: the records, and after
 -- them the commands that wait, are the commands that had their turn, sent or not, in order. Each request that waits has its
--- mark, at most 7 wait, and the next id is below 8
+-- mark, at most 7 wait, and the next id is below 8. Each asks what its mark says, and each record is of its task
 pub record Sound (plan : Plan) (commands : List Task) (left unsent : ℕ) (client : ById Asked) (marks : List (Option Mark)) (records : List Record) (passes : List Request) : Type 0 where
-  pub unsents : unsent ≤ length commands
+  pub unsents : unsent ≤ length commands - plan.setup
   pub lefts : left ≤ plan.cycles
   pub begun : 0 < unsent → left < plan.cycles
   pub paired : length marks ≡ length client.waiting
   pub window : length client.waiting ≤ 7
   pub digit : client.next < 8
-  pub each : Parted (map of_record records ++ still_waiting marks client.waiting) passes (sent_by commands (plan.cycles - left) (length commands - unsent))
+  pub each : Parted (of_text commands (map of_record records ++ still_waiting marks client.waiting)) passes (sent_by plan.setup commands (plan.cycles - left) (length commands - unsent))
+  pub own : AreOf commands marks (map of_pending client.waiting)
+  pub told : AllByRecursion (IsOfItsTask commands) records
 
 -- what a phase says of the counts, the bytes that are kept and the marks
 pub record Placed (phase : Phase) (left unsent : ℕ) (rest : List ℕ) (marks : List (Option Mark)) : Type 0 where
@@ -69,6 +78,8 @@ mid_of plan commands s fine = (
     window = fine.window;
     digit = fine.digit;
     each = fine.each;
+    own = fine.own;
+    told = fine.told;
   },
   record {
     empty = fine.rest;
@@ -99,7 +110,9 @@ sound_moment plan commands left unsent client marks records passes m sound =
       paired = sound.paired ∙ sym same;
       window = omega (arith, same, sound.window);
       digit = sound.digit;
-      each = as_kept _ _ _ _ (each_moment marks client.waiting records (map of_record records ++ still_waiting marks client.waiting) m refl) sound.each;
+      each = as_kept _ _ _ _ (each_moment commands marks client.waiting records (of_text commands (map of_record records ++ still_waiting marks client.waiting)) m refl) sound.each;
+      own = subst (AreOf commands marks) (sym (expired_parts m client.waiting)) sound.own;
+      told = sound.told;
     }
 
 -- settlements of the oldest requests keep `Sound`
@@ -114,6 +127,7 @@ sound_settles reads plan commands left unsent client next marks records passes u
     let behind : length waits ≡ length next.waiting = length-map next.waiting of_pending in
     let count : length ended + length waits ≡ length client.waiting = sym (length-append ended waits) ∙ ap length parts ∙ length-map client.waiting of_pending in
     let fewer : length (drop (length ss) marks) ≡ length marks - length ss = length-drop (length ss) marks in
+    let all : AreOf commands marks (ended ++ waits) = subst (AreOf commands marks) (sym parts) sound.own in
     record {
       unsents = sound.unsents;
       lefts = sound.lefts;
@@ -121,7 +135,9 @@ sound_settles reads plan commands left unsent client next marks records passes u
       paired = omega (arith, ends, behind, count, fewer, sound.paired);
       window = omega (arith, ends, behind, count, sound.window);
       digit = low;
-      each = as_kept _ _ _ _ (each_settles reads utc marks client.waiting next.waiting ss records (map of_record records ++ still_waiting marks client.waiting) parts refl) sound.each;
+      each = as_kept _ _ _ _ (each_settles reads commands utc marks client.waiting next.waiting ss records (of_text commands (map of_record records ++ still_waiting marks client.waiting)) parts refl) sound.each;
+      own = own_settled commands marks ss waits all;
+      told = all_append (IsOfItsTask commands) records _ sound.told (settled_told reads commands utc marks ss waits all);
     }
 
 -- where there is room, the client after a send has the next id, and one request more that waits
@@ -139,9 +155,9 @@ one_more marks ws m p paired = length-append marks (m ∷ []) ∙ ap (λ n. n + 
 
 -- a null procedure that is sent keeps `Sound`
 pub sound_null : (plan : Plan) (commands : List Task) (left unsent : ℕ) (client : ById Asked) (marks : List (Option Mark)) (records : List Record) (passes : List Request) (target : ℕ) (call : Asked) (deadline : ℕ)
-    → length client.waiting < 7 → Sound plan commands left unsent client marks records passes
+    → length client.waiting < 7 → IsOf commands None (record { target = target; call = call }) → Sound plan commands left unsent client marks records passes
     → Sound plan commands left unsent (client_sent client (sends WINDOW client target call deadline)) (marks ++ None ∷ []) records passes
-sound_null plan commands left unsent client marks records passes target call deadline room sound =
+sound_null plan commands left unsent client marks records passes target call deadline room is sound =
     let p = pending_of target call deadline in
     let more : length (client.waiting ++ p ∷ []) ≡ length client.waiting + 1 = length-append client.waiting (p ∷ []) in
     subst (λ (c : ById Asked). Sound plan commands left unsent c (marks ++ None ∷ []) records passes) (sym (client_behind client target call deadline room)) (record {
@@ -151,16 +167,18 @@ sound_null plan commands left unsent client marks records passes target call dea
       paired = one_more marks client.waiting None p sound.paired;
       window = omega (arith, more, room);
       digit = mod-lt (client.next + 1) (omega arith);
-      each = as_kept _ _ _ _ (each_null marks client.waiting p records (map of_record records ++ still_waiting marks client.waiting) sound.paired refl) sound.each;
+      each = as_kept _ _ _ _ (each_null commands marks client.waiting p records (of_text commands (map of_record records ++ still_waiting marks client.waiting)) sound.paired refl) sound.each;
+      own = own_more commands marks client.waiting None p sound.own is;
+      told = sound.told;
     })
 
 -- a command that is sent keeps `Sound`, with one command less unsent
 pub sound_sent : (plan : Plan) (commands : List Task) (left unsent : ℕ) (client : ById Asked) (marks : List (Option Mark)) (records : List Record) (passes : List Request) (utc deadline : ℕ) (expected : Expected) (task : Task) (others : List Task)
     → length client.waiting < 7 → 0 < unsent → drop (length commands - unsent) commands ≡ task ∷ others → Sound plan commands left unsent client marks records passes
-    → Sound plan commands left (unsent - 1) (client_sent client (sends WINDOW client task.command.target task.command.call deadline))
+    → Sound plan commands left (unsent - 1) (client_sent client (sends WINDOW client task.command.target (call_at task utc) deadline))
     (marks ++ Some (record { cycle = plan.cycles - left; place = length commands - unsent; sent = utc; expected = expected }) ∷ []) records passes
 sound_sent plan commands left unsent client marks records passes utc deadline expected task others room some at sound =
-    let p = pending_of task.command.target task.command.call deadline in
+    let p = pending_of task.command.target (call_at task utc) deadline in
     let begun = plan.cycles - left in
     let place = length commands - unsent in
     let mark : Mark = record { cycle = begun; place = place; sent = utc; expected = expected } in
@@ -168,27 +186,49 @@ sound_sent plan commands left unsent client marks records passes utc deadline ex
     let below = sound.begun some in
     let many : 0 < begun = omega (arith, below) in
     let place_is : length commands - (unsent - 1) ≡ place + 1 = omega (arith, some, sound.unsents) in
-    let kept = map of_record records ++ still_waiting marks client.waiting in
+    let kept = of_text commands (map of_record records ++ still_waiting marks client.waiting) in
+    let within : plan.setup ≤ place = omega (arith, some, sound.unsents) in
     let one = requests begun place (of_task task ∷ []) in
-    let each : Parted (map of_record records ++ still_waiting (marks ++ Some mark ∷ []) (client.waiting ++ p ∷ [])) passes (sent_by commands begun (place + 1)) =
-    subst (λ (xs : List Request). Parted (map of_record records ++ still_waiting (marks ++ Some mark ∷ []) (client.waiting ++ p ∷ [])) passes xs) (sent_next commands begun place task others at many)
-    (as_kept _ _ _ _ (each_sent commands begun place utc expected marks client.waiting p records task others sound.paired at refl many kept refl) (parted_more kept passes (sent_by commands begun place) one sound.each)) in
-    subst (λ (c : ById Asked). Sound plan commands left (unsent - 1) c (marks ++ Some mark ∷ []) records passes) (sym (client_behind client task.command.target task.command.call deadline room)) (record {
+    let each : Parted (of_text commands (map of_record records ++ still_waiting (marks ++ Some mark ∷ []) (client.waiting ++ p ∷ []))) passes (sent_by plan.setup commands begun (place + 1)) =
+    subst (λ (xs : List Request). Parted (of_text commands (map of_record records ++ still_waiting (marks ++ Some mark ∷ []) (client.waiting ++ p ∷ []))) passes xs) (sent_next plan.setup commands begun place task others at within many)
+    (as_kept _ _ _ _ (each_sent commands begun place utc expected marks client.waiting p records task others sound.paired at refl many kept refl) (parted_more kept passes (sent_by plan.setup commands begun place) one sound.each)) in
+    subst (λ (c : ById Asked). Sound plan commands left (unsent - 1) c (marks ++ Some mark ∷ []) records passes) (sym (client_behind client task.command.target (call_at task utc) deadline room)) (record {
       unsents = omega (arith, sound.unsents);
       lefts = sound.lefts;
       begun = λ e. below;
       paired = one_more marks client.waiting (Some mark) p sound.paired;
       window = omega (arith, more, room);
       digit = mod-lt (client.next + 1) (omega arith);
-      each = subst (λ (n : ℕ). Parted (map of_record records ++ still_waiting (marks ++ Some mark ∷ []) (client.waiting ++ p ∷ [])) passes (sent_by commands begun n)) (sym place_is) each;
+      each = subst (λ (n : ℕ). Parted (of_text commands (map of_record records ++ still_waiting (marks ++ Some mark ∷ []) (client.waiting ++ p ∷ []))) passes (sent_by plan.setup commands begun n)) (sym place_is) each;
+      own = own_more commands marks client.waiting (Some mark) p sound.own (task, at_place place commands task others at, refl);
+      told = sound.told;
+    })
+
+-- a command of the set-up that is sent keeps `Sound`
+pub sound_prepared : (plan : Plan) (commands : List Task) (left unsent : ℕ) (client : ById Asked) (marks : List (Option Mark)) (records : List Record) (passes : List Request) (deadline : ℕ) (mark : Mark) (task : Task)
+    → length client.waiting < 7 → mark.cycle ≡ 0 → slice_get commands mark.place ≡ Some task → Sound plan commands left unsent client marks records passes
+    → Sound plan commands left unsent (client_sent client (sends WINDOW client task.command.target (call_at task mark.sent) deadline)) (marks ++ Some mark ∷ []) records passes
+sound_prepared plan commands left unsent client marks records passes deadline mark task room none at sound =
+    let p = pending_of task.command.target (call_at task mark.sent) deadline in
+    let more : length (client.waiting ++ p ∷ []) ≡ length client.waiting + 1 = length-append client.waiting (p ∷ []) in
+    subst (λ (c : ById Asked). Sound plan commands left unsent c (marks ++ Some mark ∷ []) records passes) (sym (client_behind client task.command.target (call_at task mark.sent) deadline room)) (record {
+      unsents = sound.unsents;
+      lefts = sound.lefts;
+      begun = sound.begun;
+      paired = one_more marks client.waiting (Some mark) p sound.paired;
+      window = omega (arith, more, room);
+      digit = mod-lt (client.next + 1) (omega arith);
+      each = as_kept _ _ _ _ (each_prepared commands mark marks client.waiting p records (of_text commands (map of_record records ++ still_waiting marks client.waiting)) none sound.paired refl) sound.each;
+      own = own_more commands marks client.waiting (Some mark) p sound.own (task, at, refl);
+      told = sound.told;
     })
 
 -- a command that isn't sent keeps `Sound`, with one command less unsent
 pub sound_skipped : (plan : Plan) (commands : List Task) (left unsent : ℕ) (client : ById Asked) (marks : List (Option Mark)) (records : List Record) (passes : List Request) (utc : ℕ) (end : End) (turn : Turn) (task : Task) (others : List Task)
-    → commands_in marks ≡ 0 → 0 < unsent → drop (length commands - unsent) commands ≡ task ∷ others → Sound plan commands left unsent client marks records passes
+    → commands_in marks ≡ 0 → 0 < unsent → drop (length commands - unsent) commands ≡ task ∷ others → went_out end ≡ false → Sound plan commands left unsent client marks records passes
     → Sound plan commands left (unsent - 1) client marks (records ++ record
     { sent = None; utc = utc; cycle = plan.cycles - left; place = length commands - unsent; turn = turn; command = task.command; end = end } ∷ []) passes
-sound_skipped plan commands left unsent client marks records passes utc end turn task others none some at sound =
+sound_skipped plan commands left unsent client marks records passes utc end turn task others none some at out sound =
     let begun = plan.cycles - left in
     let place = length commands - unsent in
     let r : Record = record { sent = None; utc = utc; cycle = begun; place = place; turn = turn; command = task.command; end = end } in
@@ -203,11 +243,13 @@ sound_skipped plan commands left unsent client marks records passes utc end turn
       window = sound.window;
       digit = sound.digit;
       each =
-          let kept = map of_record records ++ still_waiting marks client.waiting in
+          let kept = of_text commands (map of_record records ++ still_waiting marks client.waiting) in
           let one = requests begun place (of_task task ∷ []) in
-          subst (λ (xs : List Request). Parted (map of_record (records ++ r ∷ []) ++ still_waiting marks client.waiting) passes xs)
-          (sent_next commands begun place task others at many ∙ ap (λ (n : ℕ). sent_by commands begun n) (sym place_is))
-          (as_kept _ _ _ _ (each_skipped commands begun place marks client.waiting records r task others none at refl many kept refl) (parted_more kept passes (sent_by commands begun place) one sound.each));
+          subst (λ (xs : List Request). Parted (of_text commands (map of_record (records ++ r ∷ []) ++ still_waiting marks client.waiting)) passes xs)
+          (sent_next plan.setup commands begun place task others at (omega (arith, some, sound.unsents)) many ∙ ap (λ (n : ℕ). sent_by plan.setup commands begun n) (sym place_is))
+          (as_kept _ _ _ _ (each_skipped commands begun place marks client.waiting records r task others none at refl many kept refl) (parted_more kept passes (sent_by plan.setup commands begun place) one sound.each));
+      own = sound.own;
+      told = all_append (IsOfItsTask commands) records _ sound.told (unsent_told commands utc begun place turn end task (at_place place commands task others at) out, tt);
     }
 
 -- the attempts of a chain that are passed over keep `Sound`, with so many commands less unsent
@@ -220,7 +262,7 @@ sound_passed plan commands left unsent count client marks records passes some so
     let place = length commands - unsent in
     let below = sound.begun some in
     let many : 0 < begun = omega (arith, below) in
-    let kept = map of_record records ++ still_waiting marks client.waiting in
+    let kept = of_text commands (map of_record records ++ still_waiting marks client.waiting) in
     let past = requests begun place (map of_task (take count (drop place commands))) in
     record {
       unsents = omega (arith, sound.unsents);
@@ -229,8 +271,10 @@ sound_passed plan commands left unsent count client marks records passes some so
       paired = sound.paired;
       window = sound.window;
       digit = sound.digit;
-      each = subst (λ (xs : List Request). Parted kept (passes ++ past) xs) (sent_past commands begun place count (length commands - (unsent - count)) (omega (arith, sound.unsents)) many
-          (by_count (nat_lt unsent count) refl)) (parted_past kept passes (sent_by commands begun place) past sound.each);
+      each = subst (λ (xs : List Request). Parted kept (passes ++ past) xs) (sent_past plan.setup commands begun place count (length commands - (unsent - count)) (omega (arith, some, sound.unsents)) (omega (arith, sound.unsents)) many
+          (by_count (nat_lt unsent count) refl)) (parted_past kept passes (sent_by plan.setup commands begun place) past sound.each);
+      own = sound.own;
+      told = sound.told;
     } where
       -- the new place is so many places behind, or at the end, where fewer are unsent
       by_count : (b : Bool) → nat_lt unsent count ≡ b → (length commands - (unsent - count) ≡ (length commands - unsent) + count)
@@ -240,7 +284,7 @@ sound_passed plan commands left unsent count client marks records passes some so
 
 -- the beginning of a cycle keeps `Sound`
 pub sound_begun : (plan : Plan) (commands : List Task) (left unsent : ℕ) (client : ById Asked) (marks : List (Option Mark)) (records : List Record) (passes : List Request)
-    → unsent ≡ 0 → 0 < left → Sound plan commands left unsent client marks records passes → Sound plan commands (left - 1) (length commands) client marks records passes
+    → unsent ≡ 0 → 0 < left → Sound plan commands left unsent client marks records passes → Sound plan commands (left - 1) (length commands - plan.setup) client marks records passes
 sound_begun plan commands left unsent client marks records passes none some sound =
     let lefts = sound.lefts in
     record {
@@ -250,9 +294,11 @@ sound_begun plan commands left unsent client marks records passes none some soun
       paired = sound.paired;
       window = sound.window;
       digit = sound.digit;
-      each = subst (λ (xs : List Request). Parted (map of_record records ++ still_waiting marks client.waiting) passes xs)
-          (sent_whole commands (plan.cycles - left) (length commands - unsent) (omega (arith, none))
-          ∙ sym (sent_none commands (plan.cycles - left) (plan.cycles - (left - 1)) (length commands - length commands) (omega (arith, some, lefts)) (omega arith))) sound.each;
+      each = subst (λ (xs : List Request). Parted (of_text commands (map of_record records ++ still_waiting marks client.waiting)) passes xs)
+          (sent_whole plan.setup commands (plan.cycles - left) (length commands - unsent) (omega (arith, none))
+          ∙ sym (sent_none plan.setup commands (plan.cycles - left) (plan.cycles - (left - 1)) (length commands - (length commands - plan.setup)) (omega (arith, some, lefts)) (omega arith))) sound.each;
+      own = sound.own;
+      told = sound.told;
     }
 
 -- The end of what waits.
@@ -287,6 +333,8 @@ fine_losing plan commands s true is (sound, placed) =
       over = λ e. refl;
       finished = λ e. let it = placed.finished e in (it.0, it.1, ap commands_in nothing);
       each = x.each;
+      own = x.own;
+      told = x.told;
     } where
       -- an empty list behind a list adds nothing
       append_none : {A : Type 0} (xs : List A) → xs ++ [] ≡ xs
@@ -307,6 +355,8 @@ fine_losing plan commands s false is (sound, placed) =
       over = λ e. absurd (clash (is_over p) e kept.1);
       finished = λ e. still_finished p s.marks kept.1 (placed.finished e);
       each = sound.each;
+      own = sound.own;
+      told = sound.told;
     }
 
 -- the weaker record gives what every run keeps after the whole act

@@ -31,7 +31,7 @@ use Rattle.gc_station.specs.Quiet.{TellsMoment, IsListening, StaysConnected}
 use Rattle.gc_station.specs.Reasons.{IsFor}
 use Rattle.gc_station.specs.Runs.{stood}
 use Rattle.gc_station.specs.Silences.{latest, IsNoReply, BringsNoReply, IsMute, WentBack, IsMuteFor}
-use Rattle.gc_station.specs.Model.{Model, request_text, null_text, first_text, opening, action_at, waiting_of, with_progress, with_moment, with_rest, line_came, lines_came, lines_behind, came, is_heard, is_ok, is_reply, place_next, Performs, moved, after, after_all, Runs}
+use Rattle.gc_station.specs.Model.{Model, request_text, null_text, first_text, opening, action_at, waiting_of, with_progress, with_moment, with_rest, line_came, lines_came, lines_behind, came, is_heard, is_ok, is_reply, place_next, Performs, moved, after, after_all, Runs, text_or_null}
 use Rattle.gc_station.proofs.Always.{always_far}
 use Rattle.gc_station.proofs.Connected.{is_in_use, OnLine, on_line}
 use Rattle.gc_station.proofs.Midway.{clash}
@@ -376,6 +376,7 @@ module _ (plan : Plan) (commands : List Task) (scope : Scope) where
   -- where this action sends a request, the last of the acts told the progress's moment
   abbrev Tells : Progress → List Act → Action → Type 0
   Tells p acts actions.Ask = LastTells p.moment.elapsed acts
+  Tells p acts actions.Prepare = LastTells p.moment.elapsed acts
   Tells p acts actions.Send = LastTells p.moment.elapsed acts
   Tells p acts actions.Flush = LastTells p.moment.elapsed acts
   Tells p acts _ = Unit {0}
@@ -423,8 +424,10 @@ module _ (plan : Plan) (commands : List Task) (scope : Scope) where
       (told_mute (is_sought the_word 0 p.asked) p m acts (λ ready so. sought_begun p.word p.again p.asked needs.1) q)
   mute_line actions.Ask s acts needs tells rest q =
       let p = s.progress in λ m. asks_mute (is_sought p.word (later p.moment.elapsed plan.deadline) true) p acts (null_text p.word) needs.0 tells q
+  mute_line actions.Prepare s acts needs tells rest q =
+      let p = s.progress in λ m. asks_mute (is_sought p.word p.again true) p acts (text_or_null s.progress.moment.utc s.client (drop p.prepared commands)) needs.0 tells q
   mute_line actions.Send s acts needs tells rest q =
-      let p = s.progress in λ m. asks_mute (is_sought p.word p.again true) p acts (first_text s.client (drop (place_next commands p) commands)) needs.0 tells q
+      let p = s.progress in λ m. asks_mute (is_sought p.word p.again true) p acts (first_text s.progress.moment.utc s.client (drop (place_next commands p) commands)) needs.0 tells q
   mute_line actions.Flush s acts needs tells rest q = let p = s.progress in λ m. asks_mute (is_sought p.word p.again true) p acts (request_text s.client (Table NullProc)) needs.0 tells q
   mute_line (actions.Read until) s acts needs tells rest q =
       let p = s.progress in
@@ -441,6 +444,7 @@ module _ (plan : Plan) (commands : List Task) (scope : Scope) where
   -- `Tells` holds of an action that is next, as the moment was told before a request goes out
   tells_in : (p : Progress) (acts : List Act) (next : Action) → Wakes p next → (Awake p → LastTells p.moment.elapsed acts) → Tells p acts next
   tells_in p acts actions.Ask awake last = last awake
+  tells_in p acts actions.Prepare awake last = last awake
   tells_in p acts actions.Send awake last = last awake
   tells_in p acts actions.Flush awake last = last awake
   tells_in p acts next awake last = tt

@@ -18,12 +18,13 @@ use Rattle.gc_texts.specs.Endings.{Answered, Elsewhere, Skipped, Missed}
 use Rattle.gc_texts.specs.Nears.{is_elsewhere}
 use Rattle.gc_texts.specs.declared.near.Expected.{Expected}
 use Rattle.gc_texts.specs.declared.quality.Quality.{Quality}
+use Rattle.gc_texts.specs.Tasks.{call_at}
 use Rattle.gc_texts.specs.declared.tasks.Task.{Task}
 use Rattle.gc_texts.proofs.Placing.{near_unless_elsewhere, elsewhere_is}
 use Rattle.gc_links.specs.Acts.{Act, Told, Gave, Cut}
 use Rattle.gc_links.specs.declared.link.Moment.{Moment}
 use Rattle.gc_station.specs.Marks.{record_of, records_of}
-use Rattle.gc_station.specs.Model.{Model, opening, expected_first, mark_next, place_next, action_at, asks, asks_first, with_progress, with_moment, with_rest, line_came, lines_behind, is_heard, came, skips_first, losing, moved, after, after_all}
+use Rattle.gc_station.specs.Model.{Model, opening, expected_first, mark_next, place_next, action_at, asks, asks_first, with_progress, with_moment, with_rest, line_came, lines_behind, is_heard, came, skips_first, losing, moved, after, after_all, mark_setup, asks_or_null, asks_setup}
 use Rattle.gc_station.specs.Nearness.{IsAtItsTarget, HasAnswer, IsTrulyElsewhere, AnswersAreAtTheirTargets}
 use Rattle.gc_station.specs.Qualities.{IsOfQuality, IsAsListed, QualitiesAreAsListed}
 use Rattle.gc_station.specs.Progressing.{turned, told, loses_all}
@@ -51,10 +52,11 @@ expected_there (t ∷ commands) zero task e = let same : t ≡ task = cc in ap e
 expected_there (t ∷ commands) (suc k) task e = expected_there commands k task e
 
 module _ (plan : Plan) (commands : List Task) (scope : Scope) where
-  -- a mark has what is expected of its command's answer
+  -- a mark has where its command's target stands, and which codes are accepted
   abbrev IsPlaced : Option Mark → Type 0
   IsPlaced None = Unit {0}
-  IsPlaced (Some mark) = mark.expected ≡ expected_first (drop mark.place commands)
+  IsPlaced (Some mark) =
+      (mark.expected.near ≡ (expected_first (drop mark.place commands)).near) × (mark.expected.accepted ≡ (expected_first (drop mark.place commands)).accepted)
 
   -- a record keeps to where its target stands: an answer is near it, and one that is elsewhere isn't
   abbrev IsSo : Record → Type 0
@@ -64,23 +66,24 @@ module _ (plan : Plan) (commands : List Task) (scope : Scope) where
   record_so : (utc : ℕ) (mark : Mark) (x : Rule.Settlement Asked) → IsPlaced (Some mark) → IsSo (record_of scope.reads utc mark x)
   record_so utc mark x placed = (
     (λ task near quality answer line d at has e toward.
-        let stands : mark.expected.near ≡ Some near = ap (λ (k : Expected). k.near) (placed ∙ expected_there commands mark.place task at) ∙ has in
+        let stands : mark.expected.near ≡ Some near = placed.0 ∙ ap (λ (k : Expected). k.near) (expected_there commands mark.place task at) ∙ has in
         near_unless_elsewhere near answer d
         (ap (λ o. is_elsewhere o answer) (sym stands) ∙ ended_near scope.reads mark.expected x.call line x.outcome quality answer e) toward),
     (λ task line at e.
         let away = ended_away scope.reads mark.expected x.call line x.outcome e in
         let is = elsewhere_is mark.expected.near away.0 away.2 in
-        let there : mark.expected ≡ expects task = placed ∙ expected_there commands mark.place task at in (
+        let near_there = placed.0 ∙ ap (λ (k : Expected). k.near) (expected_there commands mark.place task at) in
+        let there = placed.1 ∙ ap (λ (k : Expected). k.accepted) (expected_there commands mark.place task at) in (
           away.0,
           is.0,
           is.1,
-          subst (λ (k : Expected). HasAnswer scope.reads k.accepted x.call line away.0) there away.1,
-          sym (ap (λ (k : Expected). k.near) there) ∙ is.2,
+          subst (λ codes. HasAnswer scope.reads codes x.call line away.0) there away.1,
+          sym near_there ∙ is.2,
           is.3,
           is.4,
         )),
     (λ quality said line e.
-        subst (λ (k : Expected). IsOfQuality scope.reads k.accepted x.call quality said line) placed
+        subst (λ codes. IsOfQuality scope.reads codes x.call quality said line) placed.1
         (ended_quality scope.reads mark.expected x.call line quality said x.outcome e)),
   )
 
@@ -134,11 +137,19 @@ module _ (plan : Plan) (commands : List Task) (scope : Scope) where
   -- `Keeps` lasts over the send of the first of these commands, if its mark is `IsPlaced`
   first_so : (mark : Mark) (left : List Task) (s : Model) → IsPlaced (Some mark) → Keeps s → Keeps (asks_first mark left s)
   first_so mark [] s placed k = k
-  first_so mark (task ∷ others) s placed k = asks_so task.deadline task.command.target task.command.call (Some mark) s placed k
+  first_so mark (task ∷ others) s placed k = asks_so task.deadline task.command.target (call_at task mark.sent) (Some mark) s placed k
 
   -- `Keeps` lasts over the send of the next command
   next_so : (s : Model) → Keeps s → Keeps (asks_first (mark_next plan commands s.progress) (drop (place_next commands s.progress) commands) s)
-  next_so s k = first_so (mark_next plan commands s.progress) (drop (place_next commands s.progress) commands) s refl k
+  next_so s k = first_so (mark_next plan commands s.progress) (drop (place_next commands s.progress) commands) s (refl, refl) k
+
+  -- `Keeps` lasts over the send of the next command of the set-up
+  setup_so : (s : Model) → Keeps s → Keeps (asks_setup plan commands s)
+  setup_so s k = by_list (drop s.progress.prepared commands) where
+    -- the lemma above, whether there is one or not
+    by_list : (left : List Task) → Keeps (asks_or_null plan (mark_setup commands s.progress) left s)
+    by_list [] = asks_so plan.deadline 0 (Table NullProc) None s tt k
+    by_list (task ∷ others) = asks_so task.deadline task.command.target (call_at task s.progress.moment.utc) (Some (mark_setup commands s.progress)) s (refl, refl) k
 
   -- a command that isn't sent isn't answered
   unsent_answered : (b : Bool) (quality : Quality) (said : Option Answer) (line : List ℕ) → (if b then Missed else Skipped) ≡ Answered quality said line → ⊥
@@ -164,6 +175,8 @@ module _ (plan : Plan) (commands : List Task) (scope : Scope) where
 
   -- `Keeps` lasts over an act of each action, before what waits is lost
   moved_so : (next : Action) (s : Model) (act : Act) → Keeps s → Keeps (moved plan commands next s act)
+  moved_so actions.Prepare s (Cut bytes count) k = let n = setup_so s k in record { reads = n.reads; marks = n.marks; records = n.records }
+  moved_so actions.Prepare s act k = let n = setup_so s k in record { reads = n.reads; marks = n.marks; records = n.records }
   moved_so actions.Send s (Cut bytes count) k = let n = next_so s k in record { reads = n.reads; marks = n.marks; records = n.records }
   moved_so actions.Send s act k = let n = next_so s k in record { reads = n.reads; marks = n.marks; records = n.records }
   moved_so actions.Flush s (Cut bytes count) k = let n = asks_so plan.deadline 0 (Table NullProc) None s tt k in record { reads = n.reads; marks = n.marks; records = n.records }

@@ -11,7 +11,7 @@ use Rattle.gc_texts.specs.declared.fault.RunFault.TheVariants as fault
 use Rattle.gc_links.specs.Acts.{Act, Closed, Tells}
 use Rattle.gc_station.specs.declared.plan.Plan.{Plan}
 use Rattle.gc_station.specs.declared.cause.Cause.{Cause}
-use Rattle.gc_station.specs.declared.cause.Cause.TheVariants.{Done, Dead, Read, End, Write, Clock, Open, Turns, Stale, Stopped}
+use Rattle.gc_station.specs.declared.cause.Cause.TheVariants.{Done, Dead, Read, End, Write, Clock, Open, Turns, Stale, Stopped, SetUp}
 use Rattle.gc_station.specs.declared.progress.Action.{Action}
 use Rattle.gc_station.specs.declared.station.Station.{Station}
 use Rattle.gc_station.specs.Causes.{fault_of}
@@ -144,6 +144,7 @@ module _ (plan : Plan) (commands : List Task) (scope : Scope) (text : Record →
       let same : fault.Write requests bytes ≡ why = cc in subst (λ (w : RunFault). Up told' saw saw' (closing_at {X = Tally} (Err w))) same up
   faulty_keeps told' saw saw' Clock why e up = let same : fault.Clock ≡ why = cc in subst (λ (w : RunFault). Up told' saw saw' (closing_at {X = Tally} (Err w))) same up
   faulty_keeps told' saw saw' Open why e up = let same : fault.Socket ≡ why = cc in subst (λ (w : RunFault). Up told' saw saw' (closing_at {X = Tally} (Err w))) same up
+  faulty_keeps told' saw saw' SetUp why e up = let same : fault.SetUp ≡ why = cc in subst (λ (w : RunFault). Up told' saw saw' (closing_at {X = Tally} (Err w))) same up
   faulty_keeps told' saw saw' Turns why e up = let same : fault.TooManyReads ≡ why = cc in subst (λ (w : RunFault). Up told' saw saw' (closing_at {X = Tally} (Err w))) same up
   faulty_keeps told' saw saw' Stale why e up = let same : fault.Stale ≡ why = cc in subst (λ (w : RunFault). Up told' saw saw' (closing_at {X = Tally} (Err w))) same up
   faulty_keeps told' saw saw' Stopped why e up = absurd (cc)

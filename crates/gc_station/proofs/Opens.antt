@@ -78,6 +78,8 @@ counted_moved plan commands actions.Clear s act o needs never =
       cleared_up false = refl
 counted_moved plan commands actions.Ask s act o needs never =
     walk plan commands (Counts s) actions.Ask (with_progress turned s) act o (λ m. refl, λ n. failed s (cause.Write (requests_out plan commands (turned s.progress)) n))
+counted_moved plan commands actions.Prepare s act o needs never =
+    walk plan commands (Counts s) actions.Prepare (with_progress turned s) act o (λ m. refl, λ n. failed s (cause.Write (requests_out plan commands (turned s.progress)) n))
 counted_moved plan commands actions.Send s act o needs never =
     walk plan commands (Counts s) actions.Send (with_progress turned s) act o (λ m. refl, λ n. failed s (cause.Write (requests_out plan commands (turned s.progress)) n))
 counted_moved plan commands actions.Flush s act o needs never =

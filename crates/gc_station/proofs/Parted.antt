@@ -8,7 +8,7 @@ use Rattle.gc_catalogue.specs.declared.asked.Asked.{Asked}
 use Rattle.gc_client.specs.OneForOne.{Wanted}
 use Rattle.gc_texts.specs.declared.tasks.Task.{Task}
 use Rattle.gc_station.specs.EachOnce.{Parted, Request, requests, of_task, all_cycles, sent_by}
-use Rattle.gc_station.proofs.Each.{requests-append}
+use Rattle.gc_station.proofs.Each.{drop_front, requests-append}
 
 -- a list is parted into itself and nothing
 parted_kept : {A : Type 0} (us : List A) → Parted us [] us
@@ -67,19 +67,21 @@ take_all (suc a) (suc b) (x ∷ xs) m n = ap (λ ys. x ∷ ys) (take_all a b xs 
 
 -- the commands that had their turn, with so many of the next ones behind them, are those that had their turn at a place behind these, or
 -- at the end
-pub sent_past : (commands : List Task) (begun place count place' : ℕ) → place ≤ length commands → 0 < begun → (place' ≡ place + count) ⊎ ((place' ≡ length commands) × (length commands ≤ place + count))
-    → sent_by commands begun place ++ requests begun place (map of_task (take count (drop place commands))) ≡ sent_by commands begun place'
-sent_past commands zero place count place' within some at = absurd (omega (arith, some))
-sent_past commands (suc n) place count place' within some at =
-    let taken = map of_task (take place commands) in
+pub sent_past : (setup : ℕ) (commands : List Task) (begun place count place' : ℕ) → setup ≤ place → place ≤ length commands → 0 < begun → (place' ≡ place + count) ⊎ ((place' ≡ length commands) × (length commands ≤ place + count))
+    → sent_by setup commands begun place ++ requests begun place (map of_task (take count (drop place commands))) ≡ sent_by setup commands begun place'
+sent_past setup commands zero place count place' low within some at = absurd (omega (arith, some))
+sent_past setup commands (suc n) place count place' low within some at =
+    let front = drop setup (take place commands) in
+    let taken = map of_task front in
     let more = map of_task (take count (drop place commands)) in
-    let cycles = all_cycles commands n in
+    let cycles = all_cycles setup commands n in
     let many : length (take place commands) ≡ place = length_take place commands within in
-    let count_is : 0 + length taken ≡ place = let m = length-map (take place commands) of_task in omega (arith, m, many) in
-    append_assoc cycles (requests (suc n) 0 taken) (requests (suc n) place more)
-    ∙ ap (λ b. cycles ++ (requests (suc n) 0 taken ++ requests (suc n) b more)) (sym count_is)
-    ∙ ap (λ xs. cycles ++ xs) (sym (requests-append (suc n) 0 taken more))
-    ∙ ap (λ xs. cycles ++ requests (suc n) 0 xs) (sym (map-append of_task (take place commands) (take count (drop place commands))) ∙ ap (map of_task) (take_more place count commands ∙ as_many at)) where
+    let count_is : setup + length taken ≡ place = let m = length-map front of_task in let d = length-drop setup (take place commands) in omega (arith, m, d, many, low) in
+    append_assoc cycles (requests (suc n) setup taken) (requests (suc n) place more)
+    ∙ ap (λ b. cycles ++ (requests (suc n) setup taken ++ requests (suc n) b more)) (sym count_is)
+    ∙ ap (λ xs. cycles ++ xs) (sym (requests-append (suc n) setup taken more))
+    ∙ ap (λ xs. cycles ++ requests (suc n) setup xs) (sym (map-append of_task front (take count (drop place commands)))
+    ∙ ap (map of_task) (sym (drop_front setup (take place commands) (take count (drop place commands)) (omega (arith, many, low))) ∙ ap (drop setup) (take_more place count commands ∙ as_many at))) where
       -- the first ones of a list that has as many are so many
       length_take : (k : ℕ) (xs : List Task) → k ≤ length xs → length (take k xs) ≡ k
       length_take zero xs few = refl
@@ -129,24 +131,24 @@ all_for P Q [] f all = tt
 all_for P Q (x ∷ xs) f all = (f x all.0, all_for P Q xs f all.1)
 
 -- the requests of the first cycles are in front of any place of a later one
-cycles_before : (commands : List Task) (n place : ℕ) → AllByRecursion (IsInFront (suc n) place) (all_cycles commands n)
-cycles_before commands zero place = tt
-cycles_before commands (suc n) place =
-    all_both (IsInFront (suc (suc n)) place) (all_cycles commands n) (requests (suc n) 0 (map of_task commands))
-    (all_for (IsInFront (suc n) place) (IsInFront (suc (suc n)) place) (all_cycles commands n) later (cycles_before commands n place))
-    (all_for _ (IsInFront (suc (suc n)) place) (requests (suc n) 0 (map of_task commands)) (λ r h. inl (omega (arith, h.0))) (requests_before (suc n) 0 (map of_task commands))) where
+cycles_before : (setup : ℕ) (commands : List Task) (n place : ℕ) → AllByRecursion (IsInFront (suc n) place) (all_cycles setup commands n)
+cycles_before setup commands zero place = tt
+cycles_before setup commands (suc n) place =
+    all_both (IsInFront (suc (suc n)) place) (all_cycles setup commands n) (requests (suc n) setup (map of_task (drop setup commands)))
+    (all_for (IsInFront (suc n) place) (IsInFront (suc (suc n)) place) (all_cycles setup commands n) later (cycles_before setup commands n place))
+    (all_for _ (IsInFront (suc (suc n)) place) (requests (suc n) setup (map of_task (drop setup commands))) (λ r h. inl (omega (arith, h.0))) (requests_before (suc n) setup (map of_task (drop setup commands)))) where
       -- what is in front of a cycle's place is in front of the next one's
       later : (r : Request) → IsInFront (suc n) place r → IsInFront (suc (suc n)) place r
       later r (inl less) = inl (omega (arith, less))
       later r (inr same) = inl (omega (arith, same.0))
 
 -- all that had its turn is in front of the next place
-pub sent_before : (commands : List Task) (cycle place : ℕ) → AllByRecursion (IsInFront cycle place) (sent_by commands cycle place)
-sent_before commands zero place = tt
-sent_before commands (suc n) place =
-    all_both (IsInFront (suc n) place) (all_cycles commands n) (requests (suc n) 0 (map of_task (take place commands))) (cycles_before commands n place)
-    (all_for _ (IsInFront (suc n) place) (requests (suc n) 0 (map of_task (take place commands)))
-    (λ r h. inr (h.0, few r.place h.1)) (requests_before (suc n) 0 (map of_task (take place commands)))) where
+pub sent_before : (setup : ℕ) (commands : List Task) (cycle place : ℕ) → setup ≤ place → AllByRecursion (IsInFront cycle place) (sent_by setup commands cycle place)
+sent_before setup commands zero place low = tt
+sent_before setup commands (suc n) place low =
+    all_both (IsInFront (suc n) place) (all_cycles setup commands n) (requests (suc n) setup (map of_task (drop setup (take place commands)))) (cycles_before setup commands n place)
+    (all_for _ (IsInFront (suc n) place) (requests (suc n) setup (map of_task (drop setup (take place commands))))
+    (λ r h. inr (h.0, few r.place h.1)) (requests_before (suc n) setup (map of_task (drop setup (take place commands))))) where
       -- no more than so many are taken
       taken : (k : ℕ) (xs : List Task) → length (take k xs) ≤ k
       taken zero xs = omega arith
@@ -154,8 +156,12 @@ sent_before commands (suc n) place =
       taken (suc k) (x ∷ xs) = let t = taken k xs in omega (arith, t)
 
       -- a place among those that were taken is below the next one
-      few : (p : ℕ) → p < 0 + length (map of_task (take place commands)) → p < place
-      few p less = let m = length-map (take place commands) of_task in let t = taken place commands in omega (arith, less, m, t)
+      few : (p : ℕ) → p < setup + length (map of_task (drop setup (take place commands))) → p < place
+      few p less =
+          let m = length-map (drop setup (take place commands)) of_task in
+          let d = length-drop setup (take place commands) in
+          let t = taken place commands in
+          omega (arith, less, m, d, t, low)
 
 -- where the last of what had its turn isn't among what was passed over, it is the last of what was kept
 pub parted_last : {A : Type 0} (x : A) (xs ys zs : List A) → Parted xs ys (zs ++ x ∷ []) → ((front : List A) → ys ≡ front ++ x ∷ [] → ⊥) → (front : List A) × (xs ≡ front ++ x ∷ [])

@@ -2,8 +2,7 @@
 -- came of it. Steps of the client are to send, to hear a line, to be told a moment and to restart; a turn is a null procedure
 -- that is put, or a line heard, while the station begins. `Leads` says that the steps of a part take the client, the marks and
 -- the records of one model to those of another.
-use Rattle.std.proofs.Common.{◌≡◌, ℕ, zero, suc, ◌-◌, ◌<◌, Bool, true, false, List, [], ◌∷◌, length, map, drop, Option, Some, None, refl, sym, ap, ◌∙◌, ◌++◌, subst, arith, append-nil, if◌then◌else◌, length-drop}
-use Rattle.std.specs.Prelude.{slice_get}
+use Rattle.std.proofs.Common.{◌≡◌, ℕ, ◌-◌, ◌<◌, Bool, true, false, List, [], ◌∷◌, length, map, drop, Option, Some, None, refl, sym, ap, ◌∙◌, ◌++◌, subst, arith, append-nil, if◌then◌else◌, length-drop}
 use Rattle.std.proofs.lemmas.List.{length-map}
 use Rattle.gc_lines.specs.Frames.{rest_behind}
 use Rattle.gc_catalogue.specs.declared.asked.Asked.TheVariants.{Table}
@@ -11,6 +10,7 @@ use Rattle.gc_catalogue.specs.declared.call.Call.TheVariants.{NullProc}
 use Rattle.gc_catalogue.specs.declared.asked.Asked.{Asked}
 use Rattle.gc_client.specs.OneForOne.{Hear, Expire}
 use Rattle.gc_client.specs.Rule.{ById, fresh, heard, hears, expired, expires}
+use Rattle.gc_texts.specs.Tasks.{call_at}
 use Rattle.gc_texts.specs.declared.tasks.Task.{Task}
 use Rattle.gc_texts.specs.Endings.{Skipped, Missed}
 use Rattle.gc_links.specs.declared.link.Moment.{Moment}
@@ -21,18 +21,19 @@ use Rattle.gc_station.specs.declared.progress.Progress.{Progress}
 use Rattle.gc_station.specs.declared.progress.Until.{Until}
 use Rattle.gc_links.specs.Acts.{Act, Told, Put, Cut, Gave}
 use Rattle.gc_station.specs.Deciding.{later, has_begun, is_none_left}
-use Rattle.gc_station.specs.Parts.{Turn, Part, only_turns, only, nothing, putting, asking, asking_first, hearing, doing, beginning, acting, sent_of}
+use Rattle.gc_station.specs.Parts.{Turn, Part, only_turns, only, nothing, putting, asking, asking_first, hearing, doing, beginning, acting, sent_of, asking_or_null}
 use Rattle.gc_station.specs.Progressing.{told, turned, skipped_at}
 use Rattle.gc_station.specs.Reasons.{IsFor}
 use Rattle.gc_station.specs.Records.{Record}
 use Rattle.gc_station.specs.declared.mark.Mark.{Mark}
-use Rattle.gc_station.specs.Model.{Model, waiting_of, place_next, mark_next, Performs, with_progress, with_moment, with_rest, asks_null, asks_first, skips, skips_first, line_came, lines_came, lines_behind, is_heard, came, after_read, moved}
+use Rattle.gc_station.specs.Model.{Model, waiting_of, place_next, mark_next, Performs, with_progress, with_moment, with_rest, asks_null, asks_first, skips, skips_first, line_came, lines_came, lines_behind, is_heard, came, after_read, moved, mark_setup, asks_or_null}
+use Rattle.gc_station.proofs.Tasked.{at_place}
 use Rattle.gc_station.proofs.Booking.{Books, books_turns, sent_both, sent_records, books_both, books_nothing, books_moment, books_line, books_send}
 use Rattle.gc_station.proofs.Facts.{either}
 use Rattle.gc_station.proofs.Invariant.{Invariant}
 use Rattle.gc_station.proofs.Hearing.{hears_paired}
 use Rattle.gc_station.proofs.Midway.{clash}
-use Rattle.gc_station.proofs.Walk.{is_sent, walk}
+use Rattle.gc_station.proofs.Walk.{is_sent, walk, is_prepared}
 
 -- the part p takes the client of one model, with its marks and records, to those of another
 abbrev pub Leads : List Task → Model → Part → Model → Type 0
@@ -82,28 +83,26 @@ module _ (plan : Plan) (commands : List Task) where
       (books_moment s.reads commands s.client s.marks (sent_of s.records) m.elapsed)
       (leads_came (is_heard s.progress.phase) s.progress.word bytes x begun (paired_told s m.elapsed paired))
 
-  -- the first command behind the first n is the one at place n
-  at_place : (n : ℕ) (xs : List Task) (command : Task) (others : List Task) → drop n xs ≡ command ∷ others → slice_get xs n ≡ Some command
-  at_place zero [] command others e = cc
-  at_place zero (x ∷ xs) command others e = same x command xs others e where
-    -- the first elements of equal lists are equal
-    same : (x y : Task) (xs ys : List Task) → x ∷ xs ≡ y ∷ ys → Some x ≡ Some y
-    same x y xs ys e = cc
-  at_place (suc n) [] command others e = cc
-  at_place (suc n) (x ∷ xs) command others e = at_place n xs command others e
-
   -- the next command, where it goes out, leads on by the part of its request
   leads_first : (s : Model) (left : List Task) → drop (place_next commands s.progress) commands ≡ left → 0 < length left → length s.client.waiting < 7
       → Leads commands s (asking_first s.progress.moment.elapsed (mark_next plan commands s.progress) left) (asks_first (mark_next plan commands s.progress) left (with_progress turned s))
   leads_first s [] at some room = absurd (omega (arith, some))
   leads_first s (task ∷ others) at some room =
-      books_send s.reads commands s.client s.marks (sent_of s.records) task.command.target task.command.call (later s.progress.moment.elapsed task.deadline)
+      books_send s.reads commands s.client s.marks (sent_of s.records) task.command.target (call_at task s.progress.moment.utc) (later s.progress.moment.elapsed task.deadline)
       (Some (mark_next plan commands s.progress)) room
       (task, at_place (place_next commands s.progress) commands task others at, refl)
 
   -- a null procedure after commands leads on by the part of its request
   leads_null : (s : Model) → length s.client.waiting < 7 → Leads commands s (asking 0 (Table NullProc) (later s.progress.moment.elapsed plan.deadline) None) (asks_null plan s)
   leads_null s room = books_send s.reads commands s.client s.marks (sent_of s.records) 0 (Table NullProc) (later s.progress.moment.elapsed plan.deadline) None room refl
+
+  -- the next command of the set-up, where it goes out, leads on by the part of its request
+  leads_setup : (s : Model) (left : List Task) → drop s.progress.prepared commands ≡ left → length s.client.waiting < 7
+      → Leads commands s (asking_or_null plan s.progress.moment.elapsed (mark_setup commands s.progress) left) (asks_or_null plan (mark_setup commands s.progress) left (with_progress turned s))
+  leads_setup s [] at room = leads_null s room
+  leads_setup s (task ∷ others) at room =
+      books_send s.reads commands s.client s.marks (sent_of s.records) task.command.target (call_at task s.progress.moment.utc) (later s.progress.moment.elapsed task.deadline)
+      (Some (mark_setup commands s.progress)) room (task, at_place s.progress.prepared commands task others at, refl)
 
   -- the record of a command that isn't sent isn't among those of commands that went out
   skips_first_unsent : (p : Progress) (m : Moment) (mark : Mark) (left : List Task) → sent_of (skips_first p m mark left) ≡ []
@@ -141,6 +140,10 @@ module _ (plan : Plan) (commands : List Task) where
   leads_order s action.Clear act fine is obeys begun = walk plan commands (LeadsSo action.Clear s) action.Clear (with_progress turned s) act obeys (λ m. none_booked s, λ n. none_booked s)
   leads_order s action.Ask act fine is obeys begun = absurd (clash (has_begun s.progress) begun is.1)
   leads_order s action.Flush act fine is obeys begun = walk plan commands (LeadsSo action.Flush s) action.Flush (with_progress turned s) act obeys (λ m. leads_null s is.4.1, λ n. leads_null s is.4.1)
+  leads_order s action.Prepare act fine is obeys begun =
+      let prepares = subst (λ (t : Model). Leads commands s (putting plan commands s action.Prepare) t) (sym (is_prepared plan commands (with_progress turned s)))
+      (leads_setup s (drop s.progress.prepared commands) refl is.3.1) in
+      walk plan commands (LeadsSo action.Prepare s) action.Prepare (with_progress turned s) act obeys (λ m. prepares, λ n. prepares)
   leads_order s action.Send act fine is obeys begun =
       let left = drop (place_next commands s.progress) commands in
       let many : length left ≡ length commands - place_next commands s.progress = length-drop (place_next commands s.progress) commands in
@@ -183,6 +186,7 @@ module _ (plan : Plan) (commands : List Task) where
       → s.client ≡ fresh → Keeps s act (moved plan commands o (with_progress turned s) act)
   keeps_action s action.Renew act is obeys begins new = absurd (clash (has_begun s.progress) is.1 begins)
   keeps_action s action.Begin act is obeys begins new = absurd (clash (has_begun s.progress) is.1 begins)
+  keeps_action s action.Prepare act is obeys begins new = absurd (clash (has_begun s.progress) is.1 begins)
   keeps_action s action.Send act is obeys begins new = absurd (clash (has_begun s.progress) is.1 begins)
   keeps_action s action.Skip act is obeys begins new = absurd (clash (has_begun s.progress) is.1 begins)
   keeps_action s action.Pass act is obeys begins new = absurd (clash (has_begun s.progress) is.1 begins)

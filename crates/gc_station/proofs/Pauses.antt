@@ -1,13 +1,13 @@
 -- How failures in a row take tries and lengthen the pause. A failure is spared where no connection is wanted: it takes no try.
 -- An act is one call of the link, with what came of it. `again` is the progress after a connection ended or couldn't be made,
 -- and `pause_behind plan n` the pause after n such failures in a row. Times are in milliseconds.
-use Rattle.std.proofs.Common.{◌≡◌, ◌⊎◌, inl, inr, ℕ, zero, suc, ◌+◌, ◌-◌, ◌*◌, ◌<◌, ◌≤◌, ◌||◌, Bool, true, false, List, if◌then◌else◌, nat_lt, min, max, refl, ap, ◌∙◌, arith}
+use Rattle.std.proofs.Common.{◌≡◌, ◌⊎◌, inl, inr, ℕ, zero, suc, ◌+◌, ◌-◌, ◌*◌, ◌<◌, ◌≤◌, ◌||◌, Bool, true, false, List, if◌then◌else◌, nat_lt, min, max, refl, ap, ◌∙◌, arith, ◌&&◌, not}
 use Rattle.std.proofs.lemmas.Bool.{lt-ltb, le-ltb}
 use Rattle.gc_texts.specs.declared.tasks.Task.{Task}
 use Rattle.gc_links.specs.Acts.{Act}
 use Rattle.gc_station.specs.Deciding.{later}
 use Rattle.gc_station.specs.Pauses.{doubled, pause_behind, LeavesTries, TriesAndPausesAreCounted}
-use Rattle.gc_station.specs.Progressing.{is_finished, is_spared, again, gave}
+use Rattle.gc_station.specs.Progressing.{is_finished, is_spared, again, gave, gives_back}
 use Rattle.gc_station.specs.Model.{Model, moved}
 use Rattle.gc_station.specs.declared.cause.Cause.{Cause}
 use Rattle.gc_station.specs.declared.cause.Cause.TheVariants as cause
@@ -96,17 +96,30 @@ spared_first plan commands why p e is = (
   takes_first (is_spared plan why p) p.tries (p.tries - 1) e,
 )
 
--- a read that settled a command gives all tries back, and makes the pause 0
-settled : (plan : Plan) (until : Until) (before : ℕ) (after : Waiting) (p : Progress) → after.commands < before
+-- a read that settled a command gives all tries back, and makes the pause 0, once the set-up is done
+settled : (plan : Plan) (until : Until) (before : ℕ) (after : Waiting) (p : Progress) → after.commands < before → p.preparing ≡ false
     → ((gave plan until before after p).tries ≡ plan.retries) × ((gave plan until before after p).pause ≡ pause_behind plan 0)
-settled plan until before after p fewer =
-    let e = lt-ltb after.commands before fewer in (takes_first (nat_lt after.commands before) plan.retries p.tries e, takes_first (nat_lt after.commands before) 0 p.pause e)
+settled plan until before after p fewer done =
+    let e = both_hold (nat_lt after.commands before) (p.preparing) (lt-ltb after.commands before fewer) done in
+    (takes_first (gives_back before after p) plan.retries p.tries e, takes_first (gives_back before after p) 0 p.pause e) where
+      -- the first test holds, and the second doesn't
+      both_hold : (a b : Bool) → a ≡ true → b ≡ false → (a && not b) ≡ true
+      both_hold true false x y = refl
+      both_hold true true x y = cc
+      both_hold false b x y = cc
 
--- a read that settled no command leaves the tries and the pause
-unsettled : (plan : Plan) (until : Until) (before : ℕ) (after : Waiting) (p : Progress) → before ≤ after.commands
+-- a read that settled no command, or while the set-up isn't done, leaves the tries and the pause
+unsettled : (plan : Plan) (until : Until) (before : ℕ) (after : Waiting) (p : Progress) → (before ≤ after.commands) ⊎ (p.preparing ≡ true)
     → ((gave plan until before after p).tries ≡ p.tries) × ((gave plan until before after p).pause ≡ p.pause)
-unsettled plan until before after p more =
-    let e = le-ltb after.commands before more in (takes_second (nat_lt after.commands before) plan.retries p.tries e, takes_second (nat_lt after.commands before) 0 p.pause e)
+unsettled plan until before after p why =
+    let e = by_cause (nat_lt after.commands before) (p.preparing) refl refl why in
+    (takes_second (gives_back before after p) plan.retries p.tries e, takes_second (gives_back before after p) 0 p.pause e) where
+      -- the first test doesn't hold, or the second does
+      by_cause : (a b : Bool) → nat_lt after.commands before ≡ a → p.preparing ≡ b → (before ≤ after.commands) ⊎ (p.preparing ≡ true) → (a && not b) ≡ false
+      by_cause false b x y w = refl
+      by_cause true true x y w = refl
+      by_cause true false x y (inl more) = let none = le-ltb after.commands before more in cc
+      by_cause true false x y (inr on) = cc
 
 -- an action of `LeavesTries` leaves the tries and the pause
 other : (plan : Plan) (commands : List Task) (action : Action) (s : Model) (act : Act) → LeavesTries action

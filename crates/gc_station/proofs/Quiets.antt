@@ -24,7 +24,7 @@ use Rattle.gc_station.specs.Progressing.{turned, told, time_passed, drained}
 use Rattle.gc_station.specs.Quiet.{IsRequest, TellsMoment, IsListening, IsSilent, StaysConnected}
 use Rattle.gc_station.specs.Reasons.{IsFor}
 use Rattle.gc_station.specs.Runs.{stood}
-use Rattle.gc_station.specs.Model.{Model, null_text, request_text, first_text, place_next, opening, action_at, waiting_of, with_progress, with_moment, lines_behind, is_heard, Performs, moved, Runs}
+use Rattle.gc_station.specs.Model.{Model, null_text, request_text, first_text, place_next, opening, action_at, waiting_of, with_progress, with_moment, lines_behind, is_heard, Performs, moved, Runs, text_or_null}
 use Rattle.gc_station.proofs.Closings.{runs_split}
 use Rattle.gc_station.proofs.Always.{always_far}
 use Rattle.gc_station.proofs.Connected.{is_in_use, OnLine, on_line}
@@ -293,8 +293,10 @@ module _ (plan : Plan) (commands : List Task) (scope : Scope) where
   stage_line (actions.Stop why) s acts there needs time st = tt
   stage_line actions.Ask s acts there needs time st = let p = s.progress in
       λ m. stage_ready (has_begun p) (has_begun p) p.stale true p.since p.since p.phase acts (Put (null_text p.word)) tt needs.0 st
+  stage_line actions.Prepare s acts there needs time st =
+      let p = s.progress in λ m. stage_ready (has_begun p) (has_begun p) p.stale true p.since p.since p.phase acts (Put (text_or_null s.progress.moment.utc s.client (drop p.prepared commands))) tt needs.0 st
   stage_line actions.Send s acts there needs time st =
-      let p = s.progress in λ m. stage_ready (has_begun p) (has_begun p) p.stale true p.since p.since p.phase acts (Put (first_text s.client (drop (place_next commands p) commands))) tt needs.0 st
+      let p = s.progress in λ m. stage_ready (has_begun p) (has_begun p) p.stale true p.since p.since p.phase acts (Put (first_text s.progress.moment.utc s.client (drop (place_next commands p) commands))) tt needs.0 st
   stage_line actions.Flush s acts there needs time st = let p = s.progress in
       λ m. stage_ready (has_begun p) (has_begun p) p.stale true p.since p.since p.phase acts (Put (request_text s.client (Table NullProc))) tt needs.0 st
   stage_line actions.Renew s acts there needs time st = let p = s.progress in λ m. stage_ready (has_begun p) false p.stale false p.since m.elapsed p.phase acts (Told m) tt needs.0 st
@@ -322,10 +324,11 @@ module _ (plan : Plan) (commands : List Task) (scope : Scope) where
 not_closing : (act : Act) → act ≡ Closed → IsRequest act → ⊥
 not_closing act o asks = subst IsRequest o asks
 
--- by any action but `Ask`, `Send` and `Flush` no request goes out
+-- by any action but `Ask`, `Send`, `Flush` and `Prepare` no request goes out
 asks_not : (plan : Plan) (commands : List Task) (next : Action) (s : Model) (act : Act) → Performs commands s next act
-    → (next ≡ actions.Ask → ⊥) × (next ≡ actions.Send → ⊥) × (next ≡ actions.Flush → ⊥) → IsRequest act → ⊥
+    → (next ≡ actions.Ask → ⊥) × (next ≡ actions.Send → ⊥) × (next ≡ actions.Flush → ⊥) × (next ≡ actions.Prepare → ⊥) → IsRequest act → ⊥
 asks_not plan commands actions.Ask s act o other = absurd (other.0 refl)
+asks_not plan commands actions.Prepare s act o other = absurd (other.3 refl)
 asks_not plan commands actions.Send s act o other = absurd (other.1 refl)
 asks_not plan commands actions.Flush s act o other = absurd (other.2 refl)
 asks_not plan commands actions.Clear s act o other = walk plan commands (λ a (t : Model). IsRequest a → ⊥) actions.Clear s act o (λ m asks. asks refl, λ n asks. asks refl)
@@ -339,17 +342,19 @@ asks_not plan commands next s act o other = walk plan commands (λ a (t : Model)
 pub asks_only : (plan : Plan) (commands : List Task) (next : Action) (s : Model) (act : Act) → Performs commands s next act → IsRequest act
     → IsFor plan s.progress (waiting_of s) next → has_begun s.progress ≡ false → next ≡ actions.Ask
 asks_only plan commands actions.Ask s act o asks needs begins = refl
+asks_only plan commands actions.Prepare s act o asks needs begins = absurd (clash (has_begun s.progress) needs.1 begins)
 asks_only plan commands actions.Send s act o asks needs begins = absurd (clash (has_begun s.progress) needs.1 begins)
 asks_only plan commands actions.Flush s act o asks needs begins = absurd (clash (has_begun s.progress) needs.1 begins)
-asks_only plan commands next s act o asks needs begins = absurd (asks_not plan commands next s act o (λ is. cc, λ is. cc, λ is. cc) asks)
+asks_only plan commands next s act o asks needs begins = absurd (asks_not plan commands next s act o (λ is. cc, λ is. cc, λ is. cc, λ is. cc) asks)
 
 -- where a request goes out, the phase is `Ready`
 asks_there : (plan : Plan) (commands : List Task) (next : Action) (s : Model) (act : Act) → Performs commands s next act → IsRequest act
     → IsFor plan s.progress (waiting_of s) next → s.progress.phase ≡ phase.Ready
 asks_there plan commands actions.Ask s act o asks needs = needs.0
+asks_there plan commands actions.Prepare s act o asks needs = needs.0
 asks_there plan commands actions.Send s act o asks needs = needs.0
 asks_there plan commands actions.Flush s act o asks needs = needs.0
-asks_there plan commands next s act o asks needs = absurd (asks_not plan commands next s act o (λ is. cc, λ is. cc, λ is. cc) asks)
+asks_there plan commands next s act o asks needs = absurd (asks_not plan commands next s act o (λ is. cc, λ is. cc, λ is. cc, λ is. cc) asks)
 
 -- where a request goes out, its connection is as `IsClearedAndQuiet` says
 pub cleared_and_quiet : (plan : Plan) (commands : List Task) (scope : Scope) (earlier later : List Act) (act : Act)

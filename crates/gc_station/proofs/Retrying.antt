@@ -1,7 +1,8 @@
 -- Further attempts of a chain go out for a cause: `listed` of a model is what its records say. An act is one call of the link, with what
 -- came of it. A mark says which command a waiting request is of, and what is expected of its answer.
-use Rattle.std.proofs.Common.{◌≡◌, ◌⊎◌, inl, inr, ℕ, zero, suc, ◌+◌, ◌-◌, ◌<◌, ◌≤◌, ◌||◌, Bool, true, false, List, [], ◌∷◌, ◌++◌, length, drop, Option, Some, None, if◌then◌else◌, nat_eq, refl, sym, ap, ◌∙◌, subst, arith, append-nil}
+use Rattle.std.proofs.Common.{◌≡◌, ◌⊎◌, inl, inr, ℕ, zero, suc, ◌+◌, ◌-◌, ◌<◌, ◌≤◌, ◌||◌, Bool, true, false, List, [], ◌∷◌, ◌++◌, length, drop, Option, Some, None, if◌then◌else◌, nat_eq, nat_lt, refl, sym, ap, ◌∙◌, subst, arith, append-nil}
 use Rattle.std.specs.List.{AllByRecursion}
+use Rattle.std.proofs.lemmas.Bool.{ltb-true, ltb-false}
 use Rattle.std.proofs.lemmas.Bool.Decides.{nat_tests}
 use Rattle.std.proofs.lemmas.List.{length-drop}
 use Rattle.gc_lines.specs.Frames.{rest_behind}
@@ -22,6 +23,7 @@ use Rattle.gc_texts.specs.declared.again.Again.{Again}
 use Rattle.gc_texts.specs.declared.near.Expected.{Expected}
 use Rattle.gc_texts.specs.declared.near.Near.{Near}
 use Rattle.gc_texts.specs.declared.quality.Quality.{Quality}
+use Rattle.gc_texts.specs.Tasks.{call_at}
 use Rattle.gc_texts.specs.declared.tasks.Task.{Task}
 use Rattle.gc_links.specs.Acts.{Act, Told, Cut, Gave}
 use Rattle.gc_links.specs.declared.link.Moment.{Moment}
@@ -34,11 +36,11 @@ use Rattle.gc_station.specs.declared.progress.Action.TheVariants as actions
 use Rattle.gc_station.specs.declared.progress.Progress.{Progress}
 use Rattle.gc_station.specs.Attempts.{code_in, code_of, listed_behind, listed_by}
 use Rattle.gc_station.specs.Marks.{commands_in, end_of, value_as, warned_as, refused_as, answer_as, records_of}
-use Rattle.gc_station.specs.Model.{Model, Runs, opening, action_at, waiting_of, place_next, mark_next, expected_first, is_chained, others_in, others_behind_next, others_behind, requests_out, with_progress, with_moment, with_rest, asks, asks_first, line_came, lines_behind, is_heard, came, losing, skips_first, moved, after, after_all}
+use Rattle.gc_station.specs.Model.{Model, Runs, opening, action_at, waiting_of, place_next, cycles_begun, cycle_length, mark_next, mark_setup, in_attempt, asks_or_null, asks_setup, expected_first, is_chained, others_in, others_behind_next, others_behind, requests_out, with_progress, with_moment, with_rest, asks, asks_first, line_came, lines_behind, is_heard, came, losing, skips_first, moved, after, after_all}
 use Rattle.gc_station.specs.Progressing.{turned, failing, told, loses_all}
 use Rattle.gc_station.specs.Reasons.{IsFor}
 use Rattle.gc_station.specs.Records.{Record}
-use Rattle.gc_station.specs.Retries.{turn_at, code_said, is_listed, HasListed, IsFurtherAttempt, GoesOutAgainForACause, TurnsAreTheTexts}
+use Rattle.gc_station.specs.Retries.{turn_at, turn_as, rule_at, rule_as, code_said, is_listed, HasListed, IsFurtherAttempt, GoesOutAgainForACause, TurnsAreTheTexts}
 use Rattle.gc_station.specs.Runs.{stood}
 use Rattle.gc_station.specs.Scopes.{Scope}
 use Rattle.gc_station.proofs.Always.{always_far}
@@ -163,15 +165,47 @@ has_listed reads commands rs b h =
     ∙ ap (λ x. any_listed reads commands ((if nat_eq h.one.turn.link 0 then false else any_listed reads commands b h.front) || x) h.behind) h.listed
     ∙ ap (λ x. any_listed reads commands x h.behind) (or_true (if nat_eq h.one.turn.link 0 then false else any_listed reads commands b h.front)) ∙ stays_listed reads commands h.behind h.same
 
+-- what is expected of a command's answer, of which the text says this; where it is of the set-up (`true`), in this attempt
+abbrev expected_as : Bool → ℕ → Expected → Expected
+expected_as true attempt expected = in_attempt attempt expected
+expected_as false attempt expected = expected
+
+-- its turn is that of the command
+turn_expected : (b : Bool) (attempt : ℕ) (expected : Expected) → (expected_as b attempt expected).turn ≡ turn_as b attempt expected.turn
+turn_expected true attempt expected = refl
+turn_expected false attempt expected = refl
+
+-- its rule is that of the command
+rule_expected : (b : Bool) (attempt : ℕ) (expected : Expected) → (expected_as b attempt expected).again ≡ rule_as b expected.again
+rule_expected true attempt expected = refl
+rule_expected false attempt expected = refl
+
 module _ (plan : Plan) (commands : List Task) (scope : Scope) where
   -- a mark has what is expected of its command's answer
   abbrev IsPlaced : Option Mark → Type 0
   IsPlaced None = Unit {0}
-  IsPlaced (Some mark) = mark.expected ≡ expected_first (drop mark.place commands)
+  IsPlaced (Some mark) = mark.expected ≡ expected_as (nat_eq mark.cycle 0) mark.expected.turn.attempt (expected_first (drop mark.place commands))
 
   -- a record has the turn of its command
   abbrev IsSo : Record → Type 0
-  IsSo r = r.turn ≡ turn_at commands r.place
+  IsSo r = r.turn ≡ turn_at commands r.cycle r.turn.attempt r.place
+
+  -- the record of a command whose mark is `IsPlaced` has its turn
+  turn_so : (mark : Mark) → IsPlaced (Some mark) → mark.expected.turn ≡ turn_at commands mark.cycle mark.expected.turn.attempt mark.place
+  turn_so mark placed = ap (λ (k : Expected). k.turn) placed ∙ turn_expected (nat_eq mark.cycle 0) mark.expected.turn.attempt (expected_first (drop mark.place commands))
+
+  -- a mark that is `IsPlaced` has the rule of its command
+  rule_so : (mark : Mark) → IsPlaced (Some mark) → mark.expected.again ≡ rule_at commands mark.cycle mark.place
+  rule_so mark placed = ap (λ (k : Expected). k.again) placed ∙ rule_expected (nat_eq mark.cycle 0) mark.expected.turn.attempt (expected_first (drop mark.place commands))
+
+  -- the mark of the next command of a cycle is `IsPlaced`
+  next_placed : (p : Progress) → 0 < cycles_begun plan p → IsPlaced (Some (mark_next plan commands p))
+  next_placed p many =
+      let expected = expected_first (drop (place_next commands p) commands) in
+      ap (λ (b : Bool). expected_as b expected.turn.attempt expected) (sym (not_none (cycles_begun plan p) many)) where
+        -- a number above 0 isn't 0
+        not_none : (n : ℕ) → 0 < n → nat_eq n 0 ≡ false
+        not_none n some = grind (arith, nat_tests, some)
 
   -- settlements list what their records do, whose marks are `IsPlaced`
   lists_so : (utc : ℕ) (marks : List (Option Mark)) (xs : List (Rule.Settlement Asked)) (b : Bool) → AllByRecursion IsPlaced marks
@@ -184,7 +218,7 @@ module _ (plan : Plan) (commands : List Task) (scope : Scope) where
       let code = code_of scope.reads x.call x.outcome in
       let kept = if nat_eq mark.expected.turn.link 0 then false else b in
       let same = named_by scope.reads mark.expected.again x.call code end (λ q said l e. code_there scope.reads mark.expected x.call x.outcome q said l e)
-      ∙ ap (λ (k : Expected). is_named k.again (code_said scope.reads x.call end) end) all.0 in
+      ∙ ap (λ (k : Again). is_named k (code_said scope.reads x.call end) end) (rule_so mark all.0) in
       lists_so utc marks xs (kept || is_named mark.expected.again code end) all.1
       ∙ ap (λ y. any_listed scope.reads commands (kept || y) (records_of scope.reads utc marks xs)) same
 
@@ -193,7 +227,7 @@ module _ (plan : Plan) (commands : List Task) (scope : Scope) where
   records_so utc [] xs all = tt
   records_so utc (mark ∷ marks) [] all = tt
   records_so utc (None ∷ marks) (x ∷ xs) all = records_so utc marks xs all.1
-  records_so utc (Some mark ∷ marks) (x ∷ xs) all = (ap (λ (k : Expected). k.turn) all.0, records_so utc marks xs all.1)
+  records_so utc (Some mark ∷ marks) (x ∷ xs) all = (turn_so mark all.0, records_so utc marks xs all.1)
 
   -- without the first n marks, all are `IsPlaced` still
   all_drop : (n : ℕ) (marks : List (Option Mark)) → AllByRecursion IsPlaced marks → AllByRecursion IsPlaced (drop n marks)
@@ -252,11 +286,19 @@ module _ (plan : Plan) (commands : List Task) (scope : Scope) where
   -- `Keeps` lasts over the send of the first of these commands, if its mark is `IsPlaced`
   first_so : (mark : Mark) (left : List Task) (s : Model) → IsPlaced (Some mark) → Keeps s → Keeps (asks_first mark left s)
   first_so mark [] s placed k = k
-  first_so mark (task ∷ others) s placed k = asks_so task.deadline task.command.target task.command.call (Some mark) s placed k
+  first_so mark (task ∷ others) s placed k = asks_so task.deadline task.command.target (call_at task mark.sent) (Some mark) s placed k
 
   -- `Keeps` lasts over the send of the next command
-  next_so : (s : Model) → Keeps s → Keeps (asks_first (mark_next plan commands s.progress) (drop (place_next commands s.progress) commands) s)
-  next_so s k = first_so (mark_next plan commands s.progress) (drop (place_next commands s.progress) commands) s refl k
+  next_so : (s : Model) → 0 < cycles_begun plan s.progress → Keeps s → Keeps (asks_first (mark_next plan commands s.progress) (drop (place_next commands s.progress) commands) s)
+  next_so s many k = first_so (mark_next plan commands s.progress) (drop (place_next commands s.progress) commands) s (next_placed s.progress many) k
+
+  -- `Keeps` lasts over the send of the next command of the set-up
+  setup_so : (s : Model) → Keeps s → Keeps (asks_setup plan commands s)
+  setup_so s k = by_list (drop s.progress.prepared commands) where
+    -- the lemma above, whether there is one or not
+    by_list : (left : List Task) → Keeps (asks_or_null plan (mark_setup commands s.progress) left s)
+    by_list [] = asks_so plan.deadline 0 (Table NullProc) None s tt k
+    by_list (task ∷ others) = asks_so task.deadline task.command.target (call_at task s.progress.moment.utc) (Some (mark_setup commands s.progress)) s refl k
 
   -- the end of a command that isn't sent is named, whatever its code
   unsent_named : (again : Again) (call : Asked) (b : Bool) → is_named again None (if b then Missed else Skipped) ≡ is_named again (code_said scope.reads call (if b then Missed else Skipped)) (if b then Missed else Skipped)
@@ -266,20 +308,30 @@ module _ (plan : Plan) (commands : List Task) (scope : Scope) where
   -- the record of a command that isn't sent has the turn of its command
   skips_so : (p : Progress) (m : Moment) (mark : Mark) (left : List Task) → IsPlaced (Some mark) → AllByRecursion IsSo (skips_first p m mark left)
   skips_so p m mark [] placed = tt
-  skips_so p m mark (task ∷ others) placed = (ap (λ (k : Expected). k.turn) placed, tt)
+  skips_so p m mark (task ∷ others) placed = (turn_so mark placed, tt)
 
   -- a command that isn't sent lists what its record does
-  skips_listed : (b : Bool) (p : Progress) (m : Moment) (left : List Task) → drop (place_next commands p) commands ≡ left → 0 < length left
+  skips_listed : (b : Bool) (p : Progress) (m : Moment) (left : List Task) → 0 < cycles_begun plan p → 0 < length left
       → listed_behind b (mark_next plan commands p).expected None (if p.missed then Missed else Skipped) ≡ any_listed scope.reads commands b (skips_first p m (mark_next plan commands p) left)
-  skips_listed b p m [] at some = absurd (omega (arith, some))
-  skips_listed b p m (task ∷ others) at some =
+  skips_listed b p m [] many some = absurd (omega (arith, some))
+  skips_listed b p m (task ∷ others) many some =
       let mark = mark_next plan commands p in
-      ap (λ x. (if nat_eq mark.expected.turn.link 0 then false else b) || x) (unsent_named mark.expected.again task.command.call p.missed)
+      let end = if p.missed then Missed else Skipped in
+      ap (λ x. (if nat_eq mark.expected.turn.link 0 then false else b) || x)
+      (unsent_named mark.expected.again task.command.call p.missed ∙ ap (λ (k : Again). is_named k (code_said scope.reads task.command.call end) end) (rule_so mark (next_placed p many)))
+
+  -- where the next command has its turn, a cycle has begun, and there is such a command
+  abbrev IsThere : Action → Model → Type 0
+  IsThere actions.Send s = (0 < cycles_begun plan s.progress) × (0 < length (drop (place_next commands s.progress) commands))
+  IsThere actions.Skip s = (0 < cycles_begun plan s.progress) × (0 < length (drop (place_next commands s.progress) commands))
+  IsThere next s = Unit {0}
 
   -- `Keeps` lasts over an act of each action that is next, before what waits is lost
-  moved_so : (next : Action) (s : Model) (act : Act) → (next ≡ actions.Skip → 0 < length (drop (place_next commands s.progress) commands)) → Keeps s → Keeps (moved plan commands next s act)
-  moved_so actions.Send s (Cut bytes count) some k = let n = next_so s k in record { reads = n.reads; marks = n.marks; records = n.records; listed = n.listed }
-  moved_so actions.Send s act some k = let n = next_so s k in record { reads = n.reads; marks = n.marks; records = n.records; listed = n.listed }
+  moved_so : (next : Action) (s : Model) (act : Act) → IsThere next s → Keeps s → Keeps (moved plan commands next s act)
+  moved_so actions.Prepare s (Cut bytes count) some k = let n = setup_so s k in record { reads = n.reads; marks = n.marks; records = n.records; listed = n.listed }
+  moved_so actions.Prepare s act some k = let n = setup_so s k in record { reads = n.reads; marks = n.marks; records = n.records; listed = n.listed }
+  moved_so actions.Send s (Cut bytes count) some k = let n = next_so s some.0 k in record { reads = n.reads; marks = n.marks; records = n.records; listed = n.listed }
+  moved_so actions.Send s act some k = let n = next_so s some.0 k in record { reads = n.reads; marks = n.marks; records = n.records; listed = n.listed }
   moved_so actions.Flush s (Cut bytes count) some k = let n = asks_so plan.deadline 0 (Table NullProc) None s tt k in record { reads = n.reads; marks = n.marks; records = n.records; listed = n.listed }
   moved_so actions.Flush s act some k = let n = asks_so plan.deadline 0 (Table NullProc) None s tt k in record { reads = n.reads; marks = n.marks; records = n.records; listed = n.listed }
   moved_so actions.Skip s (Told m) some k =
@@ -289,8 +341,8 @@ module _ (plan : Plan) (commands : List Task) (scope : Scope) where
       record {
         reads = k.reads;
         marks = k.marks;
-        records = all_append IsSo s.records _ k.records (skips_so p m (mark_next plan commands p) left refl);
-        listed = skips_listed s.listed p m left refl (some refl) ∙ ap (λ b. any_listed scope.reads commands b rs) k.listed ∙ sym (any_append scope.reads commands s.records rs false);
+        records = all_append IsSo s.records _ k.records (skips_so p m (mark_next plan commands p) left (next_placed p some.0));
+        listed = skips_listed s.listed p m left some.0 some.1 ∙ ap (λ b. any_listed scope.reads commands b rs) k.listed ∙ sym (any_append scope.reads commands s.records rs false);
       }
   moved_so actions.Skip s act some k = record {
     reads = k.reads;
@@ -308,15 +360,20 @@ module _ (plan : Plan) (commands : List Task) (scope : Scope) where
   after_so : (s : Model) (act : Act) → Invariant plan commands s → Keeps s → Keeps (after plan commands s act)
   after_so s act fine k =
       let t = moved plan commands (action_at plan s) (with_progress turned s) act in
-      losing_so (loses_all t.progress) t (moved_so (action_at plan s) (with_progress turned s) act some (record { reads = k.reads; marks = k.marks; records = k.records; listed = k.listed })) where
-        -- where the next command isn't sent, there is one
-        some : action_at plan s ≡ actions.Skip → 0 < length (drop (place_next commands s.progress) commands)
-        some is =
-            let needs = subst (λ (o : Action). IsFor plan s.progress (waiting_of s) o) is (action_for plan s.progress (waiting_of s)) in
+      losing_so (loses_all t.progress) t (moved_so (action_at plan s) (with_progress turned s) act (there (action_at plan s) (action_for plan s.progress (waiting_of s)))
+      (record { reads = k.reads; marks = k.marks; records = k.records; listed = k.listed })) where
+        -- where one is left, a cycle has begun, and there is a next command
+        one_left : 0 < s.progress.unsent → (0 < cycles_begun plan s.progress) × (0 < length (drop (place_next commands s.progress) commands))
+        one_left unsent =
             let many = length-drop (place_next commands s.progress) commands in
-            let unsent = needs.2 in
             let within = fine.unsent in
-            omega (arith, many, unsent, within)
+            let below = fine.begun unsent in (omega (arith, below), omega (arith, many, unsent, within))
+
+        -- where the next command has its turn, there is one
+        there : (next : Action) → IsFor plan s.progress (waiting_of s) next → IsThere next (with_progress turned s)
+        there actions.Send needs = one_left needs.2
+        there actions.Skip needs = one_left needs.2
+        there next needs = tt
 
   -- `Keeps` lasts over acts
   along : (s : Model) (acts : List Act) → Invariant plan commands s → Keeps s → Keeps (after_all plan commands s acts)
@@ -331,29 +388,29 @@ module _ (plan : Plan) (commands : List Task) (scope : Scope) where
 
   -- `next_others` is what the text says of the next command, where that isn't the first of its cycle, and else 0
   abbrev Follows : Progress → Type 0
-  Follows p = (0 < place_next commands p → p.next_others ≡ others_in (drop (place_next commands p) commands)) × (place_next commands p ≡ 0 → p.next_others ≡ 0)
+  Follows p = (plan.setup < place_next commands p → p.next_others ≡ others_in (drop (place_next commands p) commands)) × (place_next commands p ≤ plan.setup → p.next_others ≡ 0)
 
   -- `Follows` lasts where the next command stays the same
   follows_same : (p q : Progress) → q.unsent ≡ p.unsent → q.next_others ≡ p.next_others → Follows p → Follows q
   follows_same p q unsent others h =
       let at : place_next commands q ≡ place_next commands p = ap (λ (n : ℕ). length commands - n) unsent in
-      (λ above. others ∙ h.0 (subst (λ (n : ℕ). 0 < n) at above) ∙ ap (λ (n : ℕ). others_in (drop n commands)) (sym at), λ none. others ∙ h.1 (sym at ∙ none))
+      (λ above. others ∙ h.0 (subst (λ (n : ℕ). plan.setup < n) at above) ∙ ap (λ (n : ℕ). others_in (drop n commands)) (sym at), λ none. others ∙ h.1 (subst (λ (n : ℕ). n ≤ plan.setup) at none))
 
   -- `Follows` holds after the next command
-  follows_next : (p q : Progress) → q.unsent ≡ p.unsent - 1 → q.next_others ≡ others_behind_next commands p → 0 < p.unsent → p.unsent ≤ length commands → Follows q
+  follows_next : (p q : Progress) → q.unsent ≡ p.unsent - 1 → q.next_others ≡ others_behind_next commands p → 0 < p.unsent → p.unsent ≤ length commands - plan.setup → Follows q
   follows_next p q unsent others some within =
       let at : place_next commands p + 1 ≡ place_next commands q = omega (arith, unsent, some, within) in
-      (λ above. others ∙ ap (λ (n : ℕ). others_in (drop n commands)) at, λ none. absurd (omega (arith, at, none)))
+      (λ above. others ∙ ap (λ (n : ℕ). others_in (drop n commands)) at, λ none. absurd (omega (arith, at, none, some, within)))
 
   -- `Follows` holds after attempts that are passed over
-  follows_past : (p q : Progress) → q.unsent ≡ p.unsent - p.next_others → q.next_others ≡ others_behind p.next_others commands p → 0 < p.unsent → 0 < p.next_others → p.unsent ≤ length commands → Follows q
+  follows_past : (p q : Progress) → q.unsent ≡ p.unsent - p.next_others → q.next_others ≡ others_behind p.next_others commands p → 0 < p.unsent → 0 < p.next_others → p.unsent ≤ length commands - plan.setup → Follows q
   follows_past p q unsent others some more within =
       let at : drop (place_next commands p + p.next_others) commands ≡ drop (place_next commands q) commands =
-      drop_past commands p.unsent p.next_others within ∙ ap (λ (n : ℕ). drop (length commands - n) commands) (sym unsent) in
+      drop_past commands p.unsent p.next_others (omega (arith, within)) ∙ ap (λ (n : ℕ). drop (length commands - n) commands) (sym unsent) in
       (λ above. others ∙ ap others_in at, λ none. absurd (omega (arith, unsent, some, more, within, none)))
 
   -- `Follows` holds at the beginning of a cycle
-  follows_begun : (q : Progress) → q.unsent ≡ length commands → q.next_others ≡ 0 → Follows q
+  follows_begun : (q : Progress) → q.unsent ≡ cycle_length plan commands → q.next_others ≡ 0 → Follows q
   follows_begun q unsent others = (λ above. absurd (omega (arith, unsent, above)), λ none. others)
 
   -- how far a station is after an act of an action
@@ -361,7 +418,7 @@ module _ (plan : Plan) (commands : List Task) (scope : Scope) where
   far next s act = (moved plan commands next (with_progress turned s) act).progress
 
   -- `Follows` lasts over an act of each action
-  moved_follows : (next : Action) (s : Model) (w : Waiting) (act : Act) → IsFor plan s.progress w next → s.progress.unsent ≤ length commands → Follows s.progress → Follows (far next s act)
+  moved_follows : (next : Action) (s : Model) (w : Waiting) (act : Act) → IsFor plan s.progress w next → s.progress.unsent ≤ length commands - plan.setup → Follows s.progress → Follows (far next s act)
   moved_follows actions.Begin s w (Told m) needs within h = follows_begun (far actions.Begin s (Told m)) refl refl
   moved_follows actions.Send s w (Cut bytes n) needs within h =
       let t = with_progress turned s in
@@ -394,7 +451,7 @@ module _ (plan : Plan) (commands : List Task) (scope : Scope) where
       let s = stood plan commands scope acts in subst (λ (o : Action). IsFor plan s.progress (waiting_of s) o) is (action_for plan s.progress (waiting_of s))
 
   -- the law of further attempts that go out
-  goes_again : (acts : List Act) → Runs plan commands (opening plan scope) acts → action_at plan (stood plan commands scope acts) ≡ actions.Send → IsFurtherAttempt commands (stood plan commands scope acts)
+  goes_again : (acts : List Act) → Runs plan commands (opening plan scope) acts → action_at plan (stood plan commands scope acts) ≡ actions.Send → IsFurtherAttempt plan commands (stood plan commands scope acts)
       → (commands_in (stood plan commands scope acts).marks ≡ 0) × HasListed scope.reads commands (stood plan commands scope acts).records
   goes_again acts runs is further = by_may (needs_of acts actions.Send is).6 where
     -- the station as it stands
@@ -412,7 +469,7 @@ module _ (plan : Plan) (commands : List Task) (scope : Scope) where
 
   -- the law of further attempts that are passed over
   passes_over : (acts : List Act) → Runs plan commands (opening plan scope) acts → action_at plan (stood plan commands scope acts) ≡ actions.Pass
-      → IsFurtherAttempt commands (stood plan commands scope acts) × (commands_in (stood plan commands scope acts).marks ≡ 0)
+      → IsFurtherAttempt plan commands (stood plan commands scope acts) × (commands_in (stood plan commands scope acts).marks ≡ 0)
       × ((HasListed scope.reads commands (stood plan commands scope acts).records → ⊥)
       ⊎ (((stood plan commands scope acts).progress.missed ≡ true) ⊎ (is_chained (drop (place_next commands (stood plan commands scope acts).progress) commands) ≡ true)))
   passes_over acts runs is = ((above, further), needs.3, by_why needs.5) where
@@ -429,13 +486,13 @@ module _ (plan : Plan) (commands : List Task) (scope : Scope) where
     follows = follows_stood acts runs
 
     -- the next command isn't the first of its cycle, by its place
-    by_place : (n : ℕ) → place_next commands s.progress ≡ n → 0 < place_next commands s.progress
-    by_place zero at = let none = follows.1 at in let more = needs.4 in absurd (omega (arith, none, more))
-    by_place (suc n) at = omega (arith, at)
+    by_place : (b : Bool) → nat_lt plan.setup (place_next commands s.progress) ≡ b → plan.setup < place_next commands s.progress
+    by_place true at = ltb-true plan.setup (place_next commands s.progress) at
+    by_place false at = let none = follows.1 (ltb-false plan.setup (place_next commands s.progress) at) in let more = needs.4 in absurd (omega (arith, none, more))
 
     -- the next command isn't the first of its cycle
-    above : 0 < place_next commands s.progress
-    above = by_place (place_next commands s.progress) refl
+    above : plan.setup < place_next commands s.progress
+    above = by_place (nat_lt plan.setup (place_next commands s.progress)) refl
 
     -- it begins a further attempt
     further : 0 < others_in (drop (place_next commands s.progress) commands)

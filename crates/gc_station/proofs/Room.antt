@@ -15,6 +15,7 @@ use Rattle.gc_station.proofs.Facts.{action_for}
 
 -- where a request of the client is next, there is room
 room_of : (plan : Plan) (p : Progress) (w : Waiting) (next : Action) → IsAsking next → IsFor plan p w next → HasRoom plan w
+room_of plan p w actions.Prepare puts is = is.3
 room_of plan p w actions.Send puts is = is.3
 room_of plan p w actions.Flush puts is = is.4
 room_of plan p w next puts is = absurd puts

@@ -8,15 +8,16 @@ use Rattle.gc_texts.specs.declared.tasks.Task.{Task}
 use Rattle.gc_station.specs.declared.mark.Mark.{Mark}
 use Rattle.gc_station.specs.declared.plan.Plan.{Plan}
 use Rattle.gc_station.specs.declared.progress.Action.{Action}
-use Rattle.gc_station.specs.declared.progress.Action.TheVariants.{Ask, Send, Flush, Read}
+use Rattle.gc_station.specs.declared.progress.Action.TheVariants.{Ask, Send, Flush, Read, Prepare}
 use Rattle.gc_links.specs.Acts.{Act, Put, Cut, Gave}
 use Rattle.gc_station.specs.Deciding.{has_begun}
 use Rattle.gc_station.specs.Links.{RecordsStay}
-use Rattle.gc_station.specs.Parts.{Part, nothing, joined, asking_first, putting, doing, beginning, acting, ends_part, in_front, parts_of}
+use Rattle.gc_station.specs.Parts.{Part, nothing, joined, asking_first, putting, doing, beginning, acting, ends_part, in_front, parts_of, asking_or_null}
 use Rattle.gc_station.specs.Progressing.{turned, loses_all}
 use Rattle.gc_station.specs.Records.{Record}
 use Rattle.gc_station.specs.Runs.{stood}
-use Rattle.gc_station.specs.Model.{Model, opening, action_at, place_next, mark_next, with_progress, moved, after, after_all}
+use Rattle.gc_station.proofs.Outs.{SendsIt}
+use Rattle.gc_station.specs.Model.{Model, opening, action_at, place_next, mark_next, with_progress, moved, after, after_all, mark_setup}
 use Rattle.gc_station.proofs.Facts.{either}
 use Rattle.gc_station.proofs.Going.{after_all-append}
 use Rattle.gc_station.proofs.Growing.{losing_records, moved_grew}
@@ -93,27 +94,34 @@ records_stay plan commands scope before rest =
 
 -- Where a request of a command goes out.
 
--- the part of the next command has no mark but that command's, in front
-pub put_mark : (plan : Plan) (commands : List Task) (s : Model) (left : List Task) (n : ℕ) (mark : Mark)
-    → slice_get (asking_first s.progress.moment.elapsed (mark_next plan commands s.progress) left).marks n ≡ Some (Some mark)
-    → (n ≡ 0) × (mark ≡ mark_next plan commands s.progress)
-put_mark plan commands s [] n mark e = absurd (none_is_not (Some mark) e)
-put_mark plan commands s (task ∷ others) zero mark e = (refl, sym (some_is (mark_next plan commands s.progress) mark (some_is (Some (mark_next plan commands s.progress)) (Some mark) e)))
-put_mark plan commands s (task ∷ others) (suc n) mark e = absurd (none_is_not (Some mark) e)
+-- the part of the first of some commands has no mark but that command's, in front
+pub put_mark : (now : ℕ) (its : Mark) (left : List Task) (n : ℕ) (mark : Mark) → slice_get (asking_first now its left).marks n ≡ Some (Some mark) → (n ≡ 0) × (mark ≡ its)
+put_mark now its [] n mark e = absurd (none_is_not (Some mark) e)
+put_mark now its (task ∷ others) zero mark e = (refl, sym (some_is its mark (some_is (Some its) (Some mark) e)))
+put_mark now its (task ∷ others) (suc n) mark e = absurd (none_is_not (Some mark) e)
 
 -- a null procedure has no mark
 pub null_mark : (n : ℕ) (mark : Mark) → slice_get (None ∷ []) n ≡ Some (Some mark) → ⊥
 null_mark zero mark e = cc
 null_mark (suc n) mark e = none_is_not (Some mark) e
 
+-- the part of the next command of the set-up has no mark but that command's, in front
+pub setup_mark : (plan : Plan) (now : ℕ) (its : Mark) (left : List Task) (n : ℕ) (mark : Mark) → slice_get (asking_or_null plan now its left).marks n ≡ Some (Some mark) → (n ≡ 0) × (mark ≡ its)
+setup_mark plan now its [] n mark e = absurd (null_mark n mark e)
+setup_mark plan now its (task ∷ others) zero mark e = (refl, sym (some_is its mark (some_is (Some its) (Some mark) e)))
+setup_mark plan now its (task ∷ others) (suc n) mark e = absurd (none_is_not (Some mark) e)
+
 -- this action sends the command with this mark, as the only request of its part
 abbrev pub IsSend : Plan → List Task → Model → Action → ℕ → Mark → Type 0
-IsSend plan commands s o n mark = (n ≡ 0) × (o ≡ Send) × (mark ≡ mark_next plan commands s.progress)
+IsSend plan commands s o n mark = (n ≡ 0) × SendsIt plan commands s o mark
 
 -- a mark in the part of bytes that are put is of a command that the action sends
 pub putting_mark : (plan : Plan) (commands : List Task) (s : Model) (o : Action) (n : ℕ) (mark : Mark)
     → slice_get (putting plan commands s o).marks n ≡ Some (Some mark) → IsSend plan commands s o n mark
-putting_mark plan commands s Send n mark e = let h = put_mark plan commands s (drop (place_next commands s.progress) commands) n mark e in (h.0, refl, h.1)
+putting_mark plan commands s Prepare n mark e =
+    let h = setup_mark plan s.progress.moment.elapsed (mark_setup commands s.progress) (drop s.progress.prepared commands) n mark e in (h.0, inr (refl, h.1))
+putting_mark plan commands s Send n mark e =
+    let h = put_mark s.progress.moment.elapsed (mark_next plan commands s.progress) (drop (place_next commands s.progress) commands) n mark e in (h.0, inl (refl, h.1))
 putting_mark plan commands s Flush n mark e = absurd (null_mark n mark e)
 putting_mark plan commands s o n mark e = absurd (none_is_not (Some mark) e)
 
@@ -147,8 +155,7 @@ pub record SentAt (plan : Plan) (commands : List Task) (s : Model) (acts : List 
   pub act : Act
   pub rest : List Act
   pub order : acts ≡ before ++ act ∷ rest
-  pub sends : action_at plan (after_all plan commands s before) ≡ Send
-  pub is : mark ≡ mark_next plan commands (after_all plan commands s before).progress
+  pub its : SendsIt plan commands (after_all plan commands s before) (action_at plan (after_all plan commands s before)) mark
   pub first : Part
   pub of_parts : slice_get (parts_of plan commands s before) i ≡ Some first
   pub last : length (parts_of plan commands s before) ≡ suc i
@@ -175,7 +182,7 @@ module _ (plan : Plan) (commands : List Task) where
       → slice_get (acting plan commands s (action_at plan s) act).marks n ≡ Some (Some mark) → SentAt plan commands s (act ∷ acts) 0 n mark
   sent_here s act acts n mark e =
       let h = acting_mark plan commands s (action_at plan s) act n mark e in
-      record { before = []; act = act; rest = acts; order = refl; sends = h.1; is = h.2; first = nothing; of_parts = refl; last = refl; count = sym h.0 }
+      record { before = []; act = act; rest = acts; order = refl; its = h.1; first = nothing; of_parts = refl; last = refl; count = sym h.0 }
 
   -- an act after the first one, with which a part ends, sends the command: so the command is in a later part
   pub sent_cut : (s : Model) (act : Act) (acts : List Act) (i n : ℕ) (mark : Mark) → ends_part plan commands s act ≡ true
@@ -188,8 +195,7 @@ module _ (plan : Plan) (commands : List Task) where
         act = h.act;
         rest = h.rest;
         order = ap (λ l. act ∷ l) h.order;
-        sends = h.sends;
-        is = h.is;
+        its = h.its;
         first = h.first;
         of_parts = subst (λ b. slice_get (in_front p b ps) (suc i) ≡ Some h.first) (sym is) h.of_parts;
         last = subst (λ b. length (in_front p b ps) ≡ suc (suc i)) (sym is) (ap suc h.last);
@@ -209,8 +215,7 @@ module _ (plan : Plan) (commands : List Task) where
         act = h.act;
         rest = h.rest;
         order = ap (λ l. act ∷ l) h.order;
-        sends = h.sends;
-        is = h.is;
+        its = h.its;
         first = joined p h.first;
         of_parts = subst (λ b. slice_get (in_front p b ps) 0 ≡ Some (joined p h.first)) (sym is) (joined_at p ps h.first h.of_parts);
         last = subst (λ b. length (in_front p b ps) ≡ 1) (sym is) (joined_length p ps 0 h.last);
@@ -228,8 +233,7 @@ module _ (plan : Plan) (commands : List Task) where
         act = h.act;
         rest = h.rest;
         order = ap (λ l. act ∷ l) h.order;
-        sends = h.sends;
-        is = h.is;
+        its = h.its;
         first = h.first;
         of_parts = subst (λ b. slice_get (in_front p b ps) (suc i) ≡ Some h.first) (sym is) (joined_on p ps i h.first h.of_parts);
         last = subst (λ b. length (in_front p b ps) ≡ suc (suc i)) (sym is) (joined_length p ps (suc i) h.last);

@@ -92,6 +92,7 @@ module _ (plan : Plan) (commands : List Task) where
   fresh_line actions.Open s acts = λ m. tt
   fresh_line actions.Clear s acts = λ m. fresh_stale s.progress.moment.elapsed (cleared s.progress).phase _
   fresh_line actions.Ask s acts = λ m. fresh_stale s.progress.moment.elapsed s.progress.phase _
+  fresh_line actions.Prepare s acts = λ m. fresh_stale s.progress.moment.elapsed s.progress.phase _
   fresh_line actions.Send s acts = λ m. fresh_stale s.progress.moment.elapsed s.progress.phase _
   fresh_line actions.Flush s acts = λ m. fresh_stale s.progress.moment.elapsed s.progress.phase _
   fresh_line (actions.Read until) s acts =

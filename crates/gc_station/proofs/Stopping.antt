@@ -456,13 +456,15 @@ asked_stood plan commands scope acts runs =
     let s = after_all plan commands (opening plan scope) done in
     moved_asked plan commands (action_at plan s) s act o ∙ ap (λ b. asked_behind b (act ∷ [])) e ∙ sym (asked-append false done (act ∷ []))) refl acts runs
 
--- once the end was asked for, no cycle begins, and each command that goes out goes on with a chain that has begun
+-- once the end was asked for, no cycle begins, no command of the set-up goes out, and each command that goes out goes on with a chain that
+-- has begun
 pub goes_on_in_its_chain : GoesOnInItsChain
 goes_on_in_its_chain plan commands scope acts runs asked =
     let s = stood plan commands scope acts in
     let stops : s.progress.stops ≡ true = asked_stood plan commands scope acts runs ∙ asked in (
       λ is. let needs = needs_of plan s actions.Send is in needs.7 stops,
       λ is. let needs = needs_of plan s actions.Begin is in let never : true ≡ false = sym stops ∙ needs.5 in cc,
+      λ is. let needs = needs_of plan s actions.Prepare is in let never : true ≡ false = sym stops ∙ needs.5 in cc,
     )
 
 -- where a connection is closed, or a run ends, because that was asked for, it was, and the run may end there

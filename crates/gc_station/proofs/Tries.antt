@@ -3,7 +3,7 @@
 -- A piece is the bytes that one read gave. `Trying` says how many tries are left, by the connections that ended since the last
 -- read that settled a command. `Hears` says what a piece does to the tries: they are all given back where it settles a command,
 -- and stay where it doesn't; `Settling` says the same of a whole read, by the records.
-use Rattle.std.proofs.Common.{◌≡◌, ◌≢◌, ◌⊎◌, inl, inr, ℕ, suc, ◌+◌, ◌-◌, ◌<◌, ◌≤◌, Bool, true, false, not, List, [], ◌∷◌, ◌++◌, length, map, Option, Some, None, if◌then◌else◌, nat_lt, refl, sym, ap, ◌∙◌, subst, arith, append_assoc, append-nil}
+use Rattle.std.proofs.Common.{◌≡◌, ◌≢◌, ◌⊎◌, inl, inr, ℕ, suc, ◌+◌, ◌-◌, ◌<◌, ◌≤◌, Bool, true, false, not, List, [], ◌∷◌, ◌++◌, length, map, Option, Some, None, if◌then◌else◌, nat_lt, refl, sym, ap, ◌∙◌, subst, arith, append_assoc, append-nil, ◌&&◌}
 use Rattle.std.proofs.lemmas.Bool.{ltb-true, ltb-false}
 use Rattle.std.proofs.lemmas.List.{length-map, length-append, nil_from_length}
 use Rattle.gc_catalogue.specs.declared.asked.Asked.{Asked}
@@ -25,16 +25,15 @@ use Rattle.gc_station.specs.declared.progress.Waiting.{Waiting}
 use Rattle.gc_links.specs.Acts.{Told, Untold, Act, Gave, Closed, Opened, Unopened}
 use Rattle.gc_station.specs.Closing.{Shows, EndsDone, EndsBehind}
 use Rattle.gc_station.specs.Deciding.{has_begun, is_up}
-use Rattle.gc_station.specs.EachOnce.{still_waiting, of_record, sent_by}
+use Rattle.gc_station.specs.EachOnce.{still_waiting, of_record}
 use Rattle.gc_station.specs.Marks.{commands_in}
 use Rattle.gc_station.specs.Progressing.{is_spared, turned, told, time_passed, quieted, closed, is_over, loses_all}
 use Rattle.gc_station.specs.Records.{Record}
 use Rattle.gc_station.specs.Runs.{stood}
-use Rattle.gc_station.specs.Model.{Model, opening, action_at, waiting_of, place_next, with_progress, with_moment, lines_behind, came, is_heard, piece_at, Performs, moved, losing, after, after_all, Runs}
+use Rattle.gc_station.specs.Model.{Model, opening, action_at, waiting_of, with_progress, with_moment, lines_behind, came, is_heard, piece_at, Performs, moved, losing, after, after_all, Runs}
 use Rattle.gc_station.specs.Tries.{IsTried, IsEnding, ends_in, opens_in, SettlesNone, NoneSettled, EndsSettled, AllTried}
-use Rattle.gc_station.proofs.Parted.{parted_length}
 use Rattle.gc_station.proofs.Closings.{runs_split, needs_of, end_of, Decided, after_decided, done_sent}
-use Rattle.gc_station.proofs.Counts.{ended_passes, ended_progress}
+use Rattle.gc_station.proofs.Counts.{ended_progress}
 use Rattle.gc_station.proofs.Always.{always}
 use Rattle.gc_station.proofs.EachRun.{fine_after, fine_stood}
 use Rattle.gc_station.proofs.Facts.{either_true, action_for}
@@ -44,6 +43,7 @@ use Rattle.gc_station.proofs.Growing.{losing_records, moved_grew}
 use Rattle.gc_station.proofs.Opens.{Counted, Quits, counted_moved}
 use Rattle.gc_station.proofs.Ticking.{clash}
 use Rattle.gc_station.proofs.Records.{Grew}
+use Rattle.gc_station.proofs.Row.{row_of, row_losing, row_read}
 use Rattle.gc_station.proofs.Turns.{over_stays, up_count}
 use Rattle.gc_station.proofs.Words.{begins_before}
 use Rattle.gc_station.proofs.Walk.{asked_along, came_along, closed_along, moved_changed, quieted_along, walk}
@@ -52,12 +52,13 @@ use Rattle.gc_station.specs.Scopes.{Scope}
 -- Each end of a connection takes a try at most, and only a read gives tries back.
 
 -- what a piece does, from s to t: as many commands had their turn; the station doesn't begin anew by it; and either fewer
--- commands wait, and all tries are left, or as many wait or more, and the tries stay
+-- commands wait, the set-up is done, and all tries are left, or as many wait or more, or the set-up isn't done, and the tries stay
 record Hears (plan : Plan) (s t : Model) : Type 0 where
   left : t.progress.left ≡ s.progress.left
   unsent : t.progress.unsent ≡ s.progress.unsent
   begins : has_begun t.progress ≡ false → has_begun s.progress ≡ false
-  tries : ((commands_in t.marks < commands_in s.marks) × (t.progress.tries ≡ plan.retries)) ⊎ ((commands_in s.marks ≤ commands_in t.marks) × (t.progress.tries ≡ s.progress.tries))
+  tries : ((commands_in t.marks < commands_in s.marks) × (t.progress.preparing ≡ false) × (t.progress.tries ≡ plan.retries))
+      ⊎ (((commands_in s.marks ≤ commands_in t.marks) ⊎ (t.progress.preparing ≡ true)) × (t.progress.tries ≡ s.progress.tries))
 
 -- what an act does to the tries, from s to t: a read that gave bytes does what `Hears` says; any other act takes at most one
 -- try for each connection that ends by it or couldn't be made
@@ -65,11 +66,13 @@ abbrev Took : Plan → Model → Act → Model → Type 0
 Took plan s (Gave bytes m) t = Hears plan s t
 Took plan s act t = s.progress.tries ≤ t.progress.tries + ends_in (act ∷ [])
 
--- after a read either fewer commands wait, and all tries are left; or as many or more, and the tries stay
-given_back : (b : Bool) (after before retries new old : ℕ) → nat_lt after before ≡ b → new ≡ old
-    → ((after < before) × ((if b then retries else new) ≡ retries)) ⊎ ((before ≤ after) × ((if b then retries else new) ≡ old))
-given_back true after before retries new old e same = inl (ltb-true after before e, refl)
-given_back false after before retries new old e same = inr (ltb-false after before e, same)
+-- after a read either fewer commands wait, the set-up is done, and all tries are left; or as many or more wait (`b`: fewer do), or the set-up isn't
+-- done (`on`), and the tries stay
+given_back : (b on : Bool) (after before retries new old : ℕ) → nat_lt after before ≡ b → new ≡ old
+    → ((after < before) × (on ≡ false) × ((if b && not on then retries else new) ≡ retries)) ⊎ (((before ≤ after) ⊎ (on ≡ true)) × ((if b && not on then retries else new) ≡ old))
+given_back true false after before retries new old e same = inl (ltb-true after before e, refl, refl)
+given_back true true after before retries new old e same = inr (inr refl, same)
+given_back false on after before retries new old e same = inr (inl (ltb-false after before e), same)
 
 -- a read that gave bytes does to the tries what `Hears` says
 gave_took : (plan : Plan) (until : Until) (s : Model) (bytes : List ℕ) (m : Moment) → Hears plan s (piece_at plan until bytes m s)
@@ -82,7 +85,7 @@ gave_took plan until s bytes m =
       left = ap (λ (x : Model). x.progress.left) is;
       unsent = ap (λ (x : Model). x.progress.unsent) is;
       begins = λ e. begins_before heard s.progress.word bytes mid refl e;
-      tries = given_back (nat_lt (commands_in t.marks) (commands_in s.marks)) (commands_in t.marks) (commands_in s.marks) plan.retries t.progress.tries s.progress.tries refl
+      tries = given_back (nat_lt (commands_in t.marks) (commands_in s.marks)) t.progress.preparing (commands_in t.marks) (commands_in s.marks) plan.retries t.progress.tries s.progress.tries refl
           (came_along (λ (x : Model). x.progress.tries ≡ s.progress.tries) (λ x line e. e) heard s.progress.word bytes mid refl
           (asked_along (λ (q : Progress). q.tries ≡ s.progress.tries) (λ q line e. e) mid.progress (lines_behind s.rest bytes) refl) refl);
     }
@@ -133,27 +136,18 @@ waiting_count (mark ∷ marks) [] e = absurd (omega (arith, e))
 waiting_count (None ∷ marks) (w ∷ waits) e = waiting_count marks waits (omega (arith, e))
 waiting_count (Some mark ∷ marks) (w ∷ waits) e = ap suc (waiting_count marks waits (omega (arith, e)))
 
--- the records, the commands that wait and those that were passed over are as many as the commands that had their turn
-counted_out : (plan : Plan) (commands : List Task) (s : Model) → Invariant plan commands s
-    → length s.records + commands_in s.marks + length s.passes ≡ length (sent_by commands (plan.cycles - s.progress.left) (place_next commands s.progress))
+-- the records and the commands that wait are as many as the row has
+counted_out : (plan : Plan) (commands : List Task) (s : Model) → Invariant plan commands s → length s.records + commands_in s.marks ≡ length (row_of s)
 counted_out plan commands s fine =
     let a = length-append (map of_record s.records) (still_waiting s.marks s.client.waiting) in
     let b = length-map s.records of_record in
     let c = waiting_count s.marks s.client.waiting fine.paired in
-    let d = parted_length (map of_record s.records ++ still_waiting s.marks s.client.waiting) s.passes (sent_by commands (plan.cycles - s.progress.left) (place_next commands s.progress)) fine.each in
-    omega (arith, a, b, c, d)
+    omega (arith, a, b, c)
 
--- where as many commands had their turn in two models, the records and the commands that wait are as many in both
-same_out : (plan : Plan) (commands : List Task) (s t : Model) → Invariant plan commands s → Invariant plan commands t → t.progress.left ≡ s.progress.left → t.progress.unsent ≡ s.progress.unsent → t.passes ≡ s.passes
+-- where two models have the same row, the records and the commands that wait are as many in both
+same_out : (plan : Plan) (commands : List Task) (s t : Model) → Invariant plan commands s → Invariant plan commands t → row_of t ≡ row_of s
     → length t.records + commands_in t.marks ≡ length s.records + commands_in s.marks
-same_out plan commands s t fine fine' left unsent passes =
-    let as_many = ap length passes in
-    let same =
-    counted_out plan commands t fine'
-    ∙ ap (λ n. length (sent_by commands (plan.cycles - n) (place_next commands t.progress))) left
-    ∙ ap (λ n. length (sent_by commands (plan.cycles - s.progress.left) (length commands - n))) unsent
-    ∙ sym (counted_out plan commands s fine) in
-    omega (arith, as_many, same)
+same_out plan commands s t fine fine' same = counted_out plan commands t fine' ∙ ap length same ∙ sym (counted_out plan commands s fine)
 
 -- records that grew, and aren't more, are the same
 grew_none : (old new more : List Record) → new ≡ old ++ more → length new ≤ length old → new ≡ old
@@ -163,23 +157,28 @@ grew_none old new more is few =
     let none : length more ≡ 0 = omega (arith, a, b, few) in
     is ∙ ap (λ xs. old ++ xs) (nil_from_length more none) ∙ append-nil old
 
--- from s to t a read settled a command, which added a record, and all tries are left; or it settled none, and the tries stay
+-- from s to t a read settled a command, which added a record, the set-up is done, and all tries are left; or it settled none, or the set-up isn't
+-- done, and the tries stay
 abbrev Settling : Plan → Model → Model → Type 0
-Settling plan s t = ((t.records ≢ s.records) × (t.progress.tries ≡ plan.retries)) ⊎ ((t.records ≡ s.records) × (t.progress.tries ≡ s.progress.tries))
+Settling plan s t =
+    ((t.records ≢ s.records) × (t.progress.preparing ≡ false) × (t.progress.tries ≡ plan.retries))
+    ⊎ (((t.records ≡ s.records) ⊎ (t.progress.preparing ≡ true)) × (t.progress.tries ≡ s.progress.tries))
 
 -- a read does what `Settling` says, whatever is lost at its end. `old` commands waited before it, and `mid` after its lines
 -- were heard, before anything was lost
 settling_by : (plan : Plan) (s t : Model) (mid old : ℕ) → Grew s.records t.records → length t.records + commands_in t.marks ≡ length s.records + old → (commands_in t.marks ≡ mid) ⊎ (old ≡ 0)
-    → ((mid < old) × (t.progress.tries ≡ plan.retries)) ⊎ ((old ≤ mid) × (t.progress.tries ≡ s.progress.tries)) → Settling plan s t
-settling_by plan s t mid old grew same kept (inl fewer) = inl (λ e. by_kept kept (ap length e), fewer.1) where
+    → ((mid < old) × (t.progress.preparing ≡ false) × (t.progress.tries ≡ plan.retries)) ⊎ (((old ≤ mid) ⊎ (t.progress.preparing ≡ true)) × (t.progress.tries ≡ s.progress.tries))
+    → Settling plan s t
+settling_by plan s t mid old grew same kept (inl fewer) = inl (λ e. by_kept kept (ap length e), fewer.1, fewer.2) where
   -- the records became more, as fewer commands wait; or no command waited before, and none can be fewer
   by_kept : ((commands_in t.marks ≡ mid) ⊎ (old ≡ 0)) → length t.records ≡ length s.records → ⊥
   by_kept (inl stay) e = let few = fewer.0 in omega (arith, stay, e, few, same)
   by_kept (inr none) e = let few = fewer.0 in omega (arith, none, few)
-settling_by plan s t mid old grew same kept (inr more) = inr (grew_none s.records t.records grew.0 grew.1 (by_kept kept), more.1) where
+settling_by plan s t mid old grew same kept (inr (inr on, tries)) = inr (inr on, tries)
+settling_by plan s t mid old grew same kept (inr (inl least, tries)) = inr (inl (grew_none s.records t.records grew.0 grew.1 (by_kept kept)), tries) where
   -- the records didn't become more
   by_kept : ((commands_in t.marks ≡ mid) ⊎ (old ≡ 0)) → length t.records ≤ length s.records
-  by_kept (inl stay) = let least = more.0 in omega (arith, stay, least, same)
+  by_kept (inl stay) = omega (arith, stay, least, same)
   by_kept (inr none) = omega (arith, none, same)
 
 -- after a read that doesn't end the run, a loss takes no command away: as many commands wait as before the loss, or none waited
@@ -198,13 +197,12 @@ kept_marks plan commands s t true e goes begins fine =
       negated false e = refl
 
 -- a read that gave bytes does what `Settling` says
-gave_settles : (plan : Plan) (commands : List Task) (s t u : Model) → Invariant plan commands s → Invariant plan commands u → Hears plan s t → Grew s.records u.records → u.progress ≡ t.progress → u.passes ≡ s.passes
+gave_settles : (plan : Plan) (commands : List Task) (s t u : Model) → Invariant plan commands s → Invariant plan commands u → Hears plan s t → Grew s.records u.records → u.progress ≡ t.progress → row_of u ≡ row_of s
     → (commands_in u.marks ≡ commands_in t.marks) ⊎ (commands_in s.marks ≡ 0) → Settling plan s u
-gave_settles plan commands s t u fine fine' h grew same passes kept =
-    settling_by plan s u (commands_in t.marks) (commands_in s.marks) grew
-    (same_out plan commands s u fine fine' (ap (λ (p : Progress). p.left) same ∙ h.left) (ap (λ (p : Progress). p.unsent) same ∙ h.unsent) passes) kept
-    (subst (λ n. ((commands_in t.marks < commands_in s.marks) × (n ≡ plan.retries)) ⊎ ((commands_in s.marks ≤ commands_in t.marks) × (n ≡ s.progress.tries)))
-    (sym (ap (λ (p : Progress). p.tries) same)) h.tries)
+gave_settles plan commands s t u fine fine' h grew same row kept =
+    settling_by plan s u (commands_in t.marks) (commands_in s.marks) grew (same_out plan commands s u fine fine' row) kept
+    (subst (λ (p : Progress). ((commands_in t.marks < commands_in s.marks) × (p.preparing ≡ false) × (p.tries ≡ plan.retries))
+    ⊎ (((commands_in s.marks ≤ commands_in t.marks) ⊎ (p.preparing ≡ true)) × (p.tries ≡ s.progress.tries))) (sym same) h.tries)
 
 -- So the tries are counted along a run.
 
@@ -274,14 +272,14 @@ trying_on plan commands scope tries tries' up up' acts act took counted settles 
     }
 
 -- `Trying` begins anew with a read that settled a command, which gives all tries back
-trying_anew : (plan : Plan) (commands : List Task) (scope : Scope) (tries : ℕ) (up : Bool) (acts : List Act) (bytes : List ℕ) (m : Moment) → tries ≡ plan.retries
+trying_anew : (plan : Plan) (commands : List Task) (scope : Scope) (tries : ℕ) (up : Bool) (acts : List Act) (bytes : List ℕ) (m : Moment) → tries ≡ plan.retries → (stood plan commands scope (acts ++ Gave bytes m ∷ [])).progress.preparing ≡ false
     → (stood plan commands scope (acts ++ Gave bytes m ∷ [])).records ≢ (stood plan commands scope acts).records → Trying plan commands scope tries up (acts ++ Gave bytes m ∷ [])
-trying_anew plan commands scope tries up acts bytes m all settled = record {
+trying_anew plan commands scope tries up acts bytes m all done settled = record {
   before = acts ++ Gave bytes m ∷ [];
   behind = [];
   held = up_count up;
   order = sym (append-nil (acts ++ Gave bytes m ∷ []));
-  since = inr (record { earlier = acts; piece = bytes; moment = m; order = refl; settled = settled });
+  since = inr (record { earlier = acts; piece = bytes; moment = m; order = refl; settled = settled; prepared = done });
   none = tt;
   left = omega (arith, all);
   most = one up;
@@ -328,13 +326,13 @@ try_step plan commands scope acts (Gave bytes m) s u t before behind does same t
 
   -- the lemma above, by whether the read settled a command
   by_settling : Settling plan s u → Trying plan commands scope u.progress.tries (is_up u.progress.phase) (acts ++ Gave bytes m ∷ [])
-  by_settling (inl some) = trying_anew plan commands scope u.progress.tries (is_up u.progress.phase) acts bytes m some.1
+  by_settling (inl some) = trying_anew plan commands scope u.progress.tries (is_up u.progress.phase) acts bytes m some.2 (ap (λ (x : Model). x.progress.preparing) behind ∙ some.1)
       (λ e. some.0 (sym (ap (λ (x : Model). x.records) behind) ∙ e ∙ ap (λ (x : Model). x.records) before))
   by_settling (inr none) =
       let kept = none.1 in
       let tries : s.progress.tries ≤ u.progress.tries + 0 = omega (arith, kept) in
       trying_on plan commands scope s.progress.tries u.progress.tries (is_up s.progress.phase) (is_up u.progress.phase) acts (Gave bytes m) tries up_same
-      (subst (λ (x : Model). (after plan commands x (Gave bytes m)).records ≡ x.records) (sym before) (sym (ap (λ (x : Model). x.records) does) ∙ none.0)) trying
+      (subst (λ (x : Model). SettlesNone x (Gave bytes m) (after plan commands x (Gave bytes m))) (sym before) (subst (λ (x : Model). SettlesNone s (Gave bytes m) x) does none.0)) trying
 try_step plan commands scope acts act s u t before behind does same took counted settling trying =
     trying_on plan commands scope s.progress.tries u.progress.tries (is_up s.progress.phase) (is_up u.progress.phase) acts act
     (subst (λ (p : Progress). s.progress.tries ≤ p.tries + ends_in (act ∷ [])) (sym same) took)
@@ -376,7 +374,7 @@ try_after plan commands scope done act o trying not_over =
     (counted_moved plan commands (action_at plan s) s act o (action_for plan s.progress (waiting_of s))
     (λ quits. absurd (clash (is_over t.progress) (quits_over plan commands (action_at plan s) s act quits) not_over_mid)))
     (λ gave h. gave_settles plan commands s t u fine (fine_after plan commands s act fine) h (after_grew plan commands s act) same
-    (ended_passes t ∙ gave_passes plan commands (action_at plan s) (with_progress turned s) act o gave)
+    (row_losing (loses_all t.progress) t ∙ row_read plan commands (action_at plan s) (with_progress turned s) act gave.0 gave.1 o gave.2)
     (kept_marks plan commands s t (loses_all t.progress) refl not_over_mid h.begins fine))
     (trying goes)
 

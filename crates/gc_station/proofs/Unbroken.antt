@@ -1,7 +1,7 @@
 -- A chain that isn't broken goes on over a connection, once the station has begun. An act is one call of the link, with what came of it.
-use Rattle.std.proofs.Common.{◌≡◌, ◌<◌, ◌&&◌, Bool, true, false, List, [], inl, inr, ◌⊎◌, if◌then◌else◌, refl, ap, ◌∙◌, subst, arith}
+use Rattle.std.proofs.Common.{◌≡◌, ◌<◌, ◌&&◌, Bool, true, false, List, [], inl, inr, ◌⊎◌, if◌then◌else◌, refl, sym, ap, ◌∙◌, subst, arith}
 use Rattle.gc_texts.specs.declared.tasks.Task.{Task}
-use Rattle.gc_links.specs.Acts.{Act}
+use Rattle.gc_links.specs.Acts.{Act, Told, Cut, Opened}
 use Rattle.gc_station.specs.declared.cause.Cause.{Cause}
 use Rattle.gc_station.specs.declared.cause.Cause.TheVariants as cause
 use Rattle.gc_station.specs.declared.plan.Plan.{Plan}
@@ -21,12 +21,12 @@ use Rattle.gc_station.proofs.Closings.{came_phase}
 use Rattle.gc_station.proofs.Facts.{action_for}
 use Rattle.gc_station.proofs.Silences.{quieted_up}
 use Rattle.gc_station.proofs.Ticking.{clash}
-use Rattle.gc_station.proofs.Walk.{asked_along, came_along, quieted_along, closed_along, walk}
+use Rattle.gc_station.proofs.Walk.{asked_along, came_along, quieted_along, closed_along, is_sent, moved_changed, walk}
 use Rattle.gc_station.proofs.Words.{begun_kept}
 
--- where a chain isn't broken there is a connection, and the station has begun
+-- where a chain isn't broken there is a connection, the station has begun, and no set-up comes first
 abbrev pub OnLine : Progress → Type 0
-OnLine p = p.chain_unbroken ≡ true → (is_up p.phase ≡ true) × (has_begun p ≡ true)
+OnLine p = p.chain_unbroken ≡ true → (is_up p.phase ≡ true) × (has_begun p ≡ true) × (p.preparing ≡ false)
 
 -- a failure leaves a connection, or none, as it was
 fails : (up : Bool) (why : Cause) → is_up (if up then phase.Closing why else phase.Over why) ≡ up
@@ -60,6 +60,7 @@ module _ (plan : Plan) (commands : List Task) where
   unbroken_before s actions.Renew act obeys c = inr (walk plan commands (Was s) actions.Renew (with_progress turned s) act obeys (λ m d. cc, λ n d. d) c)
   unbroken_before s actions.Begin act obeys c = inr (walk plan commands (Was s) actions.Begin (with_progress turned s) act obeys (λ m d. cc, λ n d. d) c)
   unbroken_before s actions.Open act obeys c = inr (walk plan commands (Was s) actions.Open (with_progress turned s) act obeys (λ m d. d, λ n d. cc) c)
+  unbroken_before s actions.Prepare act obeys c = inr (walk plan commands (Was s) actions.Prepare (with_progress turned s) act obeys (λ m d. cc, λ n d. cc) c)
   unbroken_before s actions.Skip act obeys c = inr (walk plan commands (Was s) actions.Skip (with_progress turned s) act obeys (λ m d. cc, λ n d. d) c)
   unbroken_before s actions.Pass act obeys c = inr (walk plan commands (Was s) actions.Pass (with_progress turned s) act obeys (λ m d. cc, λ n d. d) c)
   unbroken_before s (actions.Read until) act obeys c =
@@ -110,9 +111,33 @@ module _ (plan : Plan) (commands : List Task) where
       walk plan commands Up actions.Ask (with_progress turned s) act obeys (λ m c. up, λ n c. failed_up s (cause.Write (requests_out plan commands (turned s.progress)) n) up)
   unbroken_up s actions.Send act obeys up =
       walk plan commands Up actions.Send (with_progress turned s) act obeys (λ m c. up, λ n c. failed_up s (cause.Write (requests_out plan commands (turned s.progress)) n) up)
+  unbroken_up s actions.Prepare act obeys up = walk plan commands Up actions.Prepare (with_progress turned s) act obeys (λ m c. cc, λ n c. cc)
   unbroken_up s actions.Flush act obeys up =
       walk plan commands Up actions.Flush (with_progress turned s) act obeys (λ m c. up, λ n c. failed_up s (cause.Write (requests_out plan commands (turned s.progress)) n) up)
   unbroken_up s next act obeys up = walk plan commands Up next (with_progress turned s) act obeys (λ m c. up, λ n c. failed_up s cause.Clock up)
+
+  -- a command of a cycle that is sent ends the set-up's turn
+  sent_preparing : (s : Model) (act : Act) → (moved plan commands actions.Send s act).progress.preparing ≡ false
+  sent_preparing s (Cut bytes n) = subst (λ (x : Model). x.progress.preparing ≡ false) (is_sent plan commands s) refl
+  sent_preparing s act = subst (λ (x : Model). x.progress.preparing ≡ false) (is_sent plan commands s) refl
+
+  -- an act after which a chain isn't broken makes no set-up come first
+  unprepared_kept : (s : Model) (o : Action) (act : Act) → (moved plan commands o (with_progress turned s) act).progress.chain_unbroken ≡ true → s.progress.preparing ≡ false
+      → (moved plan commands o (with_progress turned s) act).progress.preparing ≡ false
+  unprepared_kept s actions.Send act c was = sent_preparing (with_progress turned s) act
+  unprepared_kept s actions.Renew (Told m) c was = cc
+  unprepared_kept s actions.Renew act c was = was
+  unprepared_kept s actions.Begin (Told m) c was = refl
+  unprepared_kept s actions.Begin act c was = was
+  unprepared_kept s actions.Skip (Told m) c was = refl
+  unprepared_kept s actions.Skip act c was = was
+  unprepared_kept s actions.Pass (Told m) c was = refl
+  unprepared_kept s actions.Pass act c was = was
+  unprepared_kept s actions.Open Opened c was = was
+  unprepared_kept s actions.Open act c was = cc
+  unprepared_kept s (actions.Close why) act c was =
+      closed_along (λ (q : Progress). q.chain_unbroken ≡ true → q.preparing ≡ false) plan (waiting_of (with_rest [] (with_progress turned s))) why (turned s.progress) (λ d. cc) (λ d. cc) c
+  unprepared_kept s o act c was = ap (λ (x : Model). x.progress.preparing) (moved_changed plan commands o (with_progress turned s) act) ∙ was
 
   -- an act keeps `OnLine`
   on_line_moved : (s : Model) (o : Action) (act : Act) → Performs commands s o act → IsFor plan s.progress (waiting_of s) o → OnLine s.progress
@@ -121,12 +146,16 @@ module _ (plan : Plan) (commands : List Task) where
     -- the lemma above, by whether the act sends, or the chain wasn't broken before
     by_before : (o ≡ actions.Send) ⊎ (s.progress.chain_unbroken ≡ true)
         → (is_up (moved plan commands o (with_progress turned s) act).progress.phase ≡ true) × (has_begun (moved plan commands o (with_progress turned s) act).progress ≡ true)
+        × ((moved plan commands o (with_progress turned s) act).progress.preparing ≡ false)
     by_before (inl sends) =
-        let it : IsFor plan s.progress (waiting_of s) actions.Send = subst (λ (x : Action). IsFor plan s.progress (waiting_of s) x) sends needs in
-        (unbroken_up s o act obeys (ap is_up it.0) c, begun_kept plan commands s o act obeys it.1 c)
-    by_before (inr was) = let it = on was in (unbroken_up s o act obeys it.0 c, begun_kept plan commands s o act obeys it.1 c)
+        let it : IsFor plan s.progress (waiting_of s) actions.Send = subst (λ (x : Action). IsFor plan s.progress (waiting_of s) x) sends needs in (
+          unbroken_up s o act obeys (ap is_up it.0) c,
+          begun_kept plan commands s o act obeys it.1 c,
+          subst (λ (x : Action). (moved plan commands x (with_progress turned s) act).progress.preparing ≡ false) (sym sends) (sent_preparing (with_progress turned s) act),
+        )
+    by_before (inr was) = let it = on was in (unbroken_up s o act obeys it.0 c, begun_kept plan commands s o act obeys it.1 c, unprepared_kept s o act c it.2)
 
--- after each run, where a chain isn't broken there is a connection, and the station has begun
+-- after each run, where a chain isn't broken there is a connection, the station has begun, and no set-up comes first
 pub on_line_stood : (plan : Plan) (commands : List Task) (scope : Scope) (acts : List Act) → Runs plan commands (opening plan scope) acts → OnLine (stood plan commands scope acts).progress
 on_line_stood plan commands scope acts runs =
     always_far plan commands (opening plan scope) (λ (p : Progress) (done : List Act). OnLine p) (λ done act runs' o on.
@@ -141,4 +170,5 @@ resting_none p w on rests some chained = never_true (may_go p w) (λ may. by_res
   by_rest c (inl down) = clash (is_up p.phase) (on c).0 down
   by_rest c (inr (inl begins)) = clash (has_begun p) (on c).1 begins
   by_rest c (inr (inr (none, inl all))) = omega (arith, all, some)
-  by_rest c (inr (inr (none, inr free))) = clash p.next_is_chained chained free
+  by_rest c (inr (inr (none, inr (inl free)))) = clash p.next_is_chained chained free
+  by_rest c (inr (inr (none, inr (inr prepares)))) = clash p.preparing prepares (on c).2

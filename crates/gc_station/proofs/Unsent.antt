@@ -129,8 +129,8 @@ module _ (plan : Plan) (commands : List Task) (scope : Scope) (some : 0 < plan.e
   }
 
   -- in a cycle that isn't missed, a command that is passed over is of a chain, and not its first
-  chain_of : (p : Progress) → ((p.missed ≡ true) ⊎ ((0 < place_next commands p) × (is_chained (drop (place_next commands p) commands) ≡ true))) → p.missed ≡ false
-      → (0 < place_next commands p) × (is_chained (drop (place_next commands p) commands) ≡ true)
+  chain_of : (p : Progress) → ((p.missed ≡ true) ⊎ ((plan.setup < place_next commands p) × (is_chained (drop (place_next commands p) commands) ≡ true))) → p.missed ≡ false
+      → (plan.setup < place_next commands p) × (is_chained (drop (place_next commands p) commands) ≡ true)
   chain_of p (inl missed) free = absurd (clash p.missed missed free)
   chain_of p (inr chain) free = chain
 

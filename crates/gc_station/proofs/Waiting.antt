@@ -21,15 +21,15 @@ use Rattle.gc_station.specs.Ends.{IsPast, TellsPast, IsTrulyLate, IsTrulyLost, I
 use Rattle.gc_station.specs.Quiet.{IsAsking}
 use Rattle.gc_station.specs.Records.{Record}
 use Rattle.gc_station.specs.Runs.{stood}
-use Rattle.gc_station.specs.Model.{Model, action_at, cycles_begun, place_next, request_text, Puts, Performs}
+use Rattle.gc_station.specs.Model.{Model, IsSending, action_at, cycle_out, place_out, request_text, Puts, Performs}
 use Rattle.gc_station.proofs.Lists.{all_append, all_on, Rows, rows_same, rows_map}
 use Rattle.gc_station.specs.Scopes.{Scope}
 
 -- after these acts, the command with this mark goes out
 pub record Marked (plan : Plan) (commands : List Task) (scope : Scope) (acts : List Act) (mark : Mark) : Type 0 where
-  pub sends : action_at plan (stood plan commands scope acts) ≡ actions.Send
-  pub cycle : mark.cycle ≡ cycles_begun plan (stood plan commands scope acts).progress
-  pub place : mark.place ≡ place_next commands (stood plan commands scope acts).progress
+  pub sends : IsSending plan (stood plan commands scope acts)
+  pub cycle : mark.cycle ≡ cycle_out plan (stood plan commands scope acts)
+  pub place : mark.place ≡ place_out plan commands (stood plan commands scope acts)
   pub sent : mark.sent ≡ (stood plan commands scope acts).progress.moment.utc
 
 -- the request p that waits at the place `at`, with this id and mark, was put among these acts; `number` acts came before it, and

@@ -1,7 +1,7 @@
 -- One walk over the actions: which fields an act of each action changes (`changed`), and what has to hold for a fact to hold
 -- after it (`Behind`). A new action is a row in each of these tables; a fact about all actions is an instance. An act is one
 -- call of the link, with what came of it.
-use Rattle.std.proofs.Common.{◌≡◌, ℕ, Bool, true, false, List, [], ◌∷◌, drop, length, if◌then◌else◌, refl, sym, subst}
+use Rattle.std.proofs.Common.{◌≡◌, ℕ, Bool, true, false, List, [], ◌∷◌, drop, if◌then◌else◌, refl, sym, subst}
 use Rattle.gc_lines.specs.Frames.{rest_behind}
 use Rattle.gc_catalogue.specs.declared.asked.Asked.TheVariants.{Table}
 use Rattle.gc_catalogue.specs.declared.call.Call.TheVariants.{NullProc}
@@ -14,15 +14,15 @@ use Rattle.gc_station.specs.declared.cause.Cause.TheVariants as cause
 use Rattle.gc_station.specs.declared.progress.Phase.{Phase}
 use Rattle.gc_station.specs.declared.progress.Phase.TheVariants.{Pausing, Draining}
 use Rattle.gc_station.specs.declared.progress.Action.{Action}
-use Rattle.gc_station.specs.declared.progress.Action.TheVariants.{ReadClock, Renew, Begin, Open, Clear, Ask, Send, Skip, Pass, Flush, Read, Close, Stop}
+use Rattle.gc_station.specs.declared.progress.Action.TheVariants.{ReadClock, Renew, Begin, Open, Clear, Ask, Send, Skip, Pass, Flush, Read, Close, Stop, Prepare}
 use Rattle.gc_station.specs.declared.progress.Progress.{Progress}
 use Rattle.gc_station.specs.declared.progress.Until.{Until}
 use Rattle.gc_station.specs.declared.progress.Waiting.{Waiting}
 use Rattle.gc_links.specs.Acts.{Act, Told, Untold, Put, Cut, Gave, Silent, Ended, Broke, Closed, Opened, Unopened}
 use Rattle.gc_station.specs.Deciding.{is_quiet}
 use Rattle.gc_station.specs.Marks.{commands_in}
-use Rattle.gc_station.specs.Progressing.{told, begun, skipped, failing, opened, again, cleared, asking, null_sent, renewed, sent, line_asked, lines_asked, pause_ended, drained, quieted, time_passed, reckoned_early, ended_for, closed}
-use Rattle.gc_station.specs.Model.{Model, waiting_of, place_next, mark_next, requests_out, request_text, null_text, first_text, is_chained_behind_next, others_behind_next, skip_listed, with_listed, after_pass, Puts, Performs, is_heard, with_progress, with_moment, with_rest, with_records, asks_null, asks_first, asks_next, skips, line_came, lines_came, lines_behind, piece_asked, came, reckoned, piece_at, after_read, after_put, after_close, moved}
+use Rattle.gc_station.specs.Progressing.{told, begun, skipped, failing, opened, again, cleared, asking, null_sent, renewed, sent, line_asked, lines_asked, pause_ended, drained, quieted, time_passed, reckoned_early, ended_for, closed, setup_sent}
+use Rattle.gc_station.specs.Model.{Model, waiting_of, place_next, mark_next, requests_out, request_text, null_text, first_text, is_chained_behind_next, others_behind_next, skip_listed, with_listed, after_pass, Puts, Performs, is_heard, with_progress, with_moment, with_rest, with_records, asks_null, asks_first, asks_next, skips, line_came, lines_came, lines_behind, piece_asked, came, reckoned, piece_at, after_read, after_put, after_close, moved, cycle_length, mark_setup, text_or_null, asks_or_null, asks_setup}
 
 -- Parts of an act.
 
@@ -80,6 +80,21 @@ first_sent next_is_chained behind mark (task ∷ others) s = refl
 pub is_sent : (plan : Plan) (commands : List Task) (s : Model) → sending plan commands s ≡ with_progress (sent (is_chained_behind_next commands s.progress) (others_behind_next commands s.progress)) (asks_next plan commands s)
 is_sent plan commands s = first_sent (is_chained_behind_next commands s.progress) (others_behind_next commands s.progress) (mark_next plan commands s.progress) (drop (place_next commands s.progress) commands) s
 
+-- the model that sent the next command of the set-up, by its fields
+abbrev pub preparing : Plan → List Task → Model → Model
+preparing plan commands s = record s { progress = setup_sent plan s.progress; client = (asks_setup plan commands s).client; marks = (asks_setup plan commands s).marks }
+
+-- the model that sent the first of these commands of the set-up, by its fields, is that after the send
+first_prepared : (plan : Plan) (mark : Mark) (left : List Task) (s : Model)
+    → record s { progress = setup_sent plan s.progress; client = (asks_or_null plan mark left s).client; marks = (asks_or_null plan mark left s).marks }
+    ≡ with_progress (setup_sent plan) (asks_or_null plan mark left s)
+first_prepared plan mark [] s = refl
+first_prepared plan mark (task ∷ others) s = refl
+
+-- the model that sent the next command of the set-up, by its fields (`preparing`), is that after the act that sends
+pub is_prepared : (plan : Plan) (commands : List Task) (s : Model) → preparing plan commands s ≡ with_progress (setup_sent plan) (asks_setup plan commands s)
+is_prepared plan commands s = first_prepared plan (mark_setup commands s.progress) (drop s.progress.prepared commands) s
+
 -- Which fields change.
 
 -- the progress p with those fields of q that a moment changes
@@ -93,17 +108,18 @@ asking_of p q = record p { phase = q.phase; alive = q.alive; asked = q.asked; st
 -- the progress p with those fields of q that an act of this action changes
 abbrev progress_of : Action → Progress → Progress → Progress
 progress_of ReadClock p q = told_of p q
-progress_of Renew p q = record (told_of p q) { word = q.word; again = q.again; asked = q.asked; chain_unbroken = q.chain_unbroken; behind = q.behind }
-progress_of Begin p q = record (told_of p q) { due = q.due; missed = q.missed; left = q.left; unsent = q.unsent; next_is_chained = q.next_is_chained; next_others = q.next_others; chain_unbroken = q.chain_unbroken }
-progress_of Open p q = record p { phase = q.phase; stale = q.stale; tries = q.tries; pause = q.pause; chain_unbroken = q.chain_unbroken }
+progress_of Renew p q = record (told_of p q) { word = q.word; again = q.again; asked = q.asked; chain_unbroken = q.chain_unbroken; behind = q.behind; preparing = q.preparing; prepared = q.prepared; attempt = q.attempt }
+progress_of Begin p q = record (told_of p q) { due = q.due; missed = q.missed; left = q.left; unsent = q.unsent; next_is_chained = q.next_is_chained; next_others = q.next_others; chain_unbroken = q.chain_unbroken; preparing = q.preparing }
+progress_of Open p q = record p { phase = q.phase; stale = q.stale; tries = q.tries; pause = q.pause; chain_unbroken = q.chain_unbroken; preparing = q.preparing; prepared = q.prepared; attempt = q.attempt }
 progress_of Clear p q = record p { phase = q.phase; again = q.again; asked = q.asked; stale = q.stale }
 progress_of Ask p q = record (asking_of p q) { again = q.again }
-progress_of Send p q = record (asking_of p q) { unsent = q.unsent; next_is_chained = q.next_is_chained; next_others = q.next_others; chain_unbroken = q.chain_unbroken }
-progress_of Skip p q = record (told_of p q) { unsent = q.unsent; next_is_chained = q.next_is_chained; next_others = q.next_others; chain_unbroken = q.chain_unbroken }
-progress_of Pass p q = record (told_of p q) { unsent = q.unsent; next_is_chained = q.next_is_chained; next_others = q.next_others; chain_unbroken = q.chain_unbroken }
+progress_of Prepare p q = record (asking_of p q) { prepared = q.prepared; chain_unbroken = q.chain_unbroken }
+progress_of Send p q = record (asking_of p q) { unsent = q.unsent; next_is_chained = q.next_is_chained; next_others = q.next_others; chain_unbroken = q.chain_unbroken; preparing = q.preparing }
+progress_of Skip p q = record (told_of p q) { unsent = q.unsent; next_is_chained = q.next_is_chained; next_others = q.next_others; chain_unbroken = q.chain_unbroken; preparing = q.preparing }
+progress_of Pass p q = record (told_of p q) { unsent = q.unsent; next_is_chained = q.next_is_chained; next_others = q.next_others; chain_unbroken = q.chain_unbroken; preparing = q.preparing }
 progress_of Flush p q = asking_of p q
 progress_of (Read until) p q = record (told_of p q) { word = q.word; again = q.again; asked = q.asked; tries = q.tries; pause = q.pause; behind = q.behind }
-progress_of (Close why) p q = record p { phase = q.phase; stale = q.stale; tries = q.tries; pause = q.pause; chain_unbroken = q.chain_unbroken }
+progress_of (Close why) p q = record p { phase = q.phase; stale = q.stale; tries = q.tries; pause = q.pause; chain_unbroken = q.chain_unbroken; preparing = q.preparing; prepared = q.prepared; attempt = q.attempt }
 progress_of (Stop why) p q = p
 
 -- the model s with those fields of t that an act of this action changes, but for the progress
@@ -114,6 +130,7 @@ changed_by Begin s t = record s { client = t.client; fresh = t.fresh }
 changed_by Open s t = s
 changed_by Clear s t = s
 changed_by Ask s t = s
+changed_by Prepare s t = record s { client = t.client; marks = t.marks }
 changed_by Send s t = record s { client = t.client; marks = t.marks }
 changed_by Skip s t = record s { client = t.client; records = t.records; listed = t.listed; fresh = t.fresh }
 changed_by Pass s t = record s { client = t.client; passes = t.passes; fresh = t.fresh }
@@ -178,6 +195,10 @@ moved_changed plan commands Clear s (Cut bytes n) = refl
 moved_changed plan commands Clear s act = refl
 moved_changed plan commands Ask s (Cut bytes n) = refl
 moved_changed plan commands Ask s act = refl
+moved_changed plan commands Prepare s (Cut bytes n) =
+    let cut = with_progress (failing (cause.Write (requests_out plan commands s.progress) n)) in
+    subst (λ (u : Model). cut u ≡ changed Prepare s (cut u)) (is_prepared plan commands s) refl
+moved_changed plan commands Prepare s act = subst (λ (u : Model). u ≡ changed Prepare s u) (is_prepared plan commands s) refl
 moved_changed plan commands Send s (Cut bytes n) =
     let cut = with_progress (failing (cause.Write (requests_out plan commands s.progress) n)) in
     subst (λ (u : Model). cut u ≡ changed Send s (cut u)) (is_sent plan commands s) refl
@@ -208,11 +229,12 @@ Behind plan commands P ReadClock s =
     ((m : Moment) → P (Told m) (with_moment m (with_progress (λ p. reckoned_early plan (commands_in s.marks) (told m p)) s))) × ((n : ℕ) → P Untold (with_progress (failing cause.Clock) s))
 Behind plan commands P Renew s = ((m : Moment) → P (Told m) (with_moment m
     (with_progress (λ p. reckoned_early plan 0 (renewed plan m p)) s))) × ((n : ℕ) → P Untold (with_progress (failing cause.Clock) s))
-Behind plan commands P Begin s = ((m : Moment) → P (Told m) (with_moment m (with_progress (begun plan (length commands) m) s))) × ((n : ℕ) → P Untold (with_progress (failing cause.Clock) s))
+Behind plan commands P Begin s = ((m : Moment) → P (Told m) (with_moment m (with_progress (begun plan (cycle_length plan commands) m) s))) × ((n : ℕ) → P Untold (with_progress (failing cause.Clock) s))
 Behind plan commands P Open s = ((m : Moment) → P Opened (with_progress opened s)) × ((n : ℕ) → P Unopened (with_progress (again plan (commands_in s.marks) cause.Open) s))
 Behind plan commands P Clear s = Putting P (requests_out plan commands s.progress) (10 ∷ []) (with_progress cleared s)
 Behind plan commands P Ask s = Putting P (requests_out plan commands s.progress) (null_text s.progress.word) (with_progress (null_sent plan) s)
-Behind plan commands P Send s = Putting P (requests_out plan commands s.progress) (first_text s.client (drop (place_next commands s.progress) commands)) (sending plan commands s)
+Behind plan commands P Prepare s = Putting P (requests_out plan commands s.progress) (text_or_null s.progress.moment.utc s.client (drop s.progress.prepared commands)) (preparing plan commands s)
+Behind plan commands P Send s = Putting P (requests_out plan commands s.progress) (first_text s.progress.moment.utc s.client (drop (place_next commands s.progress) commands)) (sending plan commands s)
 Behind plan commands P Skip s =
     ((m : Moment) → P (Told m) (with_moment m (with_progress (λ p. reckoned_early plan (commands_in s.marks)
     (skipped (is_chained_behind_next commands s.progress) (others_behind_next commands s.progress) m p)) (with_listed (skip_listed plan commands s (Told m)) (with_records (skips plan commands s.progress (Told m)) s)))))
@@ -248,9 +270,13 @@ walk plan commands P Open s Unopened o h = h.1 0
 walk plan commands P Open s act o h = absurd o
 walk plan commands P Clear s act o h = put_walk P (requests_out plan commands s.progress) (10 ∷ []) (with_progress cleared) s act o h
 walk plan commands P Ask s act o h = put_walk P (requests_out plan commands s.progress) (null_text s.progress.word) (λ (x : Model). with_progress (null_sent plan) x) s act o h
+walk plan commands P Prepare s act o h =
+    let requests = requests_out plan commands s.progress in
+    let text = text_or_null s.progress.moment.utc s.client (drop s.progress.prepared commands) in
+    put_walk P requests text (λ (x : Model). with_progress (setup_sent plan) (asks_setup plan commands x)) s act o (subst (λ (u : Model). Putting P requests text u) (is_prepared plan commands s) h)
 walk plan commands P Send s act o h =
     let requests = requests_out plan commands s.progress in
-    let text = first_text s.client (drop (place_next commands s.progress) commands) in
+    let text = first_text s.progress.moment.utc s.client (drop (place_next commands s.progress) commands) in
     put_walk P requests text (λ (x : Model). with_progress (sent (is_chained_behind_next commands s.progress) (others_behind_next commands s.progress)) (asks_next plan commands x)) s act o
     (subst (λ (u : Model). Putting P requests text u) (is_sent plan commands s) h)
 walk plan commands P Skip s (Told m) o h = h.0 m

@@ -69,7 +69,7 @@ module _ (plan : Plan) (commands : List Task) where
   word_moved s o act obeys other = walk plan commands (Leaves s) o (with_progress turned s) act obeys (λ m. refl, λ n. refl)
 
   -- an act of any action but `Renew` leaves a station begun
-  begun_other : (s : Model) (o : Action) (act : Act) → Performs commands s o act → (o ≡ actions.Renew → ⊥) → has_begun s.progress ≡ true
+  pub begun_other : (s : Model) (o : Action) (act : Act) → Performs commands s o act → (o ≡ actions.Renew → ⊥) → has_begun s.progress ≡ true
       → has_begun (moved plan commands o (with_progress turned s) act).progress ≡ true
   begun_other s o act obeys other begun = by_word s.progress.word refl begun where
     -- the lemma above, by the word: no id is left

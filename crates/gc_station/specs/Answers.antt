@@ -7,12 +7,11 @@ use Rattle.gc_texts.specs.Endings.{End, Answered, Unreadable, Elsewhere, Late, L
 use Rattle.gc_texts.specs.declared.tasks.Task.{Task}
 use Rattle.gc_links.specs.declared.link.Moment.{Moment}
 use Rattle.gc_station.specs.declared.plan.Plan.{Plan}
-use Rattle.gc_station.specs.declared.progress.Action.TheVariants.{Send}
 use Rattle.gc_links.specs.Acts.{Act, Told, Gave, Silent}
 use Rattle.gc_station.specs.Deciding.{later}
 use Rattle.gc_station.specs.Records.{Record}
 use Rattle.gc_station.specs.Runs.{stood}
-use Rattle.gc_station.specs.Model.{Puts, action_at, cycles_begun, place_next, request_text, lines_behind}
+use Rattle.gc_station.specs.Model.{Puts, IsSending, cycle_out, place_out, request_text, lines_behind}
 use Rattle.gc_station.specs.Scopes.{Scope}
 
 -- an act tells no moment at or past this deadline
@@ -30,8 +29,8 @@ first_deadline (task ∷ others) = task.deadline
 -- the deadline of the next command, if its request goes out directly after these acts
 abbrev pub deadline_behind : Plan → List Task → Scope → List Act → ℕ
 deadline_behind plan commands scope acts =
-    let p = (stood plan commands scope acts).progress in
-    later p.moment.elapsed (first_deadline (drop (place_next commands p) commands))
+    let s = stood plan commands scope acts in
+    later s.progress.moment.elapsed (first_deadline (drop (place_out plan commands s) commands))
 
 -- the acts are, in this order: `before`; `request`, which puts the request of the record r, of its cycle and place, where the moment
 -- told last is the one that the record has for it; `between`, in which no moment at or past the request's deadline is told; a read
@@ -44,9 +43,9 @@ pub record IsAnsweredIn (plan : Plan) (commands : List Task) (scope : Scope) (ac
   pub moment : Moment
   pub behind : List Act
   pub order : acts ≡ before ++ request ∷ (between ++ Gave piece moment ∷ behind)
-  pub sends : action_at plan (stood plan commands scope before) ≡ Send
-  pub cycle : r.cycle ≡ cycles_begun plan (stood plan commands scope before).progress
-  pub place : r.place ≡ place_next commands (stood plan commands scope before).progress
+  pub sends : IsSending plan (stood plan commands scope before)
+  pub cycle : r.cycle ≡ cycle_out plan (stood plan commands scope before)
+  pub place : r.place ≡ place_out plan commands (stood plan commands scope before)
   pub sent : r.sent ≡ Some (stood plan commands scope before).progress.moment.utc
   pub put : Puts (request_text (stood plan commands scope before).client r.command.call) request
   pub waits : AllByRecursion (IsBefore (deadline_behind plan commands scope before)) between

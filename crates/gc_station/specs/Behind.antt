@@ -14,7 +14,7 @@ use Rattle.gc_links.specs.Acts.{Act}
 use Rattle.gc_station.specs.declared.mark.Mark.{Mark}
 use Rattle.gc_station.specs.declared.plan.Plan.{Plan}
 use Rattle.gc_station.specs.declared.progress.Action.TheVariants as action
-use Rattle.gc_station.specs.Deciding.{has_begun, action_next, action_room}
+use Rattle.gc_station.specs.Deciding.{has_begun, action_next, action_prepare, action_room}
 use Rattle.gc_station.specs.Links.{parts}
 use Rattle.gc_station.specs.Model.{opening, waiting_of, Runs}
 use Rattle.gc_station.specs.Parts.{Part}
@@ -55,3 +55,4 @@ TheTableIsNeverHeldUp =
     → let s = stood plan commands scope acts in has_begun s.progress ≡ true → is_over s.progress ≡ false
     → (s.progress.behind ≡ length s.client.waiting)
     × (action_next plan s.progress (waiting_of s) ≡ action_room plan s.progress (waiting_of s) action.Send)
+    × (action_prepare plan s.progress (waiting_of s) ≡ action_room plan s.progress (waiting_of s) action.Prepare)

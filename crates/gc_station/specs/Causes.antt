@@ -3,7 +3,7 @@ use Rattle.std.specs.Prelude.{Option, Some, None}
 use Rattle.gc_texts.specs.declared.fault.RunFault.{RunFault}
 use Rattle.gc_texts.specs.declared.fault.RunFault.TheVariants as fault
 use Rattle.gc_station.specs.declared.cause.Cause.{Cause}
-use Rattle.gc_station.specs.declared.cause.Cause.TheVariants.{Done, Dead, Read, End, Write, Clock, Open, Turns, Stale, Stopped}
+use Rattle.gc_station.specs.declared.cause.Cause.TheVariants.{Done, Dead, Read, End, Write, Clock, Open, Turns, Stale, Stopped, SetUp}
 
 -- the fault of a run that stopped for this cause; none where the run is done, or its end was asked for
 abbrev pub fault_of : Cause → Option RunFault
@@ -14,6 +14,7 @@ fault_of End = Some fault.LinkClosed
 fault_of (Write requests bytes) = Some (fault.Write requests bytes)
 fault_of Clock = Some fault.Clock
 fault_of Open = Some fault.Socket
+fault_of SetUp = Some fault.SetUp
 fault_of Turns = Some fault.TooManyReads
 fault_of Stale = Some fault.Stale
 fault_of Stopped = None

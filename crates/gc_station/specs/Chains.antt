@@ -18,9 +18,9 @@ use Rattle.gc_station.specs.Runs.{stood}
 use Rattle.gc_station.specs.Scopes.{Scope}
 use Rattle.gc_station.specs.Model.{Model, action_at, cycles_begun, place_next, is_chained}
 
--- the next command isn't the first of its cycle, and goes out only once the one before it was answered well
-abbrev pub IsChained : List Task → Model → Type 0
-IsChained commands s = (0 < place_next commands s.progress) × (is_chained (drop (place_next commands s.progress) commands) ≡ true)
+-- the next command isn't the first of its cycle, which stands behind the set-up, and goes out only once the one before it was answered well
+abbrev pub IsChained : Plan → List Task → Model → Type 0
+IsChained plan commands s = (plan.setup < place_next commands s.progress) × (is_chained (drop (place_next commands s.progress) commands) ≡ true)
 
 -- after these acts the command before the next one, of the same cycle, went out, and no connection was closed since. Its record
 -- is the last one. That is an answer which came in time, with the id of that very request, and of a good quality: with both

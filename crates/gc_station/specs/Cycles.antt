@@ -89,7 +89,7 @@ pub record IsSkippedIn (plan : Plan) (commands : List Task) (scope : Scope) (act
   pub skips : action_at plan (stood plan commands scope before) ≡ Skip
   pub cycle : r.cycle ≡ cycles_begun plan (stood plan commands scope before).progress
   pub place : r.place ≡ place_next commands (stood plan commands scope before).progress
-  pub not_first : 0 < place_next commands (stood plan commands scope before).progress
+  pub not_first : plan.setup < place_next commands (stood plan commands scope before).progress
   pub chained : is_chained (drop (place_next commands (stood plan commands scope before).progress) commands) ≡ true
   pub broken : may_go (stood plan commands scope before).progress (waiting_of (stood plan commands scope before)) ≡ false
   pub last : LastBegan plan commands scope before

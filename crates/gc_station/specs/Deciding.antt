@@ -6,11 +6,11 @@
 use Rattle.std.specs.Prelude.{ℕ, ◌+◌, ◌-◌, ◌&&◌, ◌||◌, Bool, true, false, not, if◌then◌else◌, nat_lt, nat_le, nat_eq, min, max, List, [], ◌∷◌}
 use Rattle.gc_client.specs.declared.window.TheConstants.{WINDOW}
 use Rattle.gc_station.specs.declared.plan.Plan.{Plan}
-use Rattle.gc_station.specs.declared.cause.Cause.TheVariants.{Done, Dead, Turns, Stale, Stopped}
+use Rattle.gc_station.specs.declared.cause.Cause.TheVariants.{Done, Dead, Turns, Stale, Stopped, SetUp}
 use Rattle.gc_station.specs.declared.progress.Phase.{Phase}
 use Rattle.gc_station.specs.declared.progress.Phase.TheVariants as phase
 use Rattle.gc_station.specs.declared.progress.Action.{Action}
-use Rattle.gc_station.specs.declared.progress.Action.TheVariants.{ReadClock, Renew, Begin, Open, Clear, Ask, Send, Skip, Pass, Flush, Read, Close, Stop}
+use Rattle.gc_station.specs.declared.progress.Action.TheVariants.{ReadClock, Renew, Begin, Open, Clear, Ask, Send, Skip, Pass, Flush, Read, Close, Stop, Prepare}
 use Rattle.gc_station.specs.declared.progress.Progress.{Progress}
 use Rattle.gc_station.specs.declared.progress.Until.TheVariants.{Limit, Due}
 use Rattle.gc_station.specs.declared.progress.Waiting.{Waiting}
@@ -63,10 +63,11 @@ is_dead plan p w = (nat_lt 0 w.all || nat_lt 0 p.again) && nat_le (patience_of p
 abbrev pub is_stale : Plan → Progress → Waiting → Bool
 is_stale plan p w = nat_lt 0 plan.stale && nat_le plan.stale (p.moment.elapsed - w.fresh)
 
--- whether the station is between two chains: no command of the cycle is left, or the next one begins a chain. In a missed cycle
--- all commands count as one chain
+-- whether the station is between two chains: no command of the cycle is left, or the next one begins a chain; or since the connection was
+-- made and the station began no command of a cycle had its turn (`preparing`), so that no chain goes on. In a missed cycle all commands count
+-- as one chain
 abbrev pub is_between : Progress → Bool
-is_between p = nat_eq p.unsent 0 || not p.next_is_chained
+is_between p = (nat_eq p.unsent 0 || not p.next_is_chained) || p.preparing
 
 -- whether the run may end here where that is asked for: there is no connection, or the station begins, or it is between two chains
 -- and nothing is under way that isn't given up
@@ -165,13 +166,47 @@ action_sent plan p w =
     else if nat_eq w.current 0 then action_room plan p w Flush
     else action_waiting plan p w
 
+-- the next action where the next command of the set-up may go out: as for a command of the cycle (`action_next`)
+abbrev pub action_prepare : Plan → Progress → Waiting → Action
+action_prepare plan p w =
+    if nat_lt p.behind WINDOW then action_room plan p w Prepare
+    else if nat_eq w.current 0 then action_room plan p w Flush
+    else action_waiting plan p w
+
+-- the next action where it is the turn of the next command of the set-up, if there is one. Where the last one was answered well, the set-up
+-- is done, so that there always is one
+abbrev pub action_turn : Plan → Progress → Waiting → Action
+action_turn plan p w = if nat_lt p.prepared plan.setup then action_prepare plan p w else Read Limit
+
+-- the next action while the set-up isn't done: nothing goes out where no command is left to be sent after it, nor between cycles. Its first
+-- command goes out as soon as there is room, and each other one once the one before it was answered well. Where it wasn't, the
+-- connection is closed, and the set-up begins with its first command on the next one
+abbrev pub action_preparing : Plan → Progress → Waiting → Action
+action_preparing plan p w =
+    if is_finished w.commands p then Close Done
+    else if is_idle plan p then Read Due
+    else if nat_eq p.prepared 0 then action_turn plan p w
+    else if nat_eq w.commands 0 then (if w.well then action_turn plan p w else Close SetUp)
+    else if nat_eq w.current 0 then action_room plan p w Flush
+    else action_waiting plan p w
+
+-- the next action once the station has begun and its set-up is done: that of `action_next`, if there is a command that needn't wait for the answer of
+-- the command before it; else that of `action_sent`
+abbrev pub action_cycle : Plan → Progress → Waiting → Action
+action_cycle plan p w = if nat_lt 0 p.unsent && not (waits_for_all p) then action_next plan p w else action_sent plan p w
+
+-- whether the set-up is still to be done: since the connection was made and the station began no command of a cycle had its turn (`preparing`), and not
+-- all commands of the set-up went out, or the last of them waits, or wasn't answered well
+abbrev pub is_preparing : Plan → Progress → Waiting → Bool
+is_preparing plan p w = p.preparing && not (nat_le plan.setup p.prepared && nat_eq w.commands 0 && w.well)
+
 -- the next action once the station has begun: to wait, where the end of the run was asked for, and only what is under way is left;
--- that of `action_next`, if there is a command that needn't wait for those before it; else that of `action_sent`
+-- the set-up's until that is done, and then the cycle's
 abbrev pub action_begun : Plan → Progress → Waiting → Action
 action_begun plan p w =
     if is_held_back p w then action_waiting plan p w
-    else if nat_lt 0 p.unsent && not (waits_for_all p) then action_next plan p w
-    else action_sent plan p w
+    else if is_preparing plan p w then action_preparing plan p w
+    else action_cycle plan p w
 
 -- the next action on a connection that is ready: the beginning's until its eighth null procedure is answered, then the
 -- commands'

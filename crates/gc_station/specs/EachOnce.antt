@@ -1,6 +1,6 @@
--- Each command once, this project's own: the commands that had their turn, cycle by cycle and in order, are the records of a run,
+-- Each command once, this project's own: the commands that had their turn, cycle by cycle and in order, are the records of a run that are of cycles,
 -- and after them the commands that wait, but for those of attempts that were passed over, each once. An act is one call of the link, with what came of it.
-use Rattle.std.specs.Prelude.{◌≡◌, ◌⊎◌, ◌<◌, ℕ, zero, suc, List, [], ◌∷◌, ◌++◌, take, map, Option, Some, None}
+use Rattle.std.specs.Prelude.{◌≡◌, ◌⊎◌, ◌<◌, ℕ, zero, suc, List, [], ◌∷◌, ◌++◌, take, drop, Bool, true, false, nat_eq, map, Option, Some, None}
 use Rattle.gc_catalogue.specs.declared.asked.Asked.{Asked}
 use Rattle.gc_client.specs.declared.pending.Pending.{Pending}
 use Rattle.gc_client.specs.OneForOne.{of_pending}
@@ -12,21 +12,31 @@ use Rattle.gc_station.specs.declared.mark.Mark.{Mark}
 use Rattle.gc_station.specs.declared.progress.Action.TheVariants.{Stop}
 use Rattle.gc_links.specs.Acts.{Act}
 use Rattle.gc_station.specs.Records.{Record}
-pub use Rattle.gc_station.specs.Requests.{Request, requests, of_command, of_task}
+pub use Rattle.gc_station.specs.Requests.{Request, requests, of_command, of_task, in_text}
 use Rattle.gc_station.specs.Runs.{stood}
 use Rattle.gc_station.specs.Model.{Model, action_at, cycles_begun, place_next}
 use Rattle.gc_station.specs.Scopes.{Scope}
 
--- all commands of the first `n` cycles, which are counted from 1
-abbrev pub all_cycles : List Task → ℕ → List Request
-all_cycles commands zero = []
-all_cycles commands (suc n) = all_cycles commands n ++ requests (suc n) 0 (map of_task commands)
+-- all commands of the first `n` cycles, which are counted from 1: each has the commands behind the first `setup`, which are the set-up
+abbrev pub all_cycles : ℕ → List Task → ℕ → List Request
+all_cycles setup commands zero = []
+all_cycles setup commands (suc n) = all_cycles setup commands n ++ requests (suc n) setup (map of_task (drop setup commands))
 
 -- the commands that had their turn, sent or not, where this many cycles began: all of the cycles before the last of these, and
--- the first `place` of the last
-abbrev pub sent_by : List Task → ℕ → ℕ → List Request
-sent_by commands zero place = []
-sent_by commands (suc n) place = all_cycles commands n ++ requests (suc n) 0 (map of_task (take place commands))
+-- those before the place `place` of the last
+abbrev pub sent_by : ℕ → List Task → ℕ → ℕ → List Request
+sent_by setup commands zero place = []
+sent_by setup commands (suc n) place = all_cycles setup commands n ++ requests (suc n) setup (map of_task (drop setup (take place commands)))
+
+-- these requests, with this one in front unless it is of the set-up (`true`)
+abbrev pub cycle_with : Bool → Request → List Request → List Request
+cycle_with true x xs = xs
+cycle_with false x xs = x ∷ xs
+
+-- those of these requests that are of a cycle: the others are of the set-up, which has cycle 0
+abbrev pub of_cycles : List Request → List Request
+of_cycles [] = []
+of_cycles (x ∷ xs) = cycle_with (nat_eq x.cycle 0) x (of_cycles xs)
 
 -- the request that a record is of
 abbrev pub of_record : Record → Request
@@ -48,20 +58,24 @@ abbrev pub Parted : {A : Type 0} → List A → List A → List A → Type 0
 Parted xs ys [] = (xs ≡ []) × (ys ≡ [])
 Parted {A} xs ys (z ∷ zs) = ((others : List A) × (xs ≡ z ∷ others) × Parted others ys zs) ⊎ ((others : List A) × (ys ≡ z ∷ others) × Parted xs others zs)
 
+-- of these requests those that are of a cycle, as the text has them: the commands that set the clock stand without their moments
+abbrev pub of_text : List Task → List Request → List Request
+of_text commands xs = map (in_text commands) (of_cycles xs)
+
 -- each command that had its turn, in order, either has its record, or after the records waits; or it is of an attempt that was passed over
 abbrev pub IsEachOnce : Plan → List Task → Model → Type 0
 IsEachOnce plan commands s =
-    Parted (map of_record s.records ++ still_waiting s.marks s.client.waiting) s.passes (sent_by commands (cycles_begun plan s.progress) (place_next commands s.progress))
+    Parted (of_text commands (map of_record s.records ++ still_waiting s.marks s.client.waiting)) s.passes (sent_by plan.setup commands (cycles_begun plan s.progress) (place_next commands s.progress))
 
 -- after these acts of a run `IsEachOnce` holds. If the run stopped there, the records and the attempts that were passed over are the
 -- commands that had their turn; and if it is done, they are all commands of all cycles
 pub record EachOnce (plan : Plan) (commands : List Task) (scope : Scope) (acts : List Act) : Type 0 where
   pub each : IsEachOnce plan commands (stood plan commands scope acts)
   pub settled : (cause : Cause) → action_at plan (stood plan commands scope acts) ≡ Stop cause
-      → Parted (map of_record (stood plan commands scope acts).records) (stood plan commands scope acts).passes
-      (sent_by commands (cycles_begun plan (stood plan commands scope acts).progress) (place_next commands (stood plan commands scope acts).progress))
+      → Parted (of_text commands (map of_record (stood plan commands scope acts).records)) (stood plan commands scope acts).passes
+      (sent_by plan.setup commands (cycles_begun plan (stood plan commands scope acts).progress) (place_next commands (stood plan commands scope acts).progress))
   pub done : action_at plan (stood plan commands scope acts) ≡ Stop Done
-      → Parted (map of_record (stood plan commands scope acts).records) (stood plan commands scope acts).passes (all_cycles commands plan.cycles)
+      → Parted (of_text commands (map of_record (stood plan commands scope acts).records)) (stood plan commands scope acts).passes (all_cycles plan.setup commands plan.cycles)
 
 -- a station is further than it was: in a later cycle, or at a later place in the same cycle
 abbrev pub IsFurther : Plan → List Task → Model → Model → Type 0

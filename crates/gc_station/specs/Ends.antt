@@ -12,13 +12,13 @@ use Rattle.gc_texts.specs.declared.tasks.Task.{Task}
 use Rattle.gc_station.specs.declared.cause.Cause.{Cause}
 use Rattle.gc_links.specs.declared.link.Moment.{Moment}
 use Rattle.gc_station.specs.declared.plan.Plan.{Plan}
-use Rattle.gc_station.specs.declared.progress.Action.TheVariants.{Renew, Send, Stop}
+use Rattle.gc_station.specs.declared.progress.Action.TheVariants.{Renew, Stop}
 use Rattle.gc_links.specs.Acts.{Act, Told, Gave, Silent}
 use Rattle.gc_station.specs.Answers.{deadline_behind}
 use Rattle.gc_station.specs.Quiet.{IsAsking}
 use Rattle.gc_station.specs.Records.{Record}
 use Rattle.gc_station.specs.Runs.{stood}
-use Rattle.gc_station.specs.Model.{Puts, action_at, cycles_begun, place_next, request_text, lines_behind}
+use Rattle.gc_station.specs.Model.{Puts, IsSending, action_at, cycle_out, place_out, request_text, lines_behind}
 use Rattle.gc_station.specs.Scopes.{Scope}
 
 -- an act tells a moment at or past this one
@@ -39,9 +39,9 @@ pub record TellsPast (deadline : ℕ) (acts : List Act) : Type 0 where
 -- after these acts, this act puts the very request of record `r`: the station's next action is a send; the cycle and the place are the
 -- record's; the moment told last is the one that the record has as `sent`; and what is put is the request line of the record's call
 pub record IsOwnRequest (plan : Plan) (commands : List Task) (scope : Scope) (acts : List Act) (act : Act) (r : Record) : Type 0 where
-  pub sends : action_at plan (stood plan commands scope acts) ≡ Send
-  pub cycle : r.cycle ≡ cycles_begun plan (stood plan commands scope acts).progress
-  pub place : r.place ≡ place_next commands (stood plan commands scope acts).progress
+  pub sends : IsSending plan (stood plan commands scope acts)
+  pub cycle : r.cycle ≡ cycle_out plan (stood plan commands scope acts)
+  pub place : r.place ≡ place_out plan commands (stood plan commands scope acts)
   pub sent : r.sent ≡ Some (stood plan commands scope acts).progress.moment.utc
   pub put : Puts (request_text (stood plan commands scope acts).client r.command.call) act
 

@@ -20,6 +20,7 @@ pub mod Quiet
 pub mod Ends
 pub mod Chains
 pub mod Retries
+pub mod Setups
 pub mod Silences
 pub mod Tries
 pub mod Given
@@ -28,6 +29,7 @@ pub mod Stations
 pub mod Pace
 pub mod Parts
 pub mod Begun
+pub mod Tasked
 pub mod Links
 pub mod Behind
 pub mod Codes

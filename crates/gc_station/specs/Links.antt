@@ -46,6 +46,8 @@ pub record IsAnsweredBack (plan : Plan) (commands : List Task) (scope : Scope) (
   pub m : ℕ
   pub expected : Expected
   pub mark : slice_get part.marks m ≡ Some (Some (mark_of expected answer))
+  -- each command that went out behind it in that part is of a cycle, and none of the set-up
+  pub of_cycles : (x : ℕ) (mark : Mark) → m < x → slice_get part.marks x ≡ Some (Some mark) → 0 < mark.cycle
 
 -- the command of this cycle and place went out as request n of part i of a run, both counted from 0: after the acts `before`, part i is the
 -- last one and has n requests so far; and each earlier command of its chain was answered by then, as a request of that very part
@@ -57,21 +59,21 @@ pub record IsSentBehind (plan : Plan) (commands : List Task) (scope : Scope) (ac
   pub of_parts : slice_get (parts plan commands scope before) i ≡ Some first
   pub last : length (parts plan commands scope before) ≡ suc i
   pub count : length first.marks ≡ n
-  pub chain : (a : ℕ) → a < place → AreChained commands a place → IsAnsweredBack plan commands scope before first cycle a
+  pub chain : (a : ℕ) → plan.setup ≤ a → a < place → AreChained commands a place → IsAnsweredBack plan commands scope before first cycle a
 
--- each command that goes out does so after the answers of all earlier commands of its chain, as a request of the same part of a run
+-- each command of a cycle that goes out does so after the answers of all earlier commands of its chain, as a request of the same part of a run
 abbrev pub ChainsStay : Type 0
 ChainsStay =
     (plan : Plan) (commands : List Task) (scope : Scope) (acts : List Act) → Runs plan commands (opening plan scope) acts
     → (i n : ℕ) (part : Part) (mark : Mark) → slice_get (parts plan commands scope acts) i ≡ Some part → slice_get part.marks n ≡ Some (Some mark)
-    → IsSentBehind plan commands scope acts i n mark.cycle mark.place
+    → 0 < mark.cycle → IsSentBehind plan commands scope acts i n mark.cycle mark.place
 
--- of two commands that go out, in one part or in two, the later one is of a later place in its cycle, or of a later cycle
+-- of two commands of cycles that go out, in one part or in two, the later one is of a later place in its cycle, or of a later cycle
 abbrev pub MarksGoOn : Type 0
 MarksGoOn =
     (plan : Plan) (commands : List Task) (scope : Scope) (acts : List Act) → Runs plan commands (opening plan scope) acts
     → (i j m n : ℕ) (p q : Part) (a b : Mark) → slice_get (parts plan commands scope acts) i ≡ Some p → slice_get (parts plan commands scope acts) j ≡ Some q
-    → slice_get p.marks m ≡ Some (Some a) → slice_get q.marks n ≡ Some (Some b) → IsBefore i m j n → IsBefore a.cycle a.place b.cycle b.place
+    → slice_get p.marks m ≡ Some (Some a) → slice_get q.marks n ≡ Some (Some b) → IsBefore i m j n → 0 < a.cycle → 0 < b.cycle → IsBefore a.cycle a.place b.cycle b.place
 
 -- the records after some acts stay, in front of those of the acts that follow
 abbrev pub RecordsStay : Type 0

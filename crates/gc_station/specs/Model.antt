@@ -1,6 +1,6 @@
 -- What a station is after the acts of its link, this project's own: the client's rule over what really happened, and how far the
 -- station is. Each act is the one that the station was to make next. An act is one call of the link, with what came of it.
-use Rattle.std.specs.Prelude.{◌≡◌, ℕ, ◌+◌, ◌-◌, ◌<◌, ◌||◌, Bool, true, false, List, [], ◌∷◌, ◌++◌, length, drop, take, map, Option, Some, None, if◌then◌else◌, nat_eq, slice_get, min}
+use Rattle.std.specs.Prelude.{◌≡◌, ℕ, ◌+◌, ◌-◌, ◌<◌, ◌||◌, Bool, true, false, List, [], ◌∷◌, ◌++◌, length, drop, take, map, Option, Some, None, if◌then◌else◌, nat_eq, slice_get, min, ◌⊎◌}
 use Rattle.std.specs.List.{filter_map}
 use Rattle.gc_lines.specs.Frames.{line_in, rest_behind}
 use Rattle.gc_lines.specs.Lines.{with_end}
@@ -16,6 +16,7 @@ use Rattle.gc_client.specs.Rule.{ById, Settlement, Settled, Sending, fresh, send
 use Rattle.gc_texts.specs.Again.{no_again}
 use Rattle.gc_texts.specs.Codes.{no_codes}
 use Rattle.gc_texts.specs.declared.near.Expected.{Expected}
+use Rattle.gc_texts.specs.Tasks.{call_at}
 use Rattle.gc_texts.specs.declared.tasks.Task.{Task}
 use Rattle.gc_texts.specs.declared.turn.Turn.{Turn}
 use Rattle.gc_links.specs.declared.link.Moment.{Moment}
@@ -25,17 +26,17 @@ use Rattle.gc_station.specs.declared.cause.Cause.TheVariants as cause
 use Rattle.gc_station.specs.declared.progress.Phase.{Phase}
 use Rattle.gc_station.specs.declared.progress.Phase.TheVariants as phase
 use Rattle.gc_station.specs.declared.progress.Action.{Action}
-use Rattle.gc_station.specs.declared.progress.Action.TheVariants.{ReadClock, Renew, Begin, Open, Clear, Ask, Send, Skip, Pass, Flush, Read, Close, Stop}
+use Rattle.gc_station.specs.declared.progress.Action.TheVariants.{ReadClock, Renew, Begin, Open, Clear, Ask, Send, Skip, Pass, Flush, Read, Close, Stop, Prepare}
 use Rattle.gc_station.specs.declared.progress.Progress.{Progress}
 use Rattle.gc_station.specs.declared.progress.Until.{Until}
 use Rattle.gc_station.specs.declared.progress.Waiting.{Waiting}
 use Rattle.gc_station.specs.declared.mark.Mark.{Mark}
 use Rattle.gc_links.specs.Acts.{Act, Told, Untold, Put, Cut, Gave, Silent, Ended, Broke, Closed, Opened, Unopened}
-use Rattle.gc_station.specs.Deciding.{later, action_of}
+use Rattle.gc_station.specs.Deciding.{later, is_preparing, action_of}
 pub use Rattle.gc_station.specs.Lines.{is_ok, is_reply}
 use Rattle.gc_station.specs.Attempts.{listed_behind, listed_by}
 use Rattle.gc_station.specs.Marks.{commands_in, records_of, last_well, fresh_behind}
-use Rattle.gc_station.specs.Progressing.{at_start, turned, told, begun, skipped, passed, skipped_at, failing, opened, again, cleared, asking, null_sent, renewed, sent, caught_up, noted, lines_asked, gave, silent, reckoned_early, closed, loses_all}
+use Rattle.gc_station.specs.Progressing.{at_start, turned, told, begun, skipped, passed, skipped_at, failing, opened, again, cleared, asking, null_sent, renewed, sent, caught_up, noted, lines_asked, gave, silent, reckoned_early, closed, loses_all, setup_sent}
 use Rattle.gc_station.specs.Records.{Record}
 use Rattle.gc_station.specs.Requests.{Request, requests, of_task}
 use Rattle.gc_station.specs.Scopes.{Scope}
@@ -100,6 +101,28 @@ abbrev pub mark_next : Plan → List Task → Progress → Mark
 mark_next plan commands p =
     record { cycle = cycles_begun plan p; place = place_next commands p; sent = p.moment.utc; expected = expected_first (drop (place_next commands p) commands) }
 
+-- how many commands a cycle has: those behind the set-up
+abbrev pub cycle_length : Plan → List Task → ℕ
+cycle_length plan commands = length commands - plan.setup
+
+-- the cycle of the command that goes out next: 0 while the set-up isn't done
+abbrev pub cycle_out : Plan → Model → ℕ
+cycle_out plan s = if is_preparing plan s.progress (waiting_of s) then 0 else cycles_begun plan s.progress
+
+-- the place of the command that goes out next, counted from 0: in the set-up, while that isn't done, and else in the cycle
+abbrev pub place_out : Plan → List Task → Model → ℕ
+place_out plan commands s = if is_preparing plan s.progress (waiting_of s) then s.progress.prepared else place_next commands s.progress
+
+-- what is expected of an answer, in an attempt of the set-up. A command of the set-up is of no chain that goes out again: it has no rule, and no
+-- attempt of a chain begins with it
+abbrev pub in_attempt : ℕ → Expected → Expected
+in_attempt attempt expected = record expected { again = no_again; turn = record expected.turn { attempt = attempt; link = 1 } }
+
+-- the mark of the next command of the set-up: it has cycle 0, and the attempt of the set-up
+abbrev pub mark_setup : List Task → Progress → Mark
+mark_setup commands p =
+    record { cycle = 0; place = p.prepared; sent = p.moment.utc; expected = in_attempt p.attempt (expected_first (drop p.prepared commands)) }
+
 -- how many commands of the cycle were sent or passed over: none before the first cycle
 abbrev pub requests_out : Plan → List Task → Progress → ℕ
 requests_out plan commands p = if nat_eq p.left plan.cycles then 0 else place_next commands p
@@ -114,10 +137,16 @@ abbrev pub null_text : List ℕ → List ℕ
 null_text [] = []
 null_text (asked ∷ others) = with_end (request_line (Some asked) NullProc)
 
--- the bytes of the request for the first of these commands; none where there is none
-abbrev pub first_text : ById Asked → List Task → List ℕ
-first_text client [] = []
-first_text client (task ∷ others) = request_text client task.command.call
+-- the bytes of the request for the first of these commands, where it goes out at the moment `utc`; none where there is none
+abbrev pub first_text : ℕ → ById Asked → List Task → List ℕ
+first_text utc client [] = []
+first_text utc client (task ∷ others) = request_text client (call_at task utc)
+
+-- the bytes of the request for the first of these commands of the set-up, where it goes out at the moment `utc`; of a null procedure where there is none, which isn't so in a plan whose
+-- set-up has no more commands than there are
+abbrev pub text_or_null : ℕ → ById Asked → List Task → List ℕ
+text_or_null utc client [] = request_text client (Table NullProc)
+text_or_null utc client (task ∷ others) = request_text client (call_at task utc)
 
 -- whether the first of these commands goes out only once the one before it was answered well
 abbrev pub is_chained : List Task → Bool
@@ -146,6 +175,10 @@ is_chained_behind_next commands p = is_chained_behind 1 commands p
 -- `others_in` from the command after the next one
 abbrev pub others_behind_next : List Task → Progress → ℕ
 others_behind_next commands p = others_behind 1 commands p
+
+-- a command goes out next: of a cycle, or of the set-up
+abbrev pub IsSending : Plan → Model → Type 0
+IsSending plan s = (action_at plan s ≡ Send) ⊎ (action_at plan s ≡ Prepare)
 
 -- an act puts these bytes, whole or in part
 abbrev pub Puts : List ℕ → Act → Type 0
@@ -182,7 +215,8 @@ Performs commands s Begin act = ReadsClock act
 Performs commands s Open act = IsOpening act
 Performs commands s Clear act = Puts (10 ∷ []) act
 Performs commands s Ask act = Puts (null_text s.progress.word) act
-Performs commands s Send act = Puts (first_text s.client (drop (place_next commands s.progress) commands)) act
+Performs commands s Prepare act = Puts (text_or_null s.progress.moment.utc s.client (drop s.progress.prepared commands)) act
+Performs commands s Send act = Puts (first_text s.progress.moment.utc s.client (drop (place_next commands s.progress) commands)) act
 Performs commands s Skip act = ReadsClock act
 Performs commands s Pass act = ReadsClock act
 Performs commands s Flush act = Puts (request_text s.client (Table NullProc)) act
@@ -220,11 +254,20 @@ asks_null plan s = asks plan.deadline 0 (Table NullProc) None s
 -- the model once the first of these commands was sent, with this mark
 abbrev pub asks_first : Mark → List Task → Model → Model
 asks_first mark [] s = s
-asks_first mark (task ∷ others) s = asks task.deadline task.command.target task.command.call (Some mark) s
+asks_first mark (task ∷ others) s = asks task.deadline task.command.target (call_at task mark.sent) (Some mark) s
 
 -- the model once the next command was sent
 abbrev pub asks_next : Plan → List Task → Model → Model
 asks_next plan commands s = asks_first (mark_next plan commands s.progress) (drop (place_next commands s.progress) commands) s
+
+-- the model once the first of these commands of the set-up was sent, with this mark; or a null procedure, where there is none
+abbrev pub asks_or_null : Plan → Mark → List Task → Model → Model
+asks_or_null plan mark [] s = asks_null plan s
+asks_or_null plan mark (task ∷ others) s = asks task.deadline task.command.target (call_at task mark.sent) (Some mark) s
+
+-- the model once the next command of the set-up was sent
+abbrev pub asks_setup : Plan → List Task → Model → Model
+asks_setup plan commands s = asks_or_null plan (mark_setup commands s.progress) (drop s.progress.prepared commands) s
 
 -- a model with another client in place of its own
 abbrev pub with_client : ById Asked → Model → Model
@@ -387,10 +430,11 @@ after_close plan cause s = with_progress (closed plan (waiting_of s) cause) (wit
 abbrev pub moved : Plan → List Task → Action → Model → Act → Model
 moved plan commands ReadClock s act = after_clock (λ m p. reckoned_early plan (commands_in s.marks) (told m p)) s act
 moved plan commands Renew s act = after_clock (λ m p. reckoned_early plan 0 (renewed plan m p)) s act
-moved plan commands Begin s act = after_clock (begun plan (length commands)) s act
+moved plan commands Begin s act = after_clock (begun plan (cycle_length plan commands)) s act
 moved plan commands Open s act = after_open plan s act
 moved plan commands Clear s act = after_put (requests_out plan commands s.progress) (with_progress cleared) s act
 moved plan commands Ask s act = after_put (requests_out plan commands s.progress) (with_progress (null_sent plan)) s act
+moved plan commands Prepare s act = after_put (requests_out plan commands s.progress) (λ (s : Model). with_progress (setup_sent plan) (asks_setup plan commands s)) s act
 moved plan commands Send s act = after_put (requests_out plan commands s.progress) (λ (s : Model). with_progress (sent (is_chained_behind_next commands s.progress) (others_behind_next commands s.progress)) (asks_next plan commands s)) s act
 moved plan commands Skip s act =
     after_clock (λ m p. reckoned_early plan (commands_in s.marks) (skipped (is_chained_behind_next commands s.progress) (others_behind_next commands s.progress) m p))

@@ -7,6 +7,7 @@ use Rattle.gc_catalogue.specs.declared.asked.Asked.TheVariants.{Table}
 use Rattle.gc_catalogue.specs.declared.call.Call.TheVariants.{NullProc}
 use Rattle.gc_client.specs.OneForOne.{Wanted, Step, Send, Hear, Expire}
 use Rattle.gc_texts.specs.declared.near.Expected.{Expected}
+use Rattle.gc_texts.specs.Tasks.{call_at}
 use Rattle.gc_texts.specs.declared.tasks.Task.{Task}
 use Rattle.gc_texts.specs.Endings.{End, Answered, Unreadable, Elsewhere, Late, Lost, Skipped, Missed}
 use Rattle.gc_station.specs.declared.plan.Plan.{Plan}
@@ -15,10 +16,10 @@ use Rattle.gc_station.specs.declared.progress.Action.{Action}
 use Rattle.gc_station.specs.declared.progress.Action.TheVariants as action
 use Rattle.gc_links.specs.Acts.{Act, Told, Put, Cut, Gave, Silent}
 use Rattle.gc_station.specs.Deciding.{later, has_begun}
-use Rattle.gc_station.specs.EachOnce.{of_task}
 use Rattle.gc_station.specs.Progressing.{loses_all}
 use Rattle.gc_station.specs.Records.{Record}
-use Rattle.gc_station.specs.Model.{Model, action_at, place_next, mark_next, lines_behind, is_heard, after}
+use Rattle.gc_station.specs.Requests.{asked_at}
+use Rattle.gc_station.specs.Model.{Model, action_at, place_next, mark_next, mark_setup, lines_behind, is_heard, after}
 
 -- what happens while a station begins: the null procedure of the first id that isn't answered goes out, whole or in part; or a line is heard
 pub data Turn : Type 0 where
@@ -57,12 +58,19 @@ asking target call deadline mark = record { turns = []; steps = Send target call
 -- command
 abbrev pub asking_first : ℕ → Mark → List Task → Part
 asking_first now mark [] = nothing
-asking_first now mark (task ∷ others) = asking task.command.target task.command.call (later now task.deadline) (Some mark)
+asking_first now mark (task ∷ others) = asking task.command.target (call_at task mark.sent) (later now task.deadline) (Some mark)
+
+-- the part of the first of these commands of the set-up, whose request goes out at the moment `now` with this mark; of a null procedure where
+-- there is no command
+abbrev pub asking_or_null : Plan → ℕ → Mark → List Task → Part
+asking_or_null plan now mark [] = asking 0 (Table NullProc) (later now plan.deadline) None
+asking_or_null plan now mark (task ∷ others) = asking task.command.target (call_at task mark.sent) (later now task.deadline) (Some mark)
 
 -- the part of an action that puts bytes, all of them or some: the request that settles those before it, or the next command;
 -- a line feed is no request
 abbrev pub putting : Plan → List Task → Model → Action → Part
 putting plan commands s action.Flush = asking 0 (Table NullProc) (later s.progress.moment.elapsed plan.deadline) None
+putting plan commands s action.Prepare = asking_or_null plan s.progress.moment.elapsed (mark_setup commands s.progress) (drop s.progress.prepared commands)
 putting plan commands s action.Send =
     asking_first s.progress.moment.elapsed (mark_next plan commands s.progress) (drop (place_next commands s.progress) commands)
 putting plan commands s _ = nothing
@@ -113,10 +121,11 @@ parts_of plan commands s [] = nothing ∷ []
 parts_of plan commands s (act ∷ acts) =
     in_front (acting plan commands s (action_at plan s) act) (ends_part plan commands s act) (parts_of plan commands (after plan commands s act) acts)
 
--- a request with this mark is for the target and the call of `a`: those of the mark's command, or a null procedure where there is no mark
+-- a request with this mark is for the target and the call of `a`: those of the mark's command, where it goes out at the mark's moment, or a
+-- null procedure where there is no mark
 abbrev pub IsOf : List Task → Option Mark → Wanted Asked → Type 0
 IsOf commands None a = a ≡ record { target = 0; call = Table NullProc }
-IsOf commands (Some mark) a = (task : Task) × (slice_get commands mark.place ≡ Some task) × (a ≡ of_task task)
+IsOf commands (Some mark) a = (task : Task) × (slice_get commands mark.place ≡ Some task) × (a ≡ asked_at mark.sent task)
 
 -- requests with these marks ask this, one for one
 abbrev pub AreOf : List Task → List (Option Mark) → List (Wanted Asked) → Type 0
@@ -144,10 +153,13 @@ abbrev pub sent_of : List Record → List Record
 sent_of [] = []
 sent_of (r ∷ rs) = sent_with (went_out r.end) r (sent_of rs)
 
--- the mark of the command that a record is of, where this is expected of its answer; 0 as the moment of sending where the record has
--- none
+-- when the request of a record went out; 0 where it didn't
+abbrev pub sent_at : Record → ℕ
+sent_at r = unwrap_or r.sent 0
+
+-- the mark of the command that a record is of, where this is expected of its answer
 abbrev pub mark_of : Expected → Record → Mark
-mark_of expected r = record { cycle = r.cycle; place = r.place; sent = unwrap_or r.sent 0; expected = expected }
+mark_of expected r = record { cycle = r.cycle; place = r.place; sent = sent_at r; expected = expected }
 
 -- a record with 0 for the moment of its end
 abbrev pub timeless : Record → Record

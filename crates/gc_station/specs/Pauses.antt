@@ -35,7 +35,7 @@ LeavesTries _ = Unit {0}
 
 -- at the start all tries are left, and the pause is 0. A failure takes one try, and makes the pause that of one failure more; without a try
 -- left the run is over. A close while no connection is wanted takes no try, and makes a pause of 0 that of one failure. A read that settles
--- a command gives all tries back, and makes the pause 0. Bytes that settle none change neither, and nor does an act that is no opening, no
+-- a command gives all tries back, and makes the pause 0, where since the set-up a command of a cycle had its turn. Other bytes change neither, and nor does an act that is no opening, no
 -- read and no close
 pub record TriesAndPausesAreCounted : Type 0 where
   pub start : (plan : Plan) (turns : ℕ) → ((at_start plan turns).tries ≡ plan.retries) × ((at_start plan turns).pause ≡ pause_behind plan 0)
@@ -48,9 +48,9 @@ pub record TriesAndPausesAreCounted : Type 0 where
       → ((again plan commands why p).pause ≡ pause_behind plan (suc n)) × ((again plan commands why p).tries ≡ p.tries)
   pub spared_first : (plan : Plan) (commands : ℕ) (why : Cause) (p : Progress) → is_spared plan why p ≡ true → p.pause ≡ pause_behind plan 0
       → ((again plan commands why p).pause ≡ pause_behind plan 1) × ((again plan commands why p).tries ≡ p.tries)
-  pub settled : (plan : Plan) (until : Until) (before : ℕ) (after : Waiting) (p : Progress) → after.commands < before
+  pub settled : (plan : Plan) (until : Until) (before : ℕ) (after : Waiting) (p : Progress) → after.commands < before → p.preparing ≡ false
       → ((gave plan until before after p).tries ≡ plan.retries) × ((gave plan until before after p).pause ≡ pause_behind plan 0)
-  pub unsettled : (plan : Plan) (until : Until) (before : ℕ) (after : Waiting) (p : Progress) → before ≤ after.commands
+  pub unsettled : (plan : Plan) (until : Until) (before : ℕ) (after : Waiting) (p : Progress) → (before ≤ after.commands) ⊎ (p.preparing ≡ true)
       → ((gave plan until before after p).tries ≡ p.tries) × ((gave plan until before after p).pause ≡ p.pause)
   pub other : (plan : Plan) (commands : List Task) (action : Action) (s : Model) (act : Act) → LeavesTries action
       → ((moved plan commands action s act).progress.tries ≡ s.progress.tries) × ((moved plan commands action s act).progress.pause ≡ s.progress.pause)

@@ -43,6 +43,9 @@ at_start plan turns = record {
   pause = 0;
   turns = turns;
   behind = 0;
+  preparing = nat_lt 0 plan.setup;
+  prepared = 0;
+  attempt = 1;
   stops = false;
 }
 
@@ -83,6 +86,7 @@ begun plan count m p =
       next_is_chained = is_missing plan m p;
       next_others = 0;
       chain_unbroken = false;
+      preparing = false;
     }
 
 -- the moment in the record of a command that isn't sent: where its cycle is missed, the moment at which the cycle was due; else
@@ -94,13 +98,13 @@ skipped_at m p = if p.missed then p.due else m.utc
 -- answered well; `others`: how many commands that one's attempt and those behind it have, where it begins a further attempt, else 0
 abbrev pub skipped : Bool → ℕ → Moment → Progress → Progress
 skipped next_is_chained others m p =
-    let q = told m p in record q { unsent = p.unsent - 1; next_is_chained = next_is_chained; next_others = others; chain_unbroken = false }
+    let q = told m p in record q { unsent = p.unsent - 1; next_is_chained = next_is_chained; next_others = others; chain_unbroken = false; preparing = false }
 
 -- the progress after the further attempts of a chain that the next command begins are passed over: all their commands are, and what is
 -- said of the next command is of the one behind them
 abbrev pub passed : Bool → ℕ → Moment → Progress → Progress
 passed next_is_chained others m p =
-    let q = told m p in record q { unsent = p.unsent - p.next_others; next_is_chained = next_is_chained; next_others = others; chain_unbroken = false }
+    let q = told m p in record q { unsent = p.unsent - p.next_others; next_is_chained = next_is_chained; next_others = others; chain_unbroken = false; preparing = false }
 
 -- the progress after a failure for this cause: the connection is to be closed, and without a connection the run is over
 abbrev pub failing : Cause → Progress → Progress
@@ -128,7 +132,15 @@ phase_again plan commands why p =
 abbrev pub pause_again : Plan → Cause → Progress → ℕ
 pause_again plan why p = if is_spared plan why p then max p.pause plan.quiet else max (min (later p.pause p.pause) 60000) plan.quiet
 
--- the progress after a connection that was closed or couldn't be made: the next attempt takes a try, unless it is spared
+-- the attempt of the set-up that is next, where the last one sent something or nothing: the one after it, or the same
+abbrev pub next_attempt : Progress → ℕ
+next_attempt p = if nat_eq p.prepared 0 then p.attempt else later p.attempt 1
+
+-- the progress where the set-up, if there is one, is to go out again from its first command on
+abbrev pub unprepared : Plan → Progress → Progress
+unprepared plan p = record p { preparing = nat_lt 0 plan.setup; prepared = 0; attempt = next_attempt p }
+
+-- the progress after a connection that was closed or couldn't be made: the set-up goes out again on the next connection, and the next attempt takes a try, unless it is spared
 abbrev pub again : Plan → ℕ → Cause → Progress → Progress
 again plan commands why p = record p {
   phase = phase_again plan commands why p;
@@ -136,6 +148,9 @@ again plan commands why p = record p {
   tries = if is_spared plan why p then p.tries else p.tries - 1;
   pause = pause_again plan why p;
   chain_unbroken = false;
+  preparing = nat_lt 0 plan.setup;
+  prepared = 0;
+  attempt = next_attempt p;
 }
 
 -- the progress after the line feed: a connection is drained next, unless a beginning goes on with it
@@ -155,14 +170,18 @@ asking p = record p { alive = if p.asked then p.alive else p.moment.elapsed; ask
 abbrev pub null_sent : Plan → Progress → Progress
 null_sent plan p = let q = asking p in record q { again = later p.moment.elapsed plan.deadline; behind = 0 }
 
--- the progress of a station that begins anew at this moment: no null procedure is answered, and no chain goes on. Where nothing
--- goes out before the next cycle is due, the time after which the line is dead begins with the first null procedure
+-- the progress of a station that begins anew at this moment: no null procedure is answered, no chain goes on, and the
+-- set-up goes out again. Where nothing goes out before the next cycle is due, the time after which the line is dead begins with the first null procedure
 abbrev pub renewed : Plan → Moment → Progress → Progress
-renewed plan m p = let q = told m p in record q { word = the_word; again = 0; asked = p.asked && goes_on plan q; chain_unbroken = false; behind = 0 }
+renewed plan m p = let q = told m p in unprepared plan (record q { word = the_word; again = 0; asked = p.asked && goes_on plan q; chain_unbroken = false; behind = 0 })
 
 -- the progress after the next command. `next_is_chained` and `others` are of the one after it, as of `skipped`
 abbrev pub sent : Bool → ℕ → Progress → Progress
-sent next_is_chained others p = let q = asking p in record q { unsent = p.unsent - 1; next_is_chained = next_is_chained; next_others = others; chain_unbroken = true }
+sent next_is_chained others p = let q = asking p in record q { unsent = p.unsent - 1; next_is_chained = next_is_chained; next_others = others; chain_unbroken = true; preparing = false }
+
+-- the progress after the next command of the set-up
+abbrev pub setup_sent : Plan → Progress → Progress
+setup_sent plan p = let q = asking p in record q { prepared = min (p.prepared + 1) plan.setup; chain_unbroken = false }
 
 -- the progress after a line that was heard: a reply line shows that the line is alive
 abbrev pub noted : Bool → Progress → Progress
@@ -193,13 +212,17 @@ abbrev pub early_behind : Until → Bool → Bool
 early_behind Due early = true
 early_behind Limit early = early
 
+-- whether a read gives the tries back: it settled a command, and the set-up is done
+abbrev pub gives_back : ℕ → Waiting → Progress → Bool
+gives_back before after p = nat_lt after.commands before && not p.preparing
+
 -- the progress after bytes that came: `before` commands waited before them, and `after` counts what waits after them.
--- Where a command was settled, all tries are left again, and the next pause is the quiet time
+-- Where a command was settled, and since the set-up a command of a cycle had its turn, all tries are left again, and the next pause is the quiet time
 abbrev pub gave : Plan → Until → ℕ → Waiting → Progress → Progress
 gave plan until before after p = record p {
   early = early_behind until p.early;
-  tries = if nat_lt after.commands before then plan.retries else p.tries;
-  pause = if nat_lt after.commands before then 0 else p.pause;
+  tries = if gives_back before after p then plan.retries else p.tries;
+  pause = if gives_back before after p then 0 else p.pause;
 }
 
 -- the progress at the end of a pause that was long enough: the next action connects, if a connection is wanted

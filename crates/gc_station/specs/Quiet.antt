@@ -4,7 +4,7 @@ use Rattle.std.specs.Prelude.{◌≡◌, ◌≢◌, ℕ, ◌-◌, ◌≤◌, Lis
 use Rattle.std.specs.List.{AllByRecursion}
 use Rattle.gc_links.specs.declared.link.Moment.{Moment}
 use Rattle.gc_station.specs.declared.progress.Action.{Action}
-use Rattle.gc_station.specs.declared.progress.Action.TheVariants.{Send, Flush}
+use Rattle.gc_station.specs.declared.progress.Action.TheVariants.{Prepare, Send, Flush}
 use Rattle.gc_links.specs.Acts.{Act, Told, Put, Cut, Gave, Silent, Closed, Opened, Unopened}
 
 -- an act puts a request, whole or in part: bytes that aren't the lone line feed
@@ -16,6 +16,7 @@ IsRequest _ = ⊥
 -- an action sends a request of the client, and none of a beginning: the next command, or a null procedure after requests that are all
 -- given up
 abbrev pub IsAsking : Action → Type 0
+IsAsking Prepare = Unit {0}
 IsAsking Send = Unit {0}
 IsAsking Flush = Unit {0}
 IsAsking _ = ⊥

@@ -1,7 +1,12 @@
--- The requests of a run, by their cycles and places: this project's own.
-use Rattle.std.specs.Prelude.{ℕ, ◌+◌, List, [], ◌∷◌}
+-- The requests of a run, by their cycles and places: this project's own. A command that sets the clock asks for the moment at which its
+-- request goes out; as the text has it, it asks for the beginning of 1970.
+use Rattle.std.specs.Prelude.{ℕ, ◌+◌, Bool, true, false, List, [], ◌∷◌, drop, Option, Some, None}
 use Rattle.gc_catalogue.specs.declared.asked.Asked.{Asked}
+use Rattle.gc_catalogue.specs.declared.asked.Asked.TheVariants.{Table}
+use Rattle.gc_catalogue.specs.declared.call.Call.TheVariants.{SetDate}
 use Rattle.gc_client.specs.OneForOne.{Wanted}
+use Rattle.gc_texts.specs.Stamps.{date_time}
+use Rattle.gc_texts.specs.Tasks.{call_at}
 use Rattle.gc_texts.specs.declared.tasks.Task.{Task}
 use Rattle.gc_texts.specs.declared.wish.Wish.{Wish}
 
@@ -20,6 +25,33 @@ requests cycle place (a ∷ others) = record { cycle = cycle; place = place; ask
 abbrev pub of_command : Wish → Wanted Asked
 of_command c = record { target = c.target; call = c.call }
 
--- what the command of a task asks, and whom
+-- what a command asks as the text has it: without its moment, where it sets the clock (`true`)
+abbrev pub untimed : Bool → Asked → Asked
+untimed true call = Table (SetDate (date_time 0))
+untimed false call = call
+
+-- what the command of a task asks as the text has it, and whom
 abbrev pub of_task : Task → Wanted Asked
-of_task task = of_command task.command
+of_task task = record { target = task.command.target; call = untimed task.now task.command.call }
+
+-- the command of a task where its request goes out at this moment
+abbrev pub command_at : ℕ → Task → Wish
+command_at utc task = record { target = task.command.target; call = call_at task utc }
+
+-- the command of a task, where its request went out at this moment, if it did
+abbrev pub command_sent : Option ℕ → Task → Wish
+command_sent None task = task.command
+command_sent (Some utc) task = command_at utc task
+
+-- what the request of a task asks that goes out at this moment, and whom
+abbrev pub asked_at : ℕ → Task → Wanted Asked
+asked_at utc task = of_command (command_at utc task)
+
+-- whether the first of these commands sets the clock; false where there is none
+abbrev pub sets_clock : List Task → Bool
+sets_clock [] = false
+sets_clock (task ∷ others) = task.now
+
+-- a request of these commands, as the text has it: without its moment, where its command sets the clock
+abbrev pub in_text : List Task → Request → Request
+in_text commands x = record x { asked = record x.asked { call = untimed (sets_clock (drop x.place commands)) x.asked.call } }

@@ -1,6 +1,6 @@
 -- No part of a promise: what the functions of a station do to it, in terms of its model. An act is one call of the link, with what
 -- came of it.
-use Rattle.std.specs.Prelude.{◌≡◌, ℕ, ◌<◌, false, List, [], ◌∷◌, length, Option, Result, Ok, Err}
+use Rattle.std.specs.Prelude.{◌≡◌, ℕ, ◌<◌, false, List, [], ◌∷◌, length, Option, Some, None, Result, Ok, Err}
 use Rattle.std.specs.Io.KnownBytes.{Appends}
 use Rattle.gc_lines.specs.Assembler.{StandsFor}
 use Rattle.gc_client.specs.Rule.{deadlines}
@@ -9,16 +9,21 @@ use Rattle.gc_texts.specs.declared.tasks.Task.{Task}
 use Rattle.gc_station.specs.declared.plan.Plan.{Plan}
 use Rattle.gc_station.specs.declared.cause.Cause.TheVariants as cause
 use Rattle.gc_station.specs.declared.progress.Action.{Action}
-use Rattle.gc_station.specs.declared.progress.Action.TheVariants.{Send, Skip, Ask, Flush, Stop}
+use Rattle.gc_station.specs.declared.progress.Action.TheVariants.{Prepare, Send, Skip, Ask, Flush, Stop}
 use Rattle.gc_station.specs.declared.progress.Progress.{Progress}
 use Rattle.gc_station.specs.declared.progress.Waiting.{Waiting}
 use Rattle.gc_station.specs.declared.station.Station.{Station}
+use Rattle.gc_station.specs.declared.station.sending.Asking.{Asking}
+use Rattle.gc_station.specs.declared.mark.Mark.{Mark}
+use Rattle.gc_catalogue.specs.declared.asked.Asked.TheVariants.{Table}
+use Rattle.gc_catalogue.specs.declared.call.Call.TheVariants.{NullProc}
 use Rattle.gc_links.specs.Acts.{Act, Tells}
 use Rattle.gc_station.specs.Deciding.{has_begun}
 use Rattle.gc_station.specs.Marks.{commands_in, last_well}
 use Rattle.gc_station.specs.Scopes.{AreReadings}
 use Rattle.gc_station.specs.Progressing.{turned, failing}
 use Rattle.gc_station.specs.Records.{Record, texts_of, WritesPart}
+use Rattle.gc_station.specs.Requests.{command_at}
 use Rattle.gc_station.specs.Model.{Model, Performs, moved, ended, with_progress}
 use Rattle.gc_station.specs.Tallies.{nothing_yet, tallied}
 
@@ -112,6 +117,7 @@ cut_progress (Err n) requests p = failing (cause.Write requests n) p
 -- the station hasn't begun
 abbrev pub IsFitting : Progress → ℕ → Action → Type 0
 IsFitting p waiting Send = (0 < p.unsent) × (waiting < WINDOW)
+IsFitting p waiting Prepare = waiting < WINDOW
 IsFitting p waiting Skip = 0 < p.unsent
 IsFitting p waiting Ask = has_begun p ≡ false
 IsFitting p waiting Flush = waiting < WINDOW
@@ -121,6 +127,11 @@ IsFitting p waiting _ = Unit {0}
 abbrev pub ComesTo : {X E : Type 0} → (Record → List ℕ) → List Record → Station → Option (List ℕ) → Option (List ℕ) → Model → Result X E → Type 0
 ComesTo text before station start taken s (Ok _) = Refines station s × Took text start taken s
 ComesTo text before station start taken s (Err _) = TookPart text before start taken s
+
+-- the request for the first of these commands of the set-up, with this mark; for a null procedure where there is none
+abbrev pub setup_asked : Plan → Mark → List Task → Asking
+setup_asked plan mark [] = record { command = record { target = 0; call = Table NullProc }; wait = plan.deadline; mark = None }
+setup_asked plan mark (task ∷ others) = record { command = command_at mark.sent task; wait = task.deadline; mark = Some mark }
 
 -- a fact that holds of each action but `Stop`
 abbrev pub OnCall : Action → Type 0 → Type 0

@@ -8,7 +8,7 @@ use Rattle.gc_links.specs.declared.link.Moment.{Moment}
 use Rattle.gc_station.specs.declared.cause.Cause.{Cause}
 use Rattle.gc_station.specs.declared.cause.Cause.TheVariants.{Stale, Stopped}
 use Rattle.gc_station.specs.declared.plan.Plan.{Plan}
-use Rattle.gc_station.specs.declared.progress.Action.TheVariants.{Begin, Send, Close, Stop}
+use Rattle.gc_station.specs.declared.progress.Action.TheVariants.{Begin, Send, Close, Stop, Prepare}
 use Rattle.gc_station.specs.Deciding.{is_stale, may_go}
 use Rattle.gc_station.specs.Marks.{is_well}
 use Rattle.gc_station.specs.Model.{opening, action_at, waiting_of, Runs}
@@ -99,13 +99,13 @@ EndsOnceStale =
     → is_stale plan (stood plan commands scope (earlier ++ telling ∷ [])).progress (waiting_of (stood plan commands scope (earlier ++ telling ∷ []))) ≡ true
     → (behind ≡ []) ⊎ (behind ≡ Closed ∷ [])
 
--- once a moment was told at which the end of the run was asked for, no cycle begins, and each command that goes out goes on with a chain
--- that has begun
+-- once a moment was told at which the end of the run was asked for, no cycle begins, no command of the set-up goes out, and each command that
+-- goes out goes on with a chain that has begun
 abbrev pub GoesOnInItsChain : Type 0
 GoesOnInItsChain =
     (plan : Plan) (commands : List Task) (scope : Scope) (acts : List Act) → Runs plan commands (opening plan scope) acts → asked_behind false acts ≡ true
     → (action_at plan (stood plan commands scope acts) ≡ Send → (stood plan commands scope acts).progress.next_is_chained ≡ true)
-    × (action_at plan (stood plan commands scope acts) ≡ Begin → ⊥)
+    × (action_at plan (stood plan commands scope acts) ≡ Begin → ⊥) × (action_at plan (stood plan commands scope acts) ≡ Prepare → ⊥)
 
 -- where a connection is closed, or a run ends, because that was asked for, a moment was told at which it was; and there is no connection,
 -- or the station begins, or it is between two chains and nothing is under way that isn't given up. No command of a chain that has begun

@@ -24,6 +24,8 @@ pub enum Cause {
     Clock,
     /// No connection could be made.
     Open,
+    /// A command of the set-up wasn't answered well.
+    SetUp,
     /// All turns are used up.
     Turns,
     /// No answer of a good quality was written down for as long as the plan allows.
@@ -48,6 +50,7 @@ impl Cause {
             }),
             Cause::Clock => Some(RunFault::Clock),
             Cause::Open => Some(RunFault::Socket),
+            Cause::SetUp => Some(RunFault::SetUp),
             Cause::Turns => Some(RunFault::TooManyReads),
             Cause::Stale => Some(RunFault::Stale),
             Cause::Stopped => None,

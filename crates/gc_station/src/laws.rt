@@ -34,20 +34,45 @@ ghost use Rattle.gc_station.specs.Qualities.{QualitiesAreAsListed, GoodIsAnAnswe
 ghost use Rattle.gc_station.specs.Quiet.{IsRequest};
 ghost use Rattle.gc_station.specs.Runs.{stood};
 ghost use Rattle.gc_station.specs.Scopes.{Scope, OneReadingForALine, SomeReadings};
+ghost use Rattle.gc_station.specs.Setups.{EachSetUpOnce, SetUpsGoOn, NoneBeforeTheSetUp, SetUpInOrder};
 ghost use Rattle.gc_station.specs.Silences.{IsMuteFor};
 ghost use Rattle.gc_station.specs.Stopping.{ClosesStale, StopsAtItsClose, EndsOnceStale, GoesOnInItsChain, ClosesBetweenChains};
+ghost use Rattle.gc_station.specs.Tasked.{CommandsAreTheirTasks};
 ghost use Rattle.gc_station.specs.Model.{opening, action_at, Runs};
 ghost use Rattle.gc_station.specs.Tries.{IsTried, IsEnding, AllTried};
 
-/// The commands that had their turn, sent or not, cycle by cycle and in order, are the records of a run, and behind them the commands
-/// that wait, each once, but for those of further attempts that were passed over, which are the passes, in order. Where the run
-/// stopped, none waits; and where the run is done, records and passes are all commands of all cycles.
+/// The commands of cycles that had their turn, sent or not, cycle by cycle and in order, are the records of cycles followed by
+/// the outstanding commands of cycles, each once, except those of further attempts that weren't needed, which are skipped in
+/// order. If the run stopped, none is outstanding; and if it is done, records and skipped attempts are all commands of all
+/// cycles. Records and commands of the setup, which have cycle 0, are left out. Commands that set the clock are compared
+/// without their times, which `each_record_is_of_its_task` gives.
 pub fn each_command_once()
     ensures { (plan : Plan) (commands : List Task) (scope : Scope) (acts : List Act) → EachOnce plan commands scope acts }
 {}
 
-/// A line has at most one reading for a call. So all functions that give each reply's reading for its call, of which the laws
-/// speak, agree wherever a line reads.
+/// No command of a cycle is sent before the setup of its connection was answered well. Each command of the setup was sent among
+/// the acts so far, and since then no connection was closed, and the station didn't resynchronize; and its record, which was
+/// written since, is of a command that was answered well. The same holds of each command of the setup that is sent, and those
+/// before it.
+pub fn no_command_of_a_cycle_goes_out_before_the_set_up()
+    ensures cycles { NoneBeforeTheSetUp }
+    ensures itself { SetUpInOrder }
+{}
+
+/// Each command of the setup that was sent has one record, in order, or is outstanding after the records; if the run stopped,
+/// none is outstanding.
+pub fn each_command_of_the_set_up_once()
+    ensures { (plan : Plan) (commands : List Task) (scope : Scope) (acts : List Act) → EachSetUpOnce plan commands scope acts }
+{}
+
+/// The attempts of the setup count over the run, from 1. Each begins with the first command of the setup, and goes on one by
+/// one.
+pub fn attempts_of_the_set_up_go_on()
+    ensures { SetUpsGoOn }
+{}
+
+/// A line has at most one reading for a call. So all functions that give each reply's reading, of which the theorems speak,
+/// agree wherever a line reads.
 pub fn each_line_says_one_thing()
     ensures { OneReadingForALine }
 {}
@@ -57,10 +82,12 @@ pub fn some_function_says_what_each_reply_says()
     ensures { SomeReadings }
 {}
 
-/// Each act of a run performs the action that was next, and the conditions of that action held. Where a command was sent, fewer
-/// requests were under way than the plan's width, fewer than seven waited in all, and the bytes are the line of the cycle's next
-/// command. Where a null procedure of a beginning was sent, nothing waited, the client was new, and the bytes are the line of the
-/// null procedure with the first id that wasn't answered. Where the station began anew, seven requests waited, all given up.
+/// Each act of a run performs the action that was next, and the conditions of that action held. When a command was sent, fewer
+/// requests were in flight and not timed out than the plan's width, fewer than seven were outstanding in all, and the bytes are
+/// the line of the cycle's next command. A command of a cycle was sent only if the setup was done on that connection and since
+/// the station synchronized: each of its commands was sent, and the last one was answered well. When a null procedure of a
+/// synchronization was sent, nothing was outstanding, the client was new, and the bytes are the line of the null procedure with
+/// the first id that wasn't answered. When the station resynchronized, seven requests were outstanding, all timed out.
 pub fn each_act_is_due()
     ensures { (plan : Plan) (commands : List Task) (scope : Scope) (earlier later : List Act) (act : Act)
         → Runs plan commands (opening plan scope) (earlier ++ act ∷ later) → IsReasoned plan commands (stood plan commands scope earlier) act }
@@ -74,51 +101,52 @@ pub fn closes_for_a_cause()
         → Runs plan commands (opening plan scope) (earlier ++ Closed ∷ later) → ClosesForACause plan commands scope earlier }
 {}
 
-/// Where a connection is closed for a dead line, a moment was told on it, and twice the longest deadline has passed by the clock
-/// since then, without a line that reads as a reply. After that moment no request went out, or one went out at once, so that its
-/// reply had all that time; or the clock went back to that moment.
+/// If a connection is closed for a dead line, a time was read on it, and twice the longest deadline has passed by the clock
+/// since then without a line that reads as a reply. After that time no request was sent, or one was sent at once, so that its
+/// reply had all that time; or the clock went back to that time.
 pub fn closes_a_dead_line_behind_no_reply()
     ensures { (plan : Plan) (commands : List Task) (scope : Scope) (acts : List Act) → Runs plan commands (opening plan scope) acts
         → action_at plan (stood plan commands scope acts) ≡ Close cause.Dead → IsMuteFor (patience_of plan) plan commands scope acts }
 {}
 
-/// After a command has gone out, whatever acts follow, the next command to go out has a later place in the same cycle, or is of a
-/// later cycle: no command goes out twice in its cycle.
+/// After a command was sent, whatever acts follow, the next command sent has a later place in the same cycle, or is of a later
+/// cycle: no command is sent twice in its cycle.
 pub fn each_send_goes_on()
     ensures { (plan : Plan) (commands : List Task) (scope : Scope) (earlier later : List Act) (act : Act)
         → action_at plan (stood plan commands scope earlier) ≡ Send
         → IsFurther plan commands (stood plan commands scope earlier) (stood plan commands scope (earlier ++ act ∷ later)) }
 {}
 
-/// A command of a chain that isn't the chain's first goes out only after the answer of the command before it in the same cycle.
-/// That command went out, and no connection was closed since. Its record is the last one that was written: of a line that came in
-/// time, with the id of that very request, and gave an answer of a good quality. `each_command_once` says that each command's end
-/// is written down.
+/// A command of a chain that isn't the chain's first is sent only after the answer of the command before it in the same cycle.
+/// That command was sent, and no connection was closed since. Its record is the last one written: of a line that arrived in
+/// time, with the id of that very request, and gave an answer of a good quality. `each_command_once` says that each command's
+/// end is recorded.
 pub fn each_chain_is_kept()
     ensures { (plan : Plan) (commands : List Task) (scope : Scope) (acts : List Act) → Runs plan commands (opening plan scope) acts
-        → action_at plan (stood plan commands scope acts) ≡ Send → IsChained commands (stood plan commands scope acts) → IsLinked plan commands scope acts }
+        → action_at plan (stood plan commands scope acts) ≡ Send → IsChained plan commands (stood plan commands scope acts) → IsLinked plan commands scope acts }
 {}
 
-/// Each record of an answer has a line that came with the id of the record's own request, the one of the same cycle and place.
-/// The line came after that request was put, on its connection or a later one, and before a moment at or past the request's
-/// deadline was told. The record was written at the act that brought the line. By `each_command_once` the record's target is that
-/// of its command.
+/// Each record of an answer has a line that arrived with the id of the record's own request, the one of the same cycle and
+/// place. The line arrived after that request was sent, on its connection or a later one, and before a time at or past the
+/// request's deadline was read. The record was written at the act that brought the line. By `each_command_once` the record's
+/// target is that of its command.
 pub fn answers_come_in_time()
     ensures { (plan : Plan) (commands : List Task) (scope : Scope) (acts : List Act)
         → Runs plan commands (opening plan scope) acts → AllByRecursion (IsTrueRecord plan commands scope acts) (stood plan commands scope acts).records }
 {}
 
-/// Each late record is justified: its own request, of the same cycle and place, was put; then a moment at or past its deadline
-/// was told, at the latest with the piece that brought the line; then a line with the request's id came, by the act at which the
-/// record was written.
+/// Each late record is justified: its own request, of the same cycle and place, was sent; then a time at or past its deadline
+/// was read, at the latest with the piece that brought the line; then a line with the request's id arrived, by the act at which
+/// the record was written.
 pub fn late_ones_came_late()
     ensures { (plan : Plan) (commands : List Task) (scope : Scope) (acts : List Act)
         → Runs plan commands (opening plan scope) acts → AllByRecursion (IsTrulyLate plan commands scope acts) (stood plan commands scope acts).records }
 {}
 
-/// Each lost record has a cause: its own request, of the same cycle and place, was put, and the act at which the record was
-/// written is one of three. That act brought a line with the id of a later request that waited; or it read the clock while seven
-/// requests waited, all given up, and the station begins anew there; or it is the last act of the run, which stops there.
+/// Each lost record has a cause: its own request, of the same cycle and place, was sent, and the act at which the record was
+/// written is one of three. It brought a line with the id of a later outstanding request; or it read the clock while seven
+/// requests were outstanding, all timed out, and the station resynchronizes there; or it is the last act of the run, which
+/// stops there.
 pub fn lost_ones_are_lost_for_a_cause()
     ensures { (plan : Plan) (commands : List Task) (scope : Scope) (acts : List Act)
         → Runs plan commands (opening plan scope) acts → AllByRecursion (IsTrulyLost plan commands scope acts) (stood plan commands scope acts).records }
@@ -134,66 +162,66 @@ pub fn stops_for_a_cause()
         → action_at plan (stood plan commands scope acts) ≡ Stop why → StopsForACause plan commands scope acts why }
 {}
 
-/// Where a run stops at a connection that ended or couldn't be made, and not for `Done`, the clock or the turns, its tries are
-/// used up. Take the acts after the last read that settled a command, or all acts where none did. Among them more than the plan's
-/// `retries` connections ended or couldn't be made, and at least `retries` attempts were made to connect; more than `retries`,
-/// where no read settled a command.
+/// If a run stops at a connection that ended or couldn't be made, and not because it is done, for the clock or for its turns,
+/// its tries are used up. Take the acts after the last read that settled a command, or all acts if none did. Among them more
+/// than the plan's `retries` connections ended or couldn't be made, and at least `retries` attempts were made to connect; more
+/// than `retries`, if no read settled a command.
 pub fn stops_behind_all_tries()
     ensures { (plan : Plan) (commands : List Task) (scope : Scope) (acts : List Act) (last : Act) (why : Cause) → Runs plan commands (opening plan scope) (acts ++ last ∷ [])
         → action_at plan (stood plan commands scope (acts ++ last ∷ [])) ≡ Stop why → IsTried why → IsEnding last → AllTried plan commands scope (acts ++ last ∷ []) }
 {}
 
-/// Where a connection is closed or a run stops because its turns are used up, the run made at least as many acts as it had turns.
+/// If a connection is closed or a run stops because its turns are used up, the run made at least as many acts as it had turns.
 pub fn ends_for_turns_behind_as_many_acts()
     ensures { (plan : Plan) (commands : List Task) (scope : Scope) (acts : List Act) → Runs plan commands (opening plan scope) acts
         → (action_at plan (stood plan commands scope acts) ≡ Close cause.Turns) ⊎ (action_at plan (stood plan commands scope acts) ≡ Stop cause.Turns)
         → scope.turns ≤ length acts }
 {}
 
-/// Where a request goes out, its connection was cleared: as soon as it was made a line feed went out, alone and whole. Unless a
-/// beginning goes on with it, it was quiet, too: before anything else went out on it nothing came for the quiet time, by the
-/// clock.
+/// When a request is sent, its connection was cleared: as soon as it was made, a line feed was sent, alone and complete. Unless
+/// a synchronization goes on with it, it was quiet, too: before anything else was sent on it, nothing arrived for the quiet
+/// time, by the clock.
 pub fn each_connection_is_cleared_and_quiet()
     ensures { (plan : Plan) (commands : List Task) (scope : Scope) (earlier later : List Act) (act : Act)
         → Runs plan commands (opening plan scope) (earlier ++ act ∷ later) → IsRequest act → IsClearedAndQuiet plan commands scope earlier }
 {}
 
-/// The bytes that a station keeps of a line that hasn't ended are those that came on this connection while bytes were heard,
-/// behind the last line feed, in whatever pieces they came.
+/// The bytes that a station stores of a line that hasn't ended are those that arrived on this connection while bytes were
+/// heard, after the last line feed, in whatever pieces they arrived.
 pub fn rest_is_what_came()
     ensures { (plan : Plan) (commands : List Task) (scope : Scope) (acts : List Act) → Runs plan commands (opening plan scope) acts
         → (stood plan commands scope acts).rest ≡ rest_of (given plan commands scope acts) }
 {}
 
-/// No command goes out before the last answer of a beginning. Take the null procedures that aren't answered at some point of a
-/// run: before the next command goes out, replies came with the ids of all of them, in their order.
+/// No command is sent before the last answer of a synchronization. Take the null procedures that aren't answered at some point
+/// of a run: before the next command is sent, replies arrived with the ids of all of them, in their order.
 pub fn no_command_goes_out_before_the_last_answer()
     ensures { NoneBeforeTheLastAnswer }
 {}
 
-/// A run begins with eight null procedures, with ids 6, 5, 4, 3, 2, 1, 0 and 7. While it begins no request of the client waits,
-/// and what goes out is the null procedure of the first of these ids that isn't answered. Only a reply with that id answers it,
-/// and the next one goes out then, also where the connection was closed in between. A run begins anew only where seven requests
-/// wait, all given up.
+/// A run begins with eight null procedures, with ids 6, 5, 4, 3, 2, 1, 0 and 7. While it synchronizes no request of the client
+/// is outstanding, and what is sent is the null procedure of the first of these ids that isn't answered. Only a reply with that
+/// id answers it, and the next one is sent then, also if the connection was closed in between. A run resynchronizes only when
+/// seven requests are outstanding, all timed out.
 pub fn each_beginning_goes_on_by_its_answers()
     ensures { (plan : Plan) (commands : List Task) (scope : Scope) (acts : List Act) (act : Act)
         → Runs plan commands (opening plan scope) (acts ++ act ∷ []) → BeginsSo plan commands scope acts act }
 {}
 
-/// Records are never changed or taken back: those of a run's first acts stay, in order, in front of the records of the acts that
+/// Records are never changed or removed: those of a run's first acts stay, in order, before the records of the acts that
 /// follow.
 pub fn records_stay()
     ensures { RecordsStay }
 {}
 
-/// Of two commands that go out, in the same part of a run or in two (a part reaches from one beginning to the next), the later
-/// one has a later place in the same cycle, or is of a later cycle.
+/// Of two commands that are sent, in the same part of a run or in two (a part reaches from one synchronization to the next),
+/// the later one has a later place in the same cycle, or is of a later cycle.
 pub fn marks_go_on()
     ensures { MarksGoOn }
 {}
 
-/// When a command of a chain goes out, each earlier command of that chain has gone out in the same part of the run, and was
-/// answered well.
+/// When a command of a chain is sent, each earlier command of that chain was sent in the same part of the run, and was answered
+/// well.
 pub fn chains_stay()
     ensures { ChainsStay }
 {}
@@ -206,9 +234,9 @@ pub fn answered_well_is_an_accepted_code()
     ensures { WellIsAnAcceptedCode }
 {}
 
-/// Whatever the line, the instrument or a hand at it did: where a record is answered, its answer has a direction, and the text
-/// says where the command's target stands, that direction is near it. The reply of a record that is elsewhere has both codes 0
-/// or an accepted return code, and a direction that isn't near where the target stands.
+/// Whatever the line, the instrument or a hand at it did: if a record is answered, its answer has a direction, and the text
+/// says where the command's target is, that direction is near it. The reply of a record that is `elsewhere` has both codes 0 or
+/// an accepted return code, and a direction that isn't near the target.
 pub fn answers_are_at_their_targets()
     ensures { AnswersAreAtTheirTargets }
 {}
@@ -226,15 +254,24 @@ pub fn good_without_accept_is_an_answer()
     ensures { GoodIsAnAnswer }
 {}
 
-/// A further attempt of a chain goes out only once all commands that went out are settled, and one of the attempt before ended as its
-/// rule names. Further attempts are passed over only where none of the attempt before did, or the cycle is missed.
+/// A further attempt of a chain is sent only once all commands sent are settled, and one of the attempt before ended as its
+/// rule names. Further attempts are skipped only if none of the attempt before did, or the cycle is missed. A command of the
+/// setup that is sent between two attempts belongs to neither.
 pub fn each_further_attempt_has_a_cause()
     ensures { GoesOutAgainForACause }
 {}
 
-/// Each record says which command of the text it is of, and in which attempt, as the task at its place does.
+/// Each record says which command of the text it is of, and in which attempt, as the task at its place does; a record of the
+/// setup has the attempt of the setup.
 pub fn each_record_has_its_turn()
     ensures { TurnsAreTheTexts }
+{}
+
+/// Each record is of the task at its place, and has a time of sending exactly if its request was sent. Its command is what the
+/// task asks at that time: if the task sets the clock, the time cut to seconds, UTC, and otherwise what the text says. The
+/// command of a record that was never sent is as in the text.
+pub fn each_record_is_of_its_task()
+    ensures { CommandsAreTheirTasks }
 {}
 
 /// Each count of a tally is the number of the records that ended in its way, of those of the last attempt of their chain, up to
@@ -243,68 +280,68 @@ pub fn tallies_count_the_records()
     ensures { TalliesCountRecords }
 {}
 
-/// Where a command goes out, or a null procedure after commands that are all given up, fewer requests are under way than the
-/// plan's width, or none is; and fewer than seven wait in all.
+/// When a command is sent, or a null procedure after commands that have all timed out, fewer requests are in flight than the
+/// plan's width, not counting those timed out, or none is; and fewer than seven are outstanding in all.
 pub fn each_request_has_room()
     ensures { RequestsHaveRoom }
 {}
 
-/// Where the plan's `every` is above 0 and the clock doesn't go back, each cycle begins at or after its due moment: the first is
-/// due when it begins, and each further one `every` milliseconds after the one before it was due.
+/// If the plan's `every` is above 0 and the clock doesn't go back, each cycle begins at or after it is due: the first is due
+/// when it begins, and each further one `every` milliseconds after the one before it was due.
 pub fn cycles_begin_when_due()
     ensures { CyclesBeginWhenDue }
 {}
 
-/// Where the plan's `every` is above 0 and the clock doesn't go back: where a command goes out, its cycle began before the next
-/// one was due. So nothing of a missed cycle is sent.
+/// If the plan's `every` is above 0 and the clock doesn't go back: when a command is sent, its cycle began before the next one
+/// was due. So nothing of a missed cycle is sent.
 pub fn missed_cycles_are_not_sent()
     ensures { SentOnlyInTime }
 {}
 
-/// Where the plan's `every` is above 0 and the clock doesn't go back, each record of a missed or skipped command is justified,
-/// and has no moment of sending. Missed: its cycle began when the next one was due, or later, and the record has the moment at
-/// which its cycle was due. Skipped: its cycle wasn't missed, it isn't the first of its chain, and the command before it wasn't
-/// answered well, or after that command went out a connection was closed or the station began anew.
+/// If the plan's `every` is above 0 and the clock doesn't go back, each record of a missed or skipped command is justified, and
+/// has no time of sending. Missed: its cycle began when the next one was due, or later, and the record has the time at which
+/// its cycle was due. Skipped: its cycle wasn't missed, it isn't the first of its chain, and the command before it wasn't
+/// answered well, or after that command was sent a connection was closed or the station resynchronized.
 pub fn unsent_ones_are_so_for_a_cause()
     ensures { UnsentForACause }
 {}
 
-/// How failures in a row are counted. Each takes one try, and one without a try left ends the run. The pause after the first is
-/// the quiet time, and after each further one twice the pause before it, up to a minute and never below the quiet time. A read
-/// that settles a command gives all tries back and makes the pause 0; bytes that settle none change neither. A close while no
-/// connection is wanted takes no try, and makes a pause of 0 the quiet time. No act but an opening, a read or a close changes the
-/// tries or the pause.
+/// How consecutive failures are counted. Each takes one try, and one without a try left ends the run. The pause after the first
+/// is the quiet time, and after each further one twice the pause before it, up to a minute and never below the quiet time. A
+/// read that settles a command restores all tries and makes the pause 0; bytes that settle none change neither. A close while
+/// no connection is wanted takes no try, and makes a pause of 0 the quiet time. No act but an opening, a read or a close
+/// changes the tries or the pause.
 pub fn tries_and_pauses_are_counted()
     ensures { TriesAndPausesAreCounted }
 {}
 
-/// Wherever a command goes out, one of the seven requests before it is a call of the table that a reply ended, answered or late; or
-/// fewer than seven went out since the beginning, whose last null procedure was answered. So an instrument that keeps its reply to
-/// the last call of the table, and looks at the id first, keeps none with the id of the command.
+/// Whenever a command is sent, one of the seven requests before it is a call of the table that a reply ended, answered or late;
+/// or fewer than seven were sent since the synchronization, whose last null procedure was answered. So an instrument that
+/// retains its reply to the last call of the table, and looks at the id first, retains none with the id of the command.
 pub fn commands_go_out_behind_the_table()
     ensures { CommandsGoOutBehindTheTable }
 {}
 
-/// A text without procedures of one's own is never held up: where all commands are calls of the table, one that may go out does so
-/// as soon as there is room.
+/// A text without raw commands is never held up: if all commands are calls of the table, one that may be sent is sent as soon
+/// as there is room.
 pub fn the_table_is_never_held_up()
     ensures { TheTableIsNeverHeldUp }
 {}
 
-/// A run ends because it is stale only where it is. Take the acts behind the last one that wrote down an answer of a good quality, or
-/// all acts where none did: none of their records is of such an answer, and the moment told last lies as long as the plan allows, or
-/// longer, behind that one, or behind the start; where the clock went back since, behind the least moment that was told since. And
-/// the first moment told at which a run with turns left is stale ends it: no act is behind it but one close.
+/// A run ends because it is stale only if it is. Take the acts after the last one that recorded an answer of a good quality, or
+/// all acts if none did: none of their records is of such an answer, and the time read last is as long as the plan allows, or
+/// longer, after that one, or after the start; if the clock went back since, after the least time read since. And the first
+/// time read at which a run with turns left is stale ends it: no act follows but one close.
 pub fn ends_stale_only_without_a_good_answer()
     ensures closes { ClosesStale }
     ensures stops { StopsAtItsClose cause.Stale }
     ensures ends { EndsOnceStale }
 {}
 
-/// Once a moment was told at which the end of the run was asked for, no cycle begins, and each command that goes out goes on with a
-/// chain that has begun. The run ends for that only where there is no connection, or the station begins, so that nothing waits, or it
-/// is between two chains and nothing is under way that isn't given up; no command of a chain that has begun is left that may go out.
-/// The close for it is the last act.
+/// Once a time was read at which the end of the run was asked for, no cycle begins, no command of the setup is sent, and each
+/// command sent continues a chain that has begun. The run ends for that only if there is no connection, or the station
+/// synchronizes, so that nothing is outstanding, or it is between two chains and nothing is in flight that hasn't timed out; no
+/// command of a chain that has begun is left that may be sent. The close for it is the last act.
 pub fn stops_between_chains()
     ensures goes { GoesOnInItsChain }
     ensures closes { ClosesBetweenChains }

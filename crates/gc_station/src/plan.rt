@@ -16,10 +16,14 @@ pub struct Plan {
     /// How long the station pauses before it connects again, twice as long at each further failure, up to a minute; and how long
     /// nothing may come on a new connection before a command goes out on it. A beginning doesn't wait for such a quiet connection.
     pub quiet: u64,
-    /// How many tries the station has to connect anew before the run ends. A reply that settles a command gives all of them back. A
+    /// How many tries the station has to connect anew before the run ends. A reply that settles a command gives all of them back,
+    /// but a command of the set-up only if the set-up is done with it. A
     /// connection that ends once a cycle is done and before the next is due takes no try, and the next connection is made when that
     /// cycle is due. An attempt that failed always takes one.
     pub retries: u32,
+    /// How many of the commands in front are the set-up, at most as many as there are. The others are those of a cycle. The set-up goes out
+    /// on each connection, and behind each beginning, before any of them.
+    pub setup: usize,
     /// How long the run goes on without an answer of a good quality, counted from the start or the last one that was written down.
     /// 0: for as long as it takes.
     pub stale: u64,

@@ -19,7 +19,14 @@
 //! | | the null procedure of the first id that isn't answered is to go out, for the first time or again at its deadline | `Ask` | sends it | `Ready` |
 //! | | else | `Read(Limit)` | hears what comes | `Ready`; the station has begun once the eighth is answered |
 //! | `Ready`: the station has begun | the end of the run was asked for, the station is between two chains, and something isn't given up | as where the station waits | | |
-//! | | a command is unsent, which isn't `next_is_chained` and begins no further attempt | as where the next command may go out | | |
+//! | | the set-up isn't done, no command is unsent, none waits, and no cycle is left | `Close(Done)` | closes the connection | `Over(Done)` |
+//! | | the set-up isn't done, the cycle is done, and the next isn't due | `Read(Due)` | hears what comes | `Ready` |
+//! | | the set-up isn't done, and nothing of it went out | as where the next command may go out, with `Prepare` for `Send` | | |
+//! | | the set-up isn't done, commands wait, and all that waits is given up | with room `Flush`, else as where the station waits | sends a null procedure after them | `Ready` |
+//! | | the set-up isn't done, commands wait, and something isn't given up | as where the station waits | | |
+//! | | the set-up isn't done, no command waits, and the last one was answered well | as where the next command may go out, with `Prepare` for `Send` | | |
+//! | | the set-up isn't done, no command waits, and the last one wasn't answered well | `Close(SetUp)` | closes the connection | as below |
+//! | | the set-up is done, a command is unsent, which isn't `next_is_chained` and begins no further attempt | as where the next command may go out | | |
 //! | | commands wait, and all that waits is given up | with room `Flush`, else as where the station waits | sends a null procedure after them | `Ready` |
 //! | | commands wait, and something isn't given up | as where the station waits | | |
 //! | | no command waits, the next one begins a further attempt of its chain, and a command of the attempt before ended as its rule names | as where the next command may go out | | |
@@ -41,7 +48,7 @@
 //! Where a call of the link fails, or a write is cut, `Closing` for that cause follows, and without a connection `Over`.
 
 ghost use Rattle.std.specs.Prelude.{◌≡◌};
-ghost use Rattle.gc_station.specs.Deciding.{width_of, is_up, is_past, is_quiet, has_begun, patience_of, is_dead, is_due, goes_on, is_finished, has_room, may_go, waits_for_all, action_again, action_of, action_on, action_ready, action_begun, action_beginning, action_next, action_room, action_sent, action_settled, action_done, action_waiting, is_stale, is_between, is_resting, is_stopping, is_held_back};
+ghost use Rattle.gc_station.specs.Deciding.{width_of, is_up, is_past, is_quiet, has_begun, patience_of, is_dead, is_due, goes_on, is_finished, has_room, may_go, waits_for_all, action_again, action_of, action_on, action_ready, action_begun, action_beginning, action_next, action_room, action_sent, action_settled, action_done, action_waiting, is_stale, is_between, is_resting, is_stopping, is_held_back, action_cycle, action_prepare, action_turn, action_preparing, is_preparing};
 ghost use Rattle.gc_station.specs.Progressing.{at_start};
 ghost use Rattle.gc_station.specs.Model.{is_heard};
 
@@ -85,7 +92,9 @@ pub(crate) enum Action {
     Clear,
     /// To send the null procedure of the first id of the beginning that isn't answered, for the first time or again.
     Ask,
-    /// To send the next command.
+    /// To send the next command of the set-up.
+    Prepare,
+    /// To send the next command of the cycle.
     Send,
     /// To read the clock, and to write the next command down without sending it.
     Skip,
@@ -180,6 +189,12 @@ pub(crate) struct Progress {
     /// How many requests went out behind the last call of the table that a reply ended, answered or late, and behind the
     /// beginning. Seven where they are more.
     pub behind: usize,
+    /// Whether there is a set-up, and no command of a cycle had its turn since the connection was made and the station began.
+    pub preparing: bool,
+    /// How many commands of the set-up went out in this attempt.
+    pub prepared: usize,
+    /// Which attempt of the set-up this is, or the next one where nothing of it went out: counted from 1, over the whole run.
+    pub attempt: u64,
     /// Whether the end of the run was asked for by a moment that was told.
     pub stops: bool,
 }
@@ -261,6 +276,9 @@ impl Progress {
             pause: 0,
             turns: max_turns,
             behind: 0,
+            preparing: plan.setup > 0,
+            prepared: 0,
+            attempt: 1,
             stops: false,
         }
     }
@@ -302,11 +320,11 @@ impl Progress {
         plan.stale > 0 && plan.stale <= self.moment.elapsed.saturating_sub(waiting.fresh)
     }
 
-    // Whether the station is between two chains: no command of the cycle is left, or the next one begins a chain.
+    // Whether the station is between two chains: no command of the cycle is left, or the next one begins a chain, or the set-up comes first.
     fn is_between(&self) -> bool
         ensures { result ≡ is_between self.now }
     {
-        self.unsent == 0 || !self.next_is_chained
+        self.unsent == 0 || !self.next_is_chained || self.preparing
     }
 
     // Whether the run may end here where that is asked for: there is no connection, or the station begins, or it is between two
@@ -444,13 +462,84 @@ impl Progress {
     }
 
     // The next action once the station has begun: to wait, where the end of the run was asked for, and only what is under way is
-    // left; that of `action_next`, if there is a command that needn't wait for those before it; else that of `action_sent`.
+    // left; the set-up's until that is done, and then the cycle's.
     fn action_begun(&self, plan: &Plan, waiting: Waiting) -> Action
         ensures { result ≡ action_begun plan.now self.now waiting }
     {
         if self.is_held_back(waiting) {
             self.action_waiting(plan, waiting)
-        } else if self.unsent > 0 && !self.waits_for_all() {
+        } else if self.is_preparing(plan, waiting) {
+            self.action_preparing(plan, waiting)
+        } else {
+            self.action_cycle(plan, waiting)
+        }
+    }
+
+    // Whether the set-up is still to be done: since the connection was made and the station began no command of a cycle had its
+    // turn, and not all commands of the set-up went out, or the last of them waits, or wasn't answered well.
+    fn is_preparing(&self, plan: &Plan, waiting: Waiting) -> bool
+        ensures { result ≡ is_preparing plan.now self.now waiting }
+    {
+        self.preparing && !(plan.setup <= self.prepared && waiting.commands == 0 && waiting.well)
+    }
+
+    // The next action where the next command of the set-up may go out: as for a command of the cycle.
+    fn action_prepare(&self, plan: &Plan, waiting: Waiting) -> Action
+        ensures { result ≡ action_prepare plan.now self.now waiting }
+    {
+        if WINDOW > self.behind {
+            self.action_room(plan, waiting, Action::Prepare)
+        } else if waiting.current == 0 {
+            self.action_room(plan, waiting, Action::Flush)
+        } else {
+            self.action_waiting(plan, waiting)
+        }
+    }
+
+    // The next action where it is the turn of the next command of the set-up, if there is one. Where the last one was answered
+    // well, the set-up is done, so that there always is one.
+    fn action_turn(&self, plan: &Plan, waiting: Waiting) -> Action
+        ensures { result ≡ action_turn plan.now self.now waiting }
+    {
+        if self.prepared < plan.setup {
+            self.action_prepare(plan, waiting)
+        } else {
+            Action::Read(Until::Limit)
+        }
+    }
+
+    // The next action while the set-up isn't done. Nothing goes out where no command is left to be sent after it, nor between
+    // cycles. Its first command goes out as soon as there is room, and each other one once the one before it was answered well.
+    // Where it wasn't, the connection is closed: the set-up begins with its first command on the next one.
+    fn action_preparing(&self, plan: &Plan, waiting: Waiting) -> Action
+        ensures { result ≡ action_preparing plan.now self.now waiting }
+    {
+        let commands = waiting.commands;
+        if self.is_finished(commands) {
+            Action::Close(Cause::Done)
+        } else if self.is_idle(plan) {
+            Action::Read(Until::Due)
+        } else if self.prepared == 0 {
+            self.action_turn(plan, waiting)
+        } else if waiting.commands == 0 {
+            if waiting.well {
+                self.action_turn(plan, waiting)
+            } else {
+                Action::Close(Cause::SetUp)
+            }
+        } else if waiting.current == 0 {
+            self.action_room(plan, waiting, Action::Flush)
+        } else {
+            self.action_waiting(plan, waiting)
+        }
+    }
+
+    // The next action once the station has begun and its set-up is done: that of `action_next`, if there is a command that needn't
+    // wait for the answer of the command before it; else that of `action_sent`.
+    fn action_cycle(&self, plan: &Plan, waiting: Waiting) -> Action
+        ensures { result ≡ action_cycle plan.now self.now waiting }
+    {
+        if self.unsent > 0 && !self.waits_for_all() {
             self.action_next(plan, waiting)
         } else {
             self.action_sent(plan, waiting)

@@ -6,7 +6,7 @@ ghost use Rattle.gc_client.specs.Hearing.{HearsInto};
 ghost use Rattle.gc_client.specs.Rule.{ById};
 ghost use Rattle.gc_client.specs.declared.settlement.Settlement.{Settlement};
 ghost use Rattle.gc_station.specs.Deciding.{later};
-ghost use Rattle.gc_station.specs.Progressing.{turned, told, beginning, is_missing, due_of, begun, skipped, passed, skipped_at, failing, opened, is_finished, is_idle, is_spared, phase_again, pause_again, again, cleared, asking, null_sent, renewed, line_asked, sent, caught_up, noted, early_behind, gave, pause_ended, drained, quieted, time_passed, silent, reckoned_early, ended_for, closed, is_over, loses_all};
+ghost use Rattle.gc_station.specs.Progressing.{turned, told, beginning, is_missing, due_of, begun, skipped, passed, skipped_at, failing, opened, is_finished, is_idle, is_spared, phase_again, pause_again, again, cleared, asking, null_sent, renewed, line_asked, sent, caught_up, noted, early_behind, gave, pause_ended, drained, quieted, time_passed, silent, reckoned_early, ended_for, closed, is_over, loses_all, next_attempt, unprepared, setup_sent, gives_back};
 ghost use Rattle.gc_station.specs.Lines.{is_reply};
 
 use crate::cause::Cause;
@@ -122,6 +122,7 @@ impl Progress {
         self.next_is_chained = missed;
         self.next_others = 0;
         self.chain_unbroken = false;
+        self.preparing = false;
     }
 
     // The moment in the record of a command that isn't sent: where its cycle is missed, the moment at which the cycle was due;
@@ -143,6 +144,7 @@ impl Progress {
         self.next_is_chained = next_is_chained;
         self.next_others = others;
         self.chain_unbroken = false;
+        self.preparing = false;
     }
 
     // Passes over the further attempts of a chain that the next command begins. `next_is_chained` and `others` are of the command
@@ -155,6 +157,7 @@ impl Progress {
         self.next_is_chained = next_is_chained;
         self.next_others = others;
         self.chain_unbroken = false;
+        self.preparing = false;
     }
 
     // Notes the cause of a failure: a connection is to be closed for it next, and without a connection the run is over for it.
@@ -219,8 +222,28 @@ impl Progress {
         }
     }
 
+    // The attempt of the set-up that is next: the one after the last, if something of that went out.
+    fn next_attempt(&self) -> u64
+        ensures { result ≡ next_attempt self.now }
+    {
+        if self.prepared == 0 {
+            self.attempt
+        } else {
+            later(self.attempt, 1)
+        }
+    }
+
+    // Notes that the set-up, if there is one, is to go out again from its first command on.
+    fn unprepare(&mut self, plan: &Plan)
+        ensures { self.new ≡ unprepared plan.now self.old }
+    {
+        self.attempt = self.next_attempt();
+        self.preparing = plan.setup > 0;
+        self.prepared = 0;
+    }
+
     // Notes that a connection was closed, or couldn't be made: the phase is `phase_again`, the pause `pause_again`, and a try
-    // is taken unless the next attempt is spared.
+    // is taken unless the next attempt is spared. The set-up goes out again on the next connection.
     pub(crate) fn try_again(&mut self, plan: &Plan, commands: usize, cause: Cause)
         ensures { self.new ≡ again plan.now commands cause self.old }
     {
@@ -232,6 +255,7 @@ impl Progress {
         if !spared {
             self.tries = self.tries.saturating_sub(1);
         }
+        self.unprepare(plan);
     }
 
     // Notes that the line feed went out: the connection is drained next, unless a beginning goes on with it.
@@ -284,6 +308,7 @@ impl Progress {
         self.asked = self.asked && self.goes_on(plan);
         self.chain_unbroken = false;
         self.behind = 0;
+        self.unprepare(plan);
     }
 
     // Hears a line while the station begins. Where the line answers the first null procedure that is left, the next one goes out
@@ -307,6 +332,16 @@ impl Progress {
         self.next_is_chained = next_is_chained;
         self.next_others = others;
         self.chain_unbroken = true;
+        self.preparing = false;
+    }
+
+    // Notes that the next command of the set-up went out.
+    pub(crate) fn prepare(&mut self, plan: &Plan)
+        ensures { self.new ≡ setup_sent plan.now self.old }
+    {
+        self.ask();
+        self.prepared = self.prepared.saturating_add(1).min(plan.setup);
+        self.chain_unbroken = false;
     }
 
     // Notes that a line settled requests, and that `waiting` wait still. Where the one that it answers is a call of the table
@@ -330,11 +365,12 @@ impl Progress {
     }
 
     // Notes that a read gave bytes: `before` commands waited before it, and `after` counts what waits now. Where a command
-    // was settled, all tries are left again, and the next pause is the quiet time.
+    // was settled, and since the set-up a command of a cycle had its turn, all tries are left again, and the next pause is the
+    // quiet time.
     pub(crate) fn give(&mut self, plan: &Plan, until: Until, before: usize, after: Waiting)
         ensures { self.new ≡ gave plan.now until before after self.old }
     {
-        if after.commands < before {
+        if after.commands < before && !self.preparing {
             self.tries = plan.retries;
             self.pause = 0;
         }

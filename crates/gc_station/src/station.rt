@@ -14,7 +14,7 @@ ghost use Rattle.gc_texts.specs.Endings.{Missed, Skipped};
 ghost use Rattle.gc_station.specs.Marks.{commands_in, records_of, last_well, fresh_behind};
 ghost use Rattle.gc_station.specs.Scopes.{AreReadings};
 ghost use Rattle.gc_station.specs.Records.{Record, texts_of, WritesAll, WritesNews};
-ghost use Rattle.gc_station.specs.Model.{Model, opening, action_at, place_next, expected_first, mark_next, requests_out, is_chained, others_in, is_chained_behind, others_behind, skips, skip_listed, moved, ended};
+ghost use Rattle.gc_station.specs.Model.{Model, opening, action_at, place_next, expected_first, mark_next, requests_out, is_chained, others_in, is_chained_behind, others_behind, skips, skip_listed, moved, ended, cycle_length, mark_setup, is_chained_behind_next};
 ghost use Rattle.gc_station.specs.Stations.{waiting_in, IsPaired, Refines, Took, Does, Made, stepped, OnCall, ComesTo, IsFitting, seen};
 ghost use Rattle.gc_station.specs.Tallies.{tallied};
 ghost use Rattle.gc_station.specs.declared.progress.Action.TheVariants.{ReadClock, Renew, Begin, Open, Skip, Pass, Close};
@@ -44,6 +44,30 @@ fn is_chained(commands: &[Task], place: usize) -> bool
     match commands.get(place) {
         Some(task) => task.chained,
         None => false,
+    }
+}
+
+// What is expected of the answer of the command at this place.
+fn expected_at(commands: &[Task], place: usize) -> Expected
+    ensures { result ≡ expected_first (drop place commands.now) }
+{
+    match commands.get(place) {
+        Some(task) => Expected {
+            near: task.near,
+            accepted: task.accepted,
+            again: task.again,
+            turn: task.turn,
+        },
+        None => Expected {
+            near: None,
+            accepted: Codes::none(),
+            again: Again::none(),
+            turn: Turn {
+                place: 0,
+                attempt: 1,
+                link: 0,
+            },
+        },
     }
 }
 
@@ -133,30 +157,6 @@ impl Station {
         commands.len().saturating_sub(self.progress.unsent)
     }
 
-    // What is expected of the answer of the next command.
-    fn expected(&self, commands: &[Task]) -> Expected
-        ensures { result ≡ expected_first (drop (place_next commands.now self.now.progress) commands.now) }
-    {
-        match commands.get(self.place(commands)) {
-            Some(task) => Expected {
-                near: task.near,
-                accepted: task.accepted,
-                again: task.again,
-                turn: task.turn,
-            },
-            None => Expected {
-                near: None,
-                accepted: Codes::none(),
-                again: Again::none(),
-                turn: Turn {
-                    place: 0,
-                    attempt: 1,
-                    link: 0,
-                },
-            },
-        }
-    }
-
     // The mark of the next command.
     fn mark(&self, plan: &Plan, commands: &[Task]) -> Mark
         ensures { result ≡ mark_next plan.now commands.now self.now.progress }
@@ -165,7 +165,23 @@ impl Station {
             cycle: plan.cycles.saturating_sub(self.progress.left),
             place: self.place(commands),
             sent: self.progress.moment.utc,
-            expected: self.expected(commands),
+            expected: expected_at(commands, self.place(commands)),
+        }
+    }
+
+    // The mark of the next command of the set-up: it has cycle 0, and the attempt of the set-up.
+    fn mark_setup(&self, commands: &[Task]) -> Mark
+        ensures { result ≡ mark_setup commands.now self.now.progress }
+    {
+        let mut expected = expected_at(commands, self.progress.prepared);
+        expected.again = Again::none();
+        expected.turn.attempt = self.progress.attempt;
+        expected.turn.link = 1;
+        Mark {
+            cycle: 0,
+            place: self.progress.prepared,
+            sent: self.progress.moment.utc,
+            expected,
         }
     }
 
@@ -238,7 +254,8 @@ impl Station {
     {
         match link.now() {
             Ok(moment) => {
-                self.progress.begin(plan, commands.len(), moment);
+                let count = commands.len().saturating_sub(plan.setup);
+                self.progress.begin(plan, count, moment);
                 self.client.expire(moment.elapsed);
                 self.fresh = self.fresh.min(moment.elapsed);
             }
@@ -445,6 +462,10 @@ impl Station {
             }
             Action::Ask => {
                 self.ask_null(link, plan, commands);
+                Ok(())
+            }
+            Action::Prepare => {
+                self.prepare(link, plan, commands);
                 Ok(())
             }
             Action::Send => {

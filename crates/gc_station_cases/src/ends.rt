@@ -1,5 +1,6 @@
 //! A book that keeps a letter for each outcome.
 
+use crate::setting::Setting;
 use arrayvec::ArrayVec;
 use gc_lines::PortFailed;
 use gc_links::Moment;
@@ -7,7 +8,8 @@ use gc_station::{Book, LinkHealth};
 use gc_texts::{Ending, Quality, Stamp, Wish};
 
 /// A book that keeps a word for each record: the last digits of its cycle and its place, a letter for its outcome, and behind the
-/// letter the values of a reply. A case may have it fail at one write, or at each sync after the first few.
+/// letter the values of a reply; where a case is stamped, last the moment at which the request went out. A case may have it fail at one
+/// write, or at each sync after the first few.
 #[derive(Drop)]
 pub struct Ends {
     /// The words of the records, and `N!` for each cycle N that was reported as overrun, each with a blank behind it.
@@ -18,17 +20,20 @@ pub struct Ends {
     fails: u64,
     // How many syncs still succeed.
     keeps: u64,
+    // Whether the moment at which a record's request went out is kept.
+    stamped: bool,
 }
 
 impl Ends {
-    /// A book that fails at the write with the number `fails`, counted from 1 (0: at none), and at each sync after the first
-    /// `keeps`.
-    pub fn new(fails: u64, keeps: u64) -> Ends {
+    /// A book that fails at the write with the number that the setting has as `fails`, counted from 1 (0: at none), and at each sync
+    /// after the first `keeps`.
+    pub fn new(setting: &Setting) -> Ends {
         Ends {
             text: ArrayVec::new(),
             writes: 0,
-            fails,
-            keeps,
+            fails: setting.fails,
+            keeps: setting.keeps,
+            stamped: setting.stamped,
         }
     }
 
@@ -42,6 +47,16 @@ impl Ends {
         self.note(letter);
         if line.len() > 11 {
             self.note(&line[11..]);
+        }
+    }
+
+    // Keeps the moment at which a record's request went out, in milliseconds since 1970, if it did and the case is stamped.
+    fn note_sent(&mut self, sent: Option<u64>) {
+        let Some(sent) = sent else { return };
+        if self.stamped {
+            self.note(b"@");
+            let mut digits = itoa::Buffer::new();
+            self.note(digits.format(sent).as_bytes());
         }
     }
 
@@ -63,8 +78,8 @@ impl Book for Ends {
 
     ghost is_durable = { λ _. true };
 
-    // Keeps the word of a record: the digits of its cycle and place, and the letter of its ending, behind which a reply's values
-    // stand.
+    // Keeps the word of a record: the digits of its cycle and place, the letter of its ending, behind which a reply's values stand, and
+    // where the case is stamped the moment at which its request went out.
     fn write(
         &mut self,
         stamp: Stamp,
@@ -87,6 +102,7 @@ impl Book for Ends {
             Ending::Skipped => self.note(b"s"),
             Ending::Missed => self.note(b"m"),
         }
+        self.note_sent(stamp.sent);
         self.note(b" ");
         Ok(())
     }

@@ -99,7 +99,7 @@ fn play_once(
     outcome: &mut Outcome,
 ) {
     let mut link = Telling::new(logged(alloc, steps, setting, writes));
-    let mut book = Ends::new(setting.fails, setting.keeps);
+    let mut book = Ends::new(setting);
     let result = run_telling(&mut link, &mut book, tasks, &setting.plan, setting.turns);
     outcome.take(&link.link.link, &book, result.err());
     outcome.take_log(

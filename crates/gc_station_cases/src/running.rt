@@ -187,7 +187,7 @@ fn text_of(bytes: &[u8]) -> &str {
 // Runs a station over a link that tells its acts.
 fn play_told(tasks: &[Task], steps: &[Step<'_>], setting: &Setting, outcome: &mut Outcome) {
     let mut link = Telling::new(Script::new(steps, setting));
-    let mut book = Ends::new(setting.fails, setting.keeps);
+    let mut book = Ends::new(setting);
     let result = run_telling(&mut link, &mut book, tasks, &setting.plan, setting.turns);
     if setting.counted {
         tell_counts(&result, outcome);

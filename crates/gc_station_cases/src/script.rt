@@ -64,6 +64,8 @@ pub struct Script<'a> {
     up: bool,
     // From when on the end of the run is asked for, in milliseconds since the start.
     until: u64,
+    // How many milliseconds the clock of time stamps is ahead of `clock`.
+    ahead: u64,
     // Whether the clock can't be read.
     blind: bool,
     // Whether each call is kept with its time since the start, and of a request its id alone.
@@ -97,6 +99,7 @@ impl<'a> Script<'a> {
             clock: START,
             up: false,
             until: setting.until,
+            ahead: setting.ahead,
             blind: setting.blind,
             timed: setting.timed,
             nulls: 0,
@@ -184,7 +187,7 @@ impl<'a> Script<'a> {
         self.clock = self.clock.saturating_add(later);
         Moment {
             elapsed: self.clock,
-            utc: self.clock,
+            utc: self.clock.saturating_add(self.ahead),
             stops: self.until <= self.clock.saturating_sub(START),
         }
     }

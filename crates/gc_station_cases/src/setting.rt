@@ -30,10 +30,14 @@ pub struct Setting {
     pub split: u64,
     /// From when on the end of the run is asked for, in milliseconds since the start.
     pub until: u64,
+    /// How many milliseconds the clock of time stamps is ahead of the link's other clock.
+    pub ahead: u64,
     /// Whether the clock can't be read.
     pub blind: bool,
     /// Whether what is put is told with its time since the start, and of a request its id alone.
     pub timed: bool,
+    /// Whether a record is told with the moment at which its request went out.
+    pub stamped: bool,
     /// Whether the counts of a run are told, where it is done.
     pub counted: bool,
 }
@@ -50,6 +54,7 @@ impl Setting {
                 cycles: 1,
                 quiet: 10,
                 retries: 1,
+                setup: 0,
                 stale: 0,
                 watched: false,
             },
@@ -64,8 +69,10 @@ impl Setting {
             first: u64::MAX,
             split: 0,
             until: u64::MAX,
+            ahead: 0,
             blind: false,
             timed: false,
+            stamped: false,
             counted: false,
         }
     }
@@ -105,6 +112,7 @@ impl Setting {
             "stale" => self.plan.stale = value,
             "watched" => self.plan.watched = value > 0,
             "retries" => self.plan.retries = u32::try_from(value).unwrap_or(u32::MAX),
+            "setup" => self.plan.setup = usize::try_from(value).unwrap_or(usize::MAX),
             _ => return false,
         }
         true
@@ -124,6 +132,8 @@ impl Setting {
             "first" => self.first = value,
             "split" => self.split = value,
             "until" => self.until = value,
+            "ahead" => self.ahead = value,
+            "stamped" => self.stamped = true,
             "blind" => self.blind = true,
             "timed" => self.timed = true,
             "counted" => self.counted = true,

@@ -7,7 +7,8 @@
 //!     then dead answers           the steps after these, where `with` or a row says `first`
 //!     put open lf begin %R1Q,0,0: ..    what is put; `begin` are the eight null procedures of a beginning, in a row, each once
 //!     ends 10a 11x 2!             cycle, place and a letter for each record: answered, a warning, unreadable and elsewhere (each
-//!                                 with its values after it), late, lost (x), skipped or missed; `!` behind a cycle that overran
+//!                                 with its values after it), late, lost (x), skipped or missed; where `with` says `stamped`, `@` and
+//!                                 the moment at which its request went out, if it did; `!` behind a cycle that overran
 //!     end fault 46                the fault, if there is one
 //!     counts answered 3 ..        how many commands ended how, where `with` says `counted`
 //!     log ..                      what the log has, over a link with one; without tasks the link only hears

@@ -1,6 +1,6 @@
 //! What a station sends: the line feed that clears half a request, and requests.
 
-ghost use Rattle.std.specs.Prelude.{◌≡◌, ℕ, ◌<◌, ◌≤◌, ◌++◌, List, [], ◌∷◌, false, length, Option};
+ghost use Rattle.std.specs.Prelude.{◌≡◌, ℕ, ◌<◌, ◌≤◌, ◌++◌, List, [], ◌∷◌, false, length, drop, Option};
 ghost use Rattle.gc_client.specs.Rule.{sends};
 ghost use Rattle.gc_client.specs.declared.window.TheConstants.{WINDOW};
 ghost use Rattle.gc_catalogue.specs.declared.asked.Asked.TheVariants.{Table};
@@ -8,9 +8,10 @@ ghost use Rattle.gc_catalogue.specs.declared.call.Call.TheVariants.{NullProc};
 ghost use Rattle.gc_links.specs.Acts.{Tells, put_as, IsPart};
 ghost use Rattle.gc_station.specs.Deciding.{later, has_begun};
 ghost use Rattle.gc_station.specs.Records.{Record};
-ghost use Rattle.gc_station.specs.Model.{request_text, null_text, client_sent};
-ghost use Rattle.gc_station.specs.Stations.{IsPaired, Does, cut_progress, seen};
-ghost use Rattle.gc_station.specs.declared.progress.Action.TheVariants.{Clear, Ask, Send, Flush};
+ghost use Rattle.gc_station.specs.Requests.{command_at};
+ghost use Rattle.gc_station.specs.Model.{request_text, null_text, client_sent, mark_setup};
+ghost use Rattle.gc_station.specs.Stations.{IsPaired, Does, cut_progress, setup_asked, seen};
+ghost use Rattle.gc_station.specs.declared.progress.Action.TheVariants.{Clear, Ask, Prepare, Send, Flush};
 
 use super::Station;
 use crate::cause::Cause;
@@ -22,6 +23,24 @@ use gc_catalogue::{Asked, Call};
 use gc_lines::{Line, append};
 use gc_links::Link;
 use gc_texts::{Task, Wish};
+
+// A request that is to go out: for this command, with how many milliseconds it waits, and its mark, if it is of a command of the text.
+#[derive(Clone, Copy)]
+pub(crate) struct Asking {
+    pub(crate) command: Wish,
+    pub(crate) wait: u64,
+    pub(crate) mark: Option<Mark>,
+}
+
+// The command of a task where its request goes out at this moment.
+fn command_at(task: &Task, utc: u64) -> Wish
+    ensures { result ≡ command_at utc task.entry.now }
+{
+    Wish {
+        target: task.command.target,
+        call: task.call_at(utc),
+    }
+}
 
 // The null procedure, for no target.
 fn null_command() -> Wish
@@ -119,7 +138,7 @@ impl Station {
         self.cut(put, requests);
     }
 
-    // Sends the next command.
+    // Sends the next command. One that sets the clock asks for the moment of its mark.
     pub(super) fn send<L: Link>(&mut self, link: &mut L, plan: &Plan, commands: &[Task])
         requires width { self.old.client.width ≡ WINDOW }
         requires room { length self.old.client.ids.waiting < WINDOW }
@@ -134,8 +153,43 @@ impl Station {
         let task = &commands[self.place(commands)];
         let next_is_chained = self.is_chained_behind(1, commands);
         let others = self.others_behind(1, commands);
-        let put = self.ask(link, &task.command, task.deadline, Some(mark));
+        let command = command_at(task, mark.sent);
+        let put = self.ask(link, &command, task.deadline, Some(mark));
         self.progress.send(next_is_chained, others);
+        self.cut(put, requests);
+    }
+
+    // The request for the next command of the set-up, if the list has one; else for a null procedure.
+    fn next_setup(&self, plan: &Plan, commands: &[Task]) -> Asking
+        ensures { result ≡ setup_asked plan.now (mark_setup commands.now self.now.progress) (drop self.now.progress.prepared commands.now) }
+    {
+        let mark = self.mark_setup(commands);
+        match commands.get(self.progress.prepared) {
+            Some(task) => Asking {
+                command: command_at(task, mark.sent),
+                wait: task.deadline,
+                mark: Some(mark),
+            },
+            None => Asking {
+                command: null_command(),
+                wait: plan.deadline,
+                mark: None,
+            },
+        }
+    }
+
+    // Sends the next command of the set-up, if the list has one; else a null procedure.
+    pub(super) fn prepare<L: Link>(&mut self, link: &mut L, plan: &Plan, commands: &[Task])
+        requires width { self.old.client.width ≡ WINDOW }
+        requires room { length self.old.client.ids.waiting < WINDOW }
+        requires paired { IsPaired self.old }
+        ensures { (text : Record → List ℕ) (known : Option (List ℕ))
+            → Does plan.now commands.now Prepare (seen (L.acts link.old) text known self.old) (seen (L.acts link.new) text known self.new) }
+    {
+        let requests = self.requests_out(plan, commands);
+        let asking = self.next_setup(plan, commands);
+        let put = self.ask(link, &asking.command, asking.wait, asking.mark);
+        self.progress.prepare(plan);
         self.cut(put, requests);
     }
 

@@ -88,7 +88,7 @@ loop-unsynced-smaller g c =
     (g.B.Book.taken c.tell_overrun-told.new.book) (g.B.Book.taken c.step.new.book) c.loop-unsynced.station c.step.new.self c.action-action.result
     c.action-action.ensures.is c.loop-unsynced.invariant.some
     (on_call c.action-action.result _ c.in_default-action.not-Stop (rw (c.tell_overrun-told.ensures.form ∙ c.sync.ensures.form ∙ c.loop-unsynced.invariant.form) at c.in_default-step.ensures.does))
-    c.loop-unsynced.invariant.within).less
+    c.loop-unsynced.invariant.below).less
 
 pub loop-unsynced-preserved : goal.loop-unsynced-preserved
 loop-unsynced-preserved g c =
@@ -98,13 +98,15 @@ loop-unsynced-preserved g c =
     let taken = g.B.Book.taken c.args.book.now in
     let makes = on_call c.action-action.result _ c.in_default-action.not-Stop
     (rw (c.tell_overrun-told.ensures.form ∙ c.sync.ensures.form ∙ c.loop-unsynced.invariant.form) at c.in_default-step.ensures.does) in
+    let nearer = went_nearer plan commands (g.B.Book.text c.args.book.now) (g.L.Link.acts c.loop-unsynced.link) (g.L.Link.acts c.step.new.link)
+    (g.B.Book.taken c.tell_overrun-told.new.book) (g.B.Book.taken c.step.new.book) c.loop-unsynced.station c.step.new.self c.action-action.result
+    c.action-action.ensures.is c.loop-unsynced.invariant.some
+    (on_call c.action-action.result _ c.in_default-action.not-Stop
+    (rw (c.tell_overrun-told.ensures.form ∙ c.sync.ensures.form ∙ c.loop-unsynced.invariant.form) at c.in_default-step.ensures.does))
+    c.loop-unsynced.invariant.below in
     record {
-      within = (went_nearer plan commands (g.B.Book.text c.args.book.now) (g.L.Link.acts c.loop-unsynced.link) (g.L.Link.acts c.step.new.link)
-          (g.B.Book.taken c.tell_overrun-told.new.book) (g.B.Book.taken c.step.new.book) c.loop-unsynced.station c.step.new.self c.action-action.result
-          c.action-action.ensures.is c.loop-unsynced.invariant.some
-          (on_call c.action-action.result _ c.in_default-action.not-Stop
-          (rw (c.tell_overrun-told.ensures.form ∙ c.sync.ensures.form ∙ c.loop-unsynced.invariant.form) at c.in_default-step.ensures.does))
-          c.loop-unsynced.invariant.within).within;
+      within = omega (arith, nearer.within);
+      below = nearer.within;
       some = somewhere_on plan commands (g.B.Book.text c.args.book.now) (g.L.Link.acts c.loop-unsynced.link) (g.L.Link.acts c.step.new.link)
           (g.B.Book.taken c.tell_overrun-told.new.book) (g.B.Book.taken c.step.new.book) c.loop-unsynced.station c.step.new.self c.action-action.result makes
           c.loop-unsynced.invariant.some;
@@ -148,6 +150,7 @@ loop-unsynced-init g c =
     let none : c.new-station.result.progress.unsent ≡ 0 = ap (λ (p : Progress). p.unsent) stands.progress in
     record {
       within = omega (arith, none);
+      below = omega (arith, none);
       some = (opening plan start, stands);
       went = λ reads are. went_nothing plan commands (record { turns = c.args.max_turns; reads = reads }) (g.B.Book.text c.args.book.now)
           (g.L.Link.acts c.args.link.now) (g.B.Book.taken c.args.book.now) c.new-station.result (c.new-station.ensures reads);

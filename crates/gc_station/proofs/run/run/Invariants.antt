@@ -1,4 +1,4 @@
-use Rattle.std.proofs.Common.{◌≡◌, ◌≤◌, ℕ, List, length}
+use Rattle.std.proofs.Common.{◌≡◌, ◌≤◌, ◌-◌, ℕ, List, length}
 use Rattle.gc_catalogue.specs.declared.answer.Reading.{Reading}
 use Rattle.gc_catalogue.specs.declared.asked.Asked.{Asked}
 use Rattle.gc_station.specs.Scopes.{AreReadings}
@@ -10,6 +10,7 @@ use Rattle.gc_station.proofs.run.run.Given as goal
 abbrev pub invariant-loop-unsynced : goal.invariant-loop-unsynced
 invariant-loop-unsynced g l = record {
   within : l.station.progress.unsent ≤ length l.commands;
+  below : l.station.progress.unsent ≤ length l.commands - l.plan.setup;
   some : Somewhere l.station;
   went : (reads : Asked → List ℕ → Reading) → AreReadings reads
       → Went l.plan l.commands (record { turns = l.max_turns; reads = reads }) (g.B.Book.text l.initial.book) (g.L.Link.acts l.initial.link)

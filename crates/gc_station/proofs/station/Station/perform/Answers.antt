@@ -18,6 +18,9 @@ returns-in-Clear-clause-does g c = rw c.in-Clear.is (c.clear.ensures (g.B.Book.t
 pub returns-in-Ask-clause-does : goal.returns-in-Ask-clause-does
 returns-in-Ask-clause-does g c = rw c.in-Ask.is (c.ask_null.ensures (g.B.Book.text c.args.book.now) (g.B.Book.taken c.args.book.now))
 
+pub returns-in-Prepare-clause-does : goal.returns-in-Prepare-clause-does
+returns-in-Prepare-clause-does g c = rw c.in-Prepare.is (c.prepare.ensures (g.B.Book.text c.args.book.now) (g.B.Book.taken c.args.book.now))
+
 pub returns-in-Send-clause-does : goal.returns-in-Send-clause-does
 returns-in-Send-clause-does g c = rw c.in-Send.is (c.send.ensures (g.B.Book.text c.args.book.now) (g.B.Book.taken c.args.book.now))
 

@@ -1,0 +1,199 @@
+-- The row of a station: the requests of its records, and behind them those of the commands that wait. An act leaves it, or adds the request of
+-- the command that goes out or is passed over. Where a chain is unbroken, the last request is of a cycle, not of the set-up.
+use Rattle.std.proofs.Common.{◌≡◌, ℕ, ◌-◌, ◌<◌, Bool, true, false, List, [], ◌∷◌, ◌++◌, length, drop, map, Some, None, refl, sym, ap, ◌∙◌, subst, arith, append_assoc, append-nil, nat_eq}
+use Rattle.std.proofs.lemmas.Bool.Decides.{nat_tests}
+use Rattle.std.proofs.lemmas.List.{length-drop, map-append}
+use Rattle.gc_catalogue.specs.declared.asked.Asked.TheVariants.{Table}
+use Rattle.gc_catalogue.specs.declared.call.Call.TheVariants.{NullProc}
+use Rattle.gc_client.specs.Rule.{heard, hears, lost, pending_of}
+use Rattle.gc_client.specs.OneForOne.{of_pending, of_settled}
+use Rattle.gc_client.proofs.OneForOne.{heard_parts, lost_parts}
+use Rattle.gc_texts.specs.Tasks.{call_at}
+use Rattle.gc_texts.specs.declared.tasks.Task.{Task}
+use Rattle.gc_links.specs.declared.link.Moment.{Moment}
+use Rattle.gc_links.specs.Acts.{Act, Gave, Silent}
+use Rattle.gc_station.specs.declared.mark.Mark.{Mark}
+use Rattle.gc_station.specs.declared.plan.Plan.{Plan}
+use Rattle.gc_station.specs.declared.progress.Action.{Action}
+use Rattle.gc_station.specs.declared.progress.Action.TheVariants as action
+use Rattle.gc_station.specs.declared.progress.Progress.{Progress}
+use Rattle.gc_station.specs.declared.progress.Until.{Until}
+use Rattle.gc_station.specs.Deciding.{later}
+use Rattle.gc_station.specs.EachOnce.{Request, of_record, of_cycles, cycle_with, of_text, in_text}
+use Rattle.gc_station.specs.Marks.{commands_in}
+use Rattle.gc_station.specs.Progressing.{told, turned, loses_all}
+use Rattle.gc_station.specs.Reasons.{IsFor}
+use Rattle.gc_station.specs.Runs.{stood}
+use Rattle.gc_station.specs.Scopes.{Scope}
+use Rattle.gc_station.specs.Model.{Model, opening, action_at, waiting_of, cycles_begun, place_next, mark_next, Performs, Puts, ReadsClock, IsOpening, Runs, is_heard, asks_first, asks_null, came, line_came, losing, moved, piece_at, with_progress, with_moment, null_text, text_or_null, first_text, request_text}
+use Rattle.gc_station.proofs.Always.{always}
+use Rattle.gc_station.proofs.Each.{row, row_moment, row_settles, more_waiting, marked_none, waiting_marked, cycles_append}
+use Rattle.gc_station.proofs.EachRun.{fine_stood}
+use Rattle.gc_station.proofs.Facts.{action_for}
+use Rattle.gc_station.proofs.Invariant.{Invariant}
+use Rattle.gc_station.proofs.Midway.{client_behind, clash}
+use Rattle.gc_station.proofs.Walk.{came_along, closed_along, moved_changed, walk}
+
+-- the row of a model
+abbrev pub row_of : Model → List Request
+row_of s = row s.marks s.client.waiting s.records
+
+-- a line that is heard leaves the row
+row_line : (s : Model) (line : List ℕ) → row_of (line_came s line) ≡ row_of s
+row_line s line =
+    let x = hears s.client line (heard line) in
+    row_settles s.reads s.progress.moment.utc s.marks s.client.waiting x.client.waiting x.settlements s.records (heard_parts s.client line (heard line))
+
+-- a piece leaves the row, heard or not
+row_came : (h : Bool) (word piece : List ℕ) (s : Model) → row_of (came h word piece s) ≡ row_of s
+row_came h word piece s = came_along (λ (t : Model). row_of t ≡ row_of s) (λ t line e. row_line t line ∙ e) h word piece s refl refl refl
+
+-- a read that gave bytes leaves the row
+pub row_gave : (plan : Plan) (until : Until) (s : Model) (bytes : List ℕ) (m : Moment) → row_of (piece_at plan until bytes m s) ≡ row_of s
+row_gave plan until s bytes m =
+    row_came (is_heard s.progress.phase) s.progress.word bytes (with_moment m (with_progress (told m) s)) ∙ row_moment s.marks s.client.waiting s.records m.elapsed
+
+-- the loss of what waits leaves the row
+pub row_losing : (b : Bool) (s : Model) → row_of (losing b s) ≡ row_of s
+row_losing true s =
+    row_settles s.reads s.progress.moment.utc s.marks s.client.waiting [] (map lost s.client.waiting) s.records (none (map of_settled (map lost s.client.waiting)) ∙ lost_parts s.client.waiting) where
+      -- nothing appended changes no list
+      none : {A : Type 0} (xs : List A) → xs ++ [] ≡ xs
+      none xs = append-nil xs
+row_losing false s = refl
+
+-- an act of a read that gave bytes leaves the row
+pub row_read : (plan : Plan) (commands : List Task) (o : Action) (s : Model) (act : Act) (bytes : List ℕ) (m : Moment) → Performs commands s o act → act ≡ Gave bytes m
+    → row_of (moved plan commands o s act) ≡ row_of s
+row_read plan commands (action.Read until) s act bytes m o is = subst (λ (a : Act). row_of (moved plan commands (action.Read until) s a) ≡ row_of s) (sym is) (row_gave plan until s bytes m)
+row_read plan commands action.ReadClock s act bytes m o is = absurd (subst ReadsClock is o)
+row_read plan commands action.Renew s act bytes m o is = absurd (subst ReadsClock is o)
+row_read plan commands action.Begin s act bytes m o is = absurd (subst ReadsClock is o)
+row_read plan commands action.Skip s act bytes m o is = absurd (subst ReadsClock is o)
+row_read plan commands action.Pass s act bytes m o is = absurd (subst ReadsClock is o)
+row_read plan commands action.Open s act bytes m o is = absurd (subst IsOpening is o)
+row_read plan commands action.Clear s act bytes m o is = absurd (subst (λ (a : Act). Puts (10 ∷ []) a) is o)
+row_read plan commands action.Ask s act bytes m o is = absurd (subst (λ (a : Act). Puts (null_text s.progress.word) a) is o)
+row_read plan commands action.Prepare s act bytes m o is = absurd (subst (λ (a : Act). Puts (text_or_null s.progress.moment.utc s.client (drop s.progress.prepared commands)) a) is o)
+row_read plan commands action.Send s act bytes m o is = absurd (subst (λ (a : Act). Puts (first_text s.progress.moment.utc s.client (drop (place_next commands s.progress) commands)) a) is o)
+row_read plan commands action.Flush s act bytes m o is = absurd (subst (λ (a : Act). Puts (request_text s.client (Table NullProc)) a) is o)
+row_read plan commands (action.Close why) s act bytes m o is = cc
+row_read plan commands (action.Stop why) s act bytes m o is = absurd o
+
+-- Where a chain is unbroken, the last request of the row is of a cycle.
+
+-- the cycle of the last of these requests; `n` where there is none
+abbrev pub last_cycle : ℕ → List Request → ℕ
+last_cycle n [] = n
+last_cycle n (x ∷ xs) = last_cycle x.cycle xs
+
+-- the cycle of the last request is that of the one behind the others
+last_behind : (n : ℕ) (xs : List Request) (x : Request) → last_cycle n (xs ++ x ∷ []) ≡ x.cycle
+last_behind n [] x = refl
+last_behind n (y ∷ xs) x = last_behind y.cycle xs x
+
+-- where a chain is unbroken, the last request of the row is of a cycle
+abbrev LastIsOfCycle : Model → Type 0
+LastIsOfCycle s = s.progress.chain_unbroken ≡ true → 0 < last_cycle 0 (row_of s)
+
+-- it lasts where the row stays
+kept : {xs ys : List Request} {b : Bool} → ys ≡ xs → (b ≡ true → 0 < last_cycle 0 xs) → b ≡ true → 0 < last_cycle 0 ys
+kept same h e = subst (λ (zs : List Request). 0 < last_cycle 0 zs) (sym same) (h e)
+
+-- the first of these commands, where it is sent with a mark of a cycle, is the last request of the row
+sent_last : (mark : Mark) (left : List Task) (s : Model) → length s.marks ≡ length s.client.waiting → length s.client.waiting < 7 → 0 < length left → 0 < mark.cycle
+    → 0 < last_cycle 0 (row (asks_first mark left s).marks (asks_first mark left s).client.waiting s.records)
+sent_last mark [] s paired room some many = absurd (omega (arith, some))
+sent_last mark (task ∷ others) s paired room some many =
+    let d = later s.progress.moment.elapsed task.deadline in
+    let p = pending_of task.command.target (call_at task mark.sent) d in
+    let one : Request = record { cycle = mark.cycle; place = mark.place; asked = of_pending p } in
+    let is : row (s.marks ++ Some mark ∷ []) (s.client.waiting ++ p ∷ []) s.records ≡ row_of s ++ one ∷ [] =
+    ap (λ xs. map of_record s.records ++ xs) (more_waiting s.marks s.client.waiting (Some mark) p paired) ∙ sym (append_assoc (map of_record s.records) _ (one ∷ [])) in
+    let last : 0 < last_cycle 0 (row_of s ++ one ∷ []) = subst (λ (n : ℕ). 0 < n) (sym (last_behind 0 (row_of s) one)) many in
+    subst (λ (c : _). 0 < last_cycle 0 (row (s.marks ++ Some mark ∷ []) c.waiting s.records)) (sym (client_behind s.client task.command.target (call_at task mark.sent) d room))
+    (subst (λ (xs : List Request). 0 < last_cycle 0 xs) (sym is) last)
+
+module _ (plan : Plan) (commands : List Task) where
+  -- an act of each action keeps it
+  last_moved : (o : Action) (s : Model) (act : Act) → Invariant plan commands s → IsFor plan s.progress (waiting_of s) o → Performs commands s o act → LastIsOfCycle (with_progress turned s)
+      → LastIsOfCycle (moved plan commands o (with_progress turned s) act)
+  last_moved action.Send s act fine is o h =
+      let t = with_progress turned s in
+      let p = s.progress in
+      let left = drop (place_next commands p) commands in
+      let many : length left ≡ length commands - place_next commands p = length-drop (place_next commands p) commands in
+      let some : 0 < length left = omega (arith, many, is.2, fine.unsent) in
+      let below = fine.begun is.2 in
+      let cycle : 0 < cycles_begun plan p = omega (arith, below) in
+      let last = sent_last (mark_next plan commands p) left t fine.paired is.3.1 some cycle in
+      walk plan commands (λ a (u : Model). LastIsOfCycle u) action.Send t act o (λ m e. last, λ n e. last)
+  last_moved action.Prepare s act fine is o h = walk plan commands (λ a (u : Model). LastIsOfCycle u) action.Prepare (with_progress turned s) act o (λ m e. cc, λ n e. cc)
+  last_moved action.Skip s act fine is o h =
+      walk plan commands (λ a (u : Model). LastIsOfCycle u) action.Skip (with_progress turned s) act o
+      (λ m e. cc, λ n. kept (ap (λ rs. row s.marks s.client.waiting rs) (append-nil s.records)) h)
+  last_moved action.Pass s act fine is o h = walk plan commands (λ a (u : Model). LastIsOfCycle u) action.Pass (with_progress turned s) act o (λ m e. cc, λ n. h)
+  last_moved action.Begin s act fine is o h = walk plan commands (λ a (u : Model). LastIsOfCycle u) action.Begin (with_progress turned s) act o (λ m e. cc, λ n. h)
+  last_moved action.Renew s act fine is o h = walk plan commands (λ a (u : Model). LastIsOfCycle u) action.Renew (with_progress turned s) act o (λ m e. cc, λ n. h)
+  last_moved action.ReadClock s act fine is o h =
+      walk plan commands (λ a (u : Model). LastIsOfCycle u) action.ReadClock (with_progress turned s) act o
+      (λ m. kept (row_moment s.marks s.client.waiting s.records m.elapsed) h, λ n. h)
+  last_moved action.Open s act fine is o h = walk plan commands (λ a (u : Model). LastIsOfCycle u) action.Open (with_progress turned s) act o (λ m. h, λ n e. cc)
+  last_moved action.Clear s act fine is o h = walk plan commands (λ a (u : Model). LastIsOfCycle u) action.Clear (with_progress turned s) act o (λ m. h, λ n. h)
+  last_moved action.Ask s act fine is o h = walk plan commands (λ a (u : Model). LastIsOfCycle u) action.Ask (with_progress turned s) act o (λ m. h, λ n. h)
+  last_moved action.Flush s act fine is o h =
+      let d = later s.progress.moment.elapsed plan.deadline in
+      let p = pending_of 0 (Table NullProc) d in
+      let same : row_of (asks_null plan (with_progress turned s)) ≡ row_of s =
+      ap (λ (c : _). row (s.marks ++ None ∷ []) c.waiting s.records) (client_behind s.client 0 (Table NullProc) d is.4.1)
+      ∙ ap (λ xs. map of_record s.records ++ xs) (more_waiting s.marks s.client.waiting None p fine.paired ∙ append-nil _) in
+      walk plan commands (λ a (u : Model). LastIsOfCycle u) action.Flush (with_progress turned s) act o (λ m. kept same h, λ n. kept same h)
+  last_moved (action.Read until) s act fine is o h =
+      let t = with_progress turned s in
+      let back = λ (a : Act). ap (λ (x : Model). x.progress.chain_unbroken) (moved_changed plan commands (action.Read until) t a) in
+      walk plan commands (λ a (u : Model). LastIsOfCycle u) (action.Read until) t act o (
+        λ bytes m. kept (row_gave plan until t bytes m) (λ e. h (sym (back (Gave bytes m)) ∙ e)),
+        λ m. kept (row_moment s.marks s.client.waiting s.records m.elapsed) (λ e. h (sym (back (Silent m)) ∙ e)),
+        h,
+        h,
+        h,
+      )
+  last_moved (action.Close why) s act fine is o h =
+      walk plan commands (λ a (u : Model). LastIsOfCycle u) (action.Close why) (with_progress turned s) act o
+      (λ e. absurd (clash _ e (closed_along (λ (q : Progress). q.chain_unbroken ≡ false) plan (waiting_of s) why (turned s.progress) refl refl)))
+  last_moved (action.Stop why) s act fine is o h = absurd o
+
+  -- it holds after every run
+  last_stood : (scope : Scope) (acts : List Act) → Runs plan commands (opening plan scope) acts → LastIsOfCycle (stood plan commands scope acts)
+  last_stood scope acts runs =
+      always plan commands (opening plan scope) (λ (xs : List Act) (t : Model). LastIsOfCycle t)
+      (λ done act before obeys h.
+      let s = stood plan commands scope done in
+      let t = moved plan commands (action_at plan s) (with_progress turned s) act in
+      let one = last_moved (action_at plan s) s act (fine_stood plan commands scope done) (action_for plan s.progress (waiting_of s)) obeys h in
+      kept (row_losing (loses_all t.progress) t) (λ e. one (by_loss (loses_all t.progress) t e))) (λ e. cc) acts runs where
+        -- the loss of what waits mends no chain
+        by_loss : (b : Bool) (t : Model) → (losing b t).progress.chain_unbroken ≡ true → t.progress.chain_unbroken ≡ true
+        by_loss true t e = e
+        by_loss false t e = e
+
+-- where no command waits and a chain is unbroken, the last record is of a cycle
+pub last_of_cycle : (plan : Plan) (commands : List Task) (scope : Scope) (acts : List Act) → Runs plan commands (opening plan scope) acts
+    → commands_in (stood plan commands scope acts).marks ≡ 0 → (stood plan commands scope acts).progress.chain_unbroken ≡ true → (xs : List Request) (x : Request)
+    → map of_record (stood plan commands scope acts).records ≡ xs ++ x ∷ [] → 0 < x.cycle
+last_of_cycle plan commands scope acts runs none whole xs x is =
+    let s = stood plan commands scope acts in
+    let all : row_of s ≡ xs ++ x ∷ [] =
+    ap (λ ys. map of_record s.records ++ ys) (waiting_marked s.marks s.client.waiting ∙ marked_none s.marks (map of_pending s.client.waiting) none) ∙ append-nil (map of_record s.records) ∙ is in
+    subst (λ (n : ℕ). 0 < n) (ap (last_cycle 0) all ∙ last_behind 0 xs x) (last_stood plan commands scope acts runs whole)
+
+-- of requests, the last of which is of a cycle, those that are of a cycle have it last
+cycles_last : (xs : List Request) (x : Request) → 0 < x.cycle → of_cycles (xs ++ x ∷ []) ≡ of_cycles xs ++ x ∷ []
+cycles_last xs x many = cycles_append xs (x ∷ []) ∙ ap (λ b. of_cycles xs ++ cycle_with b x []) (not_none x.cycle many) where
+  -- a number above 0 isn't 0
+  not_none : (n : ℕ) → 0 < n → nat_eq n 0 ≡ false
+  not_none n some = grind (arith, nat_tests, some)
+
+-- of requests, the last of which is of a cycle, those that are of a cycle have it last, as the text has them
+pub listed_last : (commands : List Task) (xs : List Request) (x : Request) → 0 < x.cycle → of_text commands (xs ++ x ∷ []) ≡ of_text commands xs ++ in_text commands x ∷ []
+listed_last commands xs x many = ap (map (in_text commands)) (cycles_last xs x many) ∙ map-append (in_text commands) (of_cycles xs) (x ∷ [])

@@ -1,0 +1,31 @@
+-- A command that sets the clock asks for the moment at which its request goes out. As the text has it, it asks for none, whenever it goes
+-- out; and so the requests of a run can be compared with the text.
+use Rattle.std.proofs.Common.{◌≡◌, ℕ, Bool, true, false, List, ◌∷◌, drop, if◌then◌else◌, refl, ap, ◌∙◌}
+use Rattle.gc_catalogue.specs.declared.asked.Asked.{Asked}
+use Rattle.gc_catalogue.specs.declared.asked.Asked.TheVariants.{Table}
+use Rattle.gc_catalogue.specs.declared.call.Call.TheVariants.{SetDate}
+use Rattle.gc_texts.specs.Stamps.{date_time}
+use Rattle.gc_texts.specs.Tasks.{call_at}
+use Rattle.gc_texts.specs.declared.tasks.Task.{Task}
+use Rattle.gc_station.specs.Requests.{Request, asked_at, in_text, of_command, of_task, sets_clock, untimed}
+
+-- what a task asks at any moment is, without that moment, what it asks as the text has it
+untimed_at : (task : Task) (utc : ℕ) → untimed task.now (call_at task utc) ≡ untimed task.now task.command.call
+untimed_at task utc = by_clock task.now where
+  -- the lemma above, whether the task sets the clock (`true`)
+  by_clock : (b : Bool) → untimed b (if b then Table (SetDate (date_time utc)) else task.command.call) ≡ untimed b task.command.call
+  by_clock true = refl
+  by_clock false = refl
+
+-- the request for the command at a place, as the text has it, is that of the command's task, whenever it goes out
+pub asked_text : (commands : List Task) (cycle place utc : ℕ) (task : Task) (others : List Task) → drop place commands ≡ task ∷ others
+    → in_text commands (record { cycle = cycle; place = place; asked = asked_at utc task }) ≡ record { cycle = cycle; place = place; asked = of_task task }
+asked_text commands cycle place utc task others at =
+    let request : Asked → Request = λ (call : Asked). record { cycle = cycle; place = place; asked = record { target = task.command.target; call = call } } in
+    ap (λ (left : List Task). request (untimed (sets_clock left) (call_at task utc))) at ∙ ap request (untimed_at task utc)
+
+-- so is the request of a command that isn't sent
+pub unsent_text : (commands : List Task) (cycle place : ℕ) (task : Task) (others : List Task) → drop place commands ≡ task ∷ others
+    → in_text commands (record { cycle = cycle; place = place; asked = of_command task.command }) ≡ record { cycle = cycle; place = place; asked = of_task task }
+unsent_text commands cycle place task others at =
+    ap (λ (left : List Task). record { cycle = cycle; place = place; asked = record { target = task.command.target; call = untimed (sets_clock left) task.command.call } }) at

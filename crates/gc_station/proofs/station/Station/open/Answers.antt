@@ -1,0 +1,32 @@
+use Rattle.std.proofs.Common.{ap, ◌∙◌}
+use Rattle.gc_station.specs.declared.cause.Cause.TheVariants as cause
+use Rattle.gc_links.specs.Acts.{Unopened}
+use Rattle.gc_station.specs.Marks.{commands_in}
+use Rattle.gc_station.specs.Progressing.{again}
+use Rattle.gc_station.proofs.station.Station.open.Goals as goal
+
+pub returns-in-Err : goal.returns-in-Err
+returns-in-Err g c commands text known =
+    let old = c.args.self.now in
+    let plan = c.args.plan.now in
+    record {
+      act = Unopened;
+      tells = c.in-Err.ensures;
+      goes = λ s start stands so. (
+        tt,
+        record {
+          progress = c.try_again.ensures ∙ ap (λ n. again plan n cause.Open old.progress) (c.commands-commands.ensures ∙ ap commands_in stands.marks)
+              ∙ ap (again plan (commands_in s.marks) cause.Open) stands.progress;
+          ids = stands.ids;
+          width = stands.width;
+          marks = stands.marks;
+          paired = stands.paired;
+          assembles = stands.assembles;
+          tally = stands.tally;
+          well = stands.well;
+          listed = stands.listed;
+          fresh = stands.fresh;
+        },
+        so,
+      );
+    }
