@@ -13,6 +13,7 @@ use Rattle.gc_client.specs.OneForOne.{Wanted}
 use Rattle.gc_client.specs.Rule.{Answered, Settlement}
 use Rattle.gc_instrument.specs.State.{KeptReply}
 use Rattle.gc_texts.specs.declared.near.Expected.{Expected}
+use Rattle.gc_texts.specs.Tasks.{call_at}
 use Rattle.gc_texts.specs.declared.tasks.Task.{Task}
 use Rattle.gc_station.specs.declared.plan.Plan.{Plan}
 use Rattle.gc_links.specs.Acts.{Act}
@@ -326,6 +327,12 @@ in_more [] ys i x e = absurd (none_is_not x e)
 in_more (y ∷ xs) ys zero x e = e
 in_more (y ∷ xs) ys (suc i) x e = in_more xs ys i x e
 
+-- what is at a place of the first of two lists in a row, where that has so many, is there in it
+in_front_at : {A : Type 0} (xs ys : List A) (i : ℕ) (x : A) → i < length xs → slice_get (xs ++ ys) i ≡ Some x → slice_get xs i ≡ Some x
+in_front_at [] ys i x less e = absurd (omega (arith, less))
+in_front_at (y ∷ xs) ys zero x less e = e
+in_front_at (y ∷ xs) ys (suc i) x less e = in_front_at xs ys i x (omega (arith, less)) e
+
 -- where parts and stretches fit, one for one, the part and the stretch at one place fit
 fit_at : {State : Type 0} (ends : Ends State) (Good : State → Type 0) (kept : State → Option KeptReply) (is : IsAnInstrument ends Good kept) (ps : List Part)
     (ss : List (Stretch State)) (i : ℕ) (p : Part) (s : Stretch State) → AllFit ends Good kept is ps ss → slice_get ps i ≡ Some p → slice_get ss i ≡ Some s
@@ -388,15 +395,16 @@ within c p d q e r (inr a) (inr b) same = (b.0, a.1, b.1)
 
 module _ {State : Type 0} (ends : Ends State) (Good : State → Type 0) (kept : State → Option KeptReply) (is : IsAnInstrument ends Good kept)
     (stay : ChainsStay) (go_on : MarksGoOn) (records_stay : RecordsStay) (plan : Plan) (commands : List Task) (scope : Scope) where
-  -- where request m of part i is for the command of record r, and r has an answer that is its own, that answer is the one to
+  -- where request m of part i is for the command of record r, which is of a cycle, and r has an answer that is its own, that answer is the one to
   -- this request
   own_place : (acts : List Act) → Runs plan commands (opening plan scope) acts
       → (i m : ℕ) (part : Part) (expected : Expected) (r : Record) (ss : List (Stretch State)) (line : List ℕ) → slice_get (parts plan commands scope acts) i ≡ Some part
-      → slice_get part.marks m ≡ Some (Some (mark_of expected r)) → (u : IsItsOwn ends Good kept commands (parts plan commands scope acts) ss r line) → (u.k ≡ i) × (u.m ≡ m)
-  own_place acts runs i m part expected r ss line of_parts mark u =
+      → slice_get part.marks m ≡ Some (Some (mark_of expected r)) → 0 < r.cycle → (u : IsItsOwn ends Good kept commands (parts plan commands scope acts) ss r line)
+      → (u.k ≡ i) × (u.m ≡ m)
+  own_place acts runs i m part expected r ss line of_parts mark many u =
       same_place u.k i u.m m
-      (λ l. not_itself r.cycle r.place (go_on plan commands scope acts runs u.k i u.m m u.part part (mark_of u.expected r) (mark_of expected r) u.of_parts of_parts u.mark mark l))
-      (λ l. not_itself r.cycle r.place (go_on plan commands scope acts runs i u.k m u.m part u.part (mark_of expected r) (mark_of u.expected r) of_parts u.of_parts mark u.mark l))
+      (λ l. not_itself r.cycle r.place (go_on plan commands scope acts runs u.k i u.m m u.part part (mark_of u.expected r) (mark_of expected r) u.of_parts of_parts u.mark mark l many many))
+      (λ l. not_itself r.cycle r.place (go_on plan commands scope acts runs i u.k m u.m part u.part (mark_of expected r) (mark_of u.expected r) of_parts u.of_parts mark u.mark l many many))
 
   -- the acts of a run in the field that come before a request are a run in the field, too, with its last stretch cut short
   -- (`Cut`)
@@ -412,18 +420,18 @@ module _ {State : Type 0} (ends : Ends State) (Good : State → Type 0) (kept : 
       let c = cut_field ends Good kept (parts plan commands scope before) (parts plan commands scope acts) u rs front whole marked h.shown h.possible in
       (c, record { runs = runs; lines = h.lines; none = h.none; shown = c.shown; possible = c.possible })
 
-  -- when a chained command's request is about to go out, as request n of its stretch, the command before it in the chain is
+  -- when a chained command's request of a cycle is about to go out, as request n of its stretch, the command before it in the chain is
   -- settled, with the answer that its record has
   settled_there : (before : List Act) (u : UnderWay State) (rs : List (Run State)) → IsInField ends Good kept plan commands scope before u rs
       → (i n cycle a : ℕ) (first : Part) → slice_get (parts plan commands scope before) i ≡ Some first → length first.marks ≡ n
-      → (back : IsAnsweredBack plan commands scope before first cycle a) → (t : Stretch State) × (slice_get (stretches ends u rs) i ≡ Some t) × (length (own_sent ends t) ≡ n)
+      → (back : IsAnsweredBack plan commands scope before first cycle a) → 0 < cycle → (t : Stretch State) × (slice_get (stretches ends u rs) i ≡ Some t) × (length (own_sent ends t) ≡ n)
       × (slice_get (own_settled ends t) back.m ≡ Some (record { target = back.answer.command.target; call = back.answer.command.call; outcome = Answered back.line }))
-  settled_there before u rs h i n cycle a first of_first count back =
+  settled_there before u rs h i n cycle a first of_first count back many =
       let ss = stretches ends u rs in
       let f = run_faithful ends Good kept is plan commands scope before u rs h in
       let o = all_at (IsOwnAnswer ends Good kept commands (parts plan commands scope before) ss)
       (stood plan commands scope before).records back.k back.answer f.own back.among back.line (ap answer_of back.answered) in
-      let at = own_place before h.runs i back.m first back.expected back.answer ss back.line of_first back.mark o in
+      let at = own_place before h.runs i back.m first back.expected back.answer ss back.line of_first back.mark (subst (λ c. 0 < c) (sym back.own_cycle) many) o in
       let of_ss : slice_get ss i ≡ Some o.stretch = subst (λ k. slice_get ss k ≡ Some o.stretch) at.0 o.of_stretches in
       let size : length first.marks ≡ length (own_sent ends o.stretch) =
       of_length commands first.marks (map asked (own_sent ends o.stretch))
@@ -441,22 +449,22 @@ module _ {State : Type 0} (ends : Ends State) (Good : State → Type 0) (kept : 
   made_its ps ss b line o fit =
       let x : Settlement Asked = record { target = b.command.target; call = b.command.call; outcome = Answered line } in
       let w = (world ends o.stretch).wire in
-      let right : b.command.call ≡ o.task.command.call = (fit.faithful.one_for_one.same (8 + o.m) x o.request (get_drop 8 o.m w.settled x o.settled)
+      let right : b.command.call ≡ call_at o.task (part.sent_at b) = (fit.faithful.one_for_one.same (8 + o.m) x o.request (get_drop 8 o.m w.settled x o.settled)
       (get_drop 8 o.m w.sent o.request o.sent)).1 ∙ ap (λ (z : Wanted Asked). z.call) o.asks in
       subst (λ call. WasMadeOn 7 ends o.stretch.from o.stretch.moves (8 + o.m) call line) (sym right) o.made_on
 
   -- where the answer of record b is its own, the command at each place a, from which b is chained, was executed before that of b
   chained_to : (acts : List Act) (v : UnderWay State) (rs : List (Run State)) → IsInField ends Good kept plan commands scope acts v rs
       → (b : Record) (line : List ℕ) (u : IsItsOwn ends Good kept commands (parts plan commands scope acts) (stretches ends v rs) b line) (a : ℕ)
-      → a < b.place → AreChained commands a b.place
+      → 0 < b.cycle → plan.setup ≤ a → a < b.place → AreChained commands a b.place
       → IsChainedTo ends Good kept scope.reads commands (parts plan commands scope acts) (stretches ends v rs) (stood plan commands scope acts).records a b line
-  chained_to acts v rs h b line u a less chained =
+  chained_to acts v rs h b line u a many low less chained =
       let ss = stretches ends v rs in
-      let sent = stay plan commands scope acts h.runs u.k u.m u.part (mark_of u.expected b) u.of_parts u.mark in
-      let back = sent.chain a less chained in
+      let sent = stay plan commands scope acts h.runs u.k u.m u.part (mark_of u.expected b) u.of_parts u.mark many in
+      let back = sent.chain a low less chained in
       let marked = last_marked (parts plan commands scope sent.before) u.k back.m sent.first (Some (mark_of back.expected back.answer)) sent.last sent.of_parts back.mark in
       let cut = in_front_of acts sent.before sent.rest v rs sent.order marked h in
-      let there = settled_there sent.before v cut.0.runs cut.1 u.k u.m b.cycle a sent.first sent.of_parts sent.count back in
+      let there = settled_there sent.before v cut.0.runs cut.1 u.k u.m b.cycle a sent.first sent.of_parts sent.count back many in
       let c = cut.0.last u.k there.0 u.stretch sent.last there.1 u.of_stretches in
       let fit = fit_at ends Good kept is (parts plan commands scope acts) ss u.k u.part u.stretch (all_fitting ends Good kept is plan commands scope acts v rs h).0 u.of_parts u.of_stretches in
       let x : Settlement Asked = record { target = back.answer.command.target; call = back.answer.command.call; outcome = Answered back.line } in
@@ -505,8 +513,13 @@ module _ {State : Type 0} (ends : Ends State) (Good : State → Type 0) (kept : 
         mark_a = mark_a;
         mark_b = u.mark;
         between = λ k mark above under at.
-            let first = go_on plan commands scope acts h.runs u.k u.k back.m k u.part u.part (mark_of back.expected back.answer) mark u.of_parts u.of_parts mark_a at (inr (refl, above)) in
-            let last = go_on plan commands scope acts h.runs u.k u.k k u.m u.part u.part mark (mark_of u.expected b) u.of_parts u.of_parts at u.mark (inr (refl, under)) in
+            let there : slice_get (sent.first.marks ++ more.0.marks) k ≡ Some (Some mark) = ap (λ (p : Part). slice_get p.marks k) (sym more.1) ∙ at in
+            let its : 0 < mark.cycle = back.of_cycles k mark above (in_front_at sent.first.marks more.0.marks k (Some mark) (omega (arith, under, sent.count)) there) in
+            let own : 0 < back.answer.cycle = subst (λ c. 0 < c) (sym same_cycle) many in
+            let first =
+            go_on plan commands scope acts h.runs u.k u.k back.m k u.part u.part (mark_of back.expected back.answer) mark u.of_parts u.of_parts mark_a at (inr (refl, above)) own its in
+            let last =
+            go_on plan commands scope acts h.runs u.k u.k k u.m u.part u.part mark (mark_of u.expected b) u.of_parts u.of_parts at u.mark (inr (refl, under)) its many in
             let it = within back.answer.cycle back.answer.place mark.cycle mark.place b.cycle b.place first last same_cycle in
             (it.0, subst (λ p. p < mark.place) back.own_place it.1, it.2);
         executed =
@@ -519,5 +532,5 @@ module _ {State : Type 0} (ends : Ends State) (Good : State → Type 0) (kept : 
       → AreExecutedInChain ends Good kept plan commands scope acts u rs
   chains_executed acts u rs h =
       all_so (IsOwnAnswer ends Good kept commands (parts plan commands scope acts) (stretches ends u rs)) (IsExecutedInChain ends Good kept plan commands scope acts u rs)
-      (λ b own line a answered less chained. chained_to acts u rs h b line (own line answered) a less chained)
+      (λ b own line a answered many low less chained. chained_to acts u rs h b line (own line answered) a many low less chained)
       (stood plan commands scope acts).records (run_faithful ends Good kept is plan commands scope acts u rs h).own

@@ -11,6 +11,7 @@ use Rattle.gc_client.specs.OneForOne.{Wanted, Restart, Send, Step, begun, course
 use Rattle.gc_client.specs.declared.pending.Pending.{Pending}
 use Rattle.gc_client.specs.Rule.{ById, Outcome, Answered, Late, Settlement, fresh, lost}
 use Rattle.gc_instrument.specs.State.{KeptReply}
+use Rattle.gc_texts.specs.Tasks.{call_at}
 use Rattle.gc_texts.specs.declared.tasks.Task.{Task}
 use Rattle.gc_texts.specs.Endings.{End}
 use Rattle.gc_texts.specs.Endings as end
@@ -332,7 +333,7 @@ module _ {State : Type 0} (ends : Ends State) (Good : State → Type 0) (kept : 
       let a = of_at commands p.marks (map asked (own_sent ends s)) n (Some mark) sent at in
       let r = asked_at (own_sent ends s) n a.0 a.1 in
       let b = f.faithful.booked (8 + n) x beyond (safe n mark at) there line answered in
-      let right : x.call ≡ a.2.0.command.call = (f.faithful.one_for_one.same (8 + n) x r.0 there (get_drop 8 n (world ends s).wire.sent r.0 r.1)).1 ∙ ap (λ (o : Wanted Asked). o.call) (r.2 ∙ a.2.2) in
+      let right : x.call ≡ call_at a.2.0 mark.sent = (f.faithful.one_for_one.same (8 + n) x r.0 there (get_drop 8 n (world ends s).wire.sent r.0 r.1)).1 ∙ ap (λ (o : Wanted Asked). o.call) (r.2 ∙ a.2.2) in
       record {
         k = 0;
         part = p;
@@ -461,7 +462,7 @@ module _ {State : Type 0} (ends : Ends State) (Good : State → Type 0) (kept : 
       let there = get_drop 8 n (world ends s).wire.settled x here in
       let a = of_at commands p.marks (map asked (own_sent ends s)) n (Some mark) sent at in
       let r = asked_at (own_sent ends s) n a.0 a.1 in
-      let right : x.call ≡ a.2.0.command.call = (f.faithful.one_for_one.same (8 + n) x r.0 there (get_drop 8 n (world ends s).wire.sent r.0 r.1)).1 ∙ ap (λ (o : Wanted Asked). o.call) (r.2 ∙ a.2.2) in
+      let right : x.call ≡ call_at a.2.0 mark.sent = (f.faithful.one_for_one.same (8 + n) x r.0 there (get_drop 8 n (world ends s).wire.sent r.0 r.1)).1 ∙ ap (λ (o : Wanted Asked). o.call) (r.2 ∙ a.2.2) in
       let made = f.faithful.late (8 + n) x beyond (safe n mark at) there late in
       record {
         k = 0;

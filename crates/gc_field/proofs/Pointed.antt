@@ -1,5 +1,5 @@
 -- Where the telescope pointed when a command of a chain was executed.
-use Rattle.std.proofs.Common.{◌≡◌, ℕ, zero, suc, ◌+◌, ◌-◌, ℤ, pos, ◌<◌, drop, Bool, true, false, cond, List, [], ◌∷◌, length, map, Option, Some, None, refl, sym, ◌∙◌, ap, subst, arith}
+use Rattle.std.proofs.Common.{◌≡◌, ℕ, zero, suc, ◌+◌, ◌-◌, ℤ, pos, ◌<◌, drop, Bool, true, false, cond, if◌then◌else◌, List, [], ◌∷◌, length, map, Option, Some, None, refl, sym, ◌∙◌, ap, subst, arith}
 use Rattle.std.specs.Prelude.{slice_get}
 use Rattle.std.specs.List.{AllByRecursion}
 use Rattle.std.specs.Ordering.{int_eq}
@@ -19,6 +19,8 @@ use Rattle.gc_instrument.specs.State.{State, IsFittingState}
 use Rattle.gc_instrument.proofs.Answering.{handed_again, handed_new}
 use Rattle.gc_instrument.proofs.Keeping.{executes_apart}
 use Rattle.gc_links.specs.Acts.{Act}
+use Rattle.gc_texts.specs.Stamps.{date_time}
+use Rattle.gc_texts.specs.Tasks.{call_at}
 use Rattle.gc_texts.specs.declared.tasks.Task.{Task}
 use Rattle.gc_station.specs.Links.{ChainsStay, MarksGoOn, RecordsStay, parts}
 use Rattle.gc_station.specs.Parts.{IsOf}
@@ -185,6 +187,14 @@ get_own (suc k) n (suc j) (y ∷ xs) x e got = get_own k n j xs x (omega (arith,
 null_still : (a : Wanted Asked) (r : Sent) → asked r ≡ a → a ≡ record { target = 0; call = Table call.NullProc } → turns r.call ≡ false
 null_still a r e f = ap (λ (o : Wanted Asked). turns o.call) (e ∙ f)
 
+-- a task that turns no telescope turns none at any moment
+turns_none : (task : Task) (utc : ℕ) → turns task.command.call ≡ false → turns (call_at task utc) ≡ false
+turns_none task utc still = by_clock task.now where
+  -- the lemma above, whether the task sets the clock (`true`)
+  by_clock : (b : Bool) → turns (if b then Table (call.SetDate (date_time utc)) else task.command.call) ≡ false
+  by_clock true = refl
+  by_clock false = still
+
 module _ (plan : Plan) (commands : List Task) (scope : Scope) (acts : List Act) (u : UnderWay State) (rs : List (Run State))
     (field : IsInField ends IsFittingState kept_of plan commands scope acts u rs) where
   -- the stretches of the run
@@ -199,7 +209,7 @@ module _ (plan : Plan) (commands : List Task) (scope : Scope) (acts : List Act) 
     still_by x r None above under at y e is = null_still y r e is
     still_by x r (Some mark) above under at y e is =
         let there = h.between x mark above under at in
-        let quiet = still mark.place is.0 there.1 there.2 is.1 in
+        let quiet = turns_none is.0 mark.sent (still mark.place is.0 there.1 there.2 is.1) in
         ap (λ (o : Wanted Asked). turns o.call) (e ∙ is.2) ∙ quiet
 
     -- a request of the client between those of the chain's two commands turns no telescope
@@ -247,6 +257,6 @@ module _ (plan : Plan) (commands : List Task) (scope : Scope) (acts : List Act) 
   pub pointed : ChainsStay → MarksGoOn → RecordsStay → AllByRecursion (IsPointedInChain plan commands scope acts u rs) (stood plan commands scope acts).records
   pointed stay go_on records_stay =
       all_so (IsExecutedInChain ends IsFittingState kept_of plan commands scope acts u rs) (IsPointedInChain plan commands scope acts u rs)
-      (λ b h line a answered less chained. let c = h line a answered less chained in (c, λ still quiet. pointed_there b line a c still quiet))
+      (λ b h line a answered many low less chained. let c = h line a answered many low less chained in (c, λ still quiet. pointed_there b line a c still quiet))
       (stood plan commands scope acts).records
       (chains_executed ends IsFittingState kept_of simulator.is stay go_on records_stay plan commands scope acts u rs field)

@@ -18,12 +18,10 @@ use Rattle.gc_catalogue.specs.declared.raw.RawCall.{RawCall}
 use Rattle.gc_client.specs.Rule.{id_in, heard}
 use Rattle.gc_instrument.specs.Replying.{Handed, kept_line, kept_after, refusal_line}
 use Rattle.gc_instrument.specs.State.{KeptReply, IsFittingKept, IsFittingReply}
-use Rattle.gc_instrument.proofs.Executions.{exec_outcome}
-use Rattle.gc_instrument.proofs.Keeping.{executes_apart}
-use Rattle.gc_scenes.specs.Machine.{seeing}
-use Rattle.gc_scenes.specs.Rules.{fault_of, answer_of, seen, is_due}
+use Rattle.gc_scenes.proofs.Acted.{outcome_sound}
+use Rattle.gc_scenes.specs.Rules.{fault_of, answer_of, is_due}
 use Rattle.gc_scenes.specs.Params.{scripted_params}
-use Rattle.gc_scenes.specs.SceneExecution.{Played, plays, told_of, table_outcome, look_of, played_call, played_raw, unless_faulted, unless_faulted_raw, scripted, counting}
+use Rattle.gc_scenes.specs.SceneExecution.{Played, plays, played_call, played_raw, unless_faulted, unless_faulted_raw, scripted, counting}
 use Rattle.gc_scenes.specs.SceneReplying.{IsPlayed, answers, names_call, names_none, Gave, again_for, again_or_played, handed_call, handed_raw, played_or_refused, line_of, kept_behind}
 use Rattle.gc_scenes.specs.SceneState.{SceneState}
 use Rattle.gc_scenes.specs.declared.rules.Fault.{Fault}
@@ -106,7 +104,7 @@ fault_bound rpc (f ∷ fs) code e = fault_by f (is_due rpc f) (fault_of rpc fs) 
 call_bound : (s : SceneState) (call : Call) (o : Option ℕ) → ((code : ℕ) → o ≡ Some code → code < 65536) → (unless_faulted s call o).rc < 65536
 unfolding plays
 call_bound s call (Some code) is = is code refl
-call_bound s call None is = (exec_outcome (seeing (seen (look_of s.looks call) s.prisms) s.base) call).code
+call_bound s call None is = (outcome_sound s call).code
 
 -- the code of a reply that the scene has is a code
 scripted_bound : (s : SceneState) (a : Option Scripted) (p : Played) → scripted s a ≡ Some p → p.rc < 65536
@@ -174,6 +172,7 @@ scene_is_an_instrument = record {
     stays_good = λ s id asked good small. (asked_does s id asked small).good good;
     starts_good = λ s good. tt;
   };
+  passes = λ s moment good. (good, refl);
   calls = calls;
   raws = raws;
 }

@@ -150,10 +150,10 @@ module _ {State : Type 0} (ends : Ends State) (Good : State → Type 0) (kept : 
     -- and they were executed in this order, with these replies
     pub executed : IsExecutedAfter stretch (8 + m) (8 + n) record_a.command.call b.command.call line_a line_b
 
-  -- if the command of record b was answered, each command before it in its chain was executed before it
+  -- if the command of record b, of a cycle, was answered, each command of its cycle before it in its chain was executed before it
   abbrev pub IsExecutedInChain : Plan → List Task → Scope → List Act → UnderWay State → List (Run State) → Record → Type 0
   IsExecutedInChain plan commands scope acts u rs b =
-      (line : List ℕ) (a : ℕ) → answer_of b.end ≡ Some line → a < b.place → AreChained commands a b.place
+      (line : List ℕ) (a : ℕ) → answer_of b.end ≡ Some line → 0 < b.cycle → plan.setup ≤ a → a < b.place → AreChained commands a b.place
       → IsChainedTo scope.reads commands (parts_of plan commands (opening plan scope) acts) (stretches ends u rs) (stood plan commands scope acts).records a b line
 
   -- each record of a run is `IsExecutedInChain`

@@ -44,7 +44,7 @@ drifting =
 
 -- the plan of this run: one request at a time, deadlines of 100 ms, one cycle, a quiet time of 10 ms, and three new tries
 abbrev pub plan : Plan
-plan = record { width = 1; deadline = 100; every = 0; cycles = 1; quiet = 10; retries = 3; stale = 0; watched = false }
+plan = record { width = 1; deadline = 100; every = 0; cycles = 1; quiet = 10; retries = 3; setup = 0; stale = 0; watched = false }
 
 -- the two commands of this run: one asks for the instrument's number, the other for a procedure that isn't in the table
 abbrev pub commands : RawCall → List Task

@@ -1,7 +1,7 @@
 -- Where the telescope pointed when a command of a chain was executed, of the simulated instrument: this project's own. A part
 -- is what a station sees of its run from one beginning to the next, and a stretch what happens on the line meanwhile, once it
 -- has begun.
-use Rattle.std.specs.Prelude.{◌≡◌, ℕ, ◌<◌, Bool, true, false, List, Some, None, slice_get}
+use Rattle.std.specs.Prelude.{◌≡◌, ℕ, ◌<◌, ◌≤◌, Bool, true, false, List, Some, None, slice_get}
 use Rattle.std.specs.List.{AllByRecursion}
 use Rattle.gc_values.specs.declared.decimal.Decimal.{Decimal}
 use Rattle.gc_catalogue.specs.declared.answer.Reading.{Reading}
@@ -65,12 +65,12 @@ pub record IsMeasuredWhereItPointed (reads : Asked → List ℕ → Reading) (co
       → ((behind ends h.stretch h.executed.second.front).state.pointing ≡ record { hz = hz; v = v })
       × ((behind ends h.stretch h.executed.second.front).state.face ≡ (behind ends h.stretch h.executed.first.front).state.face)
 
--- if the command of record b was answered, and is chained to the command at place a, it was executed after the latter. Where
+-- if the command of record b, of a cycle, was answered, and is chained to the command of its cycle at place a, it was executed after the latter. Where
 -- no command of the places between turns the telescope, and the instrument neither started anew nor changed by itself between
 -- the two executions, it was executed with the telescope as the latter had left it
 abbrev pub IsPointedInChain : Plan → List Task → Scope → List Act → UnderWay State → List (Run State) → Record → Type 0
 IsPointedInChain plan commands scope acts u rs b =
-    (line : List ℕ) (a : ℕ) → answer_of b.end ≡ Some line → a < b.place → AreChained commands a b.place
+    (line : List ℕ) (a : ℕ) → answer_of b.end ≡ Some line → 0 < b.cycle → plan.setup ≤ a → a < b.place → AreChained commands a b.place
     → (h : IsChainedTo ends IsFittingState kept_of scope.reads commands (parts_of plan commands (opening plan scope) acts) (stretches ends u rs) (stood plan commands scope acts).records a b line)
     × (AreStill commands a b.place → IsUndisturbed h.executed.between
     → IsMeasuredWhereItPointed scope.reads commands (parts_of plan commands (opening plan scope) acts) (stretches ends u rs) (stood plan commands scope acts).records a b line h)

@@ -11,6 +11,7 @@ use Rattle.gc_client.specs.declared.window.TheConstants.{WINDOW}
 use Rattle.gc_client.specs.Rule.{ById, Answered, Late, Settlement, lost}
 use Rattle.gc_instrument.specs.State.{KeptReply, State, IsFittingState}
 use Rattle.gc_texts.specs.declared.near.Expected.{Expected}
+use Rattle.gc_texts.specs.Tasks.{call_at}
 use Rattle.gc_texts.specs.declared.tasks.Task.{Task}
 use Rattle.gc_texts.specs.Endings as end
 use Rattle.gc_station.specs.declared.plan.Plan.{Plan}
@@ -19,10 +20,11 @@ use Rattle.gc_station.specs.Answers.{answer_of}
 use Rattle.gc_station.specs.Beginnings.{left_behind}
 use Rattle.gc_station.specs.Begun.{AreBegun, heard_in}
 use Rattle.gc_station.specs.Deciding.{has_begun}
-use Rattle.gc_station.specs.EachOnce.{EachOnce, of_task}
+use Rattle.gc_station.specs.EachOnce.{EachOnce}
 use Rattle.gc_station.specs.Marks.{records_of}
-use Rattle.gc_station.specs.Parts.{Part, AreOf, acting, mark_of, parts_of, sent_of, timeless}
+use Rattle.gc_station.specs.Parts.{Part, AreOf, acting, mark_of, parts_of, sent_at, sent_of, timeless}
 use Rattle.gc_station.specs.Records.{Record}
+use Rattle.gc_station.specs.Requests.{asked_at}
 use Rattle.gc_station.specs.Runs.{stood}
 use Rattle.gc_station.specs.Model.{Model, opening, action_at, after, Runs}
 use Rattle.gc_station.specs.Scopes.{Scope}
@@ -125,14 +127,14 @@ module _ {State : Type 0} (ends : Ends State) (Good : State → Type 0) (kept : 
     pub sent : slice_get (own_sent ends stretch) m ≡ Some request
     pub task : Task
     pub listed : slice_get commands r.place ≡ Some task
-    pub asks : asked request ≡ of_task task
+    pub asks : asked request ≡ asked_at (sent_at r) task
     pub settled : slice_get (own_settled ends stretch) m ≡ Some (record { target = r.command.target; call = r.command.call; outcome = Answered line })
     pub made : (j : ℕ) × (slice_get (world ends stretch).wire.made j ≡ Some (record { number = 8 + m; line = line }))
-    pub reply : IsReplyTo ends Good task.command.call line
+    pub reply : IsReplyTo ends Good (call_at task (sent_at r)) line
     pub executed : WasExecuted (world ends stretch).wire.executed (8 + m)
-    -- the line was made on executing that very request: at one of the stretch's moves it, with the command's call, reached the
-    -- instrument, which executed it, and this line was its reply
-    pub made_on : WasMadeOn WINDOW ends stretch.from stretch.moves (8 + m) task.command.call line
+    -- the line was made on executing that very request: at one of the stretch's moves it, with what the command asks at the moment at which
+    -- it went out, reached the instrument, which executed it, and this line was its reply
+    pub made_on : WasMadeOn WINDOW ends stretch.from stretch.moves (8 + m) (call_at task (sent_at r)) line
 
   -- if a record is of a reply in time, its line was made on executing its own request: by `IsItsOwn`
   abbrev pub IsOwnAnswer : List Task → List Part → List (Stretch State) → Record → Type 0
@@ -153,7 +155,7 @@ module _ {State : Type 0} (ends : Ends State) (Good : State → Type 0) (kept : 
     pub task : Task
     pub listed : slice_get commands r.place ≡ Some task
     pub line : List ℕ
-    pub made_on : WasMadeOn WINDOW ends stretch.from stretch.moves (8 + m) task.command.call line
+    pub made_on : WasMadeOn WINDOW ends stretch.from stretch.moves (8 + m) (call_at task (sent_at r)) line
 
   -- if a record is late, the instrument dealt with its command all the same: by `WasDealtWith`
   abbrev pub IsDealtWith : List Task → List Part → List (Stretch State) → Record → Type 0

@@ -13,8 +13,8 @@ use Rattle.gc_client.specs.declared.window.TheConstants.{IDS}
 use Rattle.gc_instrument.specs.Replying.{Handed}
 use Rattle.gc_instrument.specs.State.{KeptReply}
 use Rattle.gc_scenes.specs.SceneReplying.{IsPlayed, handed_call, handed_raw}
-use Rattle.gc_scenes.specs.SceneState.{SceneState, scene_restarted}
-use Rattle.gc_field.specs.Instrument.{IsAnInstrument}
+use Rattle.gc_scenes.specs.SceneState.{SceneState, scene_restarted, at}
+use Rattle.gc_field.specs.Instrument.{IsAnInstrument, MayBecome}
 use Rattle.gc_field.specs.World.{Ends}
 
 -- what handing over a request line gives
@@ -39,10 +39,12 @@ IsHeard (Some k) = heard k.line ≡ Some k.id
 abbrev pub KeepsAReply : SceneState → Type 0
 KeepsAReply s = IsHeard s.base.kept
 
--- the instrument of a scene is an instrument in the sense of the station's promise, whatever its rules say; and what it is said to do with a
--- request is what it does with the request's line
+-- the instrument of a scene is an instrument in the sense of the station's promise, whatever its rules say; that its clock comes to another
+-- moment is a change by itself, as an instrument's state may have; and what it is said to do with a request is what it does with the
+-- request's line
 pub record SceneIsAnInstrument : Type 0 where
   pub is : IsAnInstrument scene_ends KeepsAReply scene_kept
+  pub passes : (s : SceneState) (moment : ℕ) → KeepsAReply s → MayBecome KeepsAReply scene_kept s (at moment s)
   pub calls : (s : SceneState) (id : ℕ) (call : Call) → id < IDS → IsFitting call
       → IsPlayed s (request_line (Some id) call) (scene_handed s id (Table call)).state (Some (scene_handed s id (Table call)).reply)
   pub raws : (s : SceneState) (id : ℕ) (raw : RawCall) → id < IDS

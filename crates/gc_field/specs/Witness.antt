@@ -30,7 +30,7 @@ use Rattle.gc_field.specs.Runs.{IsInField}
 
 -- a plan with requests in flight up to this width, deadlines of 100 ms, one cycle, a quiet time of 10 ms, and one retry
 abbrev pub plan_of : ℕ → Plan
-plan_of width = record { width = width; deadline = 100; every = 0; cycles = 1; quiet = 10; retries = 1; stale = 0; watched = false }
+plan_of width = record { width = width; deadline = 100; every = 0; cycles = 1; quiet = 10; retries = 1; setup = 0; stale = 0; watched = false }
 
 -- the plan of this run: one request at a time
 abbrev pub plan : Plan

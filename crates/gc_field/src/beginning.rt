@@ -6,18 +6,18 @@ ghost use Rattle.gc_field.specs.BeginWitness.{AreSomeRuns, IsBookedFromBefore};
 ghost use Rattle.gc_field.specs.Beginnings.{RowsHaveNotTheWord, RunsAreTheirOwn, RunsLeaveRows, SimulatorsRunsAreTheirOwn};
 ghost use Rattle.gc_field.specs.Begun.{AnswersAreTheirOwnOnceBegun, BeginsCleanly, SimulatorsAnswersAreTheirOwnOnceBegun};
 
-/// For any instrument, whatever the line loses or repeats, and whatever is under way when a beginning begins, unless the ids
-/// under way then have the word 6 5 4 3 2 1 0 7 as a subsequence: once the beginning has begun, no request from before is under
-/// way, nor a reply to one. All that may be under way is copies of its eighth null procedure and of replies to that. The
-/// instrument keeps a reply with that procedure's id, or none.
+/// For any instrument, whatever the line loses or repeats, and whatever is in flight when a synchronization begins, unless the
+/// ids in flight then have the word 6 5 4 3 2 1 0 7 as a subsequence: once it is done, no request from before is in flight, nor
+/// a reply to one. All that may be in flight is copies of its eighth null procedure and of replies to that. The instrument
+/// retains a reply with that procedure's id, or none.
 pub fn begins_cleanly<State>()
     ensures { BeginsCleanly State }
 {}
 
-/// After a beginning that has begun cleanly each answer that a new client settles was made on executing that very request, from
-/// its first request on, however many go out at once, if all are calls of the table, or the instrument keeps after each request its
-/// own reply or none, or that very request went out behind the table (`IsSafe`); and the rest of what `answers_are_their_own` says
-/// holds as well.
+/// After a clean synchronization each answer that a new client settles was made on executing that very request, from its first
+/// request on, however many are sent at once, if all are calls of the table, or the instrument retains after each request its
+/// own reply or none, or that very request follows the table closely (`IsSafe`); and the rest of what `answers_are_their_own`
+/// says holds as well.
 pub fn answers_are_their_own_once_begun<State>()
     ensures { AnswersAreTheirOwnOnceBegun State }
 {}
@@ -27,21 +27,21 @@ pub fn simulators_answers_are_their_own_once_begun()
     ensures { SimulatorsAnswersAreTheirOwnOnceBegun }
 {}
 
-/// The ids of an `IsRow`, which a run has under way once it has begun, don't have the word 6 5 4 3 2 1 0 7 as a subsequence. So
-/// a beginning within a run, or after a run that had begun, needs no premise on the word.
+/// The ids of an `IsRow`, which a run has in flight once it has synchronized, don't have the word 6 5 4 3 2 1 0 7 as a
+/// subsequence. So a synchronization within a run, or after a run that had synchronized, needs no premise on the word.
 pub fn rows_have_not_the_word<State>()
     ensures { RowsHaveNotTheWord State }
 {}
 
-/// After a clean beginning, what is under way at any moment is an `IsRow`: in the order of the line, its ids are numbers that
-/// never fall, modulo 8, and all of them lie within eight consecutive numbers.
+/// After a clean synchronization, what is in flight at any time is an `IsRow`: in the order of the line, its ids are numbers
+/// that never fall, modulo 8, and all of them lie within eight consecutive numbers.
 pub fn runs_leave_rows<State>()
     ensures { RunsLeaveRows State }
 {}
 
-/// One run after the other, each killed at any moment. At the start nothing is under way, or what a run that had begun may leave
-/// (`IsRow`). As long as fewer than six in a row end while they begin, each run that has begun has begun cleanly, and each answer
-/// of a command was made on executing that command's request.
+/// One run after the other, each killed at any time. At the start nothing is in flight, or what a run that had synchronized may
+/// leave (`IsRow`). As long as fewer than six in a row end while they synchronize, each run that has synchronized has done so
+/// cleanly, and each answer of a command was made on executing that command's request.
 pub fn runs_are_their_own<State>()
     ensures { RunsAreTheirOwn State }
 {}
@@ -51,14 +51,14 @@ pub fn simulators_runs_are_their_own()
     ensures { SimulatorsRunsAreTheirOwn }
 {}
 
-/// The premises of [`simulators_runs_are_their_own`] can be met, here by two runs: one is killed while it begins; the next one
-/// begins among replies to it and to requests from before, and sends two commands at once, both of which are answered.
+/// The premises of [`simulators_runs_are_their_own`] can be met, here by two runs: one is killed while it synchronizes; the
+/// next one starts among replies to it and to requests from before, and sends two commands at once, both of which are answered.
 pub fn some_runs_are_their_own()
     ensures { AreSomeRuns }
 {}
 
-/// Why the ids 6 5 4 3 2 1 0 7 may not be under way in this order: replies from before would answer all null procedures of the
-/// beginning, and a further reply from before would be booked for the first command, which was never executed.
+/// Why the ids 6 5 4 3 2 1 0 7 may not be in flight in this order: replies from before would answer all null procedures of the
+/// synchronization, and a further reply from before would be booked for the first command, which was never executed.
 pub fn the_word_under_way_is_booked_wrong()
     ensures { IsBookedFromBefore }
 {}

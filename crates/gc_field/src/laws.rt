@@ -22,36 +22,37 @@ ghost use Rattle.gc_field.specs.Runs.{RunsAreFaithful, SimulatorsRunsAreFaithful
 ghost use Rattle.gc_field.specs.SecondExecution.{IsExecutedAgain};
 ghost use Rattle.gc_field.specs.Witness.{SomeRunIsInField};
 
-/// For any instrument, and a client without a beginning, as that of `geocom ask`, with nothing under way: over any number of
-/// connections, and whenever the client sends calls of the table, each answer that it settles was made on executing that very
-/// request. The first request is excepted, and goes out alone. The instrument dealt with each request that is late; executions
-/// keep the order of sending; and where the instrument keeps its reply to each request that it knows, it executes each of these
-/// at most once between two of its starts.
+/// For any instrument, and a client that doesn't synchronize, as that of `geocom ask`, with nothing in flight: over any number
+/// of connections, and whenever the client sends calls of the table, each answer that it settles was made on executing that
+/// very request. The first request is excepted, and is sent alone. The instrument executed each request that is late;
+/// executions are in the order of sending; and if the instrument retains its reply to each request that it knows, it executes
+/// each of these at most once between two of its restarts.
 pub fn answers_are_their_own<State>()
     ensures { AnswersAreTheirOwn State }
 {}
 
-/// For any instrument, and the acts of a station that has begun cleanly: each answer was made on executing its very request, from
-/// the first request on, if that went out behind the table, or all requests are calls of the table (`IsSafe`).
+/// For any instrument, and the acts of a station that has synchronized cleanly: each answer was made on executing its very
+/// request, from the first request on, if that follows the table closely, or all requests are calls of the table (`IsSafe`).
 pub fn stations_answers_are_their_own<State>()
     ensures { StationsAnswersAreTheirOwn State }
 {}
 
-/// What holds of every run of a station, for any instrument, which may start anew and change by itself at any time, over any
-/// number of connections, with whatever the line does, and whatever is under way at the start, unless the ids under way then have
-/// the word 6 5 4 3 2 1 0 7 as a subsequence. The run begins cleanly, at first and wherever it begins anew. Each answer that it
-/// writes down, from its first command on, also one that is unreadable or elsewhere, was made on executing the very request of
-/// that cycle and place. The instrument dealt with each request that is late. The records and the commands that wait are the
-/// commands that had their turn, one for one. And each stretch from one beginning to the next is faithful: its settlements and
-/// what waits are its requests, one for one and in order; requests are executed in the order of sending; and where the instrument
-/// keeps its reply to each request that it knows, it executes each of these at most once between two of its starts.
+/// What holds of every run of a station, for any instrument, which may restart and change by itself at any time, over any
+/// number of connections, with whatever the line does, and whatever is in flight at the start, unless the ids in flight then
+/// have the word 6 5 4 3 2 1 0 7 as a subsequence. The run synchronizes cleanly, at first and wherever it resynchronizes. Each
+/// answer that it records, from its first command on, also one that is unreadable or elsewhere, was made on executing the very
+/// request of that cycle and place. The instrument executed each request that is late. The records and the outstanding commands
+/// are the commands that had their turn, one for one. And each stretch from one synchronization to the next is faithful: its
+/// settlements and what is outstanding are its requests, one for one and in order; requests are executed in the order of
+/// sending; and if the instrument retains its reply to each request that it knows, it executes each of these at most once
+/// between two of its restarts.
 pub fn runs_are_faithful<State>()
     ensures { RunsAreFaithful State }
 {}
 
 /// Stations run one after the other over a line that outlives them, each with its own plan and commands, and each killed at any
-/// moment. At the start nothing is under way, or what a run that had begun may leave (`IsRow`). As long as fewer than six in a
-/// row end while they begin, all that `runs_are_faithful` says holds of each, without the premise on the word.
+/// time. At the start nothing is in flight, or what a run that had synchronized may leave (`IsRow`). As long as fewer than six
+/// in a row end while they synchronize, all that `runs_are_faithful` says holds of each, without the premise on the word.
 pub fn stations_in_a_row_are_faithful<State>()
     ensures { StationsInARowAreFaithful State }
 {}
@@ -61,31 +62,31 @@ pub fn simulators_stations_in_a_row_are_faithful()
     ensures { SimulatorsStationsInARowAreFaithful }
 {}
 
-/// In every run that `runs_are_faithful` speaks of, for any instrument: a command of a chain that is answered was executed after
-/// each earlier command of the chain, in the same stretch, and the answers of both are the replies to these executions. What was
-/// executed between the two was sent between them, of requests to which the instrument keeps its reply, if it didn't start
-/// between. And where it neither started nor changed by itself between, its state at the later execution is what the executions
-/// from the earlier one on made of it.
+/// In every run that `runs_are_faithful` speaks of, for any instrument: a command of a chain that is answered was executed
+/// after each earlier command of the chain, in the same stretch, and the answers of both are the replies to these executions.
+/// What was executed between the two was sent between them, of requests to which the instrument retains its reply, if it didn't
+/// restart between. And if it neither restarted nor changed by itself between, its state at the later execution is what the
+/// executions from the earlier one on made of it.
 pub fn chains_are_executed<State>()
     ensures { ChainsAreExecuted State }
 {}
 
-/// In every such run over the simulator, of two commands of a chain that are answered: where no command between them turns the
-/// telescope, and the simulator neither started anew nor changed by itself between their executions, the telescope pointed, when
-/// the later one was executed, where the earlier one had left it. Where that one was a positioning, this is the direction that it
+/// In every such run over the simulator, of two commands of a chain that are answered: if no command between them turns the
+/// telescope, and the simulator neither restarted nor changed by itself between their executions, the telescope pointed, when
+/// the later one was executed, where the earlier one had left it. If that one was a positioning, this is the direction that it
 /// commanded, in the same face.
 pub fn chains_are_measured_where_they_pointed()
     ensures { ChainsAreMeasuredWhereTheyPointed }
 {}
 
-/// The simulator is an instrument, and one that keeps its reply to each call of its table. It refuses other requests with 3081,
-/// and its refusals leave what it keeps.
+/// The simulator is an instrument, and one that retains its reply to each call of its table. It refuses other requests with
+/// 3081, and its refusals leave the retained reply.
 pub fn simulator_is_an_instrument()
     ensures { SimulatorIsAnInstrument }
 {}
 
-/// Executing a call of the table makes of the simulator's state what the execution table says, apart from the reply that is kept;
-/// a reply that is sent again changes nothing, and neither does a procedure that isn't in the table.
+/// Executing a call of the table makes of the simulator's state what the execution table says, apart from the retained reply; a
+/// reply that is sent again changes nothing, and neither does a procedure that isn't in the table.
 pub fn simulator_has_its_effect()
     ensures { SimulatorHasItsEffect }
 {}
@@ -105,7 +106,7 @@ pub fn simulators_runs_are_faithful()
     ensures { SimulatorsRunsAreFaithful }
 {}
 
-/// An instrument that keeps no reply meets all that is asked of an instrument, if each of its replies has its request's id.
+/// An instrument that retains no reply meets all that is asked of an instrument, if each of its replies has its request's id.
 pub fn keeping_nothing_suffices<State>()
     ensures { KeepingNothingSuffices State }
 {}
@@ -116,53 +117,54 @@ pub fn what_is_asked_is_needed()
     ensures { IsAllNeeded }
 {}
 
-/// A request that is cut reaches the instrument whole or not at all: no front with a line feed after it is a request, and no
-/// tail.
+/// A request that is cut reaches the instrument complete or not at all: no front of it with a line feed after it is a request,
+/// and no tail.
 pub fn cut_requests_are_whole_or_nothing()
     ensures { CutRequestsAreWholeOrNothing }
 {}
 
-/// Where the line feed that clears the front of a request is lost, the front and the next request are one line. If that line is a
+/// If the line feed that clears the front of a request is lost, the front and the next request are one line. If that line is a
 /// request at all, it has the front's id and procedure.
 pub fn joined_requests_have_the_fronts_id()
     ensures { JoinedRequestsHaveTheFrontsId }
 {}
 
-/// Why the line feed that clears the front of a request has to arrive: where it is lost, the reply to the joined line is booked
+/// Why the line feed that clears the front of a request has to arrive: if it is lost, the reply to the joined line is booked
 /// for the request that was cut, which was not executed.
 pub fn a_lost_line_feed_is_booked_wrong()
     ensures { IsBookedJoined }
 {}
 
-/// Why a client without a beginning sends its first request alone: an instrument that keeps a reply with the id of the second
-/// request answers with that reply. It is booked, though nothing was executed.
+/// Why a client that doesn't synchronize sends its first request alone: an instrument that retains a reply with the id of the
+/// second request answers with that reply. It is booked, though nothing was executed.
 pub fn two_at_once_are_booked_wrong()
     ensures { TwoAtOnceAreBookedWrong }
 {}
 
 /// Some run meets every premise of `runs_are_faithful`: over a line on which an earlier request and an earlier reply are still
-/// under way, each with the id of its first command, it begins, and writes down the answer that was made on executing its own
+/// in flight, each with the id of its first command, it synchronizes, and records the answer that was made on executing its own
 /// request.
 pub fn some_run_is_in_the_field()
     ensures { SomeRunIsInField }
 {}
 
-/// Some run is over an instrument that keeps no reply and changes by itself: with a beginning that goes on over a second
-/// connection, a lost reply, a request that is given up, a start of the instrument and a third connection. Its second command asks
-/// for a procedure that isn't in the table, whichever that is, and its answer was made on executing that very request.
+/// Some run is over an instrument that retains no reply and changes by itself: with a synchronization that goes on over a
+/// second connection, a lost reply, a request that times out, a restart of the instrument and a third connection. Its second
+/// command asks for a procedure that isn't in the table, whichever that is, and its answer was made on executing that very
+/// request.
 pub fn some_run_is_over_a_drifting_instrument()
     ensures { SomeRunIsOverADriftingInstrument }
 {}
 
-/// Some run that meets every premise of `runs_are_faithful` has a late record: its command's reply comes after the deadline, and
-/// was made on executing its request all the same.
+/// Some run that meets every premise of `runs_are_faithful` has a late record: its command's reply arrives after the deadline,
+/// and was made on executing its request all the same.
 pub fn some_late_record_is_in_the_field()
     ensures { IsLateInField }
 {}
 
-/// Some run begins anew, on the same connection, where seven requests are given up: a request and a reply of these are under way
-/// then, each with an id that goes out again, and the command after that has the answer that was made on executing its own
-/// request.
+/// Some run resynchronizes, on the same connection, after seven requests have timed out: a request and a reply of these are in
+/// flight then, each with an id that is used again, and the command after that has the answer that was made on executing its
+/// own request.
 pub fn some_run_begins_anew()
     ensures { IsAnsweredAnew }
 {}
@@ -173,13 +175,13 @@ pub fn some_chain_is_in_the_field()
     ensures { IsPointedInField }
 {}
 
-/// Some run of a chain is over an instrument that counts what it executes and keeps its reply, and meets every premise of
+/// Some run of a chain is over an instrument that counts what it executes and retains its reply, and meets every premise of
 /// `chains_are_executed`: its count at the third command is what the first and the second made of it.
 pub fn some_chain_is_over_a_counting_instrument()
     ensures { IsCountedInField }
 {}
 
-/// Some request is executed twice, where the instrument starts between, and its answer is the second execution's.
+/// Some request is executed twice, with a restart of the instrument between, and its answer is the second execution's.
 pub fn some_answer_is_of_a_second_execution()
     ensures { IsExecutedAgain }
 {}

@@ -36,14 +36,14 @@ use Rattle.gc_rows.specs.JsonLines.{Member, Text, Number, Texts, ending_members,
 use Rattle.gc_rows.specs.Items.{split_items}
 use Rattle.gc_rows.specs.Laws.{members_read, record_read, texts_read}
 use Rattle.gc_rows.specs.Quantities.{column_of, quantity_names, quantity_text}
-use Rattle.gc_rows.specs.Rows.{code_of, com_of, procedure_of, values_of}
+use Rattle.gc_rows.specs.Rows.{code_of, com_of, moment_text, procedure_of, values_of}
 use Rattle.gc_rows.specs.Told.{names_from}
 use Rattle.gc_rows.specs.declared.when.When.{When}
 use Rattle.gc_rows.proofs.Told.{have_their_names}
 use Rattle.gc_promise.specs.Fields.{quantity_in, under}
 use Rattle.gc_promise.specs.Objects.{text_of}
 use Rattle.gc_promise.proofs.Names.{IsAnswerTo, all_at, texts_of, word_plain}
-use Rattle.gc_promise.proofs.Plain.{decimal_plain, digits_plain}
+use Rattle.gc_promise.proofs.Plain.{decimal_plain, digits_plain, moment_plain}
 
 -- Members one after the other: the last of a name is found.
 
@@ -84,7 +84,7 @@ LacksAll ms keys = AllByRecursion (λ (key : List ℕ). find key ms ≡ None) ke
 
 -- the names of members of a record that aren't quantities
 abbrev firsts : List (List ℕ)
-firsts = codes "cycle" ∷ codes "place" ∷ codes "target" ∷ codes "procedure" ∷ codes "outcome" ∷ codes "rc_com" ∷ codes "rc" ∷ codes "values" ∷ []
+firsts = codes "cycle" ∷ codes "place" ∷ codes "target" ∷ codes "procedure" ∷ codes "outcome" ∷ codes "rc_com" ∷ codes "rc" ∷ codes "values" ∷ codes "sent" ∷ []
 
 -- no member for a quantity of this answer has one of the names of `firsts`. `came` are the parameters of the reply, as its line
 -- has them
@@ -93,29 +93,29 @@ IsApart call answer came = LacksAll (values_members (column_of call answer) (ans
 
 -- `IsApart` holds of an answer that is a whole number
 long_apart : (call : Call) (n : ℤ) (came : List ℕ) → IsApart call (Long n) came
-long_apart GetFace n came = (refl, (refl, (refl, (refl, (refl, (refl, (refl, (refl, tt))))))))
-long_apart GetPrism n came = (refl, (refl, (refl, (refl, (refl, (refl, (refl, (refl, tt))))))))
-long_apart call n came = (refl, (refl, (refl, (refl, (refl, (refl, (refl, (refl, tt))))))))
+long_apart GetFace n came = (refl, (refl, (refl, (refl, (refl, (refl, (refl, (refl, (refl, tt)))))))))
+long_apart GetPrism n came = (refl, (refl, (refl, (refl, (refl, (refl, (refl, (refl, (refl, tt)))))))))
+long_apart call n came = (refl, (refl, (refl, (refl, (refl, (refl, (refl, (refl, (refl, tt)))))))))
 
 -- `IsApart` holds of each answer
 answer_apart : (call : Call) (answer : Answer) (came : List ℕ) → IsApart call answer came
-answer_apart call Nothing came = (refl, (refl, (refl, (refl, (refl, (refl, (refl, (refl, tt))))))))
-answer_apart call (Short n) came = (refl, (refl, (refl, (refl, (refl, (refl, (refl, (refl, tt))))))))
-answer_apart call (Version release version subversion) came = (refl, (refl, (refl, (refl, (refl, (refl, (refl, (refl, tt))))))))
+answer_apart call Nothing came = (refl, (refl, (refl, (refl, (refl, (refl, (refl, (refl, (refl, tt)))))))))
+answer_apart call (Short n) came = (refl, (refl, (refl, (refl, (refl, (refl, (refl, (refl, (refl, tt)))))))))
+answer_apart call (Version release version subversion) came = (refl, (refl, (refl, (refl, (refl, (refl, (refl, (refl, (refl, tt)))))))))
 answer_apart call (Long n) came = long_apart call n came
-answer_apart call (Name name) came = (refl, (refl, (refl, (refl, (refl, (refl, (refl, (refl, tt))))))))
-answer_apart call (Date d) came = (refl, (refl, (refl, (refl, (refl, (refl, (refl, (refl, tt))))))))
-answer_apart call (Temperature t) came = (refl, (refl, (refl, (refl, (refl, (refl, (refl, (refl, tt))))))))
-answer_apart call (Place s) came = (refl, (refl, (refl, (refl, (refl, (refl, (refl, (refl, tt))))))))
-answer_apart call (Height h) came = (refl, (refl, (refl, (refl, (refl, (refl, (refl, (refl, tt))))))))
-answer_apart call (Angles hz v) came = (refl, (refl, (refl, (refl, (refl, (refl, (refl, (refl, tt))))))))
-answer_apart call (Measured hz v distance) came = (refl, (refl, (refl, (refl, (refl, (refl, (refl, (refl, tt))))))))
-answer_apart call (MeasuredMode hz v distance mode) came = (refl, (refl, (refl, (refl, (refl, (refl, (refl, (refl, tt))))))))
+answer_apart call (Name name) came = (refl, (refl, (refl, (refl, (refl, (refl, (refl, (refl, (refl, tt)))))))))
+answer_apart call (Date d) came = (refl, (refl, (refl, (refl, (refl, (refl, (refl, (refl, (refl, tt)))))))))
+answer_apart call (Temperature t) came = (refl, (refl, (refl, (refl, (refl, (refl, (refl, (refl, (refl, tt)))))))))
+answer_apart call (Place s) came = (refl, (refl, (refl, (refl, (refl, (refl, (refl, (refl, (refl, tt)))))))))
+answer_apart call (Height h) came = (refl, (refl, (refl, (refl, (refl, (refl, (refl, (refl, (refl, tt)))))))))
+answer_apart call (Angles hz v) came = (refl, (refl, (refl, (refl, (refl, (refl, (refl, (refl, (refl, tt)))))))))
+answer_apart call (Measured hz v distance) came = (refl, (refl, (refl, (refl, (refl, (refl, (refl, (refl, (refl, tt)))))))))
+answer_apart call (MeasuredMode hz v distance mode) came = (refl, (refl, (refl, (refl, (refl, (refl, (refl, (refl, (refl, tt)))))))))
 
 -- the member for a reply's items has none of the names of `firsts`
 items_apart : (items : Option (List (List ℕ))) → LacksAll (item_members items) firsts
-items_apart None = (refl, (refl, (refl, (refl, (refl, (refl, (refl, (refl, tt))))))))
-items_apart (Some texts) = (refl, (refl, (refl, (refl, (refl, (refl, (refl, (refl, tt))))))))
+items_apart None = (refl, (refl, (refl, (refl, (refl, (refl, (refl, (refl, (refl, tt)))))))))
+items_apart (Some texts) = (refl, (refl, (refl, (refl, (refl, (refl, (refl, (refl, (refl, tt)))))))))
 
 -- no member for an answer's quantity or items has one of the names of `firsts`
 columns_apart : (asked : Asked) (answer : Answer) (line : List ℕ) → LacksAll (answer_members asked answer line) firsts
@@ -125,18 +125,18 @@ columns_apart (Raw raw) answer line = items_apart (split_items (values_of line))
 -- no member for a quantity or for items has one of the names of `firsts`
 quantities_apart : (call : Asked) (end : End) → LacksAll (quantity_members call end) firsts
 quantities_apart call (Answered quality (Some answer) line) = columns_apart call answer line
-quantities_apart call (Answered quality None line) = (refl, (refl, (refl, (refl, (refl, (refl, (refl, (refl, tt))))))))
-quantities_apart call (Unreadable line fault) = (refl, (refl, (refl, (refl, (refl, (refl, (refl, (refl, tt))))))))
-quantities_apart call (Elsewhere line) = (refl, (refl, (refl, (refl, (refl, (refl, (refl, (refl, tt))))))))
-quantities_apart call Late = (refl, (refl, (refl, (refl, (refl, (refl, (refl, (refl, tt))))))))
-quantities_apart call Lost = (refl, (refl, (refl, (refl, (refl, (refl, (refl, (refl, tt))))))))
-quantities_apart call Skipped = (refl, (refl, (refl, (refl, (refl, (refl, (refl, (refl, tt))))))))
-quantities_apart call Missed = (refl, (refl, (refl, (refl, (refl, (refl, (refl, (refl, tt))))))))
+quantities_apart call (Answered quality None line) = (refl, (refl, (refl, (refl, (refl, (refl, (refl, (refl, (refl, tt)))))))))
+quantities_apart call (Unreadable line fault) = (refl, (refl, (refl, (refl, (refl, (refl, (refl, (refl, (refl, tt)))))))))
+quantities_apart call (Elsewhere line) = (refl, (refl, (refl, (refl, (refl, (refl, (refl, (refl, (refl, tt)))))))))
+quantities_apart call Late = (refl, (refl, (refl, (refl, (refl, (refl, (refl, (refl, (refl, tt)))))))))
+quantities_apart call Lost = (refl, (refl, (refl, (refl, (refl, (refl, (refl, (refl, (refl, tt)))))))))
+quantities_apart call Skipped = (refl, (refl, (refl, (refl, (refl, (refl, (refl, (refl, (refl, tt)))))))))
+quantities_apart call Missed = (refl, (refl, (refl, (refl, (refl, (refl, (refl, (refl, (refl, tt)))))))))
 
 -- the member for a quality has none of the names of `firsts`, and no name of a quantity
 worded_apart : (word : List ℕ) → LacksAll (worded_members word) firsts
-worded_apart [] = (refl, (refl, (refl, (refl, (refl, (refl, (refl, (refl, tt))))))))
-worded_apart (b ∷ bs) = (refl, (refl, (refl, (refl, (refl, (refl, (refl, (refl, tt))))))))
+worded_apart [] = (refl, (refl, (refl, (refl, (refl, (refl, (refl, (refl, (refl, tt)))))))))
+worded_apart (b ∷ bs) = (refl, (refl, (refl, (refl, (refl, (refl, (refl, (refl, (refl, tt)))))))))
 
 worded_without : (word : List ℕ) → LacksAll (worded_members word) quantity_names
 worded_without [] =
@@ -152,7 +152,7 @@ lacks_both xs ys (key ∷ keys) a b =
 
 -- the attempt has none of the names of `firsts`
 attempt_apart : (when : When) → LacksAll (attempt_members when) firsts
-attempt_apart when = (refl, (refl, (refl, (refl, (refl, (refl, (refl, (refl, tt))))))))
+attempt_apart when = (refl, (refl, (refl, (refl, (refl, (refl, (refl, (refl, (refl, tt)))))))))
 
 -- the attempt has no name of a quantity
 attempt_without : (when : When) → LacksAll (attempt_members when) quantity_names
@@ -214,15 +214,15 @@ moment_unqualified : (sent : Option ℕ) (time cycle place : List ℕ)
 moment_unqualified None time cycle place = refl
 moment_unqualified (Some utc) time cycle place = refl
 
--- no member on how a command ended has one of these four names
-ending_apart : (end : End) → LacksAll (ending_members end) (codes "cycle" ∷ codes "place" ∷ codes "target" ∷ codes "procedure" ∷ [])
-ending_apart (Answered quality answer line) = (refl, (refl, (refl, (refl, tt))))
-ending_apart (Unreadable line fault) = (refl, (refl, (refl, (refl, tt))))
-ending_apart (Elsewhere line) = (refl, (refl, (refl, (refl, tt))))
-ending_apart Late = (refl, (refl, (refl, (refl, tt))))
-ending_apart Lost = (refl, (refl, (refl, (refl, tt))))
-ending_apart Skipped = (refl, (refl, (refl, (refl, tt))))
-ending_apart Missed = (refl, (refl, (refl, (refl, tt))))
+-- no member on how a command ended has one of these five names
+ending_apart : (end : End) → LacksAll (ending_members end) (codes "cycle" ∷ codes "place" ∷ codes "target" ∷ codes "procedure" ∷ codes "sent" ∷ [])
+ending_apart (Answered quality answer line) = (refl, (refl, (refl, (refl, (refl, tt)))))
+ending_apart (Unreadable line fault) = (refl, (refl, (refl, (refl, (refl, tt)))))
+ending_apart (Elsewhere line) = (refl, (refl, (refl, (refl, (refl, tt)))))
+ending_apart Late = (refl, (refl, (refl, (refl, (refl, tt)))))
+ending_apart Lost = (refl, (refl, (refl, (refl, (refl, tt)))))
+ending_apart Skipped = (refl, (refl, (refl, (refl, (refl, tt)))))
+ending_apart Missed = (refl, (refl, (refl, (refl, (refl, tt)))))
 
 -- no member on how a command ended has the name of a quantity
 ending_without : (end : End) → LacksAll (ending_members end) quantity_names
@@ -241,10 +241,10 @@ ending_without Skipped =
 ending_without Missed =
     (refl, (refl, (refl, (refl, (refl, (refl, (refl, (refl, (refl, (refl, (refl, (refl, (refl, (refl, (refl, (refl, (refl, (refl, (refl, (refl, (refl, (refl, (refl, (refl, tt))))))))))))))))))))))))
 
--- no member on a command has the name `cycle` or `place`
-what_apart : (command : Wish) (name : List ℕ) → LacksAll (what_members command name) (codes "cycle" ∷ codes "place" ∷ [])
-what_apart command [] = (refl, (refl, tt))
-what_apart command (b ∷ bs) = (refl, (refl, tt))
+-- no member on a command has the name `cycle`, `place` or `sent`
+what_apart : (command : Wish) (name : List ℕ) → LacksAll (what_members command name) (codes "cycle" ∷ codes "place" ∷ codes "sent" ∷ [])
+what_apart command [] = (refl, (refl, (refl, tt)))
+what_apart command (b ∷ bs) = (refl, (refl, (refl, tt)))
 
 -- no member on a command has the name of a quantity
 what_without : (command : Wish) (name : List ℕ) → LacksAll (what_members command name) quantity_names
@@ -266,6 +266,17 @@ moment_found : (sent : Option ℕ) (time cycle place : List ℕ) → let ms = se
     (find (codes "cycle") ms ≡ Some (json.number cycle)) × (find (codes "place") ms ≡ Some (json.number place))
 moment_found None time cycle place = (refl, refl)
 moment_found (Some utc) time cycle place = (refl, refl)
+
+-- where only the members on when and where have something under a name, that is what is found
+moments_found : (o : Option json.Json) → later_or (later_or (later_or (later_or None None) None) o) None ≡ o
+moments_found None = refl
+moments_found (Some j) = refl
+
+-- when a request went out is found among the members on when and where
+sent_found : (sent : Option ℕ) (time cycle place : List ℕ)
+    → text_of (find (codes "sent") (sent_members sent ++ (Text (codes "time") time ∷ Number (codes "cycle") cycle ∷ Number (codes "place") place ∷ []))) ≡ moment_text sent
+sent_found None time cycle place = refl
+sent_found (Some utc) time cycle place = moment_plain (Some utc)
 
 -- the target and the procedure are found among the members on a command
 what_found : (command : Wish) (name : List ℕ)
@@ -527,6 +538,13 @@ module _ (when : When) (text : List ℕ) (command : Wish) (end : End) where
   abbrev apart : LacksAll more firsts
   apart = lacks_both quantities last firsts (quantities_apart command.call end)
       (lacks_both worded (attempt_members when) firsts (worded_apart (quality_text (quality_of end))) (attempt_apart when))
+
+  -- under `sent` the object has when the record's request went out
+  pub member_sent : at_member (codes "sent") ≡ moment_text when.stamp.sent
+  member_sent =
+      found_at (codes "sent") None None None (find (codes "sent") moments) apart.1.1.1.1.1.1.1.1.0 (ending_apart end).1.1.1.1.0 (what_apart command text).1.1.0 refl
+      ∙ ap text_of (moments_found (find (codes "sent") moments))
+      ∙ sent_found when.stamp.sent (stamp_text when.stamp.utc) (decimal when.stamp.cycle) (decimal when.stamp.turn.place)
 
   -- under `cycle` the object has the record's cycle
   pub member_cycle : at_member (codes "cycle") ≡ decimal when.stamp.cycle

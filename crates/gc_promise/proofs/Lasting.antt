@@ -63,9 +63,9 @@ found : {R : Type 0} (station : Settings) (given : List ℕ) (old new : Places) 
     → station.layout.headed ≡ true → old.acts ≡ Some [] → new.acts ≡ Some told → old.taken ≡ Some [] → new.taken ≡ Some (bytes_in file)
     → Measures given station 18446744073709551615 old new end → Found R old new told file
 found station given old new end told file headed none acts fresh took (inl (stop, is, refuses, unused)) = inl unused.turns
-found station given old new end told file headed none acts fresh took (inr (tasks, names, gives, inl front)) = inl front.turns
-found station given old new end told file headed none acts fresh took (inr (tasks, names, gives, inr behind)) = inr (
-  record { course = course_of station 18446744073709551615 tasks names; old = old; new = new; end = end; told = told; file = file },
+found station given old new end told file headed none acts fresh took (inr (setup, tasks, names, gives, inl front)) = inl front.turns
+found station given old new end told file headed none acts fresh took (inr (setup, tasks, names, gives, inr behind)) = inr (
+  record { course = course_of station 18446744073709551615 setup tasks names; old = old; new = new; end = end; told = told; file = file },
   record { headed = headed; none = none; acts = acts; fresh = fresh; took = took; ran = behind },
   refl,
   refl,

@@ -1,5 +1,6 @@
 mod Plain
 mod Reading
+mod Setting
 mod Names
 mod Taken
 mod Owning

@@ -31,7 +31,7 @@ use Rattle.gc_rows.specs.declared.when.When.{When}
 use Rattle.gc_rows.proofs.Told.{have_their_names, quantities_fill}
 use Rattle.gc_promise.specs.Fields.{under, quantity_in}
 use Rattle.gc_promise.specs.Tables.{header}
-use Rattle.gc_promise.proofs.Plain.{decimal_plain}
+use Rattle.gc_promise.proofs.Plain.{decimal_plain, moment_plain}
 
 -- A row of a table.
 
@@ -123,6 +123,11 @@ module _ (when : When) (name : List ℕ) (command : Wish) (end : End) where
   -- the field of this row under a name
   abbrev row_at : Bool → List ℕ → List ℕ
   row_at columns field = under field (header columns) (map escaped (row_fields columns when name command end))
+
+  -- under `sent` a row has when the record's request went out
+  pub under_sent : (columns : Bool) → row_at columns (codes "sent") ≡ moment_text when.stamp.sent
+  under_sent false = moment_plain when.stamp.sent
+  under_sent true = moment_plain when.stamp.sent
 
   -- under `cycle` a row has the record's cycle
   pub under_cycle : (columns : Bool) → row_at columns (codes "cycle") ≡ decimal when.stamp.cycle

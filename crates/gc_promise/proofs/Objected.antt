@@ -42,8 +42,10 @@ use Rattle.gc_station.specs.Parts.{Part, parts_of}
 use Rattle.gc_station.specs.Qualities.{IsAsListed, IsOfQuality, accepted_at, answer_in}
 use Rattle.gc_station.specs.Records.{Record, texts_of}
 use Rattle.gc_station.specs.Scopes.{AreReadings}
+use Rattle.gc_station.specs.Tasked.{IsOfItsTask}
 use Rattle.gc_station.specs.declared.tally.Tally.{Tally}
 use Rattle.gc_station.proofs.Answers.{answers_true}
+use Rattle.gc_station.proofs.EachRun.{of_tasks}
 use Rattle.gc_station.proofs.Nearly.{as_listed}
 use Rattle.gc_measuring.specs.Measuring.{Course, front_text, text_in, when_of}
 use Rattle.gc_measuring.specs.declared.stop.Stop.{Stop}
@@ -57,10 +59,11 @@ use Rattle.gc_field.proofs.Joining.{run_faithful}
 use Rattle.gc_promise.specs.Fields.{IsOwn, IsReplied, Says, quality_in, quantity_in, taken}
 use Rattle.gc_promise.specs.Objects.{AreOfBytes, AreOwnObjects, IsOwnObject, ObjectsAreTheirOwn, lines_text}
 use Rattle.gc_promise.specs.Tables.{acts_measured, records_in, scope_of}
-use Rattle.gc_promise.proofs.Finding.{at_member, member_attempt, member_cycle, member_outcome, member_place, member_procedure, member_quality, member_quantity, member_rc, member_rc_com, member_stands, member_target, member_values, zeros_gone}
+use Rattle.gc_promise.proofs.Finding.{at_member, member_attempt, member_cycle, member_outcome, member_place, member_procedure, member_quality, member_quantity, member_rc, member_rc_com, member_sent, member_stands, member_target, member_values, zeros_gone}
 use Rattle.gc_promise.proofs.Judged.{IsJudged, judged, told_none, told_some}
 use Rattle.gc_promise.proofs.Names.{answer_to}
 use Rattle.gc_promise.proofs.Owning.{a_reply, same_line}
+use Rattle.gc_promise.proofs.Setting.{never_sent, set_to}
 use Rattle.gc_promise.proofs.Tabled.{all_front, all_written, at_map, is_answered, line_in, nothing_in, some_same, without_quality}
 use Rattle.gc_promise.proofs.Taken.{Took, behind_took}
 use Rattle.gc_promise.proofs.Unbroken.{line_unbroken}
@@ -140,12 +143,13 @@ module _ {State : Type 0} (ends : Ends State) (kept : State → Option KeptReply
       }
 
   -- the object of a record is its own, by what is known of the record
-  object_own : IsOwnAnswer ends AnyState kept course.tasks ps ss r → IsTrueRecord course.plan course.tasks (scope_of course reads) acts r → IsAsListed reads course.tasks r
+  object_own : IsOwnAnswer ends AnyState kept course.tasks ps ss r → IsTrueRecord course.plan course.tasks (scope_of course reads) acts r → IsAsListed reads course.tasks r → IsOfItsTask course.tasks r
       → IsOwn ends AnyState kept true at course.tasks ps ss r
-  object_own own came listed =
+  object_own own came listed of =
       let word = member_outcome when text r.command r.end in
       record {
         is_of = record {
+          sent = member_sent when text r.command r.end;
           cycle = member_cycle when text r.command r.end;
           place = member_place when text r.command r.end;
           attempt = member_attempt when text r.command r.end;
@@ -153,6 +157,8 @@ module _ {State : Type 0} (ends : Ends State) (kept : State → Option KeptReply
           procedure = member_procedure when text r.command r.end;
           outcome = word;
         };
+        clock = set_to at course.tasks r of (member_sent when text r.command r.end);
+        unsent = never_sent at course.tasks r of (member_sent when text r.command r.end);
         replied = λ is.
             let has = line_in r.end (subst IsReplied word is) in
             let true_one = came has.0 has.1 in
@@ -229,7 +235,8 @@ module _ {State : Type 0} (ends : Ends State) (kept : State → Option KeptReply
             (all_written (IsTrueRecord course.plan course.tasks (scope_of course reads) acts) (records_in course reads acts) written others order
             (answers_true course.plan course.tasks (scope_of course reads) acts there.runs) n r got)
             (all_written (λ (x : Record). IsAsListed reads course.tasks x) (records_in course reads acts) written others order
-            (as_listed course.plan course.tasks (scope_of course reads) acts) n r got);
+            (as_listed course.plan course.tasks (scope_of course reads) acts) n r got)
+            (all_written (IsOfItsTask course.tasks) (records_in course reads acts) written others order (of_tasks course.plan course.tasks (scope_of course reads) acts) n r got);
       }
 
   -- the lines of records in the types of the program have no line feed

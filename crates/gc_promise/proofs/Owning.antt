@@ -95,6 +95,7 @@ says layout columns names r line answered reply =
     let same = same_line r.end line answered in
     let said = reply_columns line reply.0 reply.1 in
     record {
+      sent = refl;
       cycle = refl;
       place = refl;
       target = refl;

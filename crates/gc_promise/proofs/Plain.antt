@@ -1,12 +1,16 @@
--- Digits stand in a field as they are: the escapes of a field (`escaped`) change nothing in them.
-use Rattle.std.proofs.Common.{◌≡◌, ℕ, zero, suc, ◌+◌, ◌/◌, ◌%◌, ◌<◌, ◌≤◌, true, false, cond, List, [], ◌∷◌, ◌++◌, refl, ap, ◌∙◌, arith}
-use Rattle.std.specs.Prelude.{◌==◌, ◌&&◌, nat_lt, not}
+-- Digits and moments stand in a field as they are: the escapes of a field (`escaped`) change nothing in them.
+use Rattle.std.proofs.Common.{◌≡◌, ℕ, zero, suc, ◌+◌, ◌/◌, ◌%◌, ◌<◌, ◌≤◌, true, false, cond, List, [], ◌∷◌, ◌++◌, Option, Some, None, refl, ap, ◌∙◌, arith}
+use Rattle.std.specs.Prelude.{◌==◌, ◌&&◌, ◌||◌, codes, nat_lt, not}
 use Rattle.std.specs.Fmt.{decimal, digit_glyph, digits, digits_onto}
 use Rattle.std.specs.Str.Parse.{AllDigits}
-use Rattle.std.proofs.lemmas.Bool.{and_from, cond_both, lt-ltb, ne_eqb}
+use Rattle.std.proofs.Math.Nat.{div-add-mod}
+use Rattle.std.proofs.lemmas.Bool.{and_from, cond_both, lt-ltb, ltb-true, ne_eqb}
+use Rattle.std.proofs.lemmas.Grind.{flat_map-append}
 use Rattle.std.proofs.lemmas.Str.Parse.{digit_from_value}
 use Rattle.gc_values.specs.Digits.{AreDigits}
 use Rattle.gc_texts.specs.Logs.{escape, escaped, hex_digit}
+use Rattle.gc_texts.specs.Stamps.{date_of, date_text, days_after, is_leap, month_days, stamp_text, three_digits, time_text, two_digits}
+use Rattle.gc_rows.specs.Rows.{moment_text}
 
 -- a digit is printed as it is
 digit_plain : (d : ℕ) → 48 ≤ d → d ≤ 57 → escape d ≡ d ∷ []
@@ -49,3 +53,71 @@ decimal_digits n = onto_digits 64 n [] tt
 -- the decimal of any number is printed as it is
 pub decimal_plain : (n : ℕ) → escaped (decimal n) ≡ decimal n
 decimal_plain n = digits_plain (decimal n) (decimal_digits n)
+
+-- bytes that stand in a field as they are, and others behind them, stand so together
+plain_both : (xs ys : List ℕ) → escaped xs ≡ xs → escaped ys ≡ ys → escaped (xs ++ ys) ≡ xs ++ ys
+plain_both xs ys x y = flat_map-append escape xs ys ∙ ap (λ (l : List ℕ). l ++ escaped ys) x ∙ ap (λ (l : List ℕ). xs ++ l) y
+
+-- two digits stand in a field as they are
+two_plain : (n : ℕ) → n < 100 → escaped (two_digits n) ≡ two_digits n
+two_plain n few = digits_plain (two_digits n) ((omega arith, omega (arith, few, div-add-mod n 10)), ((omega arith, omega arith), tt))
+
+-- three digits stand in a field as they are
+three_plain : (n : ℕ) → n < 1000 → escaped (three_digits n) ≡ three_digits n
+three_plain n few =
+    digits_plain (three_digits n)
+    ((omega arith, omega (arith, few, div-add-mod n 100)), ((omega arith, omega (arith, div-add-mod (n % 100) 10)), ((omega arith, omega arith), tt)))
+
+-- a month has at most 31 days
+few_days : (year month : ℕ) → month_days year month ≤ 31
+few_days year month =
+    cond_both (month == 2) _ _ (λ n. n ≤ 31) (λ _. cond_both (is_leap year) 29 28 (λ n. n ≤ 31) (λ _. omega arith) (λ _. omega arith))
+    (λ _. cond_both ((month == 4) || (month == 6) || (month == 9) || (month == 11)) 30 31 (λ n. n ≤ 31) (λ _. omega arith) (λ _. omega arith))
+
+-- so many days after a date, whose month is at most 12 and whose day at most 31, the month and the day are so, too
+later_small : (n year month day : ℕ) → month ≤ 12 → day ≤ 31
+    → ((days_after n (record { year = year; month = month; day = day })).month ≤ 12) × ((days_after n (record { year = year; month = month; day = day })).day ≤ 31)
+unfolding days_after
+later_small zero year month day m d = (m, d)
+later_small (suc n) year month day m d =
+    cond_both (nat_lt day (month_days year month)) _ _ (λ e. ((days_after n e).month ≤ 12) × ((days_after n e).day ≤ 31))
+    (λ less. later_small n year month (day + 1) m (omega (arith, ltb-true day (month_days year month) less, few_days year month)))
+    (λ _. cond_both (nat_lt month 12) _ _ (λ e. ((days_after n e).month ≤ 12) × ((days_after n e).day ≤ 31))
+    (λ less. later_small n year (month + 1) 1 (omega (arith, ltb-true month 12 less)) (omega arith)) (λ _. later_small n (year + 1) 1 1 (omega arith) (omega arith)))
+
+-- a date stands in a field as it is
+date_plain : (year month day : ℕ) → month ≤ 12 → day ≤ 31
+    → escaped (decimal year ++ codes "-" ++ two_digits month ++ codes "-" ++ two_digits day) ≡ decimal year ++ codes "-" ++ two_digits month ++ codes "-" ++ two_digits day
+date_plain year month day m d =
+    plain_both (decimal year ++ codes "-" ++ two_digits month ++ codes "-") (two_digits day)
+    (plain_both (decimal year ++ codes "-" ++ two_digits month) (codes "-")
+    (plain_both (decimal year ++ codes "-") (two_digits month) (plain_both (decimal year) (codes "-") (decimal_plain year) refl) (two_plain month (omega (arith, m)))) refl)
+    (two_plain day (omega (arith, d)))
+
+-- a time of day stands in a field as it is
+time_plain : (millis : ℕ) → millis < 86400000 → escaped (time_text millis) ≡ time_text millis
+time_plain millis few =
+    let hours = two_digits (millis / 3_600_000) in
+    let minutes = two_digits (millis / 60_000 % 60) in
+    let seconds = two_digits (millis / 1_000 % 60) in
+    let rest = three_digits (millis % 1_000) in
+    plain_both hours (58 ∷ (minutes ++ (58 ∷ (seconds ++ (46 ∷ rest))))) (two_plain (millis / 3_600_000) (omega (arith, few, div-add-mod millis 3600000)))
+    (plain_both (58 ∷ []) (minutes ++ (58 ∷ (seconds ++ (46 ∷ rest)))) refl
+    (plain_both minutes (58 ∷ (seconds ++ (46 ∷ rest))) (two_plain (millis / 60_000 % 60) (omega arith))
+    (plain_both (58 ∷ []) (seconds ++ (46 ∷ rest)) refl
+    (plain_both seconds (46 ∷ rest) (two_plain (millis / 1_000 % 60) (omega arith)) (plain_both (46 ∷ []) rest refl (three_plain (millis % 1_000) (omega arith)))))))
+
+-- a stamp stands in a field as it is
+stamp_plain : (utc : ℕ) → escaped (stamp_text utc) ≡ stamp_text utc
+stamp_plain utc =
+    let days = utc / 86_400_000 in
+    let date = date_text (date_of days) in
+    let small = later_small days 1970 1 1 (omega arith) (omega arith) in
+    plain_both (date ++ codes "T" ++ time_text (utc % 86_400_000)) (codes "Z")
+    (plain_both (date ++ codes "T") (time_text (utc % 86_400_000))
+    (plain_both date (codes "T") (date_plain (date_of days).year (date_of days).month (date_of days).day small.0 small.1) refl) (time_plain (utc % 86_400_000) (omega arith))) refl
+
+-- a moment, or none, stands in a field as it is
+pub moment_plain : (o : Option ℕ) → escaped (moment_text o) ≡ moment_text o
+moment_plain None = refl
+moment_plain (Some utc) = stamp_plain utc

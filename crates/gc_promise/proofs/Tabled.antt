@@ -33,8 +33,10 @@ use Rattle.gc_station.specs.Parts.{Part, parts_of}
 use Rattle.gc_station.specs.Qualities.{IsAsListed, IsOfQuality, accepted_at, answer_in}
 use Rattle.gc_station.specs.Records.{Record, texts_of}
 use Rattle.gc_station.specs.Scopes.{AreReadings}
+use Rattle.gc_station.specs.Tasked.{IsOfItsTask}
 use Rattle.gc_station.specs.declared.tally.Tally.{Tally}
 use Rattle.gc_station.proofs.Answers.{answers_true}
+use Rattle.gc_station.proofs.EachRun.{of_tasks}
 use Rattle.gc_station.proofs.Nearly.{as_listed}
 use Rattle.gc_measuring.specs.Measuring.{Course, front_text, text_in, when_of}
 use Rattle.gc_measuring.specs.declared.stop.Stop.{Stop}
@@ -48,10 +50,11 @@ use Rattle.gc_field.proofs.Joining.{run_faithful}
 use Rattle.gc_promise.specs.Fields.{IsOwn, IsQuantity, IsReplied, Says, quality_in, quantity_in, taken, under}
 use Rattle.gc_promise.specs.Tables.{AreReadAs, IsOwnTable, TablesAreTheirOwn, acts_measured, head_rows, header, records_in, scope_of, table}
 use Rattle.gc_promise.proofs.Judged.{IsJudged, judged, told_none, told_some}
-use Rattle.gc_promise.proofs.Names.{all_at, answer_to, none_answered, none_else, quantity_stands, under_attempt, under_cycle, under_outcome, under_place, under_procedure, under_quality, under_rc, under_rc_com, under_target, under_values}
+use Rattle.gc_promise.proofs.Names.{all_at, answer_to, none_answered, none_else, quantity_stands, under_attempt, under_cycle, under_outcome, under_place, under_procedure, under_quality, under_rc, under_rc_com, under_sent, under_target, under_values}
 use Rattle.gc_promise.proofs.Owning.{a_reply, fields_of, in_table, same_line, two_fields}
 use Rattle.gc_promise.proofs.Plain.{number_plain}
 use Rattle.gc_promise.proofs.Reading.{both_read, each_reads, none_read, row_reads}
+use Rattle.gc_promise.proofs.Setting.{never_sent, set_to}
 use Rattle.gc_promise.proofs.Taken.{Took, behind_took}
 
 -- Words.
@@ -218,12 +221,13 @@ module _ {State : Type 0} (ends : Ends State) (kept : State → Option KeptReply
         }
 
     -- the row of a record is its own, by what is known of the record
-    row_own : IsOwnAnswer ends AnyState kept course.tasks ps ss r → IsTrueRecord course.plan course.tasks (scope_of course reads) acts r → IsAsListed reads course.tasks r
+    row_own : IsOwnAnswer ends AnyState kept course.tasks ps ss r → IsTrueRecord course.plan course.tasks (scope_of course reads) acts r → IsAsListed reads course.tasks r → IsOfItsTask course.tasks r
         → IsOwn ends AnyState kept columns (at r) course.tasks ps ss r
-    row_own own came listed =
+    row_own own came listed of =
         let word = under_outcome when text r.command r.end columns in
         record {
           is_of = record {
+            sent = under_sent when text r.command r.end columns;
             cycle = under_cycle when text r.command r.end columns;
             place = under_place when text r.command r.end columns;
             attempt = under_attempt when text r.command r.end columns;
@@ -231,6 +235,8 @@ module _ {State : Type 0} (ends : Ends State) (kept : State → Option KeptReply
             procedure = under_procedure when text r.command r.end columns;
             outcome = word;
           };
+          clock = set_to (at r) course.tasks r of (under_sent when text r.command r.end columns);
+          unsent = never_sent (at r) course.tasks r of (under_sent when text r.command r.end columns);
           replied = λ is.
               let has = line_in r.end (subst IsReplied word is) in
               let true_one = came has.0 has.1 in
@@ -284,6 +290,7 @@ module _ {State : Type 0} (ends : Ends State) (kept : State → Option KeptReply
       (answers_true course.plan course.tasks (scope_of course reads) acts there.runs) n r at)
       (all_written (λ (x : Record). IsAsListed reads course.tasks x) (records_in course reads acts) written others order
       (as_listed course.plan course.tasks (scope_of course reads) acts) n r at)
+      (all_written (IsOfItsTask course.tasks) (records_in course reads acts) written others order (of_tasks course.plan course.tasks (scope_of course reads) acts) n r at)
 
   -- what a sink took of the run, after what it had, is the run's own table
   tabled : (result : Result Tally Stop) (had : List ℕ) (has : Option (List ℕ))

@@ -67,7 +67,7 @@ reporting =
 -- the plan of this run: seven requests at a time, null procedures that wait 100 ms, three cycles, one of which is due every 150 ms, a quiet time
 -- of 10 ms, and three new tries
 abbrev pub plan : Plan
-plan = record { width = 7; deadline = 100; every = 150; cycles = 3; quiet = 10; retries = 3; stale = 0; watched = false }
+plan = record { width = 7; deadline = 100; every = 150; cycles = 3; quiet = 10; retries = 3; setup = 0; stale = 0; watched = false }
 
 -- the turn of a command at a place, in the first attempt; of one that is chained it is the second of its chain
 abbrev pub turn_at : ℕ → Bool → command.Turn

@@ -1,7 +1,7 @@
 -- What stands in a row of a table, or in an object, under each name: this project's own. Both are given by the function from a
 -- name to the text under it, so that one definition serves both. A part is what a station sees of its run from one beginning to
 -- the next, and a stretch what happens on the line meanwhile, once it has begun.
-use Rattle.std.specs.Prelude.{◌≡◌, ◌⊎◌, ℕ, Bool, true, List, [], ◌∷◌, map, Some, nat_eq, if◌then◌else◌, slice_get, codes, Option}
+use Rattle.std.specs.Prelude.{◌≡◌, ◌⊎◌, ℕ, Bool, true, false, List, [], ◌∷◌, map, Some, nat_eq, if◌then◌else◌, slice_get, codes, Option}
 use Rattle.std.specs.Cmp.Lexicographic.{pointwise}
 use Rattle.std.specs.Fmt.{decimal}
 use Rattle.gc_lines.specs.Numbers.{IsNumber}
@@ -13,20 +13,22 @@ use Rattle.gc_catalogue.specs.declared.answer.Reading.{Reading}
 use Rattle.gc_catalogue.specs.declared.answer.Reading.TheVariants as reading
 use Rattle.gc_catalogue.specs.declared.asked.Asked.{Asked}
 use Rattle.gc_catalogue.specs.declared.asked.Asked.TheVariants.{Table, Raw}
+use Rattle.gc_catalogue.specs.declared.call.Call.TheVariants.{SetDate}
 use Rattle.gc_catalogue.specs.declared.answer.Answer.{Answer}
 use Rattle.gc_instrument.specs.State.{KeptReply}
 use Rattle.gc_texts.specs.Codes.{are_accepted}
 use Rattle.gc_texts.specs.Endings.{word_of}
 use Rattle.gc_texts.specs.Logs.{escaped}
 use Rattle.gc_texts.specs.Qualities.{quality_word}
+use Rattle.gc_texts.specs.Stamps.{date_time, stamp_text}
 use Rattle.gc_texts.specs.declared.codes.Codes.{Codes}
 use Rattle.gc_texts.specs.declared.quality.Quality.{Quality}
 use Rattle.gc_texts.specs.declared.quality.Quality.TheVariants.{Fine, Warning, Refused}
 use Rattle.gc_texts.specs.declared.tasks.Task.{Task}
-use Rattle.gc_rows.specs.Rows.{procedure_of}
+use Rattle.gc_rows.specs.Rows.{moment_text, procedure_of}
 use Rattle.gc_rows.specs.Quantities.{quantity_names, quantity_text}
 use Rattle.gc_rows.specs.Told.{quantities_told}
-use Rattle.gc_station.specs.Parts.{Part}
+use Rattle.gc_station.specs.Parts.{Part, went_out}
 use Rattle.gc_station.specs.Qualities.{accepted_at}
 use Rattle.gc_station.specs.Records.{Record}
 use Rattle.gc_field.specs.World.{Ends}
@@ -40,15 +42,22 @@ under name [] fields = []
 under name (n ∷ names) [] = []
 under name (n ∷ names) (field ∷ fields) = if pointwise nat_eq n name then field else under name names fields
 
--- the row of a record has the record's cycle, the place and the attempt of its turn, its target, procedure and outcome, however its command
--- ended
+-- the row of a record has when its request went out, its cycle, the place and the attempt of its turn, its target, procedure and outcome,
+-- however its command ended. Nothing stands under `sent` where no request went out
 pub record IsOf (at : List ℕ → List ℕ) (r : Record) : Type 0 where
+  pub sent : at (codes "sent") ≡ moment_text r.sent
   pub cycle : at (codes "cycle") ≡ decimal r.cycle
   pub place : at (codes "place") ≡ decimal r.turn.place
   pub attempt : at (codes "attempt") ≡ decimal r.turn.attempt
   pub target : at (codes "target") ≡ decimal r.command.target
   pub procedure : at (codes "procedure") ≡ decimal (procedure_of r.command.call)
   pub outcome : at (codes "outcome") ≡ word_of r.end
+
+-- the row of a command that sets the clock: the request asked for the moment that stands under `sent`, cut to seconds
+pub record IsSetTo (at : List ℕ → List ℕ) (r : Record) : Type 0 where
+  pub utc : ℕ
+  pub sent : at (codes "sent") ≡ stamp_text utc
+  pub asked : r.command.call ≡ Table (SetDate (date_time utc))
 
 -- this is the outcome of a command that a reply in time has ended
 abbrev pub IsReplied : List ℕ → Type 0
@@ -102,12 +111,14 @@ pub record Says (has_quantities : Bool) (at : List ℕ → List ℕ) (accepted :
       (name : List ℕ) → IsQuantity name → at name ≡ escaped (quantity_in call told name)
 
 module _ {State : Type 0} (ends : Ends State) (Good : State → Type 0) (kept : State → Option KeptReply) where
-  -- the row of record `r`, in which `at` gives the text under each name, is its own: it has the record's cycle, place, attempt, target,
-  -- procedure and outcome. Where the outcome is that of a reply, the row says what a line says that the instrument made on
+  -- the row of record `r`, in which `at` gives the text under each name, is its own: it has the record's moment of sending, cycle, place,
+  -- attempt, target, procedure and outcome. Where the command sets the clock and its request went out, that asked for this very moment. Where the outcome is that of a reply, the row says what a line says that the instrument made on
   -- executing the request of that very cycle and place, in a run with the parts `ps` and the stretches `ss`. Where the outcome
   -- isn't `answered`, the row has neither a quantity nor a quality
   pub record IsOwn (has_quantities : Bool) (at : List ℕ → List ℕ) (commands : List Task) (ps : List Part) (ss : List (Stretch State)) (r : Record) : Type 0 where
     pub is_of : IsOf at r
+    pub clock : (task : Task) → slice_get commands r.place ≡ Some task → task.now ≡ true → went_out r.end ≡ true → IsSetTo at r
+    pub unsent : went_out r.end ≡ false → at (codes "sent") ≡ []
     pub replied : IsReplied (at (codes "outcome")) → (line : List ℕ) × Says has_quantities at (accepted_at commands r.place) r.command.call line × IsItsOwn ends Good kept commands ps ss r line
     pub without : has_quantities ≡ true → (at (codes "outcome") ≡ codes "answered" → ⊥) → (name : List ℕ) → IsQuantity name → at name ≡ []
     pub unqualified : (at (codes "outcome") ≡ codes "answered" → ⊥) → at (codes "quality") ≡ []

@@ -14,7 +14,7 @@ use Rattle.gc_texts.specs.Endings.{word_of}
 use Rattle.gc_texts.specs.Logs.{escaped}
 use Rattle.gc_texts.specs.declared.name.Name.{Name}
 use Rattle.gc_texts.specs.declared.tasks.Task.{Task}
-use Rattle.gc_rows.specs.Rows.{procedure_of}
+use Rattle.gc_rows.specs.Rows.{moment_text, procedure_of}
 use Rattle.gc_rows.specs.Records as rows
 use Rattle.gc_rows.specs.Rows.{row_of}
 use Rattle.gc_links.specs.Acts.{Act}
@@ -40,9 +40,10 @@ use Rattle.gc_promise.specs.Tables.{table}
 abbrev pub column : List ℕ → List (List ℕ) → List ℕ
 column name fields = under name rows.names fields
 
--- the fields of a row say the record's cycle, the place of its turn, its target, procedure and outcome, and the codes and parameters of the
+-- the fields of a row say when the record's request went out, its cycle, the place of its turn, its target, procedure and outcome, and the codes and parameters of the
 -- line of its reply
 pub record FieldsSay (fields : List (List ℕ)) (r : Record) (line : List ℕ) : Type 0 where
+  pub sent : column (codes "sent") fields ≡ moment_text r.sent
   pub cycle : column (codes "cycle") fields ≡ decimal r.cycle
   pub place : column (codes "place") fields ≡ decimal r.turn.place
   pub target : column (codes "target") fields ≡ decimal r.command.target
