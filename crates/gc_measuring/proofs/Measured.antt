@@ -17,6 +17,6 @@ pub done_at_0 : (given : List ℕ) (station : Settings) (old new : Places) (end 
     → Consumes old.input.remaining new.input.remaining given → Measures given station 18446744073709551615 old new end → TellsCounts end status told messages → status ≡ 0
     → IsMeasured station old new
 done_at_0 given station old new (Ok tally) status told messages takes (inl refused) tells zero = absurd (never tally refused.0 refused.1)
-done_at_0 given station old new (Ok tally) status told messages takes (inr (tasks, names, gives, inl front)) tells zero = absurd (never tally (Run Output) front.is)
-done_at_0 given station old new (Ok tally) status told messages takes (inr (tasks, names, gives, inr behind)) tells zero = (given, takes, (tasks, names, tally, gives, behind))
+done_at_0 given station old new (Ok tally) status told messages takes (inr (setup, tasks, names, gives, inl front)) tells zero = absurd (never tally (Run Output) front.is)
+done_at_0 given station old new (Ok tally) status told messages takes (inr (setup, tasks, names, gives, inr behind)) tells zero = (given, takes, (setup, tasks, names, tally, gives, behind))
 done_at_0 given station old new (Err stop) status told messages takes measures tells zero = absurd (omega (arith, tells.0, zero))

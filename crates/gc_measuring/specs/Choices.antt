@@ -9,9 +9,9 @@ abbrev pub longest : ℕ → List Task → ℕ
 longest deadline [] = deadline
 longest deadline (task ∷ later) = longest (max deadline task.deadline) later
 
--- the plan of a choice, for these tasks
-abbrev pub plan_of : Choice → List Task → Plan
-plan_of choice tasks =
+-- the plan of a choice, for these tasks, of which the first `setup` are the set-up
+abbrev pub plan_of : Choice → ℕ → List Task → Plan
+plan_of choice setup tasks =
     record {
       width = choice.width;
       deadline = longest choice.deadline tasks;
@@ -19,6 +19,7 @@ plan_of choice tasks =
       cycles = choice.cycles;
       quiet = choice.quiet;
       retries = choice.retries;
+      setup = setup;
       stale = choice.stale;
       watched = choice.watched;
     }

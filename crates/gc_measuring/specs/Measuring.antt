@@ -67,10 +67,10 @@ pub record Course : Type 0 where
   pub layout : Layout
   pub names : List Name
 
--- what a station measures of a text with these tasks and names
-abbrev pub course_of : Settings → ℕ → List Task → List Name → Course
-course_of station turns tasks names =
-    record { plan = plan_of station.choice tasks; tasks = tasks; turns = turns; layout = station.layout; names = names }
+-- what a station measures of a text with these tasks, of which the first `setup` are the set-up, and names
+abbrev pub course_of : Settings → ℕ → ℕ → List Task → List Name → Course
+course_of station turns setup tasks names =
+    record { plan = plan_of station.choice setup tasks; tasks = tasks; turns = turns; layout = station.layout; names = names }
 
 -- a run over a link, whose acts before and after are `acts` and `acts'`, wrote down the records that its acts give of the
 -- tasks, and ended so. This holds with every function that gives each reply's reading for its call, and there is such a
@@ -107,8 +107,8 @@ pub record IsUnused (old new : Places) : Type 0 where
 abbrev pub Measures : List ℕ → Settings → ℕ → Places → Places → Result Tally Stop → Type 0
 Measures given station turns old new result =
     ((stop : Stop) × (result ≡ Err stop) × RefusesTasks given old.input new.input stop × IsUnused old new)
-    ⊎ ((tasks : List Task) × (names : List Name) × GivesTasks given old.input new.input station.choice tasks names
-    × (FailsInFront station.layout old new result ⊎ RunsBehind (course_of station turns tasks names) old new result))
+    ⊎ ((setup : ℕ) × (tasks : List Task) × (names : List Name) × GivesTasks given old.input new.input station.choice setup tasks names
+    × (FailsInFront station.layout old new result ⊎ RunsBehind (course_of station turns setup tasks names) old new result))
 
 -- a source gave bytes, by at most one read for each and one for the end, and of these `Measures` holds, in at most this number
 -- of acts
@@ -123,9 +123,9 @@ MeasuresGiven station old new result =
 -- a source gave a text to its end, and the run over its tasks is done, or its end was asked for
 abbrev pub IsMeasured : Settings → Places → Places → Type 0
 IsMeasured station old new = (given : List ℕ) × Consumes old.input.remaining new.input.remaining given
-    × ((tasks : List Task) × (names : List Name) × (tally : Tally)
-    × GivesTasks given old.input new.input station.choice tasks names
-    × RunsBehind (course_of station 18446744073709551615 tasks names) old new (Ok tally))
+    × ((setup : ℕ) × (tasks : List Task) × (names : List Name) × (tally : Tally)
+    × GivesTasks given old.input new.input station.choice setup tasks names
+    × RunsBehind (course_of station 18446744073709551615 setup tasks names) old new (Ok tally))
 
 -- of what a source gave `MeasuresGiven` holds, for a run that began at some moment
 abbrev pub MeasuresBegun : Settings → Places → Places → Result Tally Stop → Type 0

@@ -2,28 +2,25 @@
 use Rattle.std.specs.Prelude.{◌≡◌, ℕ, List, ◌++◌, Option, Some, None, Result, Ok, Err, codes}
 use Rattle.gc_ask.specs.Places.{fault_of_reason}
 use Rattle.gc_measuring.specs.declared.stop.Stop.{Stop}
-use Rattle.gc_measuring.specs.declared.stop.Stop.TheVariants.{Text, Empty, SetUp, Line, Run}
+use Rattle.gc_measuring.specs.declared.stop.Stop.TheVariants.{Text, Empty, Line, Run}
 use Rattle.gc_links.specs.declared.device.Unusable.{Unusable}
 use Rattle.gc_texts.specs.Faults.{run_fault_text, fault_line}
 use Rattle.gc_texts.specs.Troubles.{trouble_line}
 use Rattle.gc_texts.specs.declared.fault.RunFault.{RunFault}
 use Rattle.gc_texts.specs.declared.fault.RunFault.TheVariants.{NoCommand, Schedule, Clock}
-use Rattle.gc_texts.specs.declared.fault.RunFault.TheVariants as fault
 
 -- the fault of a stop
 abbrev pub fault_of_stop : Stop → RunFault
 fault_of_stop (Text fault) = fault
 fault_of_stop Empty = NoCommand
-fault_of_stop SetUp = fault.SetUp
 fault_of_stop (Line n trouble) = Schedule n
 fault_of_stop (Run fault) = fault
 
--- what is written of a stop: the line of its fault, and in three cases a second line after it. Where the text has no command, or has a
--- set-up, that one says so; where line n of the text is faulty, it says what the trouble with that line is
+-- what is written of a stop: the line of its fault, and in two cases a second line after it. Where the text has no command, that one says
+-- so; where line n of the text is faulty, it says what the trouble with that line is
 abbrev pub stop_text : Stop → List ℕ
 stop_text (Text fault) = fault_line (run_fault_text fault)
 stop_text Empty = fault_line (run_fault_text NoCommand) ++ codes "geocom: the text has no command\n"
-stop_text SetUp = fault_line (run_fault_text fault.SetUp) ++ codes "geocom: a set-up isn't done yet\n"
 stop_text (Line n trouble) = fault_line (run_fault_text (Schedule n)) ++ trouble_line n trouble
 stop_text (Run fault) = fault_line (run_fault_text fault)
 

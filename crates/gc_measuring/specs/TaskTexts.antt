@@ -1,10 +1,9 @@
 -- A station's text that is read whole: this project's own.
-use Rattle.std.specs.Prelude.{◌≡◌, ℕ, ◌+◌, ◌<◌, ◌≤◌, ◌⊎◌, ◌||◌, Bool, true, false, nat_lt, List, [], length}
-use Rattle.std.specs.List.{list_any}
+use Rattle.std.specs.Prelude.{◌≡◌, ℕ, ◌+◌, ◌<◌, ◌≤◌, ◌⊎◌, Bool, List, length}
 use Rattle.std.specs.Io.KnownBytes.{Consumes}
 use Rattle.gc_words.specs.declared.choice.Choice.{Choice}
 use Rattle.gc_measuring.specs.declared.stop.Stop.{Stop}
-use Rattle.gc_measuring.specs.declared.stop.Stop.TheVariants.{Text, Empty, SetUp, Line}
+use Rattle.gc_measuring.specs.declared.stop.Stop.TheVariants.{Text, Empty, Line}
 use Rattle.gc_texts.specs.LineForms.{line_at}
 use Rattle.gc_texts.specs.Tasks.{IsTasks, TaskFault}
 use Rattle.gc_texts.specs.Texts.{end_reads}
@@ -26,23 +25,8 @@ abbrev pub IsRefusal : List ℕ → RunFault → Stop → Type 0
 IsRefusal text (Schedule n) stop = (trouble : Trouble) × IsTrouble (line_at text n) trouble × (stop ≡ Line n trouble)
 IsRefusal text fault stop = stop ≡ Text fault
 
--- the text that a source gave is a station's text without a command
+-- the text that a source gave is a station's text without a command of a cycle
 pub record HasNoCommand (given : List ℕ) (old new : Input) (stop : Stop) : Type 0 where
-  pub read : WasRead given old new
-  pub deadline : ℕ
-  pub chained : Bool
-  pub names : List Name
-  pub nears : List Near
-  pub setup : ℕ
-  pub are : IsTasks given deadline chained setup [] names nears
-  pub is : stop ≡ Empty
-
--- a text has a set-up, or a command that sets a clock
-abbrev pub is_set_up : ℕ → List Task → Bool
-is_set_up setup tasks = nat_lt 0 setup || list_any (λ task. task.now) tasks
-
--- the text that a source gave is a station's text with a set-up, or with a command that sets a clock
-pub record HasSetUp (given : List ℕ) (old new : Input) (stop : Stop) : Type 0 where
   pub read : WasRead given old new
   pub deadline : ℕ
   pub chained : Bool
@@ -51,24 +35,22 @@ pub record HasSetUp (given : List ℕ) (old new : Input) (stop : Stop) : Type 0 
   pub nears : List Near
   pub setup : ℕ
   pub are : IsTasks given deadline chained setup tasks names nears
-  pub has : is_set_up setup tasks ≡ true
-  pub is : stop ≡ SetUp
+  pub none : length tasks ≤ setup
+  pub is : stop ≡ Empty
 
--- the text that a source gave is no station's text, or wasn't read, or it has no command, or has a set-up
+-- the text that a source gave is no station's text, or wasn't read, or it has no command of a cycle
 abbrev pub RefusesTasks : List ℕ → Input → Input → Stop → Type 0
 RefusesTasks given old new stop =
-    ((fault : RunFault) × RefusesText TaskFault given old new fault × IsRefusal given fault stop) ⊎ (HasNoCommand given old new stop ⊎ HasSetUp given old new stop)
+    ((fault : RunFault) × RefusesText TaskFault given old new fault × IsRefusal given fault stop) ⊎ HasNoCommand given old new stop
 
--- a source gave a station's text without a set-up, with these tasks, at least one, and these names. Until a line says otherwise its commands have the
--- choice's deadline, and are chained or not as the choice says
-pub record GivesTasks (given : List ℕ) (old new : Input) (choice : Choice) (tasks : List Task) (names : List Name) : Type 0 where
+-- a source gave a station's text with these tasks, of which the first `setup` are the set-up, and at least one behind them
+-- is of the cycle, and these names. Until a line says otherwise its commands have the choice's deadline, and are chained or not as the choice says
+pub record GivesTasks (given : List ℕ) (old new : Input) (choice : Choice) (setup : ℕ) (tasks : List Task) (names : List Name) : Type 0 where
   pub read : WasRead given old new
   pub nears : List Near
-  pub setup : ℕ
   pub are : IsTasks given choice.deadline choice.chained setup tasks names nears
-  pub some : 0 < length tasks
-  pub none : is_set_up setup tasks ≡ false
+  pub some : setup < length tasks
 
 -- a source gave a station's text that is measured by this choice
 abbrev pub IsCheckable : Choice → Input → Input → Type 0
-IsCheckable choice old new = (given : List ℕ) × (tasks : List Task) × (names : List Name) × Gave given old new × GivesTasks given old new choice tasks names
+IsCheckable choice old new = (given : List ℕ) × (setup : ℕ) × (tasks : List Task) × (names : List Name) × Gave given old new × GivesTasks given old new choice setup tasks names

@@ -120,11 +120,15 @@ fn begin_chain<W: Write>(tasks: &Tasks, target: u32, outline: &mut W) -> io::Res
     write!(outline, ":")
 }
 
-// Writes a command behind its chain's target: the number of its procedure, and its deadline.
+// Writes a command behind its chain's target: the number of its procedure, `now` where it sets the clock, and its deadline.
 fn outline_command<W: Write>(task: &Task, outline: &mut W) -> io::Result<()> {
     let procedure = task.command.call.number();
     let deadline = task.deadline;
-    write!(outline, " {procedure} within {deadline} ms;")
+    write!(outline, " {procedure}")?;
+    if task.now {
+        write!(outline, " now")?;
+    }
+    write!(outline, " within {deadline} ms;")
 }
 
 // Ends the line of a chain, if one is being written: how often it may go out again, and behind what.

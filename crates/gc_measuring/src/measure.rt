@@ -31,7 +31,7 @@ use std::io::Write;
 ///
 /// Before the link is used or anything is written, `Text` comes with `Read` where the input failed, with `InputTooLong` where it
 /// gave more than 65,536 bytes, and with `Memory` where memory was refused, `Line` at the first faulty line, and `Empty` where
-/// the text has no command. `Run` comes with the faults of [`run_station`], and with `Output` where the output failed: in front
+/// the text has no command of a cycle. `Run` comes with the faults of [`run_station`], and with `Output` where the output failed: in front
 /// of the records, and then the link wasn't used, or at a record.
 ///
 /// The messages get at the start what is odd about the text: each angle of a positioning that lies outside one turn, and each
@@ -81,7 +81,7 @@ pub fn run_station_text<L: Link, S: Source, K: Durable, E: Write>(
     let _ = tell_unasked(&tasks, &mut streams.messages);
     let commands = commands_in(&tasks);
     let Tasks {
-        setup: _,
+        setup,
         tasks,
         names,
         nears,
@@ -95,6 +95,7 @@ pub fn run_station_text<L: Link, S: Source, K: Durable, E: Write>(
         nears,
     };
     let work = Work {
+        setup,
         tasks,
         named,
         commands,
@@ -107,10 +108,11 @@ pub fn run_station_text<L: Link, S: Source, K: Durable, E: Write>(
     }
 }
 
-// What is measured: the tasks, the names of their targets (in a `Tasks` whose own tasks are empty), how many commands a cycle has, and
+// What is measured: how many of the tasks in front are the set-up, the tasks, the names of their targets (in a `Tasks` whose own tasks are empty), how many commands a cycle has, and
 // the most acts that a run may make.
 #[derive(Drop)]
 struct Work {
+    setup: usize,
     tasks: Vec<Task>,
     named: Tasks,
     commands: usize,
@@ -127,9 +129,9 @@ fn measure<L: Link, S, K: Durable, E: Write>(
     streams: Streams<S, K, E>,
     kept: &mut Kept,
 ) -> (Streams<S, K, E>, Result<Tally, RunFault>)
-    ensures ran { RunsCourse (course_of station work.max_turns work.tasks.items work.named.names.items)
+    ensures ran { RunsCourse (course_of station work.max_turns work.setup work.tasks.items work.named.names.items)
         (L.acts link.old) (L.acts link.new) (K.taken streams.output) (K.taken result.0.output) result.1 }
-    ensures keeps { CourseKeepsUp (course_of station work.max_turns work.tasks.items work.named.names.items)
+    ensures keeps { CourseKeepsUp (course_of station work.max_turns work.setup work.tasks.items work.named.names.items)
         (L.acts link.old) (L.acts link.new) (K.taken streams.output) kept.old.turns kept.new.turns result.1 }
     ensures output { FailsAtOutput (K.failed streams.output) (K.failed result.0.output) result.1 }
     ensures is_durable { LastsBut (K.is_durable result.0.output) result.1 }
@@ -141,12 +143,13 @@ fn measure<L: Link, S, K: Durable, E: Write>(
         messages,
     } = streams;
     let Work {
+        setup,
         tasks,
         named,
         commands,
         max_turns,
     } = work;
-    let plan = plan_of(station.choice, tasks.as_slice());
+    let plan = plan_of(station.choice, setup, tasks.as_slice());
     let mut teller = Teller::new(station.choice.watch, messages);
     teller.begin(spot.place, commands);
     let mut records = Records {

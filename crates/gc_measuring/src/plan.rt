@@ -7,9 +7,9 @@ use gc_station::Plan;
 use gc_texts::Task;
 use gc_words::Choice;
 
-/// The plan of a choice for these tasks. Its deadline is the longest in use.
-pub fn plan_of(choice: Choice, tasks: &[Task]) -> Plan
-    ensures { result ≡ plan_of choice tasks.now }
+/// The plan of a choice for these tasks, of which the first `setup` are the set-up. Its deadline is the longest in use.
+pub fn plan_of(choice: Choice, setup: usize, tasks: &[Task]) -> Plan
+    ensures { result ≡ plan_of choice setup tasks.now }
 {
     Plan {
         width: choice.width,
@@ -18,6 +18,7 @@ pub fn plan_of(choice: Choice, tasks: &[Task]) -> Plan
         cycles: choice.cycles,
         quiet: choice.quiet,
         retries: choice.retries,
+        setup,
         stale: choice.stale,
         watched: choice.watched,
     }

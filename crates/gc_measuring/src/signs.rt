@@ -70,7 +70,10 @@ pub(crate) struct Signs {
     skipped: u64,
     skipped_before: u64,
     skipped_since: u64,
-    // The cycle of the last record, how many commands ended in each way, and when the last answer came, in milliseconds of the
+    // Since when the set-up isn't done, in milliseconds since 1970: a command of it wasn't answered well, and no record of a cycle came
+    // since.
+    unprepared_since: Option<u64>,
+    // The cycle of the last record of one, how many commands ended in each way, and when the last answer came, in milliseconds of the
     // clock for deadlines.
     cycle: u64,
     counts: Tally,
@@ -83,6 +86,7 @@ pub(crate) struct Signs {
     unconnected: RateLimit,
     connected: RateLimit,
     unquiet: RateLimit,
+    unprepared: RateLimit,
     unanswered: RateLimit,
     late: RateLimit,
     passed_over: RateLimit,
@@ -107,6 +111,7 @@ impl Signs {
             skipped: 0,
             skipped_before: 0,
             skipped_since: 0,
+            unprepared_since: None,
             cycle: 0,
             counts: Tally::new(),
             answered: None,
@@ -115,6 +120,7 @@ impl Signs {
             unconnected: RateLimit::new(),
             connected: RateLimit::new(),
             unquiet: RateLimit::new(),
+            unprepared: RateLimit::new(),
             unanswered: RateLimit::new(),
             late: RateLimit::new(),
             passed_over: RateLimit::new(),
@@ -130,11 +136,16 @@ impl Signs {
         self.counts.count(ending);
     }
 
-    // Notes the cycle of a record, and whether a command was answered or skipped.
+    // Notes the cycle of a record, whether a command was answered or skipped, and whether the set-up isn't done.
     fn note(&mut self, stamp: Stamp, ending: Ending<'_>)
         ensures { self.new.counts ≡ self.old.counts }
     {
-        self.cycle = stamp.cycle;
+        if stamp.cycle > 0 {
+            self.cycle = stamp.cycle;
+            self.unprepared_since = None;
+        } else if !is_well(ending) && self.unprepared_since.is_none() {
+            self.unprepared_since = Some(stamp.utc);
+        }
         match ending {
             Ending::Answered(..) | Ending::Unreadable(..) | Ending::Elsewhere(_) => self.answer(),
             Ending::Skipped => self.skip(stamp.utc),
@@ -197,8 +208,8 @@ impl Signs {
         self.elapsed = moment.elapsed;
     }
 
-    // Writes the lines that are due: on a missing connection, on a line that isn't quiet, on an answer that doesn't come, and on
-    // the end of such a trouble.
+    // Writes the lines that are due: on a missing connection, on a set-up that isn't done, on a line that isn't quiet, on an answer that
+    // doesn't come, and on the end of such a trouble.
     fn tell_troubles<E: Write>(
         &mut self,
         before: LinkHealth,
@@ -208,6 +219,7 @@ impl Signs {
     ) -> io::Result<()> {
         self.wanted.look(self.health, moment);
         self.tell_connection(before, is_lost, messages)?;
+        self.tell_unprepared(messages)?;
         self.tell_unquiet(messages)?;
         self.tell_unanswered(messages)?;
         self.tell_again(messages)
@@ -265,6 +277,16 @@ impl Signs {
             return Ok(());
         }
         self.tell_since(self.since.utc, "no connection", messages)
+    }
+
+    // Reports that the set-up isn't done, where a command of it wasn't answered well.
+    fn tell_unprepared<E: Write>(&mut self, messages: &mut E) -> io::Result<()> {
+        match self.unprepared_since {
+            Some(since) if self.unprepared.allows(self.elapsed, MINUTE) => {
+                self.tell_since(since, "no set-up", messages)
+            }
+            _ => Ok(()),
+        }
     }
 
     // Reports that a new connection isn't quiet, once that has lasted for `LASTING`.
@@ -406,4 +428,12 @@ fn show_count<E: Write>(name: &str, count: u64, row: &mut E) -> io::Result<()> {
         return Ok(());
     }
     write!(row, " {name} {count}")
+}
+
+// Whether a command that ended so was answered well.
+fn is_well(ending: Ending<'_>) -> bool {
+    match ending {
+        Ending::Answered(quality, ..) => quality.is_good(),
+        _ => false,
+    }
 }

@@ -12,10 +12,8 @@ use std::io::{self, Write};
 pub enum Stop {
     /// The text was refused, for this fault, before anything was done.
     Text(RunFault),
-    /// The text has no command. Nothing was done.
+    /// The text has no command of a cycle. Nothing was done.
     Empty,
-    /// The text has a set-up (`at start`), or sets a clock (`5007 now`), which a station doesn't do yet. Nothing was done.
-    SetUp,
     /// The line of the text with this number, counted from 1, is the first faulty one, with this trouble. Nothing was done.
     Line(u32, Trouble),
     /// The run over the text's commands ended for this fault or couldn't begin, or what stands in front of the records couldn't
@@ -31,21 +29,19 @@ impl Stop {
         match self {
             Stop::Text(fault) => fault,
             Stop::Empty => RunFault::NoCommand,
-            Stop::SetUp => RunFault::SetUp,
             Stop::Line(line, _) => RunFault::Schedule { line },
             Stop::Run(fault) => fault,
         }
     }
 
-    /// Writes the message of the fault. In three cases a second message follows: for `Empty`, that the text has no command; for
-    /// `SetUp`, that it has a set-up; for `Line`, which field of the text's faulty line is at fault.
+    /// Writes the message of the fault. In two cases a second message follows: for `Empty`, that the text has no command; for
+    /// `Line`, which field of the text's faulty line is at fault.
     pub fn tell<E: Write>(self, messages: &mut E) -> io::Result<()>
         ensures { OnOk result (Appends (E.contents messages.old) (E.contents messages.new) (stop_text self)) }
     {
         match self {
             Stop::Text(fault) => fault.tell(messages),
             Stop::Empty => tell_empty(messages),
-            Stop::SetUp => tell_set_up(messages),
             Stop::Line(line, trouble) => tell_line(line, trouble, messages),
             Stop::Run(fault) => fault.tell(messages),
         }
@@ -58,14 +54,6 @@ fn tell_empty<E: Write>(messages: &mut E) -> io::Result<()>
 {
     RunFault::NoCommand.tell(messages)?;
     writeln!(messages, "geocom: the text has no command")
-}
-
-// Writes the message of the fault `SetUp`, and a second message: that the text has a set-up.
-fn tell_set_up<E: Write>(messages: &mut E) -> io::Result<()>
-    ensures { OnOk result (Appends (E.contents messages.old) (E.contents messages.new) (stop_text Stop.SetUp)) }
-{
-    RunFault::SetUp.tell(messages)?;
-    writeln!(messages, "geocom: a set-up isn't done yet")
 }
 
 // Writes the message of the fault `Schedule`, with the number of the text's faulty line, and a second message: which field of

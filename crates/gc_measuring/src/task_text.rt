@@ -1,28 +1,26 @@
 //! A station's text, read whole from a source.
 
 ghost use Rattle.std.specs.Prelude.{◌≡◌, ◌+◌, ◌≤◌, ℕ, List, IfOk, IfErr};
-ghost use Rattle.std.specs.List.{list_any};
-ghost use Rattle.gc_measuring.specs.TaskTexts.{Gave, GivesTasks, RefusesTasks, IsRefusal, is_set_up};
+ghost use Rattle.gc_measuring.specs.TaskTexts.{Gave, GivesTasks, RefusesTasks, IsRefusal};
 ghost use Rattle.gc_texts.specs.WholeTexts.{input_of};
 ghost use Rattle.gc_texts.specs.declared.text.TheConstants.{TEXT_LIMIT};
 
 use crate::stop::Stop;
 use gc_lines::Source;
-use gc_texts::{RunFault, Task, Tasks, line_at, read_tasks, read_text, trouble_of};
+use gc_texts::{RunFault, Tasks, line_at, read_tasks, read_text, trouble_of};
 use gc_words::Choice;
 use std::alloc::Global;
 
 /// Reads the whole text of a station from a source, and returns its tasks and names, with the text itself. Until a line says
 /// otherwise the commands have the deadline of `choice`, and are chained or not as `choice` says. It fails with the faults of
-/// `read_text` and `read_tasks`, with the field at fault for a faulty line, with `Empty` where the text has no command, and with `SetUp` where
-/// it has a set-up or sets a clock.
+/// `read_text` and `read_tasks`, with the field at fault for a faulty line, and with `Empty` where the text has no command of a cycle.
 pub(crate) fn read_task_text<S: Source>(
     alloc: Global,
     source: &mut S,
     choice: &Choice,
 ) -> Result<(Tasks, Vec<u8>), Stop>
     ensures found { IfOk result (λ all. (given : List ℕ) × Gave given (input_of S.Source source.old) (input_of S.Source source.new)
-        × GivesTasks given (input_of S.Source source.old) (input_of S.Source source.new) choice.now all.0.tasks.items all.0.names.items) }
+        × GivesTasks given (input_of S.Source source.old) (input_of S.Source source.new) choice.now all.0.setup all.0.tasks.items all.0.names.items) }
     ensures refused { IfErr result (λ stop. (given : List ℕ) × Gave given (input_of S.Source source.old) (input_of S.Source source.new)
         × RefusesTasks given (input_of S.Source source.old) (input_of S.Source source.new) stop) }
     ensures bounded { S.reads source.new ≤ S.reads source.old + (TEXT_LIMIT + 1) }
@@ -33,33 +31,13 @@ pub(crate) fn read_task_text<S: Source>(
     };
     match read_tasks(alloc, text.as_slice(), choice.deadline, choice.chained) {
         Ok(tasks) => {
-            if tasks.tasks.is_empty() {
+            if tasks.tasks.len() <= tasks.setup {
                 return Err(Stop::Empty);
-            }
-            if is_set_up(&tasks) {
-                return Err(Stop::SetUp);
             }
             Ok((tasks, text))
         }
         Err(fault) => Err(refusal(text.as_slice(), fault)),
     }
-}
-
-// Whether a text that gives these tasks has a set-up, or a command that sets a clock.
-fn is_set_up(tasks: &Tasks) -> bool
-    ensures { result ≡ is_set_up tasks.now.setup tasks.now.tasks.items }
-{
-    if tasks.setup > 0 {
-        return true;
-    }
-    sets_a_clock(tasks.tasks.as_slice())
-}
-
-// Whether one of these tasks sets a clock.
-fn sets_a_clock(tasks: &[Task]) -> bool
-    ensures { result ≡ list_any (λ task. task.now) tasks.now }
-{
-    tasks.iter().any(|task| task.now)
 }
 
 // The stop for a text with this fault. That for a faulty line has the line's number, and which of its fields is at fault.

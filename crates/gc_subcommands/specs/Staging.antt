@@ -1,11 +1,19 @@
 -- The instrument that a scene sets up, with rules or without them: this project's own.
 use Rattle.std.specs.Prelude.{ℕ, List}
 use Rattle.gc_engines.specs.Scenes.{IsScene}
-use Rattle.gc_engines.specs.RuleScenes.{IsRuleScene}
+use Rattle.gc_engines.specs.RuleScenes.{IsStillScene}
+use Rattle.gc_engines.specs.TimedScenes.{IsTimedScene}
 use Rattle.gc_subcommands.specs.declared.scene.Staged.{Staged}
 use Rattle.gc_subcommands.specs.declared.scene.Staged.TheVariants.{Plain, Ruled}
+use Rattle.gc_subcommands.specs.declared.scene.Timed.{Timed}
+use Rattle.gc_subcommands.specs.declared.scene.Timed.TheVariants.{Still, Slow}
 
 -- the text is a scene, and this is the opening state of its instrument
 abbrev pub IsStaged : List ℕ → Staged → Type 0
 IsStaged text (Plain state) = IsScene text state
-IsStaged text (Ruled state) = IsRuleScene text state
+IsStaged text (Ruled state) = IsStillScene text state
+
+-- the text is a scene, and this is the opening state of its instrument for one who has a clock
+abbrev pub IsTimed : List ℕ → Timed → Type 0
+IsTimed text (Still staged) = IsStaged text staged
+IsTimed text (Slow state) = IsTimedScene text state

@@ -26,7 +26,7 @@ pub fn ask_command<'a>(alloc: Global, name: &'a str) -> Result<Command<'a>, Allo
     command_of(
         alloc,
         name,
-        "Asks the commands of standard input at a place",
+        "Sends the commands of standard input to an instrument, one at a time",
         COMMANDS,
         ARGUMENTS,
     )

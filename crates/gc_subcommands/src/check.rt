@@ -27,7 +27,7 @@ pub fn check_command<'a>(alloc: Global, name: &'a str) -> Result<Command<'a>, Al
     command_of(
         alloc,
         name,
-        "Says of each frame of standard input what it is, or what is wrong with it",
+        "Says what each frame of standard input is, or what is wrong with it",
         VERDICTS,
         ARGUMENTS,
     )

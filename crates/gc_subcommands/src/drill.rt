@@ -33,7 +33,7 @@ pub struct Drilling<'a> {
 const ARGUMENTS: &[Argument<'static>] = &[
     Argument {
         name: "totals",
-        help: "Writes a line of totals behind the settlements",
+        help: "Writes a line of totals after the settlements",
         ..FLAG
     },
     Argument {
@@ -41,7 +41,7 @@ const ARGUMENTS: &[Argument<'static>] = &[
         takes: Takes::Signed(1, 7),
         value_name: &["W"],
         default: &["7"],
-        help: "Lets so many requests wait: a send beyond them is refused",
+        help: "Lets W requests be outstanding: a further send is refused",
         ..FLAG
     },
     SCENE,

@@ -25,7 +25,7 @@ pub fn loop_command<'a>(alloc: Global, name: &'a str) -> Result<Command<'a>, All
     command_of(
         alloc,
         name,
-        "Asks the commands of standard input over a connection to a simulator of its own",
+        "Sends the commands of standard input to a simulator of its own",
         COMMANDS,
         ARGUMENTS,
     )

@@ -5,13 +5,15 @@ ghost use Rattle.std.specs.Prelude.{◌≤◌, IfOk};
 ghost use Rattle.std.specs.Process.{exit_status};
 
 use crate::looped::tell_scene;
-use crate::scene::{Staged, staged_of};
+use crate::scene::{Staged, Timed, timed_of};
 use clap::{ArgMatches, Command};
 use gc_ask::{
-    Keeping, MOST_CONNECTIONS, Simulates, keep_device, keep_tcp, serve_device, serve_tcp,
+    Address, Hours, Keeping, MOST_CONNECTIONS, Simulates, Slow, keep_device, keep_tcp,
+    serve_device, serve_tcp,
 };
 use gc_links::Place;
-use gc_messages::{Standard, end_of, refuse_numbers, refuse_place, tell_place};
+use gc_messages::{Standard, end_of, refuse_numbers, tell_place};
+use gc_scenes::SlowInstrument;
 use gc_texts::RunFault;
 use gc_words::help::KEPT;
 use gc_words::{Argument, FLAG, PLACE, SCENE, Takes, command_of, named_place};
@@ -39,19 +41,24 @@ pub struct Serving<'a> {
 // The arguments of `serve`.
 const ARGUMENTS: &[Argument<'static>] = &[
     Argument {
-        help: "A port of 127.0.0.1, from 1 on, or the path of a device",
+        help: "A port of 127.0.0.1, from 1 on, or the path of a device; with --any-address also HOST:PORT",
         ..PLACE
+    },
+    Argument {
+        name: "any-address",
+        help: "Listens at HOST:PORT, an address of this machine: who reaches it can use the instrument",
+        ..FLAG
     },
     Argument {
         name: "connections",
         takes: Takes::Signed(1, 1000),
         value_name: &["N"],
-        help: "Serves so many connections, 1 to 1000, one after the other [default: 1, and with --keep no end]",
+        help: "Serves N connections, 1 to 1000, one after the other [default: 1; with --keep: no limit]",
         ..FLAG
     },
     Argument {
         name: "keep",
-        help: "Serves on behind a connection that fails, which is told",
+        help: "Goes on serving after a connection that fails, and reports it",
         ..FLAG
     },
     Argument {
@@ -60,7 +67,7 @@ const ARGUMENTS: &[Argument<'static>] = &[
         value_name: &["SECONDS"],
         default: &["60"],
         needs: &["keep"],
-        help: "With --keep, on a port: closes a connection on which nothing came for so many seconds, 1 to 86400",
+        help: "With --keep, on a port: closes a connection on which nothing came for SECONDS, 1 to 86400",
         ..FLAG
     },
     SCENE,
@@ -71,17 +78,17 @@ pub fn serve_command<'a>(alloc: Global, name: &'a str) -> Result<Command<'a>, Al
     command_of(
         alloc,
         name,
-        "Serves a simulator on a port of 127.0.0.1, or on a device",
+        "Serves a simulator on a port, or on a device",
         KEPT,
         ARGUMENTS,
     )
 }
 
-/// What the words of `serve` ask for. `None`: they name no place, or one on another machine, though a simulator is served on
-/// this one alone.
+/// What the words of `serve` ask for. `None`: they name no place, or an address without `--any-address`.
 pub fn serving_of<'a>(words: &ArgMatches<'a>) -> Option<Serving<'a>> {
     match named_place(words) {
-        None | Some(Place::Host(_)) => None,
+        None => None,
+        Some(Place::Host(_)) if !words.get_flag("any-address") => None,
         Some(place) => Some(Serving {
             scene: words.get_str("scene"),
             place,
@@ -131,25 +138,34 @@ fn serve_scene<
 >(rt: &R, alloc: Global, serving: Serving<'_>, messages: &mut E) -> io::Result<ExitCode>
     ensures { IfOk result (λ status. exit_status status ≤ 2) }
 {
-    let Serving {
-        scene,
-        place,
-        connections,
-        idle,
-    } = serving;
-    match staged_of(rt, alloc, scene) {
-        Ok(Staged::Plain(mut instrument)) => {
-            serve_with(rt, place, connections, idle, &mut instrument, messages)
+    match timed_of(rt, alloc, serving.scene) {
+        Ok(Timed::Still(Staged::Plain(mut instrument))) => {
+            serve_with(rt, serving, &mut instrument, None, messages)
         }
-        Ok(Staged::Ruled(mut instrument)) => {
-            serve_with(rt, place, connections, idle, &mut instrument, messages)
+        Ok(Timed::Still(Staged::Ruled(mut instrument))) => {
+            serve_with(rt, serving, &mut instrument, None, messages)
         }
+        Ok(Timed::Slow(slow)) => serve_slow(rt, serving, slow, messages),
         Err(fault) => {
             let ended = end_of(Err(fault), messages);
-            let _ = tell_scene(scene, messages);
+            let _ = tell_scene(serving.scene, messages);
             ended
         }
     }
+}
+
+// Serves or keeps a place with an instrument whose replies take time. `Clock` comes where the clock can't be read.
+fn serve_slow<
+    R: Net<Listener = TcpListener, Stream = TcpStream> + Clock + Files<File = File>,
+    E: Write,
+>(rt: &R, serving: Serving<'_>, slow: SlowInstrument, messages: &mut E) -> io::Result<ExitCode>
+    ensures { IfOk result (λ status. exit_status status ≤ 2) }
+{
+    let Ok(hours) = Hours::new(rt, slow.drops()) else {
+        return end_of(Err(RunFault::Clock), messages);
+    };
+    let mut instrument = Slow::new(&hours, slow);
+    serve_with(rt, serving, &mut instrument, Some(&hours), messages)
 }
 
 // Serves or keeps a place with an instrument.
@@ -159,17 +175,29 @@ fn serve_with<
     E: Write,
 >(
     rt: &R,
-    place: Place<'_>,
-    connections: Option<u32>,
-    idle: Option<u32>,
+    serving: Serving<'_>,
     instrument: &mut I,
+    hours: Option<&Hours>,
     messages: &mut E,
 ) -> io::Result<ExitCode>
     ensures { IfOk result (λ status. exit_status status ≤ 2) }
 {
+    let Serving {
+        scene: _,
+        place,
+        connections,
+        idle,
+    } = serving;
     match idle {
-        None => serve_place(rt, place, connections.unwrap_or(1), instrument, messages),
-        Some(idle) => keep_place(rt, place, connections, idle, instrument, messages),
+        None => serve_place(
+            rt,
+            place,
+            connections.unwrap_or(1),
+            instrument,
+            hours,
+            messages,
+        ),
+        Some(idle) => keep_place(rt, place, connections, idle, instrument, hours, messages),
     }
 }
 
@@ -184,36 +212,57 @@ fn serve_place<
     place: Place<'_>,
     connections: u32,
     instrument: &mut I,
+    hours: Option<&Hours>,
     messages: &mut E,
 ) -> io::Result<ExitCode>
     ensures { IfOk result (λ status. exit_status status ≤ 2) }
 {
     match place {
-        Place::Port(port) => serve_port(rt, port, connections, instrument, messages),
+        Place::Port(0) => refuse_numbers(messages),
+        Place::Port(port) => serve_address(
+            rt,
+            Address::Here(port),
+            connections,
+            instrument,
+            hours,
+            messages,
+        ),
+        Place::Host(host) => serve_address(
+            rt,
+            Address::Named(host),
+            connections,
+            instrument,
+            hours,
+            messages,
+        ),
         Place::Device(_) if connections > MOST_CONNECTIONS => refuse_numbers(messages),
         Place::Device(path) => {
-            let end = serve_device(rt, path, connections, instrument, u32::MAX);
+            let end = serve_device(rt, path, connections, instrument, hours, u32::MAX);
             tell_served(place, end, messages)
         }
-        Place::Host(_) => refuse_place(true, messages),
     }
 }
 
-// Serves a port, and reports how that ended. Numbers out of their range are refused here, as in `serve_place`.
-fn serve_port<R: Net<Listener = TcpListener, Stream = TcpStream>, I: Simulates, E: Write>(
+// Serves an address, and reports how that ended. Numbers out of their range are refused here, as in `serve_place`.
+fn serve_address<
+    R: Net<Listener = TcpListener, Stream = TcpStream> + Clock,
+    I: Simulates,
+    E: Write,
+>(
     rt: &R,
-    port: u16,
+    address: Address<'_>,
     connections: u32,
     instrument: &mut I,
+    hours: Option<&Hours>,
     messages: &mut E,
 ) -> io::Result<ExitCode>
     ensures { IfOk result (λ status. exit_status status ≤ 2) }
 {
-    if port == 0 || connections == 0 || connections > MOST_CONNECTIONS {
+    if connections == 0 || connections > MOST_CONNECTIONS {
         return refuse_numbers(messages);
     }
     end_of(
-        serve_tcp(rt, port, connections, instrument, u32::MAX),
+        serve_tcp(rt, address, connections, instrument, hours, u32::MAX),
         messages,
     )
 }
@@ -229,6 +278,7 @@ fn keep_place<
     connections: Option<u32>,
     idle: u32,
     instrument: &mut I,
+    hours: Option<&Hours>,
     messages: &mut E,
 ) -> io::Result<ExitCode>
     ensures { IfOk result (λ status. exit_status status ≤ 2) }
@@ -243,9 +293,23 @@ fn keep_place<
     };
     let kept = match place {
         Place::Port(0) => return refuse_numbers(messages),
-        Place::Port(port) => keep_tcp(rt, port, keeping, instrument, messages),
-        Place::Device(path) => keep_device(rt, path, keeping, instrument, messages),
-        Place::Host(_) => return refuse_place(true, messages),
+        Place::Port(port) => keep_tcp(
+            rt,
+            Address::Here(port),
+            keeping,
+            instrument,
+            hours,
+            messages,
+        ),
+        Place::Host(host) => keep_tcp(
+            rt,
+            Address::Named(host),
+            keeping,
+            instrument,
+            hours,
+            messages,
+        ),
+        Place::Device(path) => keep_device(rt, path, keeping, instrument, hours, messages),
     };
     match kept {
         Ok(_) => Ok(ExitCode::SUCCESS),

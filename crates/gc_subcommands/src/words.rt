@@ -160,7 +160,7 @@ fn geocom<'a>(alloc: Global) -> Command<'a> {
     Command::new(alloc, "geocom")
         .version(VERSION)
         .about(
-            "Both ends of GeoCOM's ASCII protocol: a client for monitoring stations, and a simulated instrument",
+            "A client for GeoCOM's ASCII protocol, for monitoring with total stations, and a simulated instrument",
         )
         .after_help(SCENES_AND_FAULTS)
         .subcommand_required(true)
