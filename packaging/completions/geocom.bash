@@ -26,7 +26,7 @@ _geocom() {
     exec | loop) given='--scene --help' ;;
     check) given='--log --help' ;;
     drill) given='--scene --totals --width --help' ;;
-    serve) given='--connections --keep --idle --scene --help' ;;
+    serve) given='--any-address --connections --keep --idle --scene --help' ;;
     ask) given='--help' ;;
     station) given='--width --deadline --every --cycles --quiet --retries --stale --until --csv --columns --json --append --sync --unchained --silent --check --log --log-bytes --help' ;;
     *) return ;;

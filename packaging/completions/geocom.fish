@@ -18,6 +18,7 @@ complete -c geocom -n '__fish_seen_subcommand_from check' -l log -d 'reads a log
 complete -c geocom -n '__fish_seen_subcommand_from drill' -l totals -d 'writes a line of totals'
 complete -c geocom -n '__fish_seen_subcommand_from drill station' -l width -x -a '1 2 3 4 5 6 7' -d 'how many requests'
 complete -c geocom -n '__fish_seen_subcommand_from serve ask station' -a '(__fish_complete_path /dev/tty)' -d 'a device'
+complete -c geocom -n '__fish_seen_subcommand_from serve' -l any-address -d 'listens at an address'
 complete -c geocom -n '__fish_seen_subcommand_from serve' -l connections -x -d 'how many connections'
 complete -c geocom -n '__fish_seen_subcommand_from serve' -l keep -d 'serves on behind a fault'
 complete -c geocom -n '__fish_seen_subcommand_from serve' -l idle -x -d 'seconds, and then a connection is closed'

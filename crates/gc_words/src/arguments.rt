@@ -63,7 +63,7 @@ pub const SCENE: Argument<'static> = Argument {
     name: "scene",
     takes: Takes::Text,
     value_name: &["FILE"],
-    help: "Sets up the instrument of this file: `geocom --help` says how",
+    help: "Simulates the instrument that this file describes (see `geocom --help`)",
     ..FLAG
 };
 

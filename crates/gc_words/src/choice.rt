@@ -18,7 +18,7 @@ const OPTIONS: &[Argument<'static>] = &[
         takes: Takes::Signed(1, 7),
         value_name: &["W"],
         default: &["1"],
-        help: "Lets so many requests be under way that aren't given up, 1 to 7; more than 1 for plain readings alone",
+        help: "Lets W requests be in flight, not counting those that timed out, 1 to 7; more than 1 only for plain readings",
         ..FLAG
     },
     Argument {
@@ -26,7 +26,7 @@ const OPTIONS: &[Argument<'static>] = &[
         takes: Takes::Unsigned(1, 86_400_000),
         value_name: &["MS"],
         default: &["10000"],
-        help: "Gives a request up so many milliseconds after it was sent, 1 to 86400000, until a line `deadline MS` says otherwise",
+        help: "Times a request out MS milliseconds after it was sent, 1 to 86400000, until a line `deadline MS` says otherwise",
         ..FLAG
     },
     Argument {
@@ -34,7 +34,7 @@ const OPTIONS: &[Argument<'static>] = &[
         takes: Takes::Unsigned(0, 86_400),
         value_name: &["SECONDS"],
         default: &["0"],
-        help: "Begins a cycle so many seconds after the last was due, 1 to 86400, or 0: once the last is done",
+        help: "Begins a cycle SECONDS after the last was due, 1 to 86400; 0: as soon as the last is done",
         ..FLAG
     },
     Argument {
@@ -42,7 +42,7 @@ const OPTIONS: &[Argument<'static>] = &[
         takes: Takes::Unsigned(0, u64::MAX),
         value_name: &["N"],
         default: &["1"],
-        help: "Asks all commands so many times, or 0: without end",
+        help: "Runs N cycles; 0: without end",
         ..FLAG
     },
     Argument {
@@ -50,7 +50,7 @@ const OPTIONS: &[Argument<'static>] = &[
         takes: Takes::Unsigned(1, 86_400_000),
         value_name: &["MS"],
         default: &["2000"],
-        help: "Pauses so many milliseconds before it connects anew, and sends on the new connection once nothing came for as long, 1 to 86400000",
+        help: "Pauses MS milliseconds before it reconnects, and sends on the new connection once nothing came for as long, 1 to 86400000",
         ..FLAG
     },
     Argument {
@@ -58,7 +58,7 @@ const OPTIONS: &[Argument<'static>] = &[
         takes: Takes::Signed(0, 4_294_967_295),
         value_name: &["N"],
         default: &["10"],
-        help: "Connects anew so many times in a row, or 0: without end",
+        help: "Reconnects at most N times in a row; 0: without end",
         ..FLAG
     },
     Argument {
@@ -66,14 +66,14 @@ const OPTIONS: &[Argument<'static>] = &[
         takes: Takes::Unsigned(0, 31_536_000),
         value_name: &["SECONDS"],
         default: &["0"],
-        help: "Ends the run once no answer with quality `ok` or `warning` came for so many seconds, 1 to 31536000 and not below --every, or 0: never",
+        help: "Ends the run once no answer with quality `ok` or `warning` came for SECONDS, 1 to 31536000 and not below --every; 0: never",
         ..FLAG
     },
     Argument {
         name: "until",
         takes: Takes::Text,
         value_name: &["FILE"],
-        help: "Ends the run with status 0 where this file is there: between two chains, once what was sent is settled; looks at least each second",
+        help: "Ends the run with status 0 once this file exists: between two chains, after what was sent is settled; looks at least each second",
         ..FLAG
     },
     Argument {
@@ -83,13 +83,13 @@ const OPTIONS: &[Argument<'static>] = &[
     },
     Argument {
         name: "columns",
-        help: "Writes comma-separated values, with a column for each quantity, too",
+        help: "Writes comma-separated values, with a further column for each quantity",
         ..FLAG
     },
     Argument {
         name: "json",
         excludes: &["csv", "columns"],
-        help: "Writes each record as an object of JSON on a line of its own",
+        help: "Writes each record as a JSON object on a line of its own",
         ..FLAG
     },
     Argument {
@@ -99,7 +99,7 @@ const OPTIONS: &[Argument<'static>] = &[
     },
     Argument {
         name: "silent",
-        help: "Leaves out the signs of life",
+        help: "Reports nothing on standard error while it measures",
         ..FLAG
     },
     Argument {
@@ -111,20 +111,20 @@ const OPTIONS: &[Argument<'static>] = &[
         name: "append",
         takes: Takes::Text,
         value_name: &["FILE"],
-        help: "Appends each record as a row to this file, behind its whole rows, and writes none on standard output",
+        help: "Appends each record as a row to this file, after its complete rows, and writes none on standard output",
         ..FLAG
     },
     Argument {
         name: "sync",
         needs: &["append"],
-        help: "With --append: has each row on the disk before the next command goes out",
+        help: "With --append: has each row on the disk before the next command is sent",
         ..FLAG
     },
     Argument {
         name: "log",
         takes: Takes::Text,
         value_name: &["FILE"],
-        help: "Appends each line that went or came to a file, with its moment; `check --log` reads it",
+        help: "Appends each line sent or received to a file, with its time; `check --log` reads it",
         ..FLAG
     },
     LOG_BYTES,
@@ -135,7 +135,7 @@ pub fn station_command<'a>(alloc: Global, name: &'a str) -> Result<Command<'a>, 
     command_of(
         alloc,
         name,
-        "Measures the commands of standard input at a place, cycle after cycle, with deadlines",
+        "Measures: sends the commands of standard input to an instrument, cycle after cycle, with deadlines",
         STATION,
         OPTIONS,
     )

@@ -19,7 +19,7 @@ pub(crate) const LOG_BYTES: Argument<'static> = Argument {
     takes: Takes::Unsigned(1000, u64::MAX),
     value_name: &["N"],
     needs: &["log"],
-    help: "With --log: lets the file have at most so many bytes, 1000 or more; a last line says that the rest is left out",
+    help: "With --log: limits the file to N bytes, 1000 or more; a last line says that the rest is left out",
     ..FLAG
 };
 
