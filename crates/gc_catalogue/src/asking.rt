@@ -35,7 +35,7 @@ pub trait Asking: Copy + Drop {
     /// The values of the request are within their ranges.
     ghost fits: { Self → Type 0 };
 
-    /// What stands in a place that nothing uses.
+    /// What is in a place that nothing uses.
     fn blank() -> Self
         ensures { result ≡ blank };
 

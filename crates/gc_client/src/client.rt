@@ -62,7 +62,7 @@ impl Error for WindowFull {}
 ///    its CR LF, to `on_line`. So a reply that came past its deadline is late. Go on at 1.
 /// 4. Where the connection fails, close it, keep the client, and go on over a new one: ids go on. Only where seven wait that
 ///    are all given up, discard what comes until the line is quiet, `restart`, and send a null procedure alone until it is
-///    answered: ids begin at 0 again (`docs/CLIENT.md`). By calling `restart` the caller vouches that no line is under way.
+///    answered: ids begin at 0 again (`docs/LIBRARY.md`). By calling `restart` the caller vouches that no line is under way.
 ///
 /// What to do at each outcome:
 ///
@@ -150,7 +150,7 @@ impl<W: Window> Client<W> {
         self.width
     }
 
-    /// How many requests are not settled, those that were given up included.
+    /// How many requests are not settled, timed-out ones included.
     pub fn waiting(&self) -> usize
         ensures waiting { result ≡ length self.now.ids.waiting }
         ensures within { result ≤ self.now.width }
@@ -159,7 +159,7 @@ impl<W: Window> Client<W> {
         self.window.len()
     }
 
-    /// How many requests wait that aren't given up.
+    /// How many outstanding requests haven't timed out.
     pub fn current(&self) -> usize
         ensures current { result ≡ length (deadlines self.now.ids.waiting) }
         ensures within { result ≤ length self.now.ids.waiting }
@@ -181,8 +181,8 @@ impl<W: Window> Client<W> {
         self.next
     }
 
-    /// The earliest deadline of the requests that wait and aren't given up: until then a line may be waited for. `None`: no such
-    /// request waits.
+    /// The earliest deadline of the outstanding requests that haven't timed out: until then the caller may wait for a line.
+    /// `None`: there is no such request.
     pub fn next_deadline(&self) -> Option<u64>
         ensures { IsEarliest (deadlines self.now.ids.waiting) result }
     {
@@ -248,11 +248,11 @@ impl<W: Window> Client<W> {
         }
     }
 
-    /// Gives up each waiting request whose deadline is at most this moment. It returns the targets of those that
-    /// weren't given up before, in order.
+    /// Times out each outstanding request whose deadline is at most this time. It returns the targets of those that hadn't
+    /// timed out before, in order.
     ///
-    /// A request that was given up goes on waiting, and a reply that comes for it settles it as late. The moment may
-    /// lie before an earlier one; nothing is taken back then.
+    /// A request that has timed out stays outstanding, and a reply that arrives for it settles it as late. The time may lie
+    /// before an earlier one; nothing is undone then.
     pub fn expire(&mut self, now: u64) -> ArrayVec<u32, WINDOW>
         ensures targets { result.items ≡ expiring now self.old.ids.waiting }
         ensures client { self.new ≡ record self.old { ids = expires self.old.ids now } }
@@ -327,11 +327,11 @@ impl<W: Window> Client<W> {
         Ok(())
     }
 
-    /// Settles all requests that wait as lost, in order, and begins again at id 0, with the same width.
+    /// Settles all outstanding requests as lost, in order, and starts again at id 0, with the same width.
     ///
-    /// The caller vouches that no line is under way in either direction. An instrument that still keeps the reply to its
-    /// last request would take a new request with that id for a repeat, and not act on it. So either the instrument restarts
-    /// too, or the first request is a null procedure, alone until it is answered (`docs/CLIENT.md`).
+    /// The caller is responsible for that no line is in flight in either direction. An instrument that still retains the reply
+    /// to its last request would take a new request with that id for a repeat, and not execute it. So either the instrument
+    /// restarts too, or the first request is a null procedure, alone until it is answered (`docs/LIBRARY.md`).
     pub fn restart(&mut self) -> ArrayVec<Settlement<W::Asked>, WINDOW>
         ensures settled { AreSettledBy W.Asked.says result.items (restarts self.old.ids).settlements }
         ensures client { self.new ≡ record self.old { ids = (restarts self.old.ids).client } }

@@ -34,7 +34,7 @@ pub trait Window: Drop {
         requires { k < length (pendings self.now) }
         ensures { slice_get (pendings self.now) k ≡ Some result };
 
-    /// Appends a request behind the youngest.
+    /// Appends a request after the youngest.
     fn push(&mut self, p: Pending<Self::Asked>)
         requires { length (pendings self.old) < WINDOW }
         ensures { pendings self.new ≡ pendings self.old ++ p ∷ [] };
@@ -44,7 +44,7 @@ pub trait Window: Drop {
         requires { 0 < length (pendings self.old) }
         ensures { pendings self.old ≡ result ∷ pendings self.new };
 
-    /// Marks the request at place k as given up. It stays where it is.
+    /// Marks the request at place k as timed out. It stays where it is.
     fn give_up(&mut self, k: usize)
         requires { k < length (pendings self.old) }
         ensures { pendings self.new ≡ given_up_at k (pendings self.old) };

@@ -4,20 +4,20 @@ ghost use Rattle.gc_files.specs.Failing.{TablesOutlastFailures, CopiesAreNeeded}
 ghost use Rattle.gc_files.specs.Runs.{TablesLast, KillsLoseNothing, CallsAreRuns};
 
 /// The table lasts over any runs. Each run opens the file, appends rows, and ends by itself, by a kill or by a crash of the
-/// machine. After the runs the table holds its head, the rows that it had before, and then the first rows of each run, in order:
-/// at least those that were reported to the run as kept, each once, none in part.
+/// machine. After the runs the table holds its header, the rows that it had before, and then the first rows of each run, in
+/// order: at least those before a sync that was reported to the run as done, each once, none in part.
 pub fn tables_last()
     ensures { TablesLast }
 {}
 
-/// Over any runs that end by themselves or by a kill, while the machine goes on, each row that went out whole stands in the
+/// Over any runs that end by themselves or by a kill, while the machine goes on, each row that was written completely is in the
 /// table, synced or not.
 pub fn kills_lose_nothing()
     ensures { KillsLoseNothing }
 {}
 
 /// What the calls of this crate do to a file is a run as `tables_last` has it: an opening with the writes and syncs after it,
-/// or an opening that failed. A sync keeps all that was appended before it.
+/// or an opening that failed. A sync makes all that was appended before it last.
 pub fn calls_are_runs()
     ensures { CallsAreRuns }
 {}
@@ -28,8 +28,8 @@ pub fn tables_outlast_failures()
     ensures { TablesOutlastFailures }
 {}
 
-/// Where runs go on in a file of which a sync failed, the table doesn't last: a row can be lost even though a later sync, made
-/// after the row was appended, went well.
+/// If runs go on in a file of which a sync failed, without a copy, the table doesn't last: a row can be lost even though a
+/// later sync, made after the row was appended, succeeded.
 pub fn copies_are_needed()
     ensures { CopiesAreNeeded }
 {}

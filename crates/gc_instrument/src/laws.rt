@@ -8,7 +8,7 @@ pub fn calls_come_out()
     ensures { CallsComeOut }
 {}
 
-/// Carrying out a call leaves the reply that is kept as it is, and what it gives doesn't depend on that reply.
+/// Executing a call leaves the retained reply as it is, and its answer doesn't depend on that reply.
 pub fn executes_apart()
     ensures { ExecutesApart }
 {}
@@ -23,22 +23,21 @@ pub fn one_reply()
     ensures { OneReply }
 {}
 
-/// A call's request line gets the reply that `handed` gives. Where the line's id isn't the kept one, that reply says of the call what
-/// carrying it out gave.
+/// A call's request line gets the reply that `handed` gives. If the line's id isn't that of the retained reply, the reply says
+/// of the call what executing it gave.
 pub fn exchanges_calls()
     ensures { ExchangesCalls }
 {}
 
-/// From one state, lines lead to one state and to one list of replies. Two lists of lines, one behind the other, give the
-/// replies to the first list and then those to the second, which starts from the state that the first leads to. The same holds
-/// of two streams of bytes, where the first is empty or ends in a line feed.
+/// From one state, lines lead to one state and to one list of replies. Two lists of lines, one after the other, give the
+/// replies to the first and then those to the second, which starts from the state that the first leads to. The same holds of
+/// two streams of bytes, if the first is empty or ends in a line feed.
 pub fn answers_in_turn()
     ensures { AnswersInTurn }
 {}
 
-/// Noise, other programs' lines and halves of lines change nothing. Where lines that are no
-/// requests stand between line feeds, the output of the stream and the state after it are those
-/// without them.
+/// Noise, other programs' lines and halves of lines change nothing: where lines that are no requests are between line feeds,
+/// the output of the stream and the state after it are those without them.
 pub fn foreign_lines_are_silent()
     ensures { ForeignLinesAreSilent }
 {}

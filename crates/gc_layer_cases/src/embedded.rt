@@ -1,4 +1,4 @@
-//! An instrument behind any reader and writer, as `docs/INSTRUMENT.md` shows it.
+//! An instrument behind any reader and writer, as `docs/SIMULATOR.md` shows it.
 
 use gc_cases::Told;
 use gc_instrument::{Instrument, Served, Target, serve};

@@ -1,4 +1,4 @@
-//! A station of one page, as `docs/CLIENT.md` shows it: it sends calls to targets, and tells how each request ended. Behind it
+//! A station of one page, as `docs/LIBRARY.md` shows it: it sends calls to targets, and tells how each request ended. Behind it
 //! stands what plays the rows of a case with such a station. A row is `do WORD WHAT -> CAME`. What comes of it is told to
 //! `came`, a text that is then compared with CAME.
 

@@ -21,7 +21,7 @@ pub fn frames_however_cut()
     ensures { FramesHoweverCut }
 {}
 
-/// At most 512 bytes without CR and LF, sent with CR LF behind them, arrive as one line.
+/// At most 512 bytes without CR and LF, sent with CR LF after them, arrive as one line.
 pub fn plain_is_one_line()
     ensures { PlainIsOneLine }
 {}

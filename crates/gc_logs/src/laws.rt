@@ -3,13 +3,13 @@
 ghost use Rattle.gc_logs.specs.Logging.{LogKeepsAll};
 ghost use Rattle.gc_logs.specs.Ways.{MarksTellTheWay};
 
-/// The log has all bytes of each way, of what went and of what came: those in the lines of a way, followed by its pending bytes,
-/// which aren't written yet, are all bytes that went, or all that came, in order.
+/// The log has all bytes of each direction: those in its lines, followed by the pending bytes, which aren't written yet, are
+/// all bytes sent, or all received, in order.
 pub fn log_keeps_all()
     ensures { LogKeepsAll }
 {}
 
-/// The mark of each line of what went, whole or in part, begins with `>`, and that of each line of what came with `<`.
+/// The mark of each line of sent bytes, complete or in part, begins with `>`, and that of each line of received bytes with `<`.
 pub fn marks_tell_the_way()
     ensures { MarksTellTheWay }
 {}

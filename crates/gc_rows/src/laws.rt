@@ -9,7 +9,7 @@ pub fn columns_are_a_replys_fields()
     ensures { ColumnsAreFields }
 {}
 
-/// The items of a reply's values are the parameters that the grammar has of them.
+/// The items of a raw answer in an object are the parameters that the grammar has of the reply's values.
 pub fn items_are_the_grammars()
     ensures { ItemsAreTheGrammars }
 {}
@@ -37,8 +37,8 @@ pub fn records_are_members()
     ensures { RecordsAreMembers }
 {}
 
-/// The values of an answer stand under the names of the quantities that its procedure returns by the manual's procedure tables.
-/// The columns of a row and the members of an object have these names.
+/// The values of an answer are under the names of the quantities that its procedure returns by the manual's tables. The columns
+/// of a row and the members of an object have these names.
 pub fn quantities_have_their_names()
     ensures { QuantitiesHaveTheirNames }
 {}

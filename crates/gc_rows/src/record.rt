@@ -30,7 +30,7 @@ pub enum Form {
     Json,
 }
 
-/// What stands in front of all records in this form: the names of the columns, or nothing.
+/// What comes before all records in this form: the names of the columns, or nothing.
 pub fn head(form: Form) -> &'static [u8]
     ensures { result.now ≡ head_text form }
 {
@@ -45,7 +45,7 @@ pub fn head(form: Form) -> &'static [u8]
     }
 }
 
-/// The bytes that a file of records in this form begins with, once it has a record: by them it is told from a foreign file.
+/// The bytes that a file of records in this form begins with, once it has a record: they distinguish it from a foreign file.
 pub fn sign(form: Form) -> &'static [u8]
     ensures { result.now ≡ sign_text form }
 {
@@ -55,8 +55,8 @@ pub fn sign(form: Form) -> &'static [u8]
     }
 }
 
-/// Writes what stands in front of all records: the names of the columns, or nothing. `Err(n)`: the sink took the first n bytes
-/// of it, which aren't all, and failed.
+/// Writes what comes before all records: the names of the columns, or nothing. `Err(n)`: the sink took the first n bytes of it,
+/// which aren't all, and failed.
 pub fn write_head<K: Sink>(sink: &mut K, form: Form) -> Result<(), usize>
     ensures failed { FailsWith result (K.failed sink.old) (K.failed sink.new) }
     ensures ok { OnOk result (Appends (K.taken sink.old) (K.taken sink.new) (head_text form)) }

@@ -6,7 +6,7 @@ ghost use Rattle.gc_texts.specs.Cuts.{Cuts, before, behind};
 
 use memchr::memchr;
 
-/// What stands before the first mark, and what stands behind it. Without a mark: all of the text, and `None`.
+/// What is before the first mark, and what is after it.
 pub fn cut_at(mark: u8, text: &[u8]) -> (&[u8], Option<&[u8]>)
     ensures { Cuts mark text.now result.0.now (option_copied result.1) }
 {
@@ -16,7 +16,7 @@ pub fn cut_at(mark: u8, text: &[u8]) -> (&[u8], Option<&[u8]>)
     }
 }
 
-/// What stands before the first mark, or all of the text where there is none.
+/// What is before the first mark, or all of the text if there is none.
 pub fn before(mark: u8, text: &[u8]) -> &[u8]
     ensures is { result.now ≡ before mark text.now }
     ensures short { length result.now ≤ length text.now }
@@ -24,7 +24,7 @@ pub fn before(mark: u8, text: &[u8]) -> &[u8]
     cut_at(mark, text).0
 }
 
-/// What stands behind the first mark, or nothing.
+/// What is after the first mark, or nothing.
 pub fn behind(mark: u8, text: &[u8]) -> &[u8]
     ensures is { result.now ≡ behind mark text.now }
     ensures short { length result.now ≤ length text.now }

@@ -24,21 +24,21 @@ pub fn commands_are_tasks()
     ensures plain { CommandsArePlain }
 {}
 
-/// The set-up is one chain. Of the tasks behind it the first isn't chained, and one is chained only where the task directly before it is for
-/// the same target.
+/// The setup is one chain. Of the tasks after it the first isn't chained, and one is chained only if the task directly before
+/// it is for the same target.
 pub fn chains_are_rows()
     ensures { ChainsAreRows }
 {}
 
-/// The tasks behind the set-up are the attempts of the text's chains, in order. A chain has at most as many attempts behind the first as its
-/// line `retry` says. Each begins with the chain's first command, and has the chain's commands, in order, with the same deadlines, places and
-/// accepted codes. Each but the last has the rule of the line, and the last has none. The commands of the chains are those of the text, in
-/// order, each once.
+/// The tasks after the setup are the attempts of the text's chains, in order. A chain has at most as many further attempts as
+/// its line `retry` says. Each begins with the chain's first command, and has the chain's commands, in order, with the same
+/// deadlines, places and accepted codes. Each but the last has the rule of the line, and the last has none. The commands of the
+/// chains are those of the text, in order, each once.
 pub fn chains_go_out_again()
     ensures { ChainsGoOutAgain }
 {}
 
-/// A command of the cycle has the retry that the last line `retry` in front of it says; where there is none, it doesn't go out again.
+/// A command of the cycle has the retry that the last line `retry` before it says; without one it doesn't go out again.
 pub fn retries_hold_behind_their_lines()
     ensures { RetriesHold }
 {}
@@ -48,12 +48,12 @@ pub fn wanted_is_the_catalogues()
     ensures { WantedIsTheCatalogues }
 {}
 
-/// The name that is printed of a procedure's number, where a line has that number behind the word `raw`, is the catalogue's.
+/// The name that is printed of a procedure's number, if a line has that number after the word `raw`, is the catalogue's.
 pub fn names_are_the_catalogues()
     ensures { NamesAreTheCatalogues }
 {}
 
-/// What was written as a line of a log reads back as the same moment, mark and bytes, and as nothing else.
+/// A written line of a log reads back as the same time, mark and bytes, and as nothing else.
 pub fn log_lines_read_back()
     ensures { LogLinesReadBack }
 {}
@@ -64,21 +64,20 @@ pub fn log_lines_are_printable()
 {}
 
 /// Each fault has the number that the table of faults gives it. A full window and a full scene have types of their own as well:
-/// their numbers, 31 and 41, stand in the contracts of the calls that return them.
+/// their numbers, 31 and 41, are in the contracts of the calls that return them.
 pub fn faults_have_their_numbers()
     ensures { FaultsHaveTheirNumbers }
 {}
 
-/// Each command of a station's text has the deadline of the last line `deadline` in front of it, or else the caller's. One of the cycle is
-/// chained exactly where two things hold: the last line `chained` or `unchained` in front of it says `chained`, or there is
-/// none and the caller says so; and the command before it is for the same target, with no line between the two that ends the row. One of the
-/// set-up is chained exactly where another stands in front of it, and all of the set-up goes out in front of the cycle.
+/// Each command of a station's text has the deadline of the last line `deadline` before it, or else the caller's. One of the
+/// cycle is chained exactly if two things hold: the last line `chained` or `unchained` before it says `chained`, or there is
+/// none and the caller says so; and the command before it is for the same target, with no line between the two that ends the
+/// row. One of the setup is chained exactly if another is before it, and all of the setup is sent before the cycle.
 pub fn commands_go_out_as_their_lines_say()
     ensures { CommandsGoOutSo }
 {}
 
-/// A line that says where a target stands holds for each command of that target, whether the command stands before or after the
-/// line.
+/// A line `near`, which says where a target is, holds for each command of that target, before the line and after it.
 pub fn places_hold_for_all_commands_of_a_target()
     ensures { PlacesHoldForAll }
 {}
@@ -88,9 +87,9 @@ pub fn directions_are_asked_for()
     ensures { DirectionsAreAskedFor }
 {}
 
-/// The text of a stamp reads as its moment: its date and its hour, minute, second and millisecond make up the milliseconds
-/// since 1970, each written in digits of its value. The date of day 0 is 1 January 1970, and that of each other day is the
-/// day after the one before.
+/// The text of a time reads as that time: its date and its hour, minute, second and millisecond make up the milliseconds since
+/// 1970, each written in digits of its value. The date of day 0 is 1 January 1970, and that of each other day is the day after
+/// the one before.
 pub fn stamps_are_moments()
     ensures { StampsAreMoments }
 {}

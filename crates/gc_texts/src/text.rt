@@ -13,7 +13,7 @@ use std::alloc::Global;
 /// The greatest length of a schedule's or a command list's text, in bytes.
 pub const TEXT_LIMIT: usize = 65536;
 
-/// A text has at most 65,536 bytes. The function does nothing: its contract is the law.
+/// A text has at most 65,536 bytes.
 pub fn limits_texts()
     ensures { TEXT_LIMIT ≡ 65536 }
 {}

@@ -286,7 +286,7 @@ impl Decimal {
         self.digits
     }
 
-    /// The number of places behind the point, at most 24.
+    /// The number of places after the point, at most 24.
     pub fn scale(&self) -> u8
         ensures { result ≡ self.now.scale }
     {

@@ -9,21 +9,21 @@ ghost use Rattle.gc_world.specs.declared.direction.Direction.{Direction};
 ghost use Rattle.gc_world.specs.Pieces.{BytesAdd, BytesEnd};
 ghost use Rattle.gc_world.specs.Width.{EightDiffers, EightSettlesNine, NumbersSettleOne};
 
-/// In each queue the numbers never fall from front to back, and no reply under way has a higher number than a request under way.
-/// Every number under way is below the count of requests sent, and at least the count of settlements less one. At most as many
-/// requests are unsettled as the window is wide.
+/// In each queue the numbers never fall from front to back, and no reply in flight has a higher number than a request in
+/// flight. Every number in flight is below the count of requests sent, and at least the count of settlements less one. At most
+/// as many requests are unsettled as the window is wide.
 pub fn line_keeps_order()
     ensures { KeepsOrder }
 {}
 
-/// While the instrument keeps a reply, every request under way is the one executed last, or one of those sent next after that
-/// one, of which there are at most as many as the window is wide. So a request with the kept id is the one executed last,
+/// While the instrument retains a reply, every request in flight is the one executed last, or one of those sent next after it,
+/// of which there are at most as many as the window is wide. So a request with the retained id is the one executed last,
 /// repeated.
 pub fn kept_reply_is_recent()
     ensures { KeepsRecent }
 {}
 
-/// The client that knows ids does what a client would do if every reply carried its request's number.
+/// The client that knows ids alone does what an oracle client would do that knew each reply's request.
 pub fn runs_agree()
     ensures { RunsAgree }
 {}
@@ -45,9 +45,9 @@ pub fn executions_are_recorded()
     ensures { RecordsExecutions }
 {}
 
-/// When the last byte of a reply to a request that isn't settled goes over, the requests before that one are settled as lost. The
-/// request is answered with that very line if the client got no moment at or past its deadline since its send, and late if it got
-/// one. A further reply settles nothing. Where the bytes of one event complete several replies, each is delivered in turn, by
+/// When the last byte of a reply to an unsettled request is delivered, the requests before that one are settled as lost. The
+/// request is answered with that very line if the client was given no time at or past its deadline since its send, and late if
+/// it was. A further reply settles nothing. If the bytes of one event complete several replies, each is delivered in turn, by
 /// [`bytes_go_over_in_turn`].
 pub fn first_reply_is_booked()
     ensures in_time { BooksFirstReply }
@@ -57,16 +57,16 @@ pub fn first_reply_is_booked()
     ensures first_alone { NoSecondReply }
 {}
 
-/// Whether bytes go over in one event or in two, and so in any number of events, they lead to the same streams: each line that
-/// they complete is delivered with its own last byte. Where an event hands over more bytes than are under way, those under way
-/// go.
+/// Whether bytes are delivered in one event or in two, and so in any number of events, they lead to the same streams: each line
+/// that they complete is delivered with its own last byte. If an event delivers more bytes than are in flight, those in flight
+/// are delivered.
 pub fn bytes_go_over_in_turn()
     ensures adds { (direction : Direction) → BytesAdd direction }
     ensures ends { (direction : Direction) → BytesEnd direction }
 {}
 
-/// With a window of eight the client that knows ids no longer does what a client that is told the numbers would do: a
-/// repeat of the first reply settles the ninth request.
+/// With a window of eight, the client that knows ids alone no longer does what the oracle client would do: a repeat of the
+/// first reply settles the ninth request.
 pub fn window_of_eight_differs()
     ensures differs { EightDiffers }
     ensures by_ids { EightSettlesNine }

@@ -56,8 +56,8 @@ fn put_targets(targets: &mut [u32], due: &[u32])
     targets[..due.len()].copy_from_slice(due);
 }
 
-/// Gives up each request whose deadline is at most `now`, and writes the targets of those that weren't given up before,
-/// `count` of them. What stands after these stays.
+/// Times out each request whose deadline is at most `now`, and writes the targets of those that hadn't timed out before,
+/// `count` of them. What is after these stays.
 ///
 /// Faults: 62, `targets` has fewer than seven places; 63, the state is no client's. After a fault nothing has changed.
 #[unsafe(no_mangle)]
@@ -90,7 +90,7 @@ pub extern "C" fn geocom_client_expire(
     counted(due.len() as u32)
 }
 
-/// The earliest deadline of the requests that wait and aren't given up, where there is one; else `is_set` and `deadline`
+/// The earliest deadline of the outstanding requests that haven't timed out, if there is one; otherwise `is_set` and `deadline`
 /// are 0.
 ///
 /// Fault 63: the state is no client's.
@@ -119,7 +119,7 @@ pub extern "C" fn geocom_client_next_deadline(state: &GeocomClient) -> GeocomDea
     }
 }
 
-/// How many requests wait, those that were given up among them.
+/// How many requests are outstanding, those that timed out included.
 ///
 /// Fault 63: the state is no client's.
 #[unsafe(no_mangle)]

@@ -189,10 +189,10 @@ fn answered_anew(answered: u8) -> u8
     answered
 }
 
-/// Settles all requests that wait as lost, in order, and writes a record for each: `count` of them, and nothing after these.
-/// The next id is 0, the bytes of a line that hasn't ended are forgotten, and the width stays. A client that had begun has to
-/// begin again (`geocom_client_begin`). One that hadn't goes on with the null procedure that it was at, so it may be restarted
-/// any number of times.
+/// Settles all outstanding requests as lost, in order, and writes a record for each: `count` of them, and nothing after these.
+/// The next id is 0, the bytes of a line that hasn't ended are discarded, and the width stays. A client that had synchronized
+/// has to synchronize again (`geocom_client_begin`). One that hadn't continues with the null procedure that it was at, so it
+/// may be restarted any number of times.
 ///
 /// Faults: 62, `settlements` has fewer than seven places; 63, the state is no client's. After a fault nothing has changed.
 #[unsafe(no_mangle)]

@@ -88,9 +88,8 @@ pub const CLEARED: u32 = 4;
 /// A line of more than 512 bytes, which is dropped.
 pub const OVERLONG: u32 = 5;
 
-/// The constants have the values of the header, and so have the faults of a call and of a raw request, which are gc_catalogue's.
-/// `library/tests/numbers.py` compares these clauses with the constants above and with the header. The function does nothing: its
-/// contract is the law.
+/// The constants have the values of the C header, and so have the faults of a call and of a raw request, which are
+/// gc_catalogue's. `library/tests/same_numbers.py` compares these clauses with the constants above and with the header.
 pub fn numbers_are_the_headers()
     ensures version { VERSION ≡ 2 }
     ensures rooms { (LINE_ROOM ≡ 514) × (TEXT_ROOM ≡ 1024) }

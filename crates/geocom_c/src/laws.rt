@@ -3,17 +3,17 @@
 ghost use Rattle.geocom_c.specs.FieldWitness.{SomeCallsAreInField};
 ghost use Rattle.geocom_c.specs.Laws.{AnswersAreTheirOwn, CallsAreEvents, CallsAreSafe, FewKilledMayBegin, SimulatorsAnswersAreTheirOwn, SimulatorsCallsAreSafe};
 
-/// Any calls on a state are one list of events: the null procedures of a beginning and the lines that come to it, and, once the
-/// client has begun, its steps: a send whose parameters are a call's, each line that bytes end, a moment, a restart. No step
+/// Any calls on a state are one list of events: the null procedures of a synchronization and the lines that arrive during it,
+/// and then the client's steps: a send whose parameters are a call's, each line that bytes end, a time, a restart. No step
 /// comes before the eighth answer. What `follow` reaches is what the client's rule makes of these steps.
 pub fn calls_are_events()
     ensures { CallsAreEvents }
 {}
 
-/// For any instrument, which may start anew and change by itself at any time, and over any number of connections: each answer
-/// that the library books was made by the instrument on executing that very request, from the first one on. The library
-/// settles what the client of the field settles, and comes to the same state. When the client was made, anything may have been
-/// under way, but for the ids 6 5 4 3 2 1 0 7 in this order. What is sent has to be safe (`calls_are_safe`).
+/// For any instrument, which may restart and change by itself at any time, and over any number of connections: each answer that
+/// the library books was made by the instrument on executing that very request, from the first one on. The library settles what
+/// the client of the field settles, and reaches the same state. When the client was made, anything may have been in flight,
+/// except the ids 6 5 4 3 2 1 0 7 in this order. What is sent has to be safe (`calls_are_safe`).
 pub fn answers_are_their_own<State>()
     ensures { AnswersAreTheirOwn State }
 {}
@@ -23,9 +23,9 @@ pub fn simulators_answers_are_their_own()
     ensures { SimulatorsAnswersAreTheirOwn }
 {}
 
-/// What is sent is safe where a request that is no call of the table is to the instrument as all others, and where no call asks for such a
-/// procedure. It is also safe where each command goes out behind the table: one of the seven requests before it is a call of the table that
-/// a reply ended.
+/// What is sent is safe if the instrument treats a raw request as any other, and if no call asks for such a procedure. It is
+/// also safe if each command follows the table closely: one of the seven requests before it is a call of the table that a reply
+/// ended.
 pub fn calls_are_safe<State>()
     ensures { CallsAreSafe State }
 {}
@@ -35,9 +35,9 @@ pub fn simulators_calls_are_safe()
     ensures { SimulatorsCallsAreSafe }
 {}
 
-/// Clients follow each other over one line, and each may end at any moment. Where the first finds nothing under way, or what a
-/// client that had begun may leave, the ids 6 5 4 3 2 1 0 7 are never under way in this order when the next one begins, as long
-/// as fewer than six in a row end while they begin.
+/// Clients follow each other over one line, and each may end at any time. If the first finds nothing in flight, or what a
+/// client that had synchronized may leave, the ids 6 5 4 3 2 1 0 7 are never in flight in this order when the next one begins,
+/// as long as fewer than six in a row end while they synchronize.
 pub fn few_killed_may_begin<State>()
     ensures { FewKilledMayBegin State }
 {}
