@@ -3,7 +3,6 @@
 import collections
 import csv
 import io
-import itertools
 import re
 from pathlib import Path
 
@@ -52,12 +51,19 @@ def rows_of(written):
 
 
 def counts_of(rows):
-    """The last line of a run with these rows: how the commands of cycles ended, each in its last attempt, and how many times a chain
-    went out again. The rows of an attempt stand directly in front of those of the next."""
-    rows = [row for row in rows if row["cycle"] != "0"]
-    last = {(row["cycle"], row["place"]): row["outcome"] for row in rows}
-    again = sum(int(row["attempt"]) == int(before["attempt"]) + 1 for before, row in itertools.pairwise(rows))
-    return counts_line(**collections.Counter(last.values()), again=again)
+    """The last line of a run with these rows: how the commands of cycles ended, each in the last attempt of its chain, and how many times
+    a chain was sent again. The rows of an attempt directly follow those of the one before, and begin with the chain's first place."""
+    kept, again, last = [], 0, None
+    for row in rows:
+        if row["cycle"] == "0":
+            continue
+        if last and int(row["attempt"]) == int(last["attempt"]) + 1:
+            again += 1
+            while kept and kept[-1]["cycle"] == row["cycle"] and int(kept[-1]["place"]) >= int(row["place"]):
+                kept.pop()
+        kept.append(row)
+        last = row
+    return counts_line(**collections.Counter(row["outcome"] for row in kept), again=again)
 
 
 def utc_of(row):

@@ -1,4 +1,4 @@
-"""The test suite of docs/INSTRUMENT.md, "Your own test suite", as it stands there."""
+"""The test suite of docs/SIMULATOR.md, "Your own test suite", as it stands there."""
 
 import os
 import re
@@ -10,7 +10,7 @@ import pytest
 from lining import BAD_LINE
 from programs import Run, ended, free_port
 
-PAGE = Path(__file__).resolve().parents[3] / "docs" / "INSTRUMENT.md"
+PAGE = Path(__file__).resolve().parents[3] / "docs" / "SIMULATOR.md"
 # A word of a scene for each test that wants one.
 WANTED = {"a_distance": "", "a_vanished_prism": "blocked 1 2 3\n", "a_slow_pointing": "", "a_bad_line": ""}
 

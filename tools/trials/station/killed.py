@@ -8,7 +8,7 @@ line was made. An answered row is right only if that was one of its very request
 are those of the places from 0 on, answered, late or lost. The seed decides what is drawn; the machine decides the moments.
 
 *Counted apart* is a run at whose first connection the ids under way, replies in order and then requests, had 6 5 4 3 2 1 0 7 among
-them in this order: it is outside the premises (docs/PROMISE.md), and its rows aren't judged. Where any other run begins anew the word
+them in this order: it is outside the premises (docs/GUARANTEE.md), and its rows aren't judged. Where any other run begins anew the word
 isn't under way: that is judged.
 """
 
