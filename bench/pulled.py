@@ -1,4 +1,4 @@
-"""Measures what `docs/STATION.md` says of a line that is pulled for a minute: how many of 24 cycles of five seconds it costs.
+"""Measures what `docs/BENCHMARKS.md` says of a line that is pulled for a minute: how many of 24 cycles of five seconds it costs.
 
     pulled.py GEOCOM
 

@@ -1,4 +1,4 @@
-"""Measures what `docs/STATION.md` says of a slow line: how long twenty commands take where lines are lost, and how long sixty
+"""Measures what `docs/BENCHMARKS.md` says of a slow line: how long twenty commands take where lines are lost, and how long sixty
 plain readings take by the width, from the first command's request to the last row.
 
     station.py GEOCOM

@@ -1,4 +1,4 @@
-"""What a station's rows are, as `docs/PROTOCOL.md`, "Rows", has them: their columns, how moments are read and written, and how the
+"""What a station's rows are, as `docs/FORMATS.md`, "Rows", has them: their columns, how moments are read and written, and how the
 lines of both forms are read: those of a table, with or without `--columns`, and the objects of `--json`.
 """
 

@@ -1,6 +1,6 @@
 """From readings in two faces to coordinates: the text of a site, pairs of readings, and what they come to.
 
-All angles are radians, lengths metres, and numbers exact decimals (`angles.py`). The rules stand in `docs/RECORDS.md`, "Reductions".
+All angles are radians, lengths metres, and numbers exact decimals (`angles.py`). The rules are in `docs/INTEGRATION.md`, "Reductions".
 """
 
 import itertools

@@ -11,5 +11,5 @@ for page in '1 geocom' '1 geocom-station' '5 geocom-schedule'; do
     grep -q '^EXAMPLES' /tmp/page
 done
 rm /tmp/page
-grep -q '^## The station.s promise' ../PROMISE.md
+grep -q '^## Premises' ../GUARANTEE.md
 man -f geocom >/dev/null
