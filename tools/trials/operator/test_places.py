@@ -10,7 +10,7 @@ from programs import Run, ended, free_port
 
 NO_PLACES = ["0", "65536", "word", ":4001", "host:0", "host:", "[fd00::5", "fd00::5", "[]:1", "[127.0.0.1]:1", "tcp://host:1"]
 NO_PLACE = "error: a place is a port from 1 to 65535, HOST:PORT, [ADDRESS]:PORT, or the path of a device, which has a /"
-NOT_SERVED = "error: a simulator is served on a port of 127.0.0.1, from 1 to 65535, or on the path of a device, which has a /"
+NOT_SERVED = "a simulator is served on a port of 127.0.0.1, from 1 to 65535, on the path of a device, which has a /, or with --any-address at HOST:PORT"
 
 
 @pytest.mark.title("places, {command} {place}")
