@@ -33,22 +33,23 @@ VALUES = {"11": ("5003", "123456"), "12": ("5004", '"GEOCOM SIM"'), "13": ("110"
           "16": ("2009", "0.0,0.0,0.0,0.0"), "17": ("108", "15"), "18": ("2107 0", "0.0,0.0")}
 TEXT = "".join(f"{target} {command}\n" for target, (command, _) in VALUES.items())
 ROUGH = "delay 1 40\nlose 3\nrepeat 3\nlate 2 200 900\nclose 0.4\nrefuse 50 300\nkeep 30 50 400\n"
-WIDTHS, CYCLES = (1, 2, 3, 7), 200
+WIDTHS, CYCLES = (1, 2, 3, 7), 150
 
 
 @contextmanager
 def simulator(line=None, seed=0):
     """The port of a simulator, behind a bad line if one is given."""
+    quiet = {"stdout": subprocess.DEVNULL, "stderr": subprocess.DEVNULL}
     port, running = free_port(), []
     with tempfile.TemporaryDirectory() as folder:
-        running.append(subprocess.Popen([sys.argv[1], "serve", str(port), "--keep"], stderr=subprocess.DEVNULL))
-        until(lambda: is_listening(port), "the simulator doesn't listen")
-        if line:
-            far, port = port, free_port()
-            Path(folder, "line").write_text(line, encoding="ascii")
-            running.append(subprocess.Popen([BAD_LINE, str(port), str(far), "--line", f"{folder}/line", "--seed", str(seed)], stderr=subprocess.DEVNULL))
-            until(lambda: is_listening(port), "the line doesn't listen")
         try:
+            running.append(subprocess.Popen([sys.argv[1], "serve", str(port), "--keep"], **quiet))
+            until(lambda: is_listening(port), "the simulator doesn't listen", 30)
+            if line:
+                far, port = port, free_port()
+                Path(folder, "line").write_text(line, encoding="ascii")
+                running.append(subprocess.Popen([BAD_LINE, str(port), str(far), "--line", f"{folder}/line", "--seed", str(seed)], **quiet))
+                until(lambda: is_listening(port), "the line doesn't listen", 30)
             yield port
         finally:
             for each in running:
@@ -75,7 +76,7 @@ def starts():
 
 
 def distant_start():
-    with simulator("delay 250\n") as port:
+    with simulator("delay 250 250\n") as port:
         print(f"distant start: {first_row(port):.2f} s")
 
 
