@@ -6,7 +6,6 @@ set -eu
 cd "$(dirname "$0")"
 . ./built.sh
 . ./instructions.sh
-geocom=../crates/geocom/out/geocom
 work=$(mktemp -d)
 trap 'rm -rf "$work"' EXIT
 

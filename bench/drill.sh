@@ -5,7 +5,6 @@ set -eu
 cd "$(dirname "$0")"
 . ./built.sh
 . ./instructions.sh
-program=../crates/geocom/out/geocom
 folder=$(mktemp -d)
 trap 'rm -rf "$folder"' EXIT
 
@@ -14,8 +13,8 @@ built geocom drill
 for bytes in 30000 60000; do
     python3 schedule.py "$bytes" >"$folder/$bytes"
 done
-short=$(instructions "$program" drill <"$folder/30000")
-long=$(instructions "$program" drill <"$folder/60000")
+short=$(instructions "$geocom" drill <"$folder/30000")
+long=$(instructions "$geocom" drill <"$folder/60000")
 events=$(($(wc -l <"$folder/60000") - $(wc -l <"$folder/30000")))
 echo "| $(wc -l <"$folder/60000") events | $((long)) instructions | $(((long - short) / events)) for an event |"
-time "$program" drill <"$folder/60000" >/dev/null
+time "$geocom" drill <"$folder/60000" >/dev/null

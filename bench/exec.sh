@@ -5,7 +5,6 @@ set -eu
 cd "$(dirname "$0")"
 . ./built.sh
 . ./instructions.sh
-geocom=../crates/geocom/out/geocom
 work=$(mktemp -d)
 trap 'rm -rf "$work"' EXIT
 

@@ -4,7 +4,6 @@
 set -eu
 cd "$(dirname "$0")"
 . ./built.sh
-geocom=../crates/geocom/out/geocom
 work=$(mktemp -d)
 trap 'rm -rf "$work"' EXIT
 count=9000

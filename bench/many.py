@@ -15,7 +15,7 @@ import sys
 
 sys.dont_write_bytecode = True
 TOOLS = os.path.join(os.path.dirname(os.path.realpath(__file__)), "../tools")
-# In place of this folder, whose `random.py` is another than python's.
+# The parts of the scripts in tools/.
 sys.path[:1] = [TOOLS, f"{TOOLS}/trials"]
 
 import csv

@@ -5,7 +5,6 @@ set -eu
 cd "$(dirname "$0")"
 . ./built.sh
 . ./instructions.sh
-parts=../crates/gc_bench/out/gc_bench
 count=1000
 
 built gc_bench read 1

@@ -15,7 +15,7 @@ import time
 
 sys.dont_write_bytecode = True
 TOOLS = os.path.join(os.path.dirname(os.path.abspath(__file__)), "../tools")
-# In place of this folder, whose `random.py` is another than python's.
+# The parts of the scripts in tools/.
 sys.path[:1] = [TOOLS, f"{TOOLS}/trials"]
 
 from far_end import LOSES, good, standing

@@ -2,6 +2,7 @@
 """Refuses each allocation of a run in turn, until a run meets none, and stops where a run ends otherwise than it may.
 
 refused.py REFUSE.so GC_EXAMPLES GEOCOM FOLDER
+refused.py REFUSE.so GEOCOM        a run of `geocom exec` alone
 
 A run of all examples (`gc_examples once`) may give another line than with ample memory for one of them: that it found no
 memory and sent and wrote nothing, or that a port of the tests couldn't store. Or it ends before its next example, where a
@@ -159,6 +160,11 @@ def tell(name, counts):
 
 
 def main():
+    if len(sys.argv) == 3:
+        library, geocom = map(os.path.abspath, sys.argv[1:])
+        counts = program(library, [geocom, "exec"], b"%R1Q,5003,2:\r\n", b"%R1P,0,2:0,123456\r\n")
+        print(f"exec: {counts.total()} allocations; refused in turn: {counts[True]} fault 52, {counts[False]} all of its output")
+        return
     library, gc_examples, geocom, folder = map(os.path.abspath, sys.argv[1:])
     examples(library, folder, gc_examples)
     for name, words, text, expected in runs(geocom, folder):

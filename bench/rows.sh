@@ -6,7 +6,6 @@
 set -eu
 cd "$(dirname "$0")"
 . ./built.sh
-rows=../crates/gc_bench/out/gc_bench
 work=$(mktemp -d -p "${1:-/var/tmp}")
 trap 'rm -rf "$work"' EXIT
 
@@ -32,7 +31,7 @@ measure() {
     }
 }
 
-measure 'gc_files' 200000 "$rows" rows 200000 "$work/rows"
+measure 'gc_files' 200000 "$parts" rows 200000 "$work/rows"
 measure 'C program' 200000 "$work/appends" 200000 "$work/rows"
-measure 'gc_files, synced' 1000 "$rows" rows-sync 1000 "$work/rows"
+measure 'gc_files, synced' 1000 "$parts" rows-sync 1000 "$work/rows"
 measure 'C program, synced' 1000 "$work/appends" 1000 "$work/rows" sync

@@ -26,7 +26,7 @@ same() {
 for stream in ../examples/*.requests; do same "$stream" exec; done
 for schedule in ../examples/*.schedule; do same "$schedule" drill --totals; done
 for seed in 1 2 3 4; do
-    python3 random.py 250000 "$seed" >"$work/stream"
+    python3 random_lines.py 250000 "$seed" >"$work/stream"
     same "$work/stream" exec
     echo "seed $seed: $(wc -l <"$work/stream") lines, $(wc -l <"$work/after.out") replies, the same"
 done

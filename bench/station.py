@@ -11,7 +11,7 @@ import os
 import sys
 
 sys.dont_write_bytecode = True
-# In place of this folder, whose `random.py` is another than python's.
+# The parts of the scripts in tools/.
 sys.path[0] = os.path.join(os.path.dirname(os.path.realpath(__file__)), "../tools")
 
 import asyncio

@@ -1,7 +1,7 @@
-"""The test suite of docs/SIMULATOR.md, "Your own test suite", as it stands there."""
+"""The test suite of docs/SIMULATOR.md, "Your own test suite", which is in packaging/suite."""
 
 import os
-import re
+import shutil
 import sys
 from pathlib import Path
 
@@ -10,18 +10,16 @@ import pytest
 from lining import BAD_LINE
 from programs import Run, ended, free_port
 
-PAGE = Path(__file__).resolve().parents[3] / "docs" / "SIMULATOR.md"
+SUITE = Path(__file__).resolve().parents[3] / "packaging" / "suite"
 # A word of a scene for each test that wants one.
 WANTED = {"a_distance": "", "a_vanished_prism": "blocked 1 2 3\n", "a_slow_pointing": "", "a_bad_line": ""}
 
 
 @pytest.fixture
 def suite(program, folder):
-    """A folder with the files of the page, and the programs beside them."""
-    _, section = PAGE.read_text(encoding="utf-8").split("## Your own test suite")
-    monitor, tests = re.findall(r"```python\n(.*?)```", section, re.S)
-    (folder / "monitor.py").write_text(monitor, encoding="utf-8")
-    (folder / "test_monitor.py").write_text(tests, encoding="utf-8")
+    """A folder with the suite's files, and the programs beside them."""
+    for name in ("monitor.py", "test_monitor.py"):
+        shutil.copy(SUITE / name, folder)
     (folder / "geocom").symlink_to(program)
     (folder / "geocom-bad-line").symlink_to(BAD_LINE)
     return folder

@@ -1,6 +1,6 @@
 #!/usr/bin/env python3
 """Request lines by a seed, the same each time: right ones, and ones with every fault that a line can have.
-Usage: random.py LINES SEED"""
+Usage: random_lines.py LINES SEED"""
 import random
 import sys
 
