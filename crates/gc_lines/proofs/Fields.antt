@@ -21,7 +21,7 @@ two false b e = (cc)
 
 -- the signature
 
--- what is read behind a signature stands behind it
+-- what is read after a signature follows it
 signature_found : (signature line rest : List ℕ) → signature_at signature line ≡ Ok rest → line ≡ signature ++ rest
 signature_found signature line rest e =
     let n = length signature in
@@ -29,7 +29,7 @@ signature_found signature line rest e =
     let front : take n line ≡ signature = (bytes_decides (take n line) signature).0 g.0 in
     sym (take-append-drop n line) ∙ ap (λ f. f ++ drop n line) front ∙ ap (λ t. signature ++ t) g.1
 
--- what stands behind a signature is read
+-- what follows a signature is read
 signature_again : (signature line rest : List ℕ) → line ≡ signature ++ rest → signature_at signature line ≡ Ok rest
 signature_again signature line rest e =
     let front : take (length signature) line ≡ signature = ap (λ l. take (length signature) l) e ∙ take_at signature rest (length signature) refl in
@@ -96,7 +96,7 @@ number_reads f = record {
 
 -- the id
 
--- where no comma stands first, no id stands there
+-- where no comma comes first, no id is there
 id_none : (bytes : List ℕ) → eqb (get_or bytes 0 0) 44 ≡ false → HasId bytes None bytes
 id_none bytes e = record {
   below = tt;
@@ -104,7 +104,7 @@ id_none bytes e = record {
   ends = λ after same. let t = eq-eqb (get_or bytes 0 0) 44 (ap (λ b. get_or b 0 0) same) in (cc);
 }
 
--- what is read behind a comma as an id has the form of one
+-- what is read after a comma as an id has the form of one
 id_some : (b : ℕ) (bs : List ℕ) (x : Option ℕ × List ℕ) → cond (eqb (digits_len (b ∷ bs)) 1 && ltb b 56) (Ok (Some (b - 48), bs)) (Err Id) ≡ Ok x → HasId (44 ∷ b ∷ bs) x.0 x.1
 id_some b bs x e =
     let g = guard_ok _ (Some (b - 48), bs) x Id e in
@@ -126,7 +126,7 @@ id_found (a ∷ bs) x e = elim (eqb a 44) as (λ v. eqb a 44 ≡ v → cond v
       | true ↦ λ t f. subst (λ (n : ℕ). HasId (n ∷ bs) x.0 x.1) (sym (eqb-true a 44 t)) (id_after bs x f)
       | false ↦ λ t f. let same : (let p : Option ℕ × List ℕ = (None, a ∷ bs) in p) ≡ x = cc in subst (λ (p : Option ℕ × List ℕ). HasId (a ∷ bs) p.0 p.1) same (id_none (a ∷ bs) t)
     ] refl e where
-      -- what is read behind a comma as an id has the form of one, also where no byte stands there
+      -- what is read after a comma as an id has the form of one, also where no byte is there
       id_after : (bs : List ℕ) (x : Option ℕ × List ℕ) → cond (eqb (digits_len bs) 1 && ltb (get_or bs 0 0) 56) (Ok (Some (get_or bs 0 0 - 48), drop 1 bs)) (Err Id) ≡ Ok x → HasId (44 ∷ bs) x.0 x.1
       id_after [] x f = (cc)
       id_after (b ∷ cs) x f = id_some b cs x f
@@ -168,7 +168,7 @@ id_reads = record { found = id_found; again = id_again; named = id_named }
 
 -- the colon
 
--- what is read behind a colon stands behind it
+-- what is read after a colon follows it
 colon_found : (bytes rest : List ℕ) → colon_at bytes ≡ Ok rest → bytes ≡ 58 ∷ rest
 colon_found [] rest e = (cc)
 colon_found (a ∷ bs) rest e = let g = guard_ok (eqb a 58) bs rest Colon e in (let t = eqb-true a 58 g.0 in cc)

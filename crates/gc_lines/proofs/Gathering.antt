@@ -1,4 +1,4 @@
--- Texts that wait for one another: how one more joins them, how they go out, and which part of them went out.
+-- Texts that wait for one another: how one more joins them, how they are sent, and which part of them went out.
 use Rattle.std.proofs.Common.{◌≡◌, ℕ, ◌+◌, ◌-◌, ◌<◌, ◌≤◌, Bool, true, false, List, [], ◌∷◌, ◌++◌, length, take, map, Option, Some, None, nat_lt, cond, suc, refl, sym, ap, ◌∙◌, subst, arith, append_assoc, length-append}
 use Rattle.std.specs.Option.{option_to_list}
 use Rattle.std.specs.Io.KnownBytes.{Appends}
@@ -247,7 +247,8 @@ gathering_part rule from to seen text lengths after total bytes n g took counts 
 lt_is : (m n : ℕ) → m < n → nat_lt m n ≡ true
 lt_is m n e = grind (arith, nat_tests)
 
--- a frame's text joins those that wait, and then a part of them goes out: frames were answered up to one whose text went out in part
+-- a frame's text joins those that wait, and then a part of them is sent: frames were answered up to one whose text went out
+-- in part
 pub answered_part : {State : Type 0} (rule : AnswerRule State) (from to last : Progress State) (seen : List Frame) (frame : Frame)
     (text lengths more text' lengths' : List ℕ) (bytes n : ℕ) (gathers : Bool)
     → (gathers ≡ false → lengths ≡ []) → rule to.state frame last.state (Some more) → Gathering rule from to seen text lengths
@@ -274,7 +275,8 @@ answered_part rule from to last seen frame text lengths more text' lengths' byte
       alone = λ _. refl;
     }
 
--- where a part of the texts that wait at the end of a piece goes out, frames were answered up to one whose text went out in part
+-- where a part of the texts that wait at the end of a piece is sent, frames were answered up to one whose text went out in
+-- part
 pub rest_part : {State : Type 0} (rule : AnswerRule State) (from to : Progress State) (seen : List Frame) (text lengths : List ℕ) (after : Option (List ℕ)) (total bytes n : ℕ) (gathers : Bool)
     → (gathers ≡ false → lengths ≡ []) → Gathering rule from to seen text lengths
     → TakesFront to.taken after n text → (total, bytes) ≡ parted to.whole n lengths → GathersPart rule from (record { state = to.state; taken = after; whole = total }) seen bytes gathers

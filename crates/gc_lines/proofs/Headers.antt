@@ -21,7 +21,7 @@ after_number : (id : Option ℕ) (rest : List ℕ) → NoDigitFirst (id_text id 
 after_number None rest = refl
 after_number (Some i) rest = refl
 
--- a header's id ends in front of the colon
+-- a header's id ends before the colon
 after_id : (id : Option ℕ) (rest : List ℕ) → EndsId id (58 ∷ rest)
 after_id None rest = λ after e. let t = eq-eqb 58 44 (ap (λ b. get_or b 0 0) e) in (cc)
 after_id (Some i) rest = refl
@@ -48,29 +48,29 @@ past_colon signature line h is = record {
   here = refl;
 }
 
--- what `header_at` reads behind the id: the colon
+-- what `header_at` reads after the id: the colon
 abbrev rest_of_colon : ℕ → Option ℕ → List ℕ → Result HeaderFields LineFault
 rest_of_colon number id bytes = colon_at bytes >>= λ rest. Ok (record { number = number; id = id; rest = rest })
 
--- what `header_at` reads behind the number: the id, and what follows
+-- what `header_at` reads after the number: the id, and what follows
 abbrev rest_of_id : ℕ → List ℕ → Result HeaderFields LineFault
 rest_of_id number bytes = id_at bytes >>= λ id. rest_of_colon number id.0 id.1
 
--- what `header_at` reads behind the signature: the number, and what follows
+-- what `header_at` reads after the signature: the number, and what follows
 abbrev rest_of_number : List ℕ → Result HeaderFields LineFault
 rest_of_number bytes = number_at Number bytes >>= λ number. rest_of_id number.0 number.1
 
--- where the signature has its form, reading goes on behind it
+-- where the signature has its form, reading goes on after it
 on_signature : (signature line rest : List ℕ) → PastSignature signature line rest → header_at signature line ≡ rest_of_number rest
 unfolding header_at
 on_signature signature line rest past = bind_on (signature_at signature line) _ rest ((signature_reads signature).again line rest past)
 
--- where the fields through the number have their form, reading goes on behind them
+-- where the fields through the number have their form, reading goes on after them
 on_number : (signature line rest : List ℕ) (past : PastNumber signature line rest) → header_at signature line ≡ rest_of_id past.number rest
 on_number signature line rest past = on_signature signature line past.from past.before
     ∙ bind_on (number_at Number past.from) (λ number. rest_of_id number.0 number.1) (past.number, rest) ((number_reads Number).again past.from (past.number, rest) past.here)
 
--- where the fields through the id have their form, reading goes on behind them
+-- where the fields through the id have their form, reading goes on after them
 on_id : (signature line rest : List ℕ) (past : PastId signature line rest) → header_at signature line ≡ rest_of_colon past.before.number past.id rest
 on_id signature line rest past = on_number signature line past.from past.before
     ∙ bind_on (id_at past.from) (λ id. rest_of_colon past.before.number id.0 id.1) (past.id, rest) (id_reads.again past.from (past.id, rest) past.here)

@@ -13,11 +13,12 @@ use Rattle.gc_lines.proofs.Cutting.{cut_none, cut_some, pieces-append, rest-appe
 use Rattle.gc_lines.proofs.Gathering.{gathering_start}
 use Rattle.gc_lines.proofs.InOrder.{all_none, part_before}
 
--- with one more piece, a stream's frames are those that it had, and then those that the piece completes behind the stream's rest
+-- with one more piece, a stream's frames are those that it had, and then those that the piece completes after the stream's
+-- rest
 pub frames-append : (given piece : List ℕ) → frames (given ++ piece) ≡ frames given ++ frames_behind (rest_behind [] given) piece
 frames-append given piece = ap (λ ps. map frame_of ps) (pieces-append [] given piece) ∙ map-append frame_of (pieces_behind [] given) (pieces_behind (rest_behind [] given) piece)
 
--- with one more piece, a stream's rest is that of the piece behind the rest that it had
+-- with one more piece, a stream's rest is that of the piece after the rest that it had
 pub rest_behind-append : (given piece : List ℕ) → rest_behind [] (given ++ piece) ≡ rest_behind (rest_behind [] given) piece
 rest_behind-append given piece = rest-append [] given piece
 
@@ -76,7 +77,7 @@ takes rest left used frame kept more whole = elim (position is_line_feed left) a
   | Some at ↦ λ e. let m = whole at e in takes_some rest left at used frame kept e m.0 m.1 m.2
 ] refl
 
--- some frames of a piece behind `rest` were answered, and some of their texts wait; `left` is what is left of the piece
+-- some frames of a piece after `rest` were answered, and some of their texts wait; `left` is what is left of the piece
 pub record Going {State : Type 0} (rule : AnswerRule State) (rest piece left : List ℕ) (kept : Kept) (from to : Progress State) (text lengths : List ℕ) : Type 0 where
   pub now : List ℕ
   pub answered : List Frame

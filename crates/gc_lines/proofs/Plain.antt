@@ -21,7 +21,7 @@ use Rattle.gc_lines.proofs.Keeping.{line_frame, last-append}
 abbrev Plain : ℕ → Type 0
 Plain b = (b ≢ 10) × (b ≢ 13)
 
--- plain bytes behind plain bytes are plain
+-- plain bytes after plain bytes are plain
 joined : (xs ys : List ℕ) → IsPlain xs → IsPlain ys → IsPlain (xs ++ ys)
 joined xs ys = All-append Plain xs ys
 
@@ -45,11 +45,11 @@ id_plain : (id : Option ℕ) → IsPlain (id_text id)
 id_plain None = All-from_recursion Plain [] tt
 id_plain (Some i) = All-from_recursion Plain (44 ∷ (48 + i) ∷ []) (above 44 (omega arith), (above (48 + i) (omega arith), tt))
 
--- plain bytes behind a colon are plain with it
+-- plain bytes after a colon are plain with it
 colon_plain : (xs : List ℕ) → IsPlain xs → IsPlain (58 ∷ xs)
 colon_plain xs h = joined (58 ∷ []) xs (All-from_recursion Plain (58 ∷ []) (above 58 (omega arith), tt)) h
 
--- plain parameters are plain with the comma that a reply has in front of them
+-- plain parameters are plain with the comma that a reply has before them
 params_plain : (params : List ℕ) → IsPlain params → IsPlain (params_text params)
 params_plain [] h = h
 params_plain (b ∷ bs) h = joined (44 ∷ []) (b ∷ bs) (All-from_recursion Plain (44 ∷ []) (above 44 (omega arith), tt)) h

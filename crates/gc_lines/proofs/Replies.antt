@@ -13,7 +13,7 @@ use Rattle.gc_lines.proofs.Headers.{header_found, header_again, ReadsBody, line_
 
 -- the parameters
 
--- what is read behind a return code has the form of a reply's end
+-- what is read after a return code has the form of a reply's end
 params_found : (bytes params : List ℕ) → params_at bytes ≡ Ok params → EndsCode bytes params
 params_found [] params e = inl (refl, cc)
 params_found (b ∷ bs) params e = let g = guard_ok (eqb b 44) bs params Code e in let t = eqb-true b 44 g.0 in inr (cc)
@@ -72,11 +72,11 @@ code_reads = record { found = code_found; again = code_again; named = code_named
 abbrev fields : HeaderFields → ℕ × List ℕ → ReplyFields
 fields h code = record { rc_com = h.number; id = h.id; rc = code.0; params = code.1 }
 
--- what `reply_at` reads behind a header
+-- what `reply_at` reads after a header
 abbrev body : HeaderFields → Result ReplyFields LineFault
 body h = code_at h.rest >>= λ code. Ok (fields h code)
 
--- what may stand behind a reply's colon
+-- what may follow a reply's colon
 abbrev Body : List ℕ → Type 0
 Body bytes = (rc : ℕ) × (params : List ℕ) × HasCode bytes rc params
 

@@ -6,7 +6,7 @@ use Rattle.gc_lines.specs.Readers.{HeaderFields, header_at, request_at}
 use Rattle.gc_lines.proofs.Reading.{ReadsLines, bind_ok, bind_on}
 use Rattle.gc_lines.proofs.Headers.{header_found, header_again, ReadsBody, line_fault, line_bad}
 
--- what `request_at` reads behind a header: any bytes
+-- what `request_at` reads after a header: any bytes
 abbrev body : HeaderFields → Result RequestFields LineFault
 body h = Ok (record { rpc = h.number; id = h.id; params = h.rest })
 

@@ -41,7 +41,7 @@ params_end : (params : List ℕ) → EndsCode (params_text params) params
 params_end [] = inl (refl, refl)
 params_end (b ∷ bs) = inr refl
 
--- a written reply ends behind its return code exactly where it has no parameters
+-- a written reply ends after its return code exactly where it has no parameters
 params_comma : (params : List ℕ) → (params_text params ≡ []) ↔ (params ≡ [])
 params_comma [] = (λ e. refl, λ e. refl)
 params_comma (b ∷ bs) = (λ e. (cc), λ e. (cc))
