@@ -67,7 +67,7 @@ marked capital bs =
       | inl short ↦ inl (Some (record { capital = capital; sign = cut.2.sign; digits = cut.1 }), short, ap (λ xs. mark capital ∷ xs) cut.2.text_is)
       | inr other ↦ inr (none other)
     ] where
-      -- where the bytes behind the mark and a sign aren't one to three digits, the text is no exponent
+      -- where the bytes after the mark and a sign aren't one to three digits, the text is no exponent
       none : (IsShort (sign_cut bs).1 → ⊥) → ExponentOf (mark capital ∷ bs) → ⊥
       none other (None, form, is) = absurd (cc)
       none other (Some e, form, is) = let cut = sign_cut bs in other (subst IsShort (sym (same_digits capital bs cut.0 cut.1 cut.2 e form is)) form)

@@ -93,7 +93,7 @@ end_or_not (b ∷ c ∷ rest) = elim (end_or_not (c ∷ rest)) [
   | inr none ↦ inr (λ h. none (end_behind b c rest h))
 ]
 
--- a byte may stand in a string, or may not
+-- a byte is allowed in a string, or isn't
 string_byte_or_not : (b : ℕ) → Decided (IsStringByte b)
 string_byte_or_not b = elim (cases_eq b 34) [
   | inl quote ↦ inr (λ h. h.0 quote)
@@ -106,7 +106,7 @@ string_byte_or_not b = elim (cases_eq b 34) [
   ]
 ]
 
--- bytes may all stand in a string, or not
+-- bytes are all allowed in a string, or not
 string_bytes_or_not : (bytes : List ℕ) → Decided (AreStringBytes bytes)
 string_bytes_or_not [] = inl tt
 string_bytes_or_not (b ∷ bs) = elim (string_byte_or_not b) [
@@ -221,7 +221,7 @@ spaces_or_not (b ∷ bs) = elim (cases_eq b 32) [
   first b bs other (zero, is) = absurd (cc)
   first b bs other (suc n, is) = other (let same : b ≡ 32 = cc in same)
 
-  -- where the bytes behind the first one aren't spaces alone, neither are all of them
+  -- where the bytes after the first one aren't spaces alone, neither are all of them
   rest : (b : ℕ) (bs : List ℕ) → (AreSpaces bs → ⊥) → AreSpaces (b ∷ bs) → ⊥
   rest b bs none (zero, is) = absurd (cc)
   rest b bs none (suc n, is) = none (n, let same : bs ≡ replicate n 32 = cc in same)

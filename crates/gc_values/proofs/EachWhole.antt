@@ -41,7 +41,7 @@ digits_cut (b ∷ bs) = elim (digit_or_not b) [
       (b ∷ more.0, more.1, record { text_is = ap (λ xs. b ∷ xs) more.2.text_is; digits = (digit, more.2.digits); longest = more.2.longest })
 ]
 
--- each text is cut into a sign, where one stands first, and a rest
+-- each text is cut into a sign, where one comes first, and a rest
 pub sign_cut : (text : List ℕ) → (negative : Bool) × (rest : List ℕ) × CutsSign text negative rest
 sign_cut [] = (false, [], record { sign = Absent; text_is = refl; negative_is = refl; first = λ _. tt })
 sign_cut (b ∷ bs) = elim (cases_eq b 43) [

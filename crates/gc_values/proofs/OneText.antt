@@ -1,6 +1,6 @@
--- One text has the form of a written number and names it. A whole part is the digits in front of a point, or of a whole number; a
--- fraction part is the digits behind the point. `Holds` says of a text that it is what is written of some digits and places, as a
--- decimal has them.
+-- One text has the form of a written number and names it. A whole part is the digits before a point, or of a whole number; a
+-- fraction part is the digits after the point. `Holds` says of a text that it is what is written of some digits and places,
+-- as a decimal has them.
 use Rattle.std.proofs.Common.{◌≡◌, ◌≢◌, ◌↔◌, ℕ, zero, suc, ◌+◌, ◌-◌, ◌*◌, ◌/◌, ◌%◌, ◌^◌, ◌<◌, ◌≤◌, Bool, true, false, cond, get_or, ℤ, pos, negsuc, List, [], ◌∷◌, ◌++◌, length, map, refl, sym, ap, ◌∙◌, subst, inl, inr, arith, lit<, lit≤, length-append}
 use Rattle.std.proofs.Math.Nat.{pow-suc, pos_of_ne-zero, div-one, div-add-mod', mul-pos}
 use Rattle.std.proofs.lemmas.Bool.{cases_order}
@@ -44,7 +44,7 @@ digits_once (x ∷ xs) (y ∷ ys) dx dy long e =
     let first : x ≡ y = let h = both.0 in let a = dx.0 in let b = dy.0 in omega (arith, h, a, b) in
     ap (λ d. d ∷ xs) first ∙ ap (λ ds. y ∷ ds) (digits_once xs ys dx.1 dy.1 few both.1)
 
--- a number r whose first digit, the byte b, isn't 0, and which has k digits behind it, is at least 10^k
+-- a number r whose first digit, the byte b, isn't 0, and which has k digits after it, is at least 10^k
 large : (b k n r : ℕ) → 48 < b → r ≡ (b - 48) * 10 ^ k + n → 10 ^ k ≤ r
 large b k n r above e =
     let back : b - 48 ≡ (b - 49) + 1 = omega arith in
@@ -102,7 +102,7 @@ zero_alone : (rest : List ℕ) → 48 ∷ [] ≡ 48 ∷ rest → rest ≡ []
 zero_alone [] e = refl
 zero_alone (r ∷ rest) e = absurd (let l = ap length e in omega (arith, l))
 
--- what is written in front of the point is a whole part
+-- what is written before the point is a whole part
 pub whole_part : (n : ℕ) → IsWholePart (whole_text n)
 whole_part n =
     let w = writes_whole n in
@@ -155,7 +155,7 @@ whole_text_once z text = (
       is ∙ ap signed_text same,
 )
 
--- the digits in front of the last one, and the last
+-- the digits before the last one, and the last
 record Ends (ds : List ℕ) : Type 0 where
   pub front : List ℕ
   pub last : ℕ
@@ -184,7 +184,7 @@ record Holds (text : List ℕ) : Type 0 where
   pub places : s ≤ 24
   pub text_is : text ≡ written m s
 
--- `Holds` is true of a text of a decimal's form where a / 10^s has the text's digits in front of the point and behind it
+-- `Holds` is true of a text of a decimal's form where a / 10^s has the text's digits before the point and after it
 holds : (text : List ℕ) (f : HasDecimalForm text) (a s : ℕ) → (f.negative ≡ true → 0 < a) → (0 < s → a % 10 ≢ 0) → s ≤ 24 →
     a / 10 ^ s ≡ number f.whole → behind_text s (a % 10 ^ s) ≡ f.fraction → Holds text
 holds text f a s some canonical places front back = record {
@@ -198,13 +198,13 @@ holds text f a s some canonical places front back = record {
       ∙ sym (written-signed f.negative a s some);
 }
 
--- `Holds` is true of a text of a decimal's form with a lone 0 behind the point
+-- `Holds` is true of a text of a decimal's form with a lone 0 after the point
 holds_none : (text : List ℕ) (f : HasDecimalForm text) → f.fraction ≡ 48 ∷ [] → Holds text
 holds_none text f none =
     let all : number (f.whole ++ f.fraction) ≡ number f.whole * 10 = ap (λ ds. number (f.whole ++ ds)) none ∙ omega (arith, number-append f.whole (48 ∷ [])) in
     holds text f (number f.whole) 0 (λ e. let h = f.no_minus_on_zero e in omega (arith, h, all)) (λ h. absurd (omega (arith, h))) (lit≤ tt) (div-one (number f.whole)) (sym none)
 
--- s digits that write n are what is written behind the point for n at s places
+-- s digits that write n are what is written after the point for n at s places
 behind_again : (s n : ℕ) (ds : List ℕ) → AreDigits ds → length ds ≡ s → number ds ≡ n → 0 < s → behind_text s n ≡ ds
 behind_again s n ds digits long is some = elim (eqb_tells s 0) [
   | inl none ↦ let e = none.1 in absurd (omega (arith, e, some))
@@ -218,7 +218,7 @@ behind_again s n ds digits long is some = elim (eqb_tells s 0) [
 mod_is : (a w p f : ℕ) → f < p → a ≡ w * p + f → a % p ≡ f
 mod_is a w p f few e = let d : a / p ≡ w = ap (λ x. x / p) e ∙ div-mul-add w p f few in omega (arith, e, div-add-mod' a p, ap (λ x. x * p) d)
 
--- `Holds` is true of a text of a decimal's form whose digits behind the point don't end in 0
+-- `Holds` is true of a text of a decimal's form whose digits after the point don't end in 0
 holds_some : (text : List ℕ) (f : HasDecimalForm text) → number f.fraction % 10 ≢ 0 → Holds text
 holds_some text f other =
     let p : ℕ = 10 ^ length f.fraction in
@@ -267,7 +267,7 @@ last_part a (suc s) few some other = record {
       absurd (other (let o = last_over a s in omega (arith, last, o)));
 }
 
--- what is written behind the point is a fraction part
+-- what is written after the point is a fraction part
 fraction_part : (a s : ℕ) → s ≤ 24 → (0 < s → a % 10 ≢ 0) → IsFractionPart (behind_text s (a % 10 ^ s))
 fraction_part a s few canonical = elim (eqb_tells s 0) [
   | inl none ↦ subst IsFractionPart (ap (λ b. cond b (48 ∷ []) (last_digits s (a % 10 ^ s))) (sym none.0)) zero_behind
@@ -293,7 +293,7 @@ decimal_form_of negative a s few canonical some = record {
   fraction_is = fraction_part a s few canonical;
   no_minus_on_zero = λ e. above_zero (some e);
 } where
-  -- where a is above 0, so is the number that the digits before and behind the point write
+  -- where a is above 0, so is the number that the digits before and after the point write
   above_zero : 0 < a → 0 < number (whole_text (a / 10 ^ s) ++ behind_text s (a % 10 ^ s))
   above_zero h =
       let b = behind a s in

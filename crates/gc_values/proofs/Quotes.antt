@@ -35,7 +35,7 @@ no_cut : (fs rest : List ℕ) → [] ≡ fs ++ 44 ∷ rest → ⊥
 no_cut [] rest e = cc
 no_cut (f ∷ fs) rest e = cc
 
--- a list and one byte more, cut at a comma: the comma is that byte, or stands before it
+-- a list and one byte more, cut at a comma: the comma is that byte, or is before it
 pub push_cut : (xs front rest : List ℕ) (b : ℕ) → xs ++ b ∷ [] ≡ front ++ 44 ∷ rest → ((b ≡ 44) × (front ≡ xs)) ⊎ ((r : List ℕ) × (xs ≡ front ++ 44 ∷ r))
 push_cut [] [] rest b e = let h : b ≡ 44 = cc in inl (h, refl)
 push_cut [] (f ∷ fs) rest b e = let t : [] ≡ fs ++ 44 ∷ rest = cc in absurd (no_cut fs rest t)
@@ -59,7 +59,7 @@ KeepsCommas-push xs b keeps comma front rest e = elim (push_cut xs front rest b 
   | inr h ↦ keeps front h.0 h.1
 ]
 
--- two cuts of one text at a comma are the same, or the comma of one stands before that of the other
+-- two cuts of one text at a comma are the same, or the comma of one is before that of the other
 pub cuts_compare : (xs ys us vs : List ℕ) → xs ++ 44 ∷ us ≡ ys ++ 44 ∷ vs → ((xs ≡ ys) × (us ≡ vs)) ⊎ (((r : List ℕ) × (xs ≡ ys ++ 44 ∷ r)) ⊎ ((r : List ℕ) × (ys ≡ xs ++ 44 ∷ r)))
 cuts_compare [] [] us vs e = let h : us ≡ vs = cc in inl (refl, h)
 cuts_compare [] (y ∷ ys) us vs e = let h : y ∷ ys ≡ 44 ∷ ys = cc in inr (inr (ys, h))

@@ -1,5 +1,5 @@
--- What a text spells that reads as the parts of a number: whether there is a minus, the digits before the point (`whole`) and
--- behind it (`fraction`), and how often the exponent multiplies (`up`) and divides (`down`) by ten.
+-- What a text spells that reads as the parts of a number: whether there is a minus, the digits before the point (`whole`)
+-- and after it (`fraction`), and how often the exponent multiplies (`up`) and divides (`down`) by ten.
 use Rattle.std.proofs.Common.{◌≡◌, ℕ, ◌+◌, ◌-◌, ◌*◌, ◌^◌, ◌<◌, ◌≤◌, Bool, List, ◌++◌, length, ℤ, unsigned_abs, sym, ap, ◌∙◌, subst, arith}
 use Rattle.std.proofs.Math.Nat.{mul-lt-mul_of_pos_left, lt_of_mul-lt-mul_left}
 use Rattle.std.proofs.lemmas.Nat.{pow-add}
@@ -14,8 +14,8 @@ use Rattle.gc_values.proofs.Rounded.{zeros_off, rounded_from, rounds_to_one}
 use Rattle.gc_values.proofs.Signs.{unsigned_abs-signed}
 use Rattle.gc_values.proofs.Unique.{names_once}
 
--- the fraction that a number's parts stand for, as `cut_numeral` has them: whether there is a minus, the digits before and behind
--- the point, and how often the exponent multiplies and divides by ten
+-- the fraction that a number's parts stand for, as `cut_numeral` has them: whether there is a minus, the digits before and
+-- after the point, and how often the exponent multiplies and divides by ten
 abbrev pub fraction_of : Bool → List ℕ → List ℕ → ℕ → ℕ → Fraction
 fraction_of negative whole fraction up down = record { n = signed negative (number (whole ++ fraction) * 10 ^ up); k = length fraction + down }
 

@@ -44,7 +44,7 @@ bare_above b h = record { space = λ e. omega (arith, e); quote = λ e. omega (a
 bare_quote : IsBare 39
 bare_quote = record { space = λ e. omega (arith, e); quote = λ e. omega (arith, e); comma = λ e. omega (arith, e); cr = λ e. omega (arith, e); lf = λ e. omega (arith, e) }
 
--- bare bytes behind bare bytes are bare
+-- bare bytes after bare bytes are bare
 pub AreBare-append : (xs ys : List ℕ) → AreBare xs → AreBare ys → AreBare (xs ++ ys)
 AreBare-append [] ys h k = k
 AreBare-append (x ∷ xs) ys h k = (h.0, AreBare-append xs ys h.1 k)
@@ -164,7 +164,7 @@ quoted_param bytes h = record {
   commas = λ front rest e. quoted_commas bytes front rest h e;
 }
 
--- a string's bytes, and the quote behind them, end no line
+-- a string's bytes, and the quote after them, end no line
 string_plain : (bytes : List ℕ) → AreStringBytes bytes → AllByRecursion EndsNoLine (bytes ++ 34 ∷ [])
 string_plain [] h = ((λ e. omega (arith, e), λ e. omega (arith, e)), tt)
 string_plain (b ∷ bs) h = ((h.0.2, h.0.1), string_plain bs h.1)
