@@ -24,7 +24,7 @@ use Rattle.gc_catalogue.specs.declared.answer.Shape.{Shape}
 use Rattle.gc_catalogue.specs.declared.answer.Shape.TheVariants as shape
 use Rattle.gc_catalogue.specs.declared.call.Call.{Call}
 
--- the first value of a list, which is of kind k, and those behind it
+-- the first value of a list, which is of kind k, and those after it
 record Split (k : Kind) (ks : List Kind) (vs : List Value) : Type 0 where
   first : Value
   behind : List Value

@@ -26,7 +26,7 @@ EndsNoLine b = (b ≢ 10) × (b ≢ 13)
 above : (b : ℕ) → 13 < b → EndsNoLine b
 above b h = ((λ e. omega arith), (λ e. omega arith))
 
--- plain bytes behind plain bytes are plain
+-- plain bytes after plain bytes are plain
 joins : (xs ys : List ℕ) → IsPlain xs → IsPlain ys → IsPlain (xs ++ ys)
 joins xs ys x y = All-append EndsNoLine xs ys x y
 
@@ -48,7 +48,7 @@ plain_id : (id : Option ℕ) → IsPlain (id_text id)
 plain_id None = from_cases [] tt
 plain_id (Some i) = from_cases (44 ∷ (48 + i) ∷ []) (above 44 (lit< tt), (above (48 + i) (omega arith), tt))
 
--- values behind commas are plain
+-- values after commas are plain
 plain_behind : (vs : List Value) → AreValues vs → IsPlain (behind_commas vs)
 plain_behind [] h = from_cases [] tt
 plain_behind (v ∷ vs) h = joins (44 ∷ text v) (behind_commas vs) (joins (44 ∷ []) (text v) (from_cases (44 ∷ []) (above 44 (lit< tt), tt)) (text_is_plain v h.0)) (plain_behind vs h.1)

@@ -5,7 +5,7 @@ use Rattle.std.proofs.lemmas.List.{take-append-drop}
 use Rattle.gc_catalogue.specs.RawTexts.{raw_bytes}
 use Rattle.gc_catalogue.specs.declared.raw_text.RawText.{RawText}
 
--- the zeros behind so many bytes
+-- the zeros after so many bytes
 abbrev AreZeros : List ℕ → ℕ → Type 0
 AreZeros bytes len = drop len bytes ≡ replicate (503 - len) 0
 
