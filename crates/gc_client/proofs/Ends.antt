@@ -11,12 +11,12 @@ use Rattle.gc_client.specs.Places.{place_heard}
 use Rattle.gc_client.specs.Rule
 use Rattle.gc_client.specs.Settlements.{Says, IsAnsweredBy, IsSettledBy}
 
--- the rule's settlement of a request by a reply line, where the request was given up (true) or wasn't
+-- the rule's settlement of a request by a reply line, where the request had timed out (true) or hadn't
 abbrev met_when : {Q : Type 0} → Pending Q → List ℕ → Bool → Rule.Settlement Q
 met_when p line given_up = record { target = p.target; call = p.call; outcome = if given_up then Rule.Late else Rule.Answered line }
 
--- where a request wasn't given up, and an outcome is the answer that this reply line gives it, the request with that outcome is
--- the settlement that the rule makes of it by that line
+-- where a request hadn't timed out, and an outcome is the answer that this reply line gives it, the request with that
+-- outcome is the settlement that the rule makes of it by that line
 pub answered_is : {Q : Type 0} (says : Says Q) (p : Pending Q) (line : List ℕ) (fields : ReplyFields) (o : Outcome) → p.given_up ≡ false → reply_at line ≡ Ok fields
     → IsAnsweredBy says p.call fields line o → IsSettledBy says (record { target = p.target; call = p.call; outcome = o }) (met p line)
 answered_is says p line fields (Answered reading copy) given_up reads (same, is_said) =
@@ -56,6 +56,6 @@ pub settles : {Q : Type 0} (c : ById Q) (line : List ℕ) (fields : ReplyFields)
     → hears c line (heard line) ≡ id_settled c line k true
 settles c line fields k reads fit = ap (λ r. hears c line (id_in r)) reads ∙ hears_at c line fields.id k fit
 
--- where at most `width` requests wait, at most as many are left behind place k
+-- where at most `width` requests wait, at most as many are left after place k
 pub fewer : {A : Type 0} (width k : ℕ) (ws : List A) (p : A) (left : List A) → drop k ws ≡ p ∷ left → length ws ≤ width → length left ≤ width
 fewer width k ws p left next few = let same = ap length next in omega (arith, same, length-drop k ws)

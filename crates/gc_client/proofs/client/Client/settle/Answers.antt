@@ -39,7 +39,7 @@ returns-clause-settled g c =
       | in_default w ↦ absurd (none_there c.get_mut.result w.in_default.is (c.get_mut.ensures.variant.1 lt))
     ]
 
--- those behind it are left
+-- those after it are left
 pub returns-clause-client : goal.returns-clause-client
 returns-clause-client g c =
     let ws = g.W.Window.pendings c.self.inside.window in
