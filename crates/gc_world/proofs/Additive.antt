@@ -13,11 +13,11 @@ use Rattle.gc_world.proofs.Directions.{gone_reached, reaches_again, passing, byt
 use Rattle.gc_world.proofs.Flow.{run_append}
 use Rattle.gc_world.proofs.Handed.{cut_long}
 
--- the cut c, with k more completed lines in front of it
+-- the cut c, with k more completed lines before it
 abbrev behind : ℕ → Cut → Cut
 behind k c = record { lines = k + c.lines; gone = c.gone }
 
--- a cut with no more lines in front of it is the same cut
+-- a cut with no more lines before it is the same cut
 behind_none : (c : Cut) → behind 0 c ≡ c
 behind_none c = let e : 0 + c.lines ≡ c.lines = omega arith in ap (λ k. record { lines = k; gone = c.gone }) e
 
@@ -85,23 +85,23 @@ drop_map f (suc k) [] = refl
 drop_map f (suc k) (x ∷ xs) = drop_map f k xs
 
 module _ {Client State : Type 0} (ends : Ends State) (rule : Rule Client) (d : Direction) where
-  -- delivering k lines of a direction leaves the texts behind them
+  -- delivering k lines of a direction leaves the texts after them
   texts_left : (k : ℕ) (w : World Client State) → texts d (run ends rule (replicate k (deliver d)) w).wire ≡ drop k (texts d w.wire)
   texts_left zero w = refl
   texts_left (suc k) w = texts_left k (happens ends rule w (deliver d)) ∙ ap (drop k) (one_less ends rule d w) ∙ drop_one k (texts d w.wire)
 
-  -- delivering k lines of a direction leaves the lines behind them
+  -- delivering k lines of a direction leaves the lines after them
   left : (k : ℕ) (w : World Client State) → lines d (run ends rule (replicate k (deliver d)) w).wire ≡ drop k (lines d w.wire)
   left k w = ap (map with_end) (texts_left k w) ∙ drop_map with_end k (texts d w.wire)
 
-  -- where a line is under way, n + 1 bytes lead to the cut of the lines at these bytes
+  -- where a line is in flight, n + 1 bytes lead to the cut of the lines at these bytes
   some_pass : (v : Streams Client State) (n : ℕ) (q : List (List ℕ)) → 0 < length q → passing ends rule d v q (n + 1) ≡ to ends rule d v (cut q (gone d v + (n + 1)))
   some_pass v n [] some = absurd (omega (arith, some))
   some_pass v n (line ∷ q) some =
       let next : n + 1 ≡ suc n = omega arith in
       ap (passing ends rule d v (line ∷ q)) next ∙ ap (λ k. to ends rule d v (cut (line ∷ q) (gone d v + k))) (sym next)
 
-  -- where a line is under way, an event of n + 1 bytes leads to the cut of the lines at these bytes
+  -- where a line is in flight, an event of n + 1 bytes leads to the cut of the lines at these bytes
   some_bytes : (v : Streams Client State) (n : ℕ) → 0 < length (lines d v.world.wire) → flows ends rule v (bytes d (n + 1)) ≡ to ends rule d v (cut (lines d v.world.wire) (gone d v + (n + 1)))
   some_bytes v n some = bytes_pass ends rule d v (n + 1) ∙ some_pass v n (lines d v.world.wire) some
 
@@ -114,14 +114,14 @@ module _ {Client State : Type 0} (ends : Ends State) (rule : Rule Client) (d : D
       ∙ run_append ends rule (replicate b.lines (deliver d)) (replicate c.lines (deliver d)) v.world)
       ∙ sym (reaches_again d v w b.gone (run ends rule (replicate c.lines (deliver d)) w) c.gone)
 
-  -- where bytes leave lines under way, there were lines under way
+  -- where bytes leave lines in flight, there were lines in flight
   rest : (v : Streams Client State) (n : ℕ) (q : List (List ℕ)) → lines d v.world.wire ≡ q → 0 < length (lines d (passing ends rule d v q n).world.wire) → 0 < length q
   rest v n [] e some =
       let same : lines d (idle v.world.wire) ≡ [] = ap (map with_end) (idle_leaves d v.world.wire) ∙ e in
       absurd (omega (arith, some, ap length same))
   rest v n (line ∷ q) e some = omega arith
 
-  -- bytes in one event leave what they leave in two, where a line is under way between the two
+  -- bytes in one event leave what they leave in two, where a line is in flight between the two
   pub adds : (v : Streams Client State) (m n : ℕ) → 0 < length (lines d (flows ends rule v (bytes d (m + 1))).world.wire)
       → flows ends rule v (bytes d (m + 1 + (n + 1))) ≡ flows ends rule (flows ends rule v (bytes d (m + 1))) (bytes d (n + 1))
   adds v m n some =
@@ -142,7 +142,7 @@ module _ {Client State : Type 0} (ends : Ends State) (rule : Rule Client) (d : D
       ∙ sym (some_bytes u n under_u)
       ∙ ap (λ x. flows ends rule x (bytes d (n + 1))) (sym first)
 
-  -- where the first m + 1 bytes of an event complete all lines `q` that are under way, n further bytes change nothing
+  -- where the first m + 1 bytes of an event complete all lines `q` that are in flight, n further bytes change nothing
   stops : (v : Streams Client State) (m n : ℕ) (q : List (List ℕ)) → lines d v.world.wire ≡ q → lines d (flows ends rule v (bytes d (m + 1))).world.wire ≡ []
       → flows ends rule v (bytes d (m + 1 + n)) ≡ flows ends rule v (bytes d (m + 1))
   stops v m n [] e none =
@@ -159,6 +159,6 @@ module _ {Client State : Type 0} (ends : Ends State) (rule : Rule Client) (d : D
       ap (λ k. flows ends rule v (bytes d k)) sum ∙ some_bytes v (m + n) under ∙ ap (λ k. to ends rule d v (cut all k)) total
       ∙ ap (to ends rule d v) (cut_end all (gone d v + (m + 1)) n done) ∙ sym first
 
-  -- where bytes leave no line under way, further bytes in the same event change nothing
+  -- where bytes leave no line in flight, further bytes in the same event change nothing
   pub stays : (v : Streams Client State) (m n : ℕ) → lines d (flows ends rule v (bytes d (m + 1))).world.wire ≡ [] → flows ends rule v (bytes d (m + 1 + n)) ≡ flows ends rule v (bytes d (m + 1))
   stays v m n none = stops v m n (lines d v.world.wire) refl none

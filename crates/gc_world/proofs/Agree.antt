@@ -1,5 +1,5 @@
--- The client that knows ids does what the client that is told the numbers does. `Sound` is the invariant of the run by numbers:
--- what always holds of its wire and its client.
+-- The client that knows ids does what the oracle client does. `Sound` is the invariant of the run by numbers: what always
+-- holds of its wire and its client.
 use Rattle.std.proofs.Common.{◌≡◌, ℕ, zero, suc, ◌+◌, ◌-◌, ◌%◌, ◌<◌, ◌≤◌, Bool, true, false, List, [], ◌∷◌, ◌++◌, length, map, take, drop, Option, Some, None, refl, sym, ◌∙◌, ap, subst, arith, length-drop, ltb, eqb}
 use mathlib.Core.Path.{ap₂}
 use Rattle.std.proofs.lemmas.List.{drop-drop, drop-append-le, length_push, drop_all}
@@ -69,7 +69,7 @@ module _ {Q State : Type 0} (width : ℕ) (narrow : width ≤ 7) (ends : Ends Q 
     pub wire : a.wire ≡ b.wire
     pub client : Alike a.client b.client
 
-  -- a reply under way settles the same for both clients, whether its request is settled already (`old`) or not
+  -- a reply in flight settles the same for both clients, whether its request is settled already (`old`) or not
   same_reply : (a : ById Q) (b : ByNumber Q) (x : Numbered (List ℕ)) (old : Bool) → ltb x.number b.count ≡ old → b.since ≤ b.count → b.count ≤ length b.requests
       → length b.requests ≤ b.count + width → b.count ≤ x.number + 1 → IsComing width ends Good b.since (length b.requests) x → Alike a b
       → SameSettled (hears a x.line (Some ((x.number - b.since) % 8))) (number_reply b x old)

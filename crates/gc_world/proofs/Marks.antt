@@ -1,4 +1,4 @@
--- What the client that is told the numbers remembers of one request, until it is settled: whether it was given up.
+-- What the oracle client remembers of one request, until it is settled: whether it had timed out.
 use Rattle.std.proofs.Common.{◌≡◌, ℕ, ◌-◌, ◌≤◌, Bool, true, false, List, [], ◌∷◌, ◌++◌, length, map, take, drop, zero, suc, Some, refl, sym, ◌∙◌, ap, arith, ltb, eqb}
 use Rattle.std.specs.Prelude.{slice_get}
 use Rattle.std.proofs.lemmas.Bool.{ltb-false}
@@ -23,7 +23,7 @@ abbrev pub touched_all : List Step → Pending Call → Pending Call
 touched_all [] p = p
 touched_all (e ∷ es) p = touched_all es (touched e p)
 
--- the client d that step e makes of c has settled no fewer requests; and each request of c that d hasn't settled stands at the
+-- the client d that step e makes of c has settled no fewer requests; and each request of c that d hasn't settled is at the
 -- same place in d, changed as `touched` says
 pub record IsOnward (e : Step) (c d : ByNumber Call) : Type 0 where
   pub count : c.count ≤ d.count

@@ -1,4 +1,4 @@
--- A request that waits is given up exactly by a moment at or past its deadline.
+-- A request that waits has timed out exactly by a moment at or past its deadline.
 use Rattle.std.proofs.Common.{◌≡◌, ℕ, zero, suc, ◌+◌, ◌<◌, ◌≤◌, ◌||◌, Bool, true, false, cond, List, [], ◌∷◌, ◌++◌, ◌⊎◌, inl, inr, Contains, refl, sym, ◌∙◌, ap, subst, arith, leb}
 use Rattle.std.specs.Prelude.{replicate}
 use Rattle.std.proofs.lemmas.Bool.{le-leb, lt-leb, leb-true, leb-false}
@@ -12,8 +12,8 @@ use Rattle.gc_world.specs.World.{Ends, Rule, Step, Up_deliver, Up_lose, Up_repea
 use Rattle.gc_world.proofs.Flow.{taken}
 use Rattle.gc_world.proofs.Marks.{touched, touched_all}
 
--- an event makes q of a request p that waits: the deadline stays; q is given up if p was, or if the event is a moment at or
--- past the deadline; and else it isn't
+-- an event makes q of a request p that waits: the deadline stays; q has timed out if p had, or if the event is a moment at
+-- or past the deadline; and else it hasn't
 pub record IsTouched (e : Event) (p q : Pending Call) : Type 0 where
   pub deadline : q.deadline ≡ p.deadline
   pub stays : p.given_up ≡ true → q.given_up ≡ true
@@ -120,12 +120,12 @@ module _ {Client State : Type 0} (ends : Ends State) (rule : Rule Client) where
   marked_more : (e : Event) (es : List Event) (v : Streams Client State) (p : Pending Call) → marked_all (e ∷ es) v p ≡ marked_all es (flows ends rule v e) (marked ends rule v e p)
   marked_more e es v p = touched_append (course_on v e).steps (taken ends rule es (flows ends rule v e)) p
 
-  -- a request that was given up stays so
+  -- a request that had timed out stays so
   stays_marked : (es : List Event) (v : Streams Client State) (p : Pending Call) → p.given_up ≡ true → (marked_all es v p).given_up ≡ true
   stays_marked [] v p g = g
   stays_marked (e ∷ es) v p g = ap (λ (q : Pending Call). q.given_up) (marked_more e es v p) ∙ stays_marked es (flows ends rule v e) (marked ends rule v e p) ((touch ends rule v e p).stays g)
 
-  -- where no moment among the events reached its deadline, a request isn't given up
+  -- where no moment among the events reached its deadline, a request hasn't timed out
   pub in_time : (es : List Event) (v : Streams Client State) (p : Pending Call) → p.given_up ≡ false → ((now : ℕ) → Contains es (Expire now) → now < p.deadline) → (marked_all es v p).given_up ≡ false
   in_time [] v p g h = g
   in_time (e ∷ es) v p g h =
@@ -134,15 +134,15 @@ module _ {Client State : Type 0} (ends : Ends State) (rule : Rule Client) where
       ∙ in_time es (flows ends rule v e) (marked ends rule v e p) (t.early g (λ now is. h now (at_head e (Expire now) es is)))
       (λ now has. subst (λ d. now < d) (sym t.deadline) (h now (at_tail e (Expire now) es has)))
 
-  -- the step of the induction in `too_late`: where a moment at or past the request's deadline is the event e, or among the events
-  -- es, the request is given up; for es this is the premise
+  -- the step of the induction in `too_late`: where a moment at or past the request's deadline is the event e, or among the
+  -- events es, the request has timed out; for es this is the premise
   late_by : (e : Event) (es : List Event) (v : Streams Client State) (p : Pending Call) (now : ℕ) → p.deadline ≤ now
       → (Contains es (Expire now) → (marked_all es (flows ends rule v e) (marked ends rule v e p)).given_up ≡ true)
       → (e ≡ Expire now) ⊎ Contains es (Expire now) → (marked_all es (flows ends rule v e) (marked ends rule v e p)).given_up ≡ true
   late_by e es v p now le rest (inl is) = stays_marked es (flows ends rule v e) (marked ends rule v e p) ((touch ends rule v e p).reached now is le)
   late_by e es v p now le rest (inr has) = rest has
 
-  -- where a moment among the events reached its deadline, a request is given up
+  -- where a moment among the events reached its deadline, a request has timed out
   pub too_late : (es : List Event) (v : Streams Client State) (p : Pending Call) (now : ℕ) → Contains es (Expire now) → p.deadline ≤ now → (marked_all es v p).given_up ≡ true
   too_late [] v p now has le = absurd (none_in (Expire now) has)
   too_late (e ∷ es) v p now has le =

@@ -32,18 +32,18 @@ rising_each : (low : ℕ) (xs : List (Numbered Request)) → Rising low (numbers
 rising_each low [] h = tt
 rising_each low (x ∷ xs) h = (h.0, each_more (λ y. x.number + 1 ≤ y.number + 1) (λ y. low ≤ y.number + 1) (λ y k. omega (arith, k, h.0)) xs (rising_each (x.number + 1) xs h.1))
 
--- where numbers never fall from `low` on, n among them is at least low - 1, and those behind n never fall below n
+-- where numbers never fall from `low` on, n among them is at least low - 1, and those after n never fall below n
 rising_tail : (low n : ℕ) (xs ys : List ℕ) → Rising low (xs ++ n ∷ ys) → (low ≤ n + 1) × Rising (n + 1) ys
 rising_tail low n [] ys h = h
 rising_tail low n (x ∷ xs) ys h = let r = rising_tail (x + 1) n xs ys h.1 in (omega (arith, h.0, r.0), r.1)
 
--- how the requests under way upward stand to those executed. Where nothing is kept, none of them was executed. Where a reply is
--- kept, it has the id of request top - 1, and each of them is that request or a later one
+-- how the requests in flight upward relate to those executed. Where nothing is kept, none of them was executed. Where a
+-- reply is kept, it has the id of request top - 1, and each of them is that request or a later one
 abbrev Above : Option KeptReply → ℕ → ℕ → ℕ → List (Numbered Request) → Type 0
 Above None since count top up = Each (λ x. top ≤ x.number) up
 Above (Some k) since count top up = (since < top) × (k.id ≡ (top - 1 - since) % 8) × (count ≤ top) × Each (λ x. top ≤ x.number + 1) up
 
--- `Above` holds where no request is under way and nothing is kept
+-- `Above` holds where no request is in flight and nothing is kept
 above_none : (since count top : ℕ) (up : List (Numbered Request)) (kept : Option KeptReply) → up ≡ [] → kept ≡ None → Above kept since count top up
 above_none since count top up kept e none = subst (λ k. Above k since count top up) (sym none) (subst (λ q. Each (λ x. top ≤ x.number) q) (sym e) tt)
 
@@ -132,7 +132,7 @@ IsLast (Some k) top executed = (earlier : List ℕ) × (executed ≡ earlier ++ 
 last_none : (top : ℕ) (executed : List ℕ) (kept : Option KeptReply) → kept ≡ None → IsLast kept top executed
 last_none top executed kept none = subst (λ k. IsLast k top executed) (sym none) tt
 
--- while a reply is kept, requests under way have the number executed last or one of the `width` above it
+-- while a reply is kept, requests in flight have the number executed last or one of the `width` above it
 recent_row : (width since count top total : ℕ) (k : KeptReply) (executed earlier : List ℕ) (up : List (Numbered Request))
     → executed ≡ earlier ++ (top - 1) ∷ [] → since < top → count ≤ top → total ≤ count + width
     → Each (λ x. top ≤ x.number + 1) up → Each (IsGoing since total) up → IsRecent width (Some k) executed (numbers up)
@@ -153,7 +153,7 @@ module _ {State : Type 0} (width : ℕ) (narrow : width ≤ 7) (ends : Ends Stat
     (kept : State → Option KeptReply) (keeper : IsKeeper ends kept) (opening : State) where
   -- the wire's executions are a replay (`Replays`) with these replies. The replies that were made are these and no others
   -- (`among`, `each`); no start counts more executions than there were; the kept reply is that of the request executed last
-  -- (`held`); and each request under way is the one that was sent with its number (`lines`)
+  -- (`held`); and each request in flight is the one that was sent with its number (`lines`)
   pub record IsTold (w : Wire State) (top : ℕ) : Type 0 where
     pub replies : List (Numbered (List ℕ))
     pub replays : Replays ends w.sent w.starts 0 (ends.restarted opening) w.executed replies w.state
@@ -163,8 +163,8 @@ module _ {State : Type 0} (width : ℕ) (narrow : width ≤ 7) (ends : Ends Stat
     pub held : Held (kept w.state) top replies
     pub lines : Each (IsOf call_line w.sent) w.up
 
-  -- each request was executed once: the executed numbers increase, they and those of the replies under way are below `top`, and
-  -- `Above`, `IsLast` and `IsTold` hold of the wire with this `top`
+  -- each request was executed once: the executed numbers increase, they and those of the replies in flight are below `top`,
+  -- and `Above`, `IsLast` and `IsTold` hold of the wire with this `top`
   pub record IsOnce (c : ByNumber Call) (w : Wire State) : Type 0 where
     pub top : ℕ
     pub climbs : Increasing 0 w.executed
@@ -312,7 +312,7 @@ module _ {State : Type 0} (width : ℕ) (narrow : width ≤ 7) (ends : Ends Stat
         };
       }
 
-  -- `IsOnce` holds also once the client that is told the numbers sent a request
+  -- `IsOnce` holds also once the oracle client sent a request
   once_send : (w : World (ByNumber Call) State) (target : ℕ) (call : Call) (deadline : ℕ) (full : Bool) (x : Sending (ByNumber Call))
       → number_send w.client target call deadline full ≡ Some x → Sound width ends Good w → IsOnce w.client w.wire
       → IsOnce x.client (requested w target call (Some x)).wire
@@ -337,7 +337,7 @@ module _ {State : Type 0} (width : ℕ) (narrow : width ≤ 7) (ends : Ends Stat
       → Each (λ x. x.number < h.top) down → Above (kept w.state) c.since c.count h.top up → Each (IsOf call_line w.sent) up → IsOnce c (record w { up = up; down = down })
   once_queues c w up down h d u l = record { top = h.top; last = h.last; climbs = h.climbs; below = h.below; sent = h.sent; made = d; above = u; told = told_up w h.top up down l h.told }
 
-  -- `IsTold` holds also with other settlements, replies under way and counts
+  -- `IsTold` holds also with other settlements, replies in flight and counts
   told_else : (w : Wire State) (top : ℕ) (settled : _) (down : _) (refused idle : ℕ) → IsTold w top → IsTold (record w { settled = settled; down = down; refused = refused; idle = idle }) top
   told_else w top settled down refused idle t = record { replies = t.replies; replays = t.replays; among = t.among; each = t.each; begins = t.begins; held = t.held; lines = t.lines }
 
@@ -376,7 +376,7 @@ module _ {State : Type 0} (width : ℕ) (narrow : width ≤ 7) (ends : Ends Stat
             told_else w.wire h.top _ rest w.wire.refused w.wire.idle h.told;
       }
 
-  -- `IsOnce` holds also once the instrument restarted while no request was under way, which makes it forget what it kept
+  -- `IsOnce` holds also once the instrument restarted while no request was in flight, which makes it forget what it kept
   once_forgotten : (c : ByNumber Call) (w : Wire State) (count since : ℕ) → w.up ≡ [] → IsOnce c w → IsOnce (record c { count = count; since = since }) (started ends w true)
   once_forgotten c w count since e h =
       let t = h.told in
@@ -413,7 +413,7 @@ module _ {State : Type 0} (width : ℕ) (narrow : width ≤ 7) (ends : Ends Stat
     told = h.told;
   }
 
-  -- `IsOnce` holds also once the client was restarted, and the instrument with it, while no request was under way
+  -- `IsOnce` holds also once the client was restarted, and the instrument with it, while no request was in flight
   once_restarted : (w : World (ByNumber Call) State) → ends.joint ≡ true → w.wire.up ≡ [] → IsOnce w.client w.wire
       → IsOnce ((by_numbers width).restart w.client).client (with_settled (started ends w.wire ends.joint) ((by_numbers width).restart w.client)).wire
   once_restarted w joint e h =
@@ -484,6 +484,6 @@ module _ {State : Type 0} (width : ℕ) (narrow : width ≤ 7) (ends : Ends Stat
         };
       })
 
-  -- while a reply is kept, each request under way upward has the number executed last or one of the `width` above it
+  -- while a reply is kept, each request in flight upward has the number executed last or one of the `width` above it
   pub recent : (w : World (ByNumber Call) State) → Once w → IsRecent width (kept w.wire.state) w.wire.executed (numbers w.wire.up)
   recent w h = recent_of width w.client.since w.client.count h.once.top (length w.client.requests) (kept w.wire.state) w.wire.executed w.wire.up h.once.above h.once.last h.sound.few h.sound.going

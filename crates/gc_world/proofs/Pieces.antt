@@ -21,7 +21,7 @@ Plain b = (b ≢ 10) × (b ≢ 13)
 
 -- Plain bytes have no line feed.
 
--- the bytes in front of the first line feed are all of them, where they are plain
+-- the bytes before the first line feed are all of them, where they are plain
 goes_on : (bs : List ℕ) → AllByRecursion Plain bs → prefix_len (λ b. not (is_line_feed b)) bs ≡ length bs
 goes_on [] h = refl
 goes_on (b ∷ bs) h =
