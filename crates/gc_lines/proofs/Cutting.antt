@@ -149,17 +149,17 @@ pub is_cut_of : (stream : List ℕ) → IsCut stream (pieces stream) (rest_of st
 is_cut_of stream = let clean = cut_clean [] stream tt in record { whole = sym (cut_whole [] stream); each = clean.0; last = clean.1 }
 
 -- bytes without a line feed before a stream belong to its first piece
-before : (r xs ys : List ℕ) → HasNoLineFeed xs → (pieces_behind r (xs ++ ys) ≡ pieces_behind (r ++ xs) ys) × (rest_behind r (xs ++ ys) ≡ rest_behind (r ++ xs) ys)
-before r [] ys clean = (ap (λ p. pieces_behind p ys) (sym (append-nil r)), ap (λ p. rest_behind p ys) (sym (append-nil r)))
-before r (b ∷ bs) ys clean =
-    let more = before (r ++ b ∷ []) bs ys clean.1 in
+front_joins_piece : (r xs ys : List ℕ) → HasNoLineFeed xs → (pieces_behind r (xs ++ ys) ≡ pieces_behind (r ++ xs) ys) × (rest_behind r (xs ++ ys) ≡ rest_behind (r ++ xs) ys)
+front_joins_piece r [] ys clean = (ap (λ p. pieces_behind p ys) (sym (append-nil r)), ap (λ p. rest_behind p ys) (sym (append-nil r)))
+front_joins_piece r (b ∷ bs) ys clean =
+    let more = front_joins_piece (r ++ b ∷ []) bs ys clean.1 in
     let same = not_feed b clean.0 in
     (rw same (more.0 ∙ ap (λ p. pieces_behind p ys) (append_assoc r (b ∷ []) bs)), rw same (more.1 ∙ ap (λ p. rest_behind p ys) (append_assoc r (b ∷ []) bs)))
 
 -- the frames do not depend on where the stream is cut
 pub however_cut : (xs ys : List ℕ) → (frames (xs ++ ys) ≡ frames xs ++ frames (rest_of xs ++ ys)) × (rest_of (xs ++ ys) ≡ rest_of (rest_of xs ++ ys))
 however_cut xs ys =
-    let b = before [] (rest_of xs) ys (cut_clean [] xs tt).1 in (
+    let b = front_joins_piece [] (rest_of xs) ys (cut_clean [] xs tt).1 in (
       ap (λ ps. map frame_of ps) (pieces-append [] xs ys ∙ ap (λ ps. pieces xs ++ ps) (sym b.0)) ∙ map-append frame_of (pieces xs) (pieces (rest_of xs ++ ys)),
       rest-append [] xs ys ∙ sym b.1,
     )

@@ -19,8 +19,8 @@ use Rattle.gc_lines.specs.Numbers.{NoDigitFirst}
 use Rattle.gc_lines.specs.Readers.{digits_len, number_at}
 
 -- texts of digits, with their values, are numerals of base 10 as the library's lemmas on numerals take them
-pub plain : IsNumeralModel (AllDigits 10) (digits_value 10)
-plain = numerals_by_value _ tells_digits
+pub digits_are_numerals : IsNumeralModel (AllDigits 10) (digits_value 10)
+digits_are_numerals = numerals_by_value _ tells_digits
 
 -- an ASCII digit is worth less than ten
 digit_value_of : (b : ℕ) → is_ascii_digit b ≡ true → digit_value b < 10
@@ -55,18 +55,18 @@ pub run_stops : (bs : List ℕ) → NoDigitFirst (drop (digits_len bs) bs)
 run_stops bs = subst (λ (n : ℕ). NoDigitFirst (drop n bs)) (sym (run_is bs)) (prefix_stops bs)
 
 -- where no digit comes first, there is no run
-stopped : (rest : List ℕ) → NoDigitFirst rest → prefix_len is_ascii_digit rest ≡ 0
-stopped [] h = refl
-stopped (b ∷ bs) h = rw h refl
+no_run : (rest : List ℕ) → NoDigitFirst rest → prefix_len is_ascii_digit rest ≡ 0
+no_run [] h = refl
+no_run (b ∷ bs) h = rw h refl
 
 -- a byte that is worth less than ten is an ASCII digit
-digit_is : (c : ℕ) → digit_value c < 10 → is_ascii_digit c ≡ true
-digit_is c h = let r = digit_from_value c h in grind (arith, nat_tests)
+is_digit : (c : ℕ) → digit_value c < 10 → is_ascii_digit c ≡ true
+is_digit c h = let r = digit_from_value c h in grind (arith, nat_tests)
 
 -- digits that no digit follows are the run
 prefix_length : (text rest : List ℕ) → AllDigits 10 text → NoDigitFirst rest → prefix_len is_ascii_digit (text ++ rest) ≡ length text
-prefix_length [] rest a h = stopped rest h
-prefix_length (c ∷ cs) rest a h = rw (digit_is c a.0) (omega (arith, prefix_length cs rest a.1 h))
+prefix_length [] rest a h = no_run rest h
+prefix_length (c ∷ cs) rest a h = rw (is_digit c a.0) (omega (arith, prefix_length cs rest a.1 h))
 
 -- digits that no digit follows are the run
 pub run_length : (text rest : List ℕ) → AllDigits 10 text → NoDigitFirst rest → digits_len (text ++ rest) ≡ length text
@@ -84,7 +84,7 @@ run_of_one b bs e = elim (is_ascii_digit b) as (λ v. is_ascii_digit b ≡ v →
 
 -- one digit that no digit follows is the run
 pub one_digit_runs : (i : ℕ) (rest : List ℕ) → i < 10 → NoDigitFirst rest → digits_len ((48 + i) ∷ rest) ≡ 1
-one_digit_runs i rest h stop = run_is ((48 + i) ∷ rest) ∙ rw (digit_of i h, stopped rest stop) refl where
+one_digit_runs i rest h stop = run_is ((48 + i) ∷ rest) ∙ rw (digit_of i h, no_run rest stop) refl where
   -- 48 plus a number below ten is an ASCII digit
   digit_of : (i : ℕ) → i < 10 → is_ascii_digit (48 + i) ≡ true
   digit_of i h = grind (arith, nat_tests)
@@ -142,12 +142,12 @@ value_next bytes i within digit = let r = digit_range (get_or bytes i 0) digit i
 
 -- at most five digits are worth less than 100000
 pub value_small : (bytes : List ℕ) (i : ℕ) → AllDigits 10 (take i bytes) → i ≤ 5 → digits_value 10 (take i bytes) < 100000
-value_small bytes i all few = omega (arith, digits_value_short plain (take i bytes) 5 all (omega (arith, few, length-take i bytes)))
+value_small bytes i all few = omega (arith, digits_value_short digits_are_numerals (take i bytes) 5 all (omega (arith, few, length-take i bytes)))
 
 -- digits in front lengthen the run by their number
 prefix_run : (text rest : List ℕ) → AllDigits 10 text → prefix_len is_ascii_digit (text ++ rest) ≡ length text + prefix_len is_ascii_digit rest
 prefix_run [] rest a = omega arith
-prefix_run (c ∷ cs) rest a = rw (digit_is c a.0) (omega (arith, prefix_run cs rest a.1))
+prefix_run (c ∷ cs) rest a = rw (is_digit c a.0) (omega (arith, prefix_run cs rest a.1))
 
 -- the run is at least as long as the digits that were read
 pub run_long : (bytes : List ℕ) (i : ℕ) → i ≤ length bytes → AllDigits 10 (take i bytes) → i ≤ digits_len bytes
