@@ -10,11 +10,11 @@ use Rattle.gc_values.specs.Whole.{NamesNumber, NamesWhole, NamesNoWhole, NamesWh
 use Rattle.gc_values.proofs.WholeLemmas.{cut_names, names_cut}
 
 -- something holds, or it doesn't
-abbrev pub Decided : Type 0 → Type 0
-Decided P = P ⊎ (P → ⊥)
+abbrev pub IsDecided : Type 0 → Type 0
+IsDecided P = P ⊎ (P → ⊥)
 
 -- a byte is a digit, or isn't
-pub digit_or_not : (b : ℕ) → Decided (IsDigit b)
+pub digit_or_not : (b : ℕ) → IsDecided (IsDigit b)
 digit_or_not b = elim (cases_lt b 48) [
   | inl below ↦ inr (λ d. let low = d.0 in omega (arith, below, low))
   | inr above ↦ elim (cases_lt 57 b) [
@@ -24,7 +24,7 @@ digit_or_not b = elim (cases_lt b 48) [
 ]
 
 -- a text is digits alone, or isn't
-pub digits_or_not : (text : List ℕ) → Decided (AreDigits text)
+pub digits_or_not : (text : List ℕ) → IsDecided (AreDigits text)
 digits_or_not [] = inl tt
 digits_or_not (b ∷ bs) = elim (digit_or_not b) [
   | inr other ↦ inr (λ d. other d.0)
@@ -70,7 +70,7 @@ whole_or_not text =
     ]
 
 -- a number is from -below to above, or isn't
-between_or_not : (below above : ℕ) (z : ℤ) → Decided (IsBetween below above z)
+between_or_not : (below above : ℕ) (z : ℤ) → IsDecided (IsBetween below above z)
 between_or_not below above (pos n) = elim (cases_lt above n) [
   | inl far ↦ inr (λ b. let h = b.1 in omega (arith, ints, far, h))
   | inr near ↦ inl (omega (arith, ints), omega (arith, ints, near))

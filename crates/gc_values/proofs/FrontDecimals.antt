@@ -46,15 +46,15 @@ counts_room text most value i c few =
 -- digits, a point and digits, and then the end or a comma, are cut off as an item
 front_cut : (text w f tail : List ℕ) (rest : Option (List ℕ)) → text ≡ w ++ 46 ∷ (f ++ tail) → AreDigits w → AreDigits f → Stands tail [] rest → CutsPlain text (w ++ 46 ∷ f) rest
 front_cut text w f tail rest e is_w is_f stands = record {
-  text_is = stood rest stands;
+  text_is = item_before_comma rest stands;
   param = bare_param (w ++ 46 ∷ f) (AreBare-append w (46 ∷ f) (bare_digits w is_w) (bare_above 46 (omega arith), bare_digits f is_f));
   some = omega (arith, length-append w (46 ∷ f));
 }
   where
     -- where the end or a comma follows the number, the text is the number as an item, and what follows its comma
-    stood : (r : Option (List ℕ)) → Stands tail [] r → Stands text (w ++ 46 ∷ f) r
-    stood None h = e ∙ ap (λ t. w ++ 46 ∷ (f ++ t)) h ∙ ap (λ t. w ++ 46 ∷ t) (append-nil f)
-    stood (Some behind) h = e ∙ ap (λ t. w ++ 46 ∷ (f ++ t)) h ∙ sym (append_assoc w (46 ∷ f) (44 ∷ behind))
+    item_before_comma : (r : Option (List ℕ)) → Stands tail [] r → Stands text (w ++ 46 ∷ f) r
+    item_before_comma None h = e ∙ ap (λ t. w ++ 46 ∷ (f ++ t)) h ∙ ap (λ t. w ++ 46 ∷ t) (append-nil f)
+    item_before_comma (Some behind) h = e ∙ ap (λ t. w ++ 46 ∷ (f ++ t)) h ∙ sym (append_assoc w (46 ∷ f) (44 ∷ behind))
 
 -- digits w, a point and digits f, at most 13 before the point and 18 in all, spell the decimal made of their number with as many
 -- places as f has digits
@@ -123,7 +123,7 @@ number_found text tail count n rest c some tail_is stands =
     record {
       item = ds;
       cut = record {
-        text_is = stood rest stands parted;
+        text_is = item_before_comma rest stands parted;
         param = bare_param ds (bare_digits ds c.digits);
         some = omega (arith, size);
       };
@@ -131,6 +131,6 @@ number_found text tail count n rest c some tail_is stands =
     }
   where
     -- where the end or a comma follows the number, the text is the number as an item, and what follows its comma
-    stood : (r : Option (List ℕ)) → Stands tail [] r → text ≡ take count text ++ tail → Stands text (take count text) r
-    stood None h e = e ∙ ap (λ t. take count text ++ t) h ∙ append-nil (take count text)
-    stood (Some behind) h e = e ∙ ap (λ t. take count text ++ t) h
+    item_before_comma : (r : Option (List ℕ)) → Stands tail [] r → text ≡ take count text ++ tail → Stands text (take count text) r
+    item_before_comma None h e = e ∙ ap (λ t. take count text ++ t) h ∙ append-nil (take count text)
+    item_before_comma (Some behind) h e = e ∙ ap (λ t. take count text ++ t) h

@@ -34,18 +34,18 @@ ArePieces-append (p ∷ ps) [] qs js h k = absurd h
 ArePieces-append (p ∷ ps) (i ∷ is) qs js h k = (h.0, h.1, ArePieces-append ps is qs js h.2 k)
 
 -- pieces, each with the comma after it, and then the rest
-abbrev pub led : List (List ℕ) → List ℕ → List ℕ
-led [] rest = rest
-led (p ∷ ps) rest = p ++ 44 ∷ led ps rest
+abbrev pub each_with_comma : List (List ℕ) → List ℕ → List ℕ
+each_with_comma [] rest = rest
+each_with_comma (p ∷ ps) rest = p ++ 44 ∷ each_with_comma ps rest
 
 -- joined pieces are the first ones, each with a comma after it, and then the others joined
-pub joined-append : (ps : List (List ℕ)) (q : List ℕ) (qs : List (List ℕ)) → joined (ps ++ q ∷ qs) ≡ led ps (joined (q ∷ qs))
+pub joined-append : (ps : List (List ℕ)) (q : List ℕ) (qs : List (List ℕ)) → joined (ps ++ q ∷ qs) ≡ each_with_comma ps (joined (q ∷ qs))
 joined-append [] q qs = refl
 joined-append (p ∷ []) q qs = refl
 joined-append (p ∷ r ∷ rs) q qs = ap (λ xs. p ++ 44 ∷ xs) (joined-append (r ∷ rs) q qs)
 
--- `led` of the pieces ps and then p, and a rest, is `led` of ps, and then p, a comma and the rest
-pub led-push : (ps : List (List ℕ)) (p rest : List ℕ) → led (ps ++ p ∷ []) rest ≡ led ps (p ++ 44 ∷ rest)
+-- `each_with_comma` of the pieces ps and then p, and a rest, is `each_with_comma` of ps, and then p, a comma and the rest
+pub led-push : (ps : List (List ℕ)) (p rest : List ℕ) → each_with_comma (ps ++ p ∷ []) rest ≡ each_with_comma ps (p ++ 44 ∷ rest)
 led-push [] p rest = refl
 led-push (q ∷ qs) p rest = ap (λ xs. q ++ 44 ∷ xs) (led-push qs p rest)
 
@@ -167,7 +167,7 @@ has_pieces text even = has_pieces_from [] text KeepsCommas-nil even
 -- the text is the items so far, each padded and with a comma after it, and the rest
 pub record SplitSoFar (text : List ℕ) (items : List (List ℕ)) (rest : List ℕ) : Type 0 where
   pub pieces : List (List ℕ)
-  pub text_is : text ≡ led pieces rest
+  pub text_is : text ≡ each_with_comma pieces rest
   pub are : ArePieces pieces items
   pub even : quotes rest % 2 ≡ 0
 
@@ -176,7 +176,7 @@ pub split_more : (text rest piece next item : List ℕ) (items : List (List ℕ)
     → IsTrimmed piece item → SplitSoFar text (items ++ item ∷ []) next
 split_more text rest piece next item items s cut t = record {
   pieces = s.pieces ++ piece ∷ [];
-  text_is = s.text_is ∙ ap (led s.pieces) cut.0 ∙ sym (led-push s.pieces piece next);
+  text_is = s.text_is ∙ ap (each_with_comma s.pieces) cut.0 ∙ sym (led-push s.pieces piece next);
   are = ArePieces-append s.pieces items (piece ∷ []) (item ∷ []) s.are (t.padded, trimmed_is_param piece item t cut.1 cut.2, tt);
   even = even_behind piece next cut.2 (ap (λ xs. quotes xs % 2) (sym cut.0) ∙ s.even);
 }
@@ -193,7 +193,7 @@ split_last text rest piece item items s cut t some =
     let even : quotes piece % 2 ≡ 0 = ap (λ xs. quotes xs % 2) (sym cut.0) ∙ s.even in
     params_from text (items ++ item ∷ []) (omega (arith, length-append items (item ∷ []))) (record {
       pieces = s.pieces ++ piece ∷ [];
-      bytes_are = s.text_is ∙ ap (led s.pieces) (cut.0 ∙ sym (append-nil piece)) ∙ sym (joined-append s.pieces piece []);
+      bytes_are = s.text_is ∙ ap (each_with_comma s.pieces) (cut.0 ∙ sym (append-nil piece)) ∙ sym (joined-append s.pieces piece []);
       pieces_are = ArePieces-append s.pieces items (piece ∷ []) (item ∷ []) s.are (t.padded, trimmed_is_param piece item t cut.1 even, tt);
       some = some;
     })
@@ -206,7 +206,7 @@ split_longer text rest items s some =
       items ++ r.item ∷ r.items,
       params_from text (items ++ r.item ∷ r.items) (omega arith) (record {
         pieces = s.pieces ++ r.first ∷ r.others;
-        bytes_are = s.text_is ∙ ap (led s.pieces) r.text_is ∙ sym (joined-append s.pieces r.first r.others);
+        bytes_are = s.text_is ∙ ap (each_with_comma s.pieces) r.text_is ∙ sym (joined-append s.pieces r.first r.others);
         pieces_are = ArePieces-append s.pieces items (r.first ∷ r.others) (r.item ∷ r.items) s.are r.are;
         some = some;
       }),

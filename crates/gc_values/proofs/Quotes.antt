@@ -6,20 +6,20 @@ use Rattle.gc_values.specs.Params.{quotes}
 use Rattle.gc_values.specs.Pieces.{KeepsCommas}
 
 -- what a byte adds to the number of double quotes: 1 or 0
-abbrev counted : ℕ → ℕ
-counted b = cond (eqb b 34) 1 0
+abbrev quote_count : ℕ → ℕ
+quote_count b = cond (eqb b 34) 1 0
 
 -- quotes in two texts add up
 pub quotes-append : (xs ys : List ℕ) → quotes (xs ++ ys) ≡ quotes xs + quotes ys
-quotes-append xs ys = sum_by-append counted xs ys
+quotes-append xs ys = sum_by-append quote_count xs ys
 
 -- a byte in front adds 1 to the number of double quotes if it is one, else 0
 pub quotes-cons : (b : ℕ) (bs : List ℕ) → quotes (b ∷ bs) ≡ cond (eqb b 34) 1 0 + quotes bs
-quotes-cons b bs = sum_by-cons counted b bs
+quotes-cons b bs = sum_by-cons quote_count b bs
 
 -- the next byte adds 1 to the number of double quotes in the first i bytes if it is one, else 0
 pub quotes_more : (xs : List ℕ) (i : ℕ) → i < length xs → quotes (take (i + 1) xs) ≡ quotes (take i xs) + cond (eqb (get_or xs i 0) 34) 1 0
-quotes_more xs i h = sum_by_more counted xs i 0 h
+quotes_more xs i h = sum_by_more quote_count xs i 0 h
 
 -- a byte other than a double quote adds none
 pub quotes_same : (b : ℕ) (bs : List ℕ) → eqb b 34 ≡ false → quotes (b ∷ bs) ≡ quotes bs

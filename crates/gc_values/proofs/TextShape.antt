@@ -18,7 +18,7 @@ use Rattle.gc_values.specs.declared.value.Value.{Value}
 use Rattle.gc_values.specs.declared.value.Value.TheVariants as value
 use Rattle.gc_values.proofs.Quotes.{quotes-append, quotes-cons, quotes_same, push_cut}
 use Rattle.gc_values.proofs.Powers.{ten_pow_pos}
-use Rattle.gc_values.proofs.Trimming.{last_of}
+use Rattle.gc_values.proofs.Trimming.{last_same}
 use Rattle.gc_values.proofs.WholeText.{length-whole_text, length-minus_text, length-long, length-short}
 use Rattle.gc_values.proofs.WrittenLemmas.{length-behind_text}
 use Rattle.gc_values.proofs.ParamLists.{joined_params}
@@ -158,7 +158,7 @@ quoted_commas bytes (f ∷ fs) rest h e =
 quoted_param : (bytes : List ℕ) → AreStringBytes bytes → IsParam (quoted bytes)
 quoted_param bytes h = record {
   first = λ rest e. let bad : ◌≡◌ {A = ℕ} 34 32 = cc in omega (arith, bad);
-  last = λ front e. let bad = last_of (34 ∷ bytes) front 34 32 e in omega (arith, bad);
+  last = λ front e. let bad = last_same (34 ∷ bytes) front 34 32 e in omega (arith, bad);
   pairs = let one = quotes-cons 34 (bytes ++ 34 ∷ []) in let two = quotes-append bytes (34 ∷ []) in let none = quotes-string bytes h in
       let both : quotes (34 ∷ []) ≡ 1 = refl in omega (arith, one, two, none, both);
   commas = λ front rest e. quoted_commas bytes front rest h e;

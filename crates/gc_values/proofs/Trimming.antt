@@ -41,8 +41,8 @@ pub padded_keeps : (piece item : List ℕ) → IsPadded piece item → IsParam i
 padded_keeps piece item p h = subst KeepsCommas (sym p.piece_is) (front_spaces p.before (item ++ replicate p.behind 32) (back_spaces p.behind item h.commas))
 
 -- bytes with a comma among them may be grouped round the comma
-regroup : (a b c d e : List ℕ) → a ++ ((b ++ 44 ∷ c) ++ d) ≡ (a ++ b) ++ 44 ∷ (c ++ d)
-regroup a b c d e = simp append_assoc
+regroup_at_comma : (a b c d e : List ℕ) → a ++ ((b ++ 44 ∷ c) ++ d) ≡ (a ++ b) ++ 44 ∷ (c ++ d)
+regroup_at_comma a b c d e = simp append_assoc
 
 -- a piece with its quotes in pairs and its commas within quotes, without the spaces at its ends, is a parameter
 pub trimmed_is_param : (piece item : List ℕ) → IsTrimmed piece item → KeepsCommas piece → quotes piece % 2 ≡ 0 → IsParam item
@@ -55,7 +55,7 @@ trimmed_is_param piece item t keeps even =
       pairs = omega (arith, same, even);
       commas = λ front rest e.
           let whole : piece ≡ (replicate p.before 32 ++ front) ++ 44 ∷ (rest ++ replicate p.behind 32) =
-          p.piece_is ∙ ap (λ xs. replicate p.before 32 ++ (xs ++ replicate p.behind 32)) e ∙ regroup (replicate p.before 32) front rest (replicate p.behind 32) [] in
+          p.piece_is ∙ ap (λ xs. replicate p.before 32 ++ (xs ++ replicate p.behind 32)) e ∙ regroup_at_comma (replicate p.before 32) front rest (replicate p.behind 32) [] in
           let odd = keeps _ _ whole in
           omega (arith, odd, quotes-append (replicate p.before 32) front, quotes-spaces p.before);
     }
@@ -198,8 +198,8 @@ pub trimmed_exists : (text : List ℕ) → IsTrimmed text (back_off (front_off t
 trimmed_exists text = both_ends text (front_off text) _ (trims_front text) (trims_back (front_off text))
 
 -- a slice from a place to the end is what is left from there
-pub rest_of : (text : List ℕ) (i : ℕ) → take (length text - i) (drop i text) ≡ drop i text
-rest_of text i = take_all (length text - i) (drop i text) (omega (arith, length-drop i text))
+pub slice_to_end : (text : List ℕ) (i : ℕ) → take (length text - i) (drop i text) ≡ drop i text
+slice_to_end text i = take_all (length text - i) (drop i text) (omega (arith, length-drop i text))
 
 -- where a loop from the front passed i spaces and stops at another byte, the text from there on is trimmed at its front
 pub front_at : (text : List ℕ) (i : ℕ) → i < length text → take i text ≡ replicate i 32 → (get_or text i 0 ≡ 32 → ⊥) → TrimsFront text (drop i text)
@@ -226,11 +226,11 @@ back_more text end some within spaces here =
     drop_more text (end - 1) 0 (omega arith) ∙ ap (λ b. b ∷ drop (end - 1 + 1) text) here ∙ ap (λ i. 32 ∷ drop i text) back ∙ ap (λ xs. 32 ∷ xs) spaces ∙ ap (λ n. replicate n 32) size
 
 -- two elements that end the same list are equal
-pub last_of : (xs ys : List ℕ) (a b : ℕ) → xs ++ a ∷ [] ≡ ys ++ b ∷ [] → a ≡ b
-last_of [] [] a b e = cc
-last_of [] (y ∷ ys) a b e = let t : [] ≡ ys ++ b ∷ [] = cc in absurd (no_end ys b t)
-last_of (x ∷ xs) [] a b e = let t : [] ≡ xs ++ a ∷ [] = cc in absurd (no_end xs a t)
-last_of (x ∷ xs) (y ∷ ys) a b e = let t : xs ++ a ∷ [] ≡ ys ++ b ∷ [] = cc in last_of xs ys a b t
+pub last_same : (xs ys : List ℕ) (a b : ℕ) → xs ++ a ∷ [] ≡ ys ++ b ∷ [] → a ≡ b
+last_same [] [] a b e = cc
+last_same [] (y ∷ ys) a b e = let t : [] ≡ ys ++ b ∷ [] = cc in absurd (no_end ys b t)
+last_same (x ∷ xs) [] a b e = let t : [] ≡ xs ++ a ∷ [] = cc in absurd (no_end xs a t)
+last_same (x ∷ xs) (y ∷ ys) a b e = let t : xs ++ a ∷ [] ≡ ys ++ b ∷ [] = cc in last_same xs ys a b t
 
 -- where a loop from the end passed spaces, and stops at the front of the text or after another byte, the text up to there is
 -- trimmed at its end
@@ -244,7 +244,7 @@ back_at text end within spaces stop = record {
     | inr some ↦
         let back : end - 1 + 1 ≡ end = let h = some.0 in omega arith in
         let more : take end text ≡ take (end - 1) text ++ get_or text (end - 1) 0 ∷ [] = ap (λ i. take i text) (sym back) ∙ take_more text (end - 1) 0 (let h = some.0 in omega arith) in
-        some.1 (last_of (take (end - 1) text) front (get_or text (end - 1) 0) 32 (sym more ∙ e))
+        some.1 (last_same (take (end - 1) text) front (get_or text (end - 1) 0) 32 (sym more ∙ e))
   ];
 }
 

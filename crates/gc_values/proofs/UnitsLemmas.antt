@@ -16,8 +16,8 @@ times_one : (n : ℕ) → n ≡ n * 10 ^ (24 - 24)
 times_one n = omega arith
 
 -- a product may be regrouped where b is a times c
-product : (n a b c : ℕ) → b ≡ a * c → n * b ≡ n * a * c
-product n a b c e = omega (arith, ap (λ x. n * x) e)
+product_regrouped : (n a b c : ℕ) → b ≡ a * c → n * b ≡ n * a * c
+product_regrouped n a b c e = omega (arith, ap (λ x. n * x) e)
 
 -- the number of the first k digits, with the next one rounded in, is the value rounded to a whole number
 pub units_kept : (ds : List ℕ) (w f up down p k : ℕ) → AreDigits ds → length ds ≡ w + f → k + down ≡ w + up + p →
@@ -79,7 +79,7 @@ capped_many ds w f up down cap k size more x units digits is_size sum places beh
     let power : 10 ^ (more + 24) ≡ 10 ^ more * 10 ^ 24 = pow-add 10 more 24 in
     let value : kept_and_rounded ds k ≡ kept ds size * 10 ^ (more + 24) =
     kept_behind ds k (omega arith) ∙ ap (λ n. kept ds n * 10 ^ (k - length ds)) is_size ∙ ap (λ z. kept ds size * 10 ^ z) own in
-    let whole : kept_and_rounded ds k ≡ kept ds size * 10 ^ more * 10 ^ 24 = value ∙ product (kept ds size) (10 ^ more) (10 ^ (more + 24)) (10 ^ 24) power in
+    let whole : kept_and_rounded ds k ≡ kept ds size * 10 ^ more * 10 ^ 24 = value ∙ product_regrouped (kept ds size) (10 ^ more) (10 ^ (more + 24)) (10 ^ 24) power in
     record {
       m = kept ds size * 10 ^ more;
       rounds = subst (λ n. RoundsHalfUp (number ds * 10 ^ up * 10 ^ 24) (10 ^ (f + down)) n) whole (units_kept ds w f up down 24 k digits (omega arith) places);

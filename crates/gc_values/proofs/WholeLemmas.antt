@@ -29,7 +29,7 @@ counted_more text i cap value more c within here e = record {
 }
 
 -- the value is the number that a text of digits writes, or the cap, where the number is above the cap
-pub record Counted (text : List ℕ) (cap value : ℕ) : Type 0 where
+pub record IsCounted (text : List ℕ) (cap value : ℕ) : Type 0 where
   pub names : NamesNumber text (number text)
   pub value_is : value ≡ min cap (number text)
 

@@ -83,17 +83,17 @@ writes_behind : (s n : ℕ) → n < 10 ^ s → 0 < s → Writes n (last_digits s
 writes_behind s n h some = record { digits = AreDigits-last_digits s n; some = omega (arith, length-last_digits s n); number_is = number-last_digits s n h }
 
 -- the text is digits that may follow the point of a / 10^s: with the whole number before the point they write its value
-pub record Behind (a s : ℕ) (text : List ℕ) : Type 0 where
+pub record IsFractionText (a s : ℕ) (text : List ℕ) : Type 0 where
   pub digits : AreDigits text
   pub same : a * 10 ^ length text ≡ (a / 10 ^ s * 10 ^ length text + number text) * 10 ^ s
 
 -- without places, a lone 0 follows the point
-behind_none : (a : ℕ) → Behind a 0 (48 ∷ [])
-behind_none a = record { digits = (a_digit 0 (lit< tt), tt); same = let e : a / 10 ^ 0 ≡ a = div-one a in let f : (a / 10 ^ 0 * 10 + 0) * 1 ≡ a * 10 = omega (arith, e) in sym f }
+fraction_text_none : (a : ℕ) → IsFractionText a 0 (48 ∷ [])
+fraction_text_none a = record { digits = (a_digit 0 (lit< tt), tt); same = let e : a / 10 ^ 0 ≡ a = div-one a in let f : (a / 10 ^ 0 * 10 + 0) * 1 ≡ a * 10 = omega (arith, e) in sym f }
 
 -- with places, the last s digits follow the point
-behind_some : (a s : ℕ) → 0 < s → Behind a s (last_digits s (a % 10 ^ s))
-behind_some a s some =
+fraction_text_some : (a s : ℕ) → 0 < s → IsFractionText a s (last_digits s (a % 10 ^ s))
+fraction_text_some a s some =
     let w = writes_behind s (a % 10 ^ s) (mod-lt a (ten_pow_pos s)) some in
     let size = length-last_digits s (a % 10 ^ s) in
     let whole : a / 10 ^ s * 10 ^ s + a % 10 ^ s ≡ a = div-add-mod' a (10 ^ s) in
@@ -103,11 +103,12 @@ behind_some a s some =
           ∙ ap (λ k. (a / 10 ^ s * 10 ^ k + number (last_digits s (a % 10 ^ s))) * 10 ^ s) (sym size);
     }
 
--- what is written after the point of a / 10^s is allowed there, as `Behind` has it
-pub behind : (a s : ℕ) → Behind a s (behind_text s (a % 10 ^ s))
+-- what is written after the point of a / 10^s is allowed there, as `IsFractionText` has it
+pub behind : (a s : ℕ) → IsFractionText a s (behind_text s (a % 10 ^ s))
 behind a s = elim (eqb_tells s 0) [
-  | inl none ↦ subst (λ xs. Behind a s xs) (ap (λ b. cond b (48 ∷ []) (last_digits s (a % 10 ^ s))) (sym none.0)) (subst (λ t. Behind a t (48 ∷ [])) (sym none.1) (behind_none a))
-  | inr some ↦ subst (λ xs. Behind a s xs) (ap (λ b. cond b (48 ∷ []) (last_digits s (a % 10 ^ s))) (sym some.0)) (behind_some a s (pos_of_ne-zero some.1))
+  | inl none ↦ subst (λ xs. IsFractionText a s xs) (ap (λ b. cond b (48 ∷ []) (last_digits s (a % 10 ^ s))) (sym none.0))
+      (subst (λ t. IsFractionText a t (48 ∷ [])) (sym none.1) (fraction_text_none a))
+  | inr some ↦ subst (λ xs. IsFractionText a s xs) (ap (λ b. cond b (48 ∷ []) (last_digits s (a % 10 ^ s))) (sym some.0)) (fraction_text_some a s (pos_of_ne-zero some.1))
 ]
 
 -- a sign, the digits before the point, and those after it spell the decimal
