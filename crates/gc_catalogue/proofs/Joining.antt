@@ -27,14 +27,14 @@ params_text-some [] h = absurd (omega arith)
 params_text-some (b ∷ bs) h = refl
 
 -- where xs has at least one byte, so has xs with ys after it
-more : (xs ys : List ℕ) → 0 < length xs → 0 < length (xs ++ ys)
-more [] ys h = absurd (omega arith)
-more (x ∷ xs) ys h = omega arith
+append_not_empty : (xs ys : List ℕ) → 0 < length xs → 0 < length (xs ++ ys)
+append_not_empty [] ys h = absurd (omega arith)
+append_not_empty (x ∷ xs) ys h = omega arith
 
 -- a reply's parameters follow a comma, where there are any
 pub params_text-params_of : (vs : List Value) → params_text (params_of vs) ≡ behind_commas vs
 params_text-params_of [] = refl
-params_text-params_of (v ∷ vs) = ap params_text (params_of-cons v vs) ∙ params_text-some (text v ++ behind_commas vs) (more (text v) (behind_commas vs) (text_is_some v))
+params_text-params_of (v ∷ vs) = ap params_text (params_of-cons v vs) ∙ params_text-some (text v ++ behind_commas vs) (append_not_empty (text v) (behind_commas vs) (text_is_some v))
 
 -- values before commas are the values joined, and a comma after them
 before-params : (v : Value) (vs : List Value) → before_commas (v ∷ vs) ≡ params_of (v ∷ vs) ++ 44 ∷ []
