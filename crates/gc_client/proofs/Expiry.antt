@@ -11,11 +11,11 @@ use Rattle.gc_client.specs.Rule.{expired, is_expiring, expiring, given_up_at}
 use Rattle.gc_client.proofs.Lists.{take_turn, drop_turn}
 
 -- the requests that wait once the first k of them have got the moment
-abbrev pub partly : {Q : Type 0} → ℕ → ℕ → List (Pending Q) → List (Pending Q)
-partly now k ws = map (expired now) (take k ws) ++ drop k ws
+abbrev pub expired_up_to : {Q : Type 0} → ℕ → ℕ → List (Pending Q) → List (Pending Q)
+expired_up_to now k ws = map (expired now) (take k ws) ++ drop k ws
 
 -- once the first k requests have got the moment, the one at place k is still the one that was there at the start
-pub same_at : {Q : Type 0} (now k : ℕ) (ws : List (Pending Q)) (p : Pending Q) → slice_get (partly now k ws) k ≡ Some p → slice_get ws k ≡ Some p
+pub same_at : {Q : Type 0} (now k : ℕ) (ws : List (Pending Q)) (p : Pending Q) → slice_get (expired_up_to now k ws) k ≡ Some p → slice_get ws k ≡ Some p
 same_at now zero ws p e = e
 same_at now (suc k) [] p e = e
 same_at now (suc k) (w ∷ ws) p e = same_at now k ws p e
@@ -41,16 +41,17 @@ stays now p e = ap (λ b. record p { given_up = b }) (flag (nat_le p.deadline no
 -- timing out the request at place k, once the first k have got the moment, leaves those, that one marked as timed out, and
 -- the others
 given_up_in : {Q : Type 0} (now k : ℕ) (ws : List (Pending Q)) (p : Pending Q) → slice_get ws k ≡ Some p
-    → given_up_at k (partly now k ws) ≡ map (expired now) (take k ws) ++ record p { given_up = true } ∷ drop (suc k) ws
+    → given_up_at k (expired_up_to now k ws) ≡ map (expired now) (take k ws) ++ record p { given_up = true } ∷ drop (suc k) ws
 given_up_in now k [] p e = cc
 given_up_in {Q} now zero (w ∷ ws) p e = let same : w ≡ p = cc in ap (λ (x : Pending Q). record x { given_up = true } ∷ ws) same
 given_up_in now (suc k) (w ∷ ws) p e = ap (λ qs. expired now w ∷ qs) (given_up_in now k ws p e)
 
 -- once the request at place k got the moment too, the first k + 1 have got it
-next_partly : {Q : Type 0} (now k : ℕ) (ws : List (Pending Q)) (p : Pending Q) → slice_get ws k ≡ Some p → partly now (suc k) ws ≡ map (expired now) (take k ws) ++ expired now p ∷ drop (suc k) ws
-next_partly now k [] p e = cc
-next_partly now zero (w ∷ ws) p e = let same : w ≡ p = cc in ap (λ x. expired now x ∷ ws) same
-next_partly now (suc k) (w ∷ ws) p e = ap (λ qs. expired now w ∷ qs) (next_partly now k ws p e)
+expired_one_more : {Q : Type 0} (now k : ℕ) (ws : List (Pending Q)) (p : Pending Q) → slice_get ws k ≡ Some p
+    → expired_up_to now (suc k) ws ≡ map (expired now) (take k ws) ++ expired now p ∷ drop (suc k) ws
+expired_one_more now k [] p e = cc
+expired_one_more now zero (w ∷ ws) p e = let same : w ≡ p = cc in ap (λ x. expired now x ∷ ws) same
+expired_one_more now (suc k) (w ∷ ws) p e = ap (λ qs. expired now w ∷ qs) (expired_one_more now k ws p e)
 
 -- the targets of the requests that time out at the moment among the first k + 1 are those among the first k, and that of the
 -- one at place k if it times out
@@ -61,7 +62,7 @@ next_expiring now k ws p e =
     ∙ map-append (λ p. p.target) (filter (is_expiring now) (take k ws)) (filter (is_expiring now) (p ∷ []))
 
 -- One turn of the loop: the first k have got the moment, and the loop looks at the request p at place k.
-module _ {Q : Type 0} (now k : ℕ) (ws qs : List (Pending Q)) (p : Pending Q) (done : qs ≡ partly now k ws) (here : slice_get qs k ≡ Some p) where
+module _ {Q : Type 0} (now k : ℕ) (ws qs : List (Pending Q)) (p : Pending Q) (done : qs ≡ expired_up_to now k ws) (here : slice_get qs k ≡ Some p) where
   -- the request at place k of all that wait is p
   at_k : slice_get ws k ≡ Some p
   at_k = same_at now k ws p (subst (λ l. slice_get l k ≡ Some p) done here)
@@ -72,19 +73,19 @@ module _ {Q : Type 0} (now k : ℕ) (ws qs : List (Pending Q)) (p : Pending Q) (
 
   -- where the request at place k times out at the moment, and `qs'` are the requests with that one marked, they are the
   -- requests of which the first k + 1 have got the moment
-  pub due_done : (qs' : List (Pending Q)) → is_expiring now p ≡ true → qs' ≡ given_up_at k qs → qs' ≡ partly now (k + 1) ws
+  pub due_done : (qs' : List (Pending Q)) → is_expiring now p ≡ true → qs' ≡ given_up_at k qs → qs' ≡ expired_up_to now (k + 1) ws
   due_done qs' b e =
       e ∙ ap (given_up_at k) done ∙ given_up_in now k ws p at_k
       ∙ ap (λ x. map (expired now) (take k ws) ++ x ∷ drop (suc k) ws) (sym (expired_is now p b))
-      ∙ sym (next_partly now k ws p at_k) ∙ ap (λ m. partly now m ws) suc_k
+      ∙ sym (expired_one_more now k ws p at_k) ∙ ap (λ m. expired_up_to now m ws) suc_k
 
   -- where the request at place k doesn't time out at the moment, the requests stay as they are, and the first k + 1 have got
   -- the moment
-  pub not_due_done : is_expiring now p ≡ false → qs ≡ partly now (k + 1) ws
+  pub not_due_done : is_expiring now p ≡ false → qs ≡ expired_up_to now (k + 1) ws
   not_due_done b =
       done ∙ ap (λ l. map (expired now) (take k ws) ++ l) (drop_turn ws k p at_k)
       ∙ ap (λ x. map (expired now) (take k ws) ++ x ∷ drop (suc k) ws) (sym (stays now p b))
-      ∙ sym (next_partly now k ws p at_k) ∙ ap (λ m. partly now m ws) suc_k
+      ∙ sym (expired_one_more now k ws p at_k) ∙ ap (λ m. expired_up_to now m ws) suc_k
 
   -- where the request at place k times out at the moment, its target is the next in the list
   pub due_told : (targets : List ℕ) → targets ≡ expiring now (take k ws) → is_expiring now p ≡ true → targets ++ p.target ∷ [] ≡ expiring now (take (k + 1) ws)

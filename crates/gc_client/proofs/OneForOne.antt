@@ -51,17 +51,17 @@ settled_keeps x s parts h = pieces ∙ ap (λ l. map of_settled x.settlements ++
   pieces = simp (map-append, append_assoc)
 
 -- every step keeps a course one for one
-goes_on : {Q : Type 0} (width : ℕ) (x : Course Q) (step : Step Q) → IsOneForOne x → IsOneForOne (goes width x step)
-goes_on width x (Send target call deadline) h = sent_keeps x target call deadline (eqb (length x.client.waiting) width) h
-goes_on width x (Hear line) h = settled_keeps x (hears x.client line (heard line)) (heard_parts x.client line (heard line)) h
-goes_on width x (Expire now) h = ap (λ l. map of_settled x.settlements ++ l) (expired_parts now x.client.waiting) ∙ h
-goes_on width x Restart h = settled_keeps x (restarts x.client) (append-nil _ ∙ lost_parts x.client.waiting) h
+step_keeps : {Q : Type 0} (width : ℕ) (x : Course Q) (step : Step Q) → IsOneForOne x → IsOneForOne (goes width x step)
+step_keeps width x (Send target call deadline) h = sent_keeps x target call deadline (eqb (length x.client.waiting) width) h
+step_keeps width x (Hear line) h = settled_keeps x (hears x.client line (heard line)) (heard_parts x.client line (heard line)) h
+step_keeps width x (Expire now) h = ap (λ l. map of_settled x.settlements ++ l) (expired_parts now x.client.waiting) ∙ h
+step_keeps width x Restart h = settled_keeps x (restarts x.client) (append-nil _ ∙ lost_parts x.client.waiting) h
 
 -- all steps, one after the other, keep a course one for one
-along : {Q : Type 0} (width : ℕ) (x : Course Q) (steps : List (Step Q)) → IsOneForOne x → IsOneForOne (course width x steps)
-along width x [] h = h
-along width x (step ∷ steps) h = along width (goes width x step) steps (goes_on width x step h)
+steps_keep : {Q : Type 0} (width : ℕ) (x : Course Q) (steps : List (Step Q)) → IsOneForOne x → IsOneForOne (course width x steps)
+steps_keep width x [] h = h
+steps_keep width x (step ∷ steps) h = steps_keep width (goes width x step) steps (step_keeps width x step h)
 
 -- a new client's course is one for one, whatever the steps
 pub one_for_one : {Q : Type 0} (width : ℕ) (steps : List (Step Q)) → IsOneForOne (course width begun steps)
-one_for_one width steps = along width begun steps refl
+one_for_one width steps = steps_keep width begun steps refl
