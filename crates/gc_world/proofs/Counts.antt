@@ -210,16 +210,16 @@ module _ {Client State : Type 0} (ends : Ends State) (rule : Rule Client) (n : �
   down_once w (x ∷ rest) some h = record { sent = h.sent; executed = h.executed; made = h.made; starts = h.starts; refused = h.refused; idle = h.idle }
 
   -- a delivery of a line that is in flight doesn't raise the bound
-  once : (d : Direction) (w : World Client State) → 0 < length (texts d w.wire) → IsWithin n w.wire → IsWithin n (happens ends rule w (deliver d)).wire
-  once Up w some h = up_once w.wire w.wire.up refl some h
-  once Down w some h = down_once w w.wire.down some h
+  one_delivery : (d : Direction) (w : World Client State) → 0 < length (texts d w.wire) → IsWithin n w.wire → IsWithin n (happens ends rule w (deliver d)).wire
+  one_delivery Up w some h = up_once w.wire w.wire.up refl some h
+  one_delivery Down w some h = down_once w w.wire.down some h
 
   -- deliveries of lines that are in flight don't raise the bound, however many they are
   all : (d : Direction) (k : ℕ) (w : World Client State) → k ≤ length (texts d w.wire) → IsWithin n w.wire → IsWithin n (run ends rule (replicate k (deliver d)) w).wire
   all d zero w le h = h
   all d (suc k) w le h =
       let less : length (texts d (happens ends rule w (deliver d)).wire) ≡ length (texts d w.wire) - 1 = ap length (one_less ends rule d w) ∙ length-drop 1 (texts d w.wire) in
-      all d k (happens ends rule w (deliver d)) (omega (arith, le, less)) (once d w (omega (arith, le)) h)
+      all d k (happens ends rule w (deliver d)) (omega (arith, le, less)) (one_delivery d w (omega (arith, le)) h)
 
   -- the bytes of an event raise the bound by at most one
   passes : (d : Direction) (lines : List (List ℕ)) (gone k : ℕ) (w : World Client State) → length lines ≡ length (texts d w.wire) → IsWithin n w.wire

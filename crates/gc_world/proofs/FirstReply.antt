@@ -43,8 +43,8 @@ slice_drop (suc k) (x ∷ xs) (suc n) le = let e : suc n - suc k ≡ n - k = ome
 
 -- where f over xs and g over ys give the same list, the element x at place n of xs has a partner y at place n of ys: g gives of
 -- y what f gives of x
-matched : {A B C : Type 0} (f : A → C) (g : B → C) (xs : List A) (ys : List B) (n : ℕ) (x : A) → map f xs ≡ map g ys → slice_get xs n ≡ Some x → (y : B) × (slice_get ys n ≡ Some y) × (g y ≡ f x)
-matched f g xs ys n x e h = get_seen g ys n (f x) (ap (λ l. slice_get l n) (sym e) ∙ get_map f xs n x h)
+partner_at : {A B C : Type 0} (f : A → C) (g : B → C) (xs : List A) (ys : List B) (n : ℕ) (x : A) → map f xs ≡ map g ys → slice_get xs n ≡ Some x → (y : B) × (slice_get ys n ≡ Some y) × (g y ≡ f x)
+partner_at f g xs ys n x e h = get_seen g ys n (f x) (ap (λ l. slice_get l n) (sym e) ∙ get_map f xs n x h)
 
 -- settling through place k settles the first k requests as lost, and the one at place k by the line
 settle_at : (k : ℕ) (line : List ℕ) (ps : List (Pending Call)) (p : Pending Call) → slice_get ps k ≡ Some p → settle k line ps ≡ map lost (take k ps) ++ met p line ∷ []
@@ -93,7 +93,7 @@ gained settled waiting sent n line p whole le h =
     let m = length settled in
     let k = n - m in
     let alike = waiting_alike settled waiting sent whole in
-    let some = matched of_pending of_sent waiting (drop m sent) k p alike h in
+    let some = partner_at of_pending of_sent waiting (drop m sent) k p alike h in
     let first : map of_pending (take k waiting) ≡ map of_sent (take k (drop m sent)) = sym (take-map of_pending k waiting) ∙ ap (take k) alike ∙ take-map of_sent k (drop m sent) in
     record {
       request = some.0;

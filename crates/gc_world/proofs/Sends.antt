@@ -17,7 +17,7 @@ use Rattle.gc_world.specs.Laws.{left_by_ids}
 use Rattle.gc_world.specs.Clients.{ends}
 use Rattle.gc_world.specs.World.{Request, Numbered, Ends, Rule, Wire, World, Step, Up_deliver, Down_deliver, up_delivered, with_up, with_down, started, instrument_restarted, requested, down_delivered, client_restarted, happens, run}
 use Rattle.gc_world.proofs.Flow.{flow_append}
-use Rattle.gc_world.proofs.Moments.{AllEarly, OneReaches, tells}
+use Rattle.gc_world.proofs.Moments.{AllEarly, OneReaches, early_or_reached}
 
 -- the event is a send
 abbrev IsSend : Event → Type 0
@@ -185,7 +185,7 @@ told width opening events n deadline later s (inr (now, has, reached)) = inr (re
 pub one_or_other : (width : ℕ) (opening : State) (events : List Event) (n : ℕ) → n < length (left_by_ids width opening events).sent → IsInTime width opening events n ⊎ IsTooLate width opening events n
 one_or_other width opening events n lt =
     let s = is_sent width opening n events lt in
-    told width opening events n s.0 s.1 s.2 (tells s.0 s.1)
+    told width opening events n s.0 s.1 s.2 (early_or_reached s.0 s.1)
 
 -- The send of a request is in the list once.
 
