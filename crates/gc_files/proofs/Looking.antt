@@ -22,8 +22,8 @@ fits_none [] = refl
 fits_none (a ∷ sign) = refl
 
 -- where the first k bytes are the same, the bytes after them decide
-pub fits_on : (k : ℕ) (sign held : List ℕ) → take k sign ≡ take k held → fits sign held ≡ fits (drop k sign) (drop k held)
-fits_on k sign held same =
+pub fits_from : (k : ℕ) (sign held : List ℕ) → take k sign ≡ take k held → fits sign held ≡ fits (drop k sign) (drop k held)
+fits_from k sign held same =
     ap (λ (s : List ℕ). fits s held) (sym (take-append-drop k sign)) ∙ ap (λ (h : List ℕ). fits (take k sign ++ drop k sign) h)
     (sym (take-append-drop k held) ∙ ap (λ (l : List ℕ). l ++ drop k held) (sym same))
     ∙ fits_behind (take k sign) (drop k sign) (drop k held)
@@ -42,7 +42,7 @@ fits_not (suc k) (a ∷ sign) (b ∷ held) one two differ = elim (cases_Bool (a 
 -- where a piece of the file is as in the sign, the bytes after it decide
 pub looked_on : (at k : ℕ) (sign held rest : List ℕ) → rest ≡ drop at sign → take k rest ≡ take k (drop at held) → fits (drop at sign) (drop at held) ≡ fits (drop (at + k) sign) (drop (at + k) held)
 looked_on at k sign held rest is same =
-    fits_on k (drop at sign) (drop at held) (ap (take k) (sym is) ∙ same)
+    fits_from k (drop at sign) (drop at held) (ap (take k) (sym is) ∙ same)
     ∙ ap (λ (s : List ℕ). fits s (drop k (drop at held))) (drop-drop k at sign) ∙ ap (λ (h : List ℕ). fits (drop (at + k) sign) h) (drop-drop k at held)
 
 -- where a piece of the file differs from the sign, the file doesn't fit the sign
