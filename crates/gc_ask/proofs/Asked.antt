@@ -54,7 +54,7 @@ all_texts_one done c =
     ap all_of (texts_one 0 done c ∙ ap (λ n. request_texts 0 done ++ request_text n c ∷ []) place) ∙ all_of-append (request_texts 0 done) (request_text (length done) c ∷ [])
     ∙ ap (λ t. all_of (request_texts 0 done) ++ t) (append-nil (request_text (length done) c))
 
--- the line of one more settlement comes behind those before it
+-- the line of one more settlement comes after those before it
 pub lines_last : (settled : List (Settlement Call)) (k : ℕ) (next : Settlement Call) → length settled ≡ k
     → settlement_lines (settled ++ next ∷ []) ≡ settlement_lines settled ++ lines_from k (next ∷ [])
 lines_last settled k next is =
@@ -67,8 +67,8 @@ length_one xs x = length-append xs (x ∷ [])
 
 -- The bytes that came.
 
--- where more bytes come, the lines that were looked at stay, and those behind them are the lines of what was left and of the
--- new bytes; `now` is the rest of a line that the assembler keeps in front of these
+-- where more bytes come, the lines that were looked at stay, and those after them are the lines of what was left and of the
+-- new bytes; `now` is the rest of a line that the assembler keeps before these
 more_came : (given left more now : List ℕ) (looked : List (List ℕ)) → lines given ≡ looked ++ lines_behind now left → rest_of given ≡ rest_behind now left
     → (lines (given ++ more) ≡ looked ++ lines_behind now (left ++ more)) × (rest_of (given ++ more) ≡ rest_behind now (left ++ more))
 more_came given left more now looked seen rests = (
@@ -116,8 +116,8 @@ asked_so done given left kept client a b c d more at =
     ap (λ xs. asked_from 0 xs (lines (given ++ more))) (sym (append-nil done)) ∙ ap (asked_from 0 (done ++ [])) (more_came given left more at.now at.looked at.seen at.rests).0
     ∙ at.asks [] came ∙ append-nil at.settled
 
--- where `r` is the first reply to one more command, the bytes that came settle what the course says, then that command by `r`,
--- and then the later ones by the lines behind `r`; without a reply they settle what the course says, and no more
+-- where `r` is the first reply to one more command, the bytes that came settle what the course says, then that command by
+-- `r`, and then the later ones by the lines after `r`; without a reply they settle what the course says, and no more
 asked_on : (done : List Command) (given left : List ℕ) (kept : Kept) (client : ById Call) (a b c d : Option (List ℕ)) (more : List ℕ)
     (at : Course done given left kept client a b c d) (command : Command) (later : List Command) (r : Option Reply)
     → first_reply (waiting_for (length done) command) (lines_behind at.now (left ++ more)) ≡ r
@@ -127,8 +127,9 @@ asked_on done given left kept client a b c d more at command later r is =
     ap (asked_from 0 (done ++ command ∷ later)) (more_came given left more at.now at.looked at.seen at.rests).0
     ∙ at.asks (command ∷ later) came ∙ ap (λ x. at.settled ++ settled_by (waiting_for (length done) command) (asked_from (length done + 1) later) x) is
 
--- client `from`, with `rest` as the bytes of the line under way, is given `bytes`, and a line of them settles its request (`Settles`; `to`
--- is the client then, and `left` the bytes behind that line). That line is the first reply, and the lines of `left` come after it
+-- client `from`, with `rest` as the bytes of the line in flight, is given `bytes`, and a line of them settles its request
+-- (`Settles`; `to` is the client then, and `left` the bytes after that line). That line is the first reply, and the lines of
+-- `left` come after it
 first_is : (rest bytes left : List ℕ) (kept : Kept) (from to : ById Call) (settled : List (Settlement.Settlement Call))
     (s : Settles from (record { rest = rest; bytes = bytes; left = left; kept = kept; client = to; settled = settled }))
     → first_reply from (lines_behind rest bytes) ≡ Some (record { line = s.line; later = lines_behind [] left })

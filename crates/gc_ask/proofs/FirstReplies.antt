@@ -28,7 +28,7 @@ lines_of pieces = filter_map line_in (map frame_of pieces)
 lines_of-append : (xs ys : List (List ℕ)) → lines_of (xs ++ ys) ≡ lines_of xs ++ lines_of ys
 lines_of-append xs ys = ap (λ fs. filter_map line_in fs) (map-append frame_of xs ys) ∙ filter_map-append line_in (map frame_of xs) (map frame_of ys)
 
--- the lines of the bytes `xs ++ ys` are those of `xs`, and then those that `ys` complete behind what `xs` leave
+-- the lines of the bytes `xs ++ ys` are those of `xs`, and then those that `ys` complete after what `xs` leave
 pub lines_behind-append : (rest xs ys : List ℕ) → lines_behind rest (xs ++ ys) ≡ lines_behind rest xs ++ lines_behind (rest_behind rest xs) ys
 lines_behind-append rest xs ys = ap lines_of (pieces-append rest xs ys) ∙ lines_of-append (pieces_behind rest xs) (pieces_behind (rest_behind rest xs) ys)
 
@@ -48,7 +48,7 @@ first_reply-at c front line later none fit = first_reply-none c front (line ∷ 
 
 -- Quiet pieces.
 
--- where a piece settles nothing, and neither does the piece behind it, the two together settle nothing
+-- where a piece settles nothing, and neither does the piece after it, the two together settle nothing
 pub quiet_then : (rest xs ys : List ℕ) (kept kept' : Kept) (a b c : ById Call) → IsQuiet rest xs kept a b → IsQuiet (rest_behind rest xs) ys kept' b c → IsQuiet rest (xs ++ ys) kept' a c
 quiet_then rest xs ys kept kept' a b c q r = record {
   none = ap (first_reply a) (lines_behind-append rest xs ys) ∙ first_reply-none a (lines_behind rest xs) (lines_behind (rest_behind rest xs) ys) q.none
@@ -57,7 +57,7 @@ quiet_then rest xs ys kept kept' a b c q r = record {
   same = r.same ∙ q.same;
 }
 
--- where a piece settles nothing, and the piece behind it settles a request, the two together settle that request
+-- where a piece settles nothing, and the piece after it settles a request, the two together settle that request
 pub settles_then : (rest xs ys left : List ℕ) (kept kept' : Kept) (a b c : ById Call) (settled : List (Settlement Call)) → IsQuiet rest xs kept a b
     → Settles b (record { rest = rest_behind rest xs; bytes = ys; left = left; kept = kept'; client = c; settled = settled })
     → Settles a (record { rest = rest; bytes = xs ++ ys; left = left; kept = kept'; client = c; settled = settled })
@@ -131,8 +131,8 @@ passed_on rest piece left used frame kept kept' a b c p t same nothing =
       same = same ∙ p.same;
     }
 
--- `line` is the first line of `rest` and the bytes `left` behind it: the first `used` bytes of `left` end it, and behind it stand
--- those that weren't used
+-- `line` is the first line of `rest` and the bytes `left` after it: the first `used` bytes of `left` end it, and after it
+-- come those that weren't used
 record TakesLine (rest left : List ℕ) (used : ℕ) (line : List ℕ) (kept : Kept) : Type 0 where
   seen : lines_behind rest left ≡ line ∷ lines_behind [] (drop used left)
   rests : rest_behind rest left ≡ rest_behind [] (drop used left)
@@ -198,8 +198,8 @@ taken_line a b (Some line) settled t = (line, refl, t.0, t.1, t.2)
 
 -- Reading on.
 
--- reading goes on: behind the bytes `start`, which were left from before, `given` came. Of all these, `heard_so` were heard and
--- settle nothing, and `ahead` weren't heard yet. `kept` is what the assembler keeps now. The client is `from` before and
+-- reading goes on: after the bytes `start`, which were left from before, `given` came. Of all these, `heard_so` were heard
+-- and settle nothing, and `ahead` weren't heard yet. `kept` is what the assembler keeps now. The client is `from` before and
 -- `to` after, which are the same
 pub record Reading (rest start given ahead : List ℕ) (kept : Kept) (from to : ById Call) : Type 0 where
   pub heard_so : List ℕ
@@ -223,7 +223,7 @@ reading_quiet rest start given ahead kept kept' a b c r q =
     let all = quiet_then rest r.heard_so ahead kept kept' a b c r.quiet q in
     (ap (λ zs. first_reply a (lines_behind rest zs)) r.order ∙ all.none, all.same)
 
--- where the bytes that are ahead settle a request behind those that were heard, all bytes since the start settle it
+-- where the bytes that are ahead settle a request after those that were heard, all bytes since the start settle it
 pub reading_settles : (rest start given ahead left : List ℕ) (kept kept' : Kept) (a b c : ById Call) (settled : List (Settlement Call))
     → (r : Reading rest start given ahead kept a b) → Settles b (record
     { rest = rest_behind rest r.heard_so; bytes = ahead; left = left; kept = kept'; client = c; settled = settled })

@@ -24,7 +24,7 @@ pub grows_none : (a : Option (List End)) → Grows a a []
 grows_none None = tt
 grows_none (Some a) = sym (append-nil a)
 
--- what is written of one more connection comes behind the others'
+-- what is written of one more connection comes after the others'
 pub told_more : (n : ℕ) (ends : List End) (end : End) → told_from n (ends ++ end ∷ []) ≡ told_from n ends ++ told_of (n + length ends) end
 told_more n [] end =
     let at : n ≡ n + 0 = omega arith in

@@ -6,7 +6,7 @@ use Rattle.gc_lines.specs.declared.frame.Frame.{Frame}
 use Rattle.gc_lines.specs.declared.frame.Frame.TheVariants.{Line}
 use Rattle.gc_scenes.specs.Slow.{SlowState, Hears, HearsSometime}
 
--- appending a line's reply, and CR LF behind it, is how the frame of that line is answered
+-- appending a line's reply, and CR LF after it, is how the frame of that line is answered
 pub heard_line : (before after : SlowState) (line : List ℕ) (at : ℕ) (old between new : List ℕ) → AppendsAnswer (Hears before line at after) old between true
     → new ≡ between ++ 13 ∷ 10 ∷ [] → AppendsAnswer (HearsSometime before (Line (record { items = line })) after) old new true
 heard_line before after line at old between new h e =

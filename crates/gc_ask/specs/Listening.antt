@@ -75,8 +75,8 @@ Gives old new assembler claim =
     (given : List ℕ) × Consumes old.remaining new.remaining given
     × (length given ≤ ROOM * (new.reads - old.reads)) × ((rest : List ℕ) → StandsFor assembler rest → claim rest given)
 
--- of the lines that came, `line` is the first to settle a request of this client; `front` are those before it, and what is left
--- of the bytes stands after it. The settlements and the client then are those of the client's rule, and the assembler keeps
+-- of the lines that came, `line` is the first to settle a request of this client; `front` are those before it, and what is
+-- left of the bytes is after it. The settlements and the client then are those of the client's rule, and the assembler keeps
 -- nothing
 pub record Settles (from : ById Call) (heard_so : Heard) : Type 0 where
   pub front : List (List ℕ)

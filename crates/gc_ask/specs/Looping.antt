@@ -81,7 +81,7 @@ IsUnused old new =
 abbrev pub written_there : SeenAtBoth → SeenAtBoth → Written
 written_there old new = record { link_old = old.client.taken; link_new = new.client.taken; sink_old = old.sink.bytes; sink_new = new.sink.bytes }
 
--- commands were asked over a link at whose other end a simulator stands, with this result
+-- commands were asked over a link with a simulator at its other end, with this result
 pub record LoopsOver (commands : List Command) (old new : SeenAtBoth) (result : Result (Unit {0}) RunFault) : Type 0 where
   pub given : List ℕ
   pub gave : Consumes old.client.remaining new.client.remaining given

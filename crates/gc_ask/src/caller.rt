@@ -84,7 +84,7 @@ impl<'a, R: Clock> End<'a, R> {
     }
 }
 
-/// The writing end of a connection. A reply of an instrument whose replies take time waits here until it is to go out.
+/// The writing end of a connection. A reply of an instrument whose replies take time waits here until it is to be sent.
 #[derive(Drop)]
 pub(crate) struct Reply<'a, R> {
     rt: &'a R,
@@ -99,7 +99,7 @@ impl<'a, R: Clock> Reply<'a, R> {
     }
 }
 
-// Each write goes out at once, so there is nothing to flush.
+// Each write is sent at once, so there is nothing to flush.
 impl<'a, R: Clock> Write for Reply<'a, R> {
     fn write(&mut self, buf: &[u8]) -> io::Result<usize> {
         if let Some(hours) = self.hours {

@@ -1,4 +1,4 @@
-//! The client's end of a link: the client behind an assembler, which gives it the lines that come.
+//! The client's end of a link: the client, and the assembler that gives it the lines that come.
 
 ghost use Rattle.std.specs.Prelude.{◌≡◌, ◌+◌, ◌-◌, ◌*◌, ◌≤◌, ℕ, [], ◌++◌, List, length, IfSome};
 ghost use Rattle.std.specs.Io.KnownBytes.{Consumes};
@@ -17,7 +17,7 @@ use gc_client::{Client, Hearing, Settlement, Slots, WINDOW};
 use gc_lines::{Assembler, Lent, Line};
 use gc_texts::RunFault;
 
-/// A client behind an assembler.
+/// A client, and the assembler that gives it its lines.
 #[derive(Drop)]
 pub(crate) struct ClientEnd {
     pub(crate) client: Client<Slots>,
@@ -71,7 +71,7 @@ impl ClientEnd {
         None
     }
 
-    // Reads a link, at most `reads` times, until a line settles a request that waits. Bytes behind that line stay in `ahead`
+    // Reads a link, at most `reads` times, until a line settles a request that waits. Bytes after that line stay in `ahead`
     // for the next request. The faults are `TooManyReads`, `Read` and `LinkClosed`, as `run_ask` has them.
     pub(crate) fn hear_reply<L: Link>(
         &mut self,

@@ -1,4 +1,4 @@
-//! Asking and serving over real connections, to their ends. How a connection is made stands in `gc_links`.
+//! Asking and serving over real connections, to their ends. How a connection is made is in `gc_links`.
 
 ghost use Rattle.std.specs.Prelude.{◌≡◌, ◌≤◌, Option, Result};
 ghost use Rattle.gc_lines.specs.declared.served.Served.{Served};
@@ -36,7 +36,7 @@ use std::time::Clock;
 pub const MOST_CONNECTIONS: u32 = 1000;
 
 /// Reads the whole command text of a source, binds a free port, connects to it, and asks the commands over that one
-/// connection, at whose other end an instrument stands, in at most `max_reads` reads of both ends together.
+/// connection, with an instrument at its other end, in at most `max_reads` reads of both ends together.
 ///
 /// The faults come as `run_loop_on` says, and `Socket` comes where a bind, a connect or an accept failed. No socket is opened
 /// before the whole text was read.

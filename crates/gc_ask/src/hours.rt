@@ -1,4 +1,4 @@
-//! What the two ends of a connection tell each other that an instrument with delays serves: when the last bytes came, until when the
+//! What the two ends share of a connection that an instrument with delays serves: when the last bytes came, until when the
 //! instrument is busy, and what came before it got free. The clock of serving is read here alone.
 
 ghost use Rattle.std.specs.Prelude.{◌≤◌, length};

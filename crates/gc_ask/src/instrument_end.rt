@@ -1,4 +1,4 @@
-//! The instrument's end of a link: the instrument behind an assembler, which gives it the lines that come.
+//! The instrument's end of a link: the instrument, and the assembler that gives it the lines that come.
 
 ghost use Rattle.std.specs.Prelude.{◌≡◌, ◌+◌, Err};
 ghost use Rattle.gc_texts.specs.declared.fault.RunFault.{RunFault};
@@ -10,7 +10,7 @@ use gc_instrument::Instrument;
 use gc_lines::{Answers, Assembler, Line, Outgoing, Sink, Source, write_whole};
 use gc_texts::RunFault;
 
-/// An instrument behind an assembler.
+/// An instrument, and the assembler that gives it its lines.
 #[derive(Drop)]
 pub(crate) struct InstrumentEnd {
     instrument: Instrument,

@@ -16,7 +16,7 @@ use gc_lines::{Line, PortFailed, Sink, Source};
 use gc_texts::RunFault;
 use std::alloc::Global;
 
-/// Reads the whole command text of a source, and asks its commands over a link at whose other end a simulator stands, in at most
+/// Reads the whole command text of a source, and asks its commands over a link with a simulator at its other end, in at most
 /// `max_reads` reads of both ends together.
 ///
 /// After each request the instrument's end is read until one line was answered, and that reply is written; then the client's
@@ -95,7 +95,7 @@ pub fn run_loop_on<S: Source, A: Source, B: Sink, C: Source, D: Sink, K: Sink>(
     run_over(alloc, commands, &mut link, sink, max_reads)
 }
 
-/// A link at whose other end an instrument stands, which answers each request once it is sent.
+/// A link with an instrument at its other end, which answers each request once it is sent.
 #[derive(Drop)]
 pub(crate) struct Loop<'a, 'b, 'c, 'd, A, B, C, D> {
     pub(crate) client_in: &'a mut A,

@@ -1,5 +1,5 @@
-//! An instrument whose replies take time, served to callers. When bytes came is noted by the reading end of their connection, and the
-//! writing end waits until a reply is to go out (`caller.rt`).
+//! An instrument whose replies take time, served to callers. When bytes came is noted by the reading end of their
+//! connection, and the writing end waits until a reply is to be sent (`caller.rt`).
 
 ghost use Rattle.std.specs.Prelude.{◌≡◌, ◌+◌, ◌≤◌, length};
 ghost use Rattle.arrayvec.specs.ArrayVec.{array_vec_len};

@@ -17,7 +17,7 @@ const REPLIES: [&[u8]; 8] = [
     b"%R1P,0,7:0,0.512345678901,1.512345678901,25.1252",
 ];
 
-/// Sends `count` requests, each answered before the next goes out, and returns the sum of the lengths of the request lines
+/// Sends `count` requests, each answered before the next is sent, and returns the sum of the lengths of the request lines
 /// and of the scales of the distances. One line serves for all sends, and one list for all settlements.
 pub fn send<W: Window<Asked = Call>>(window: W, count: u32) -> u64 {
     let mut client = Client::new(window);
@@ -31,8 +31,8 @@ pub fn send<W: Window<Asked = Call>>(window: W, count: u32) -> u64 {
     sum
 }
 
-// Sends a request, and returns the length of its line, or 0 where the window is full.
-// It stays a function of its own, so that its instructions can be told apart.
+// Sends a request, and returns the length of its line, or 0 where the window is full. It stays a function of its own, so
+// that its instructions can be distinguished.
 #[inline(never)]
 fn sent<W: Window<Asked = Call>>(client: &mut Client<W>, target: u32, line: &mut Line) -> u64 {
     let call = Call::SimpleMea {
@@ -45,7 +45,8 @@ fn sent<W: Window<Asked = Call>>(client: &mut Client<W>, target: u32, line: &mut
     }
 }
 
-// Hears a reply, and returns the scale of its distance. It stays a function of its own, so that its instructions can be told apart.
+// Hears a reply, and returns the scale of its distance. It stays a function of its own, so that its instructions can be
+// distinguished.
 #[inline(never)]
 fn answered<W: Window<Asked = Call>>(
     client: &mut Client<W>,

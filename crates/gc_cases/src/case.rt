@@ -3,7 +3,7 @@
 /// One case.
 #[derive(Clone, Copy)]
 pub struct Case<'a> {
-    /// The case's name, which stands behind `==`.
+    /// The case's name, which follows `==`.
     pub name: &'a str,
     // The lines of the case, each a key and its value.
     lines: &'a str,
@@ -29,7 +29,7 @@ impl<'a> Case<'a> {
         None
     }
 
-    /// The number under a key, and `or` where no number stands there.
+    /// The number under a key, and `or` where no number is there.
     pub fn number(&self, key: &str, or: u64) -> u64 {
         self.value(key).parse::<u64>().unwrap_or(or)
     }
@@ -44,7 +44,7 @@ fn value_of<'a>(line: &'a str, key: &str) -> Option<&'a str> {
     rest.strip_prefix(' ')
 }
 
-/// The first case of a text, and the text behind it. `None`: the text has no case.
+/// The first case of a text, and the text after it. `None`: the text has no case.
 pub fn cut_case(text: &str) -> Option<(Case<'_>, &str)> {
     let (_, cases) = text.split_once("== ")?;
     let (name, behind) = cases.split_once('\n').unwrap_or((cases, ""));

@@ -43,7 +43,7 @@ fn next_byte(value: &[u8]) -> Option<(u8, &[u8])> {
     Some((*byte, behind))
 }
 
-// The byte that stands behind a backslash, and what follows.
+// The byte that follows a backslash, and what follows.
 fn escape_of(rest: &[u8]) -> (u8, &[u8]) {
     match rest {
         [b'n', behind @ ..] => (b'\n', behind),

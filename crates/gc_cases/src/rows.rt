@@ -15,7 +15,7 @@ pub trait Rows {
     fn play(&mut self, alloc: Global, word: &str, what: &str, bytes: &[u8], came: &mut Told);
 }
 
-/// Plays the rows of a case. Where another thing came than stands behind a row's arrow, a line with it is appended to `wrong`.
+/// Plays the rows of a case. Where another thing came than follows a row's arrow, a line with it is appended to `wrong`.
 pub fn play_rows<R: Rows>(alloc: Global, case: &Case<'_>, rows: &mut R, wrong: &mut Told) {
     if case.value("do").is_empty() {
         return case.tell_wrong("rows", b"none", wrong);
@@ -30,7 +30,7 @@ pub fn play_rows<R: Rows>(alloc: Global, case: &Case<'_>, rows: &mut R, wrong: &
     }
 }
 
-// Plays one row of a case, and compares what came with what stands behind its arrow.
+// Plays one row of a case, and compares what came with what follows its arrow.
 fn play_row<R: Rows>(
     alloc: Global,
     case: &Case<'_>,
@@ -46,7 +46,7 @@ fn play_row<R: Rows>(
     }
 }
 
-// Plays what stands before a row's arrow.
+// Plays what is before a row's arrow.
 fn play_given<R: Rows>(alloc: Global, given: &str, rows: &mut R, came: &mut Told) {
     let (word, what) = cut_word(given);
     match bytes_of(alloc, what) {
@@ -65,12 +65,12 @@ fn tell_row(case: &Case<'_>, given: &str, came: &Told, wrong: &mut Told) {
     wrong.text("\n");
 }
 
-/// The first word of a text, and what stands behind the space after it.
+/// The first word of a text, and what follows the space after it.
 pub fn cut_word(text: &str) -> (&str, &str) {
     text.split_once(' ').unwrap_or((text, ""))
 }
 
-/// Of the bytes for which a text stands, those behind its first word and the space after it. `word` is that word.
+/// Of the bytes for which a text stands, those after its first word and the space after it. `word` is that word.
 pub fn bytes_behind<'a>(word: &str, bytes: &'a [u8]) -> &'a [u8] {
     bytes.get(word.len().saturating_add(1)..).unwrap_or(b"")
 }

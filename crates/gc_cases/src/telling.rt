@@ -1,4 +1,4 @@
-//! What came of a case is compared with what the case expects, and told where these differ.
+//! What came of a case is compared with what the case expects, and reported where these differ.
 
 use crate::case::Case;
 use crate::escapes::spells;

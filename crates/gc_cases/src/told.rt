@@ -91,13 +91,13 @@ impl Told {
         self.lacks |= is_lacking;
     }
 
-    /// Appends a title, and a value behind it.
+    /// Appends a title, and a value after it.
     pub fn titled<T: fmt::Display>(&mut self, title: &str, value: &T) {
         self.text(title);
         self.display(value);
     }
 
-    /// Appends a value, and what it counts behind it.
+    /// Appends a value, and what it counts after it.
     pub fn counted<T: fmt::Display>(&mut self, value: &T, what: &str) {
         self.display(value);
         self.text(what);

@@ -26,30 +26,30 @@ use Rattle.gc_catalogue.proofs.SameText.{same_text}
 use Rattle.gc_catalogue.proofs.RawRules.{each_raw_reply, one_raw_reading}
 
 -- the request with this number and these parameters, which may be asked for
-abbrev make : (rpc : ℕ) (params : RawText) → IsRawCall rpc (raw_bytes params) → RawCall
-make rpc params is = record { rpc = rpc; params = params; is = is }
+abbrev raw_call_of : (rpc : ℕ) (params : RawText) → IsRawCall rpc (raw_bytes params) → RawCall
+raw_call_of rpc params is = record { rpc = rpc; params = params; is = is }
 
 -- requests of one number and the same parameters are equal whatever the proofs are that they may be asked for
 same_fields : (rpc : ℕ) (params : RawText) (is : IsRawCall rpc (raw_bytes params)) (other : ℕ) (text : RawText) → rpc ≡ other → params ≡ text
-    → (so : IsRawCall other (raw_bytes text)) → make rpc params is ≡ make other text so
+    → (so : IsRawCall other (raw_bytes text)) → raw_call_of rpc params is ≡ raw_call_of other text so
 same_fields rpc params is other text e f =
-    let P : ℕ → Type 0 = λ n. (so : IsRawCall n (raw_bytes text)) → make rpc params is ≡ make n text so in
-    let Q : RawText → Type 0 = λ t. (so : IsRawCall rpc (raw_bytes t)) → make rpc params is ≡ make rpc t so in
-    subst P e (subst Q f (λ so. ap (make rpc params) (IsRawCall-prop rpc (raw_bytes params) is so)))
+    let P : ℕ → Type 0 = λ n. (so : IsRawCall n (raw_bytes text)) → raw_call_of rpc params is ≡ raw_call_of n text so in
+    let Q : RawText → Type 0 = λ t. (so : IsRawCall rpc (raw_bytes t)) → raw_call_of rpc params is ≡ raw_call_of rpc t so in
+    subst P e (subst Q f (λ so. ap (raw_call_of rpc params) (IsRawCall-prop rpc (raw_bytes params) is so)))
 
 -- requests of one number and the same parameters are equal
 pub same_raw : (a b : RawCall) → a.rpc ≡ b.rpc → raw_params a ≡ raw_params b → a ≡ b
 same_raw a b e f = same_fields a.rpc a.params a.is b.rpc b.params e (same_text a.params b.params f) b.is
 
 -- no call has the number of a procedure that isn't in the table
-pub apart : (rpc : ℕ) (params : List ℕ) (call : Call) (raw : RawCall) → IsCall rpc params call → raw.rpc ≡ rpc → ⊥
-apart rpc params call raw is e = raw.is.no_procedure call (is.number ∙ sym e)
+pub no_call_is_raw : (rpc : ℕ) (params : List ℕ) (call : Call) (raw : RawCall) → IsCall rpc params call → raw.rpc ≡ rpc → ⊥
+no_call_is_raw rpc params call raw is e = raw.is.no_procedure call (is.number ∙ sym e)
 
 -- a number and parameters ask for one thing at most
 pub one_asked : (rpc : ℕ) (params : List ℕ) (a b : Asked) → IsAsked rpc params a → IsAsked rpc params b → a ≡ b
 one_asked rpc params (Table c) (Table d) x y = ap (λ z. Table z) (one_call rpc params c d x y)
-one_asked rpc params (Table c) (Raw s) x y = absurd (apart rpc params c s x y.0)
-one_asked rpc params (Raw r) (Table d) x y = absurd (apart rpc params d r y x.0)
+one_asked rpc params (Table c) (Raw s) x y = absurd (no_call_is_raw rpc params c s x y.0)
+one_asked rpc params (Raw r) (Table d) x y = absurd (no_call_is_raw rpc params d r y x.0)
 one_asked rpc params (Raw r) (Raw s) x y = ap (λ z. Raw z) (same_raw r s (x.0 ∙ sym y.0) (x.1 ∙ sym y.1))
 
 -- the line of what is asked reads back as that

@@ -7,19 +7,19 @@ use Rattle.gc_catalogue.specs.declared.call.Call.{Call}
 use Rattle.gc_catalogue.specs.Calls.{call_fields, IsCall, IsFitting, IsRefusal}
 use Rattle.gc_catalogue.specs.Lists.{params_of}
 use Rattle.gc_values.proofs.ListLaws.{no_list_fault, one_list_fault, one_values, params_fit, written_reads}
-use Rattle.gc_catalogue.proofs.Table.{alike, few_values, same_call, call_kinds}
+use Rattle.gc_catalogue.proofs.Table.{same_number_alike, few_values, same_call, call_kinds}
 
 -- a number and parameters are those of at most one call
 pub one_call : (n : ℕ) (params : List ℕ) (c d : Call) → IsCall n params c → IsCall n params d → c ≡ d
 one_call n params c d x y =
     let number = x.number ∙ sym y.number in
-    same_call c d number (one_values _ _ params (alike c d number).kinds x.values y.values)
+    same_call c d number (one_values _ _ params (same_number_alike c d number).kinds x.values y.values)
 
 -- parameters of a call are not refused
 pub no_refusal : (n : ℕ) (params : List ℕ) (c : Call) (e : CallFault) → IsCall n params c → IsRefusal n params e → ⊥
 no_refusal n params c Unknown x h = h c x.number
 no_refusal n params c (Parameters e) x h =
-    no_list_fault (call_fields c).values params e (few_values c) x.values (rw (alike c h.0 (x.number ∙ sym h.1)).kinds h.2)
+    no_list_fault (call_fields c).values params e (few_values c) x.values (rw (same_number_alike c h.0 (x.number ∙ sym h.1)).kinds h.2)
 
 -- a number and parameters have at most one refusal
 pub one_refusal : (n : ℕ) (params : List ℕ) (e f : CallFault) → IsRefusal n params e → IsRefusal n params f → e ≡ f
@@ -27,7 +27,7 @@ one_refusal n params Unknown Unknown x y = refl
 one_refusal n params Unknown (Parameters f) x y = absurd (x y.0 y.1)
 one_refusal n params (Parameters e) Unknown x y = absurd (y x.0 x.1)
 one_refusal n params (Parameters e) (Parameters f) x y =
-    ap (λ z. Parameters z) (one_list_fault (call_kinds x.0) params e f x.2 (rw (alike x.0 y.0 (x.1 ∙ sym y.1)).kinds y.2))
+    ap (λ z. Parameters z) (one_list_fault (call_kinds x.0) params e f x.2 (rw (same_number_alike x.0 y.0 (x.1 ∙ sym y.1)).kinds y.2))
 
 -- a reading made call `d` or gave a refusal. Where the parameters are those of a call, it refused nothing and made that call
 pub only_call : (n : ℕ) (params : List ℕ) (r : Result ⊤ CallFault) (d : Call) → OnOk r (IsCall n params d) → IfErr r (λ e. IsRefusal n params e) → (c : Call) → IsCall n params c → IsOk r × (d ≡ c)

@@ -24,8 +24,8 @@ use Rattle.gc_catalogue.specs.declared.answer.Shape.{Shape}
 use Rattle.gc_catalogue.specs.declared.answer.Shape.TheVariants as shape
 use Rattle.gc_catalogue.specs.declared.call.Call.{Call}
 
--- the first value of a list, which is of kind k, and those behind it
-record Split (k : Kind) (ks : List Kind) (vs : List Value) : Type 0 where
+-- the first value of a list, which is of kind k, and those after it
+record FirstValue (k : Kind) (ks : List Kind) (vs : List Value) : Type 0 where
   first : Value
   behind : List Value
   is : first ∷ behind ≡ vs
@@ -33,9 +33,9 @@ record Split (k : Kind) (ks : List Kind) (vs : List Value) : Type 0 where
   kinds : kinds_of behind ≡ ks
 
 -- a list of values whose kinds begin with k begins with a value of kind k
-split : (k : Kind) (ks : List Kind) (vs : List Value) → kinds_of vs ≡ k ∷ ks → Split k ks vs
-split k ks [] e = absurd (cc)
-split k ks (v ∷ vs) e = record { first = v; behind = vs; is = refl; kind = cc; kinds = cc }
+first_value : (k : Kind) (ks : List Kind) (vs : List Value) → kinds_of vs ≡ k ∷ ks → FirstValue k ks vs
+first_value k ks [] e = absurd (cc)
+first_value k ks (v ∷ vs) e = record { first = v; behind = vs; is = refl; kind = cc; kinds = cc }
 
 -- where the list of kinds is empty, the list of values is
 none_left : (vs : List Value) → kinds_of vs ≡ [] → [] ≡ vs
@@ -88,58 +88,63 @@ a_text (value.Bool b) e = absurd (cc)
 a_text (value.Text t) e = (t, refl)
 
 -- an answer of a shape that has these values
-abbrev Has : Shape → List Value → Type 0
-Has s vs = (a : Answer) × ((answer_fields a).shape ≡ s) × ((answer_fields a).values ≡ vs)
+abbrev HasAnswer : Shape → List Value → Type 0
+HasAnswer s vs = (a : Answer) × ((answer_fields a).shape ≡ s) × ((answer_fields a).values ≡ vs)
 
 -- a shape has one list of kinds, some answer, and an answer for each list of values of these kinds
-record Made (s : Shape) : Type 0 where
+record ShapeIsAnswered (s : Shape) : Type 0 where
   some : Answer
   shape : (answer_fields some).shape ≡ s
-  each : (vs : List Value) → kinds_of vs ≡ kinds_of (answer_fields some).values → Has s vs
+  each : (vs : List Value) → kinds_of vs ≡ kinds_of (answer_fields some).values → HasAnswer s vs
 
 -- where `say` gives answers of the shape s with just one value, which is of kind k and which `make` gives, there is an answer of
 -- that shape for each list of one value of that kind
-of_one : {X : Type 0} (k : Kind) (make : X → Value) (say : X → Answer) (s : Shape) → ((v : Value) → kind_of v ≡ k → (x : X) × (make x ≡ v))
-    → ((x : X) → (answer_fields (say x)).shape ≡ s) → ((x : X) → (answer_fields (say x)).values ≡ make x ∷ []) → (vs : List Value) → kinds_of vs ≡ k ∷ [] → Has s vs
-of_one k make say s is shape values vs e =
-    let p = split k [] vs e in
+one_value_answer : {X : Type 0} (k : Kind) (make : X → Value) (say : X → Answer) (s : Shape) → ((v : Value) → kind_of v ≡ k → (x : X) × (make x ≡ v))
+    → ((x : X) → (answer_fields (say x)).shape ≡ s) → ((x : X) → (answer_fields (say x)).values ≡ make x ∷ []) → (vs : List Value) → kinds_of vs ≡ k ∷ [] → HasAnswer s vs
+one_value_answer k make say s is shape values vs e =
+    let p = first_value k [] vs e in
     let x = is p.first p.kind in
     (say x.0, shape x.0, values x.0 ∙ ap (λ v. v ∷ []) x.1 ∙ ap (λ ws. p.first ∷ ws) (none_left p.behind p.kinds) ∙ p.is)
 
 -- where an answer of a shape has one decimal, there is such an answer for each decimal
 one_double : (say : Decimal → Answer) (s : Shape) → ((d : Decimal) → (answer_fields (say d)).shape ≡ s)
-    → ((d : Decimal) → (answer_fields (say d)).values ≡ value.Double d ∷ []) → (vs : List Value) → kinds_of vs ≡ kind.Double ∷ [] → Has s vs
-one_double say s is values = of_one kind.Double (λ d. value.Double d) say s a_double is values
+    → ((d : Decimal) → (answer_fields (say d)).values ≡ value.Double d ∷ []) → (vs : List Value) → kinds_of vs ≡ kind.Double ∷ [] → HasAnswer s vs
+one_double say s is values = one_value_answer kind.Double (λ d. value.Double d) say s a_double is values
 
 -- every shape has a list of kinds, and an answer for each list of values of these kinds
-made : (s : Shape) → Made s
-made shape.Nothing = record { some = answer.Nothing; shape = refl; each = λ vs e. (answer.Nothing, refl, none_left vs e) }
-made shape.Short = record { some = answer.Short (pos 0); shape = refl; each = of_one kind.Short (λ z. value.Short z) (λ z. answer.Short z) shape.Short a_short (λ z. refl) (λ z. refl) }
-made shape.Long = record { some = answer.Long (pos 0); shape = refl; each = of_one kind.Long (λ z. value.Long z) (λ z. answer.Long z) shape.Long a_long (λ z. refl) (λ z. refl) }
-made shape.Name = record { some = answer.Name []; shape = refl; each = of_one kind.Text (λ t. value.Text t) (λ t. answer.Name t) shape.Name a_text (λ t. refl) (λ t. refl) }
-made shape.Temperature = record { some = answer.Temperature zero; shape = refl; each = one_double (λ d. answer.Temperature d) shape.Temperature (λ d. refl) (λ d. refl) }
-made shape.Height = record { some = answer.Height zero; shape = refl; each = one_double (λ d. answer.Height d) shape.Height (λ d. refl) (λ d. refl) }
-made shape.Version = record { some = answer.Version (pos 0) (pos 0) (pos 0); shape = refl; each = version } where
+shape_is_answered : (s : Shape) → ShapeIsAnswered s
+shape_is_answered shape.Nothing = record { some = answer.Nothing; shape = refl; each = λ vs e. (answer.Nothing, refl, none_left vs e) }
+shape_is_answered shape.Short = record {
+  some = answer.Short (pos 0);
+  shape = refl;
+  each = one_value_answer kind.Short (λ z. value.Short z) (λ z. answer.Short z) shape.Short a_short
+      (λ z. refl) (λ z. refl);
+}
+shape_is_answered shape.Long = record { some = answer.Long (pos 0); shape = refl; each = one_value_answer kind.Long (λ z. value.Long z) (λ z. answer.Long z) shape.Long a_long (λ z. refl) (λ z. refl) }
+shape_is_answered shape.Name = record { some = answer.Name []; shape = refl; each = one_value_answer kind.Text (λ t. value.Text t) (λ t. answer.Name t) shape.Name a_text (λ t. refl) (λ t. refl) }
+shape_is_answered shape.Temperature = record { some = answer.Temperature zero; shape = refl; each = one_double (λ d. answer.Temperature d) shape.Temperature (λ d. refl) (λ d. refl) }
+shape_is_answered shape.Height = record { some = answer.Height zero; shape = refl; each = one_double (λ d. answer.Height d) shape.Height (λ d. refl) (λ d. refl) }
+shape_is_answered shape.Version = record { some = answer.Version (pos 0) (pos 0) (pos 0); shape = refl; each = version } where
   -- each list of three Shorts is the values of an answer of the shape `Version`
-  version : (vs : List Value) → kinds_of vs ≡ kind.Short ∷ kind.Short ∷ kind.Short ∷ [] → Has shape.Version vs
+  version : (vs : List Value) → kinds_of vs ≡ kind.Short ∷ kind.Short ∷ kind.Short ∷ [] → HasAnswer shape.Version vs
   version vs e =
-      let p = split kind.Short (kind.Short ∷ kind.Short ∷ []) vs e in
-      let q = split kind.Short (kind.Short ∷ []) p.behind p.kinds in
-      let r = split kind.Short [] q.behind q.kinds in
+      let p = first_value kind.Short (kind.Short ∷ kind.Short ∷ []) vs e in
+      let q = first_value kind.Short (kind.Short ∷ []) p.behind p.kinds in
+      let r = first_value kind.Short [] q.behind q.kinds in
       let a = a_short p.first p.kind in
       let b = a_short q.first q.kind in
       let c = a_short r.first r.kind in
       (answer.Version a.0 b.0 c.0, refl, cc (a.1, b.1, c.1, none_left r.behind r.kinds, r.is, q.is, p.is))
-made shape.Date = record { some = answer.Date (record { year = pos 0; month = 0; day = 0; hour = 0; minute = 0; second = 0 }); shape = refl; each = date } where
+shape_is_answered shape.Date = record { some = answer.Date (record { year = pos 0; month = 0; day = 0; hour = 0; minute = 0; second = 0 }); shape = refl; each = date } where
   -- each list of a Short and five Bytes is the values of an answer of the shape `Date`
-  date : (vs : List Value) → kinds_of vs ≡ kind.Short ∷ kind.Byte ∷ kind.Byte ∷ kind.Byte ∷ kind.Byte ∷ kind.Byte ∷ [] → Has shape.Date vs
+  date : (vs : List Value) → kinds_of vs ≡ kind.Short ∷ kind.Byte ∷ kind.Byte ∷ kind.Byte ∷ kind.Byte ∷ kind.Byte ∷ [] → HasAnswer shape.Date vs
   date vs e =
-      let p = split kind.Short (kind.Byte ∷ kind.Byte ∷ kind.Byte ∷ kind.Byte ∷ kind.Byte ∷ []) vs e in
-      let q = split kind.Byte (kind.Byte ∷ kind.Byte ∷ kind.Byte ∷ kind.Byte ∷ []) p.behind p.kinds in
-      let r = split kind.Byte (kind.Byte ∷ kind.Byte ∷ kind.Byte ∷ []) q.behind q.kinds in
-      let s = split kind.Byte (kind.Byte ∷ kind.Byte ∷ []) r.behind r.kinds in
-      let t = split kind.Byte (kind.Byte ∷ []) s.behind s.kinds in
-      let u = split kind.Byte [] t.behind t.kinds in
+      let p = first_value kind.Short (kind.Byte ∷ kind.Byte ∷ kind.Byte ∷ kind.Byte ∷ kind.Byte ∷ []) vs e in
+      let q = first_value kind.Byte (kind.Byte ∷ kind.Byte ∷ kind.Byte ∷ kind.Byte ∷ []) p.behind p.kinds in
+      let r = first_value kind.Byte (kind.Byte ∷ kind.Byte ∷ kind.Byte ∷ []) q.behind q.kinds in
+      let s = first_value kind.Byte (kind.Byte ∷ kind.Byte ∷ []) r.behind r.kinds in
+      let t = first_value kind.Byte (kind.Byte ∷ []) s.behind s.kinds in
+      let u = first_value kind.Byte [] t.behind t.kinds in
       let a = a_short p.first p.kind in
       let b = a_byte q.first q.kind in
       let c = a_byte r.first r.kind in
@@ -150,14 +155,14 @@ made shape.Date = record { some = answer.Date (record { year = pos 0; month = 0;
         refl,
         cc (a.1, b.1, c.1, d.1, m.1, n.1, none_left u.behind u.kinds, u.is, t.is, s.is, r.is, q.is, p.is),
       )
-made shape.Place = record { some = answer.Place (record { e0 = zero; n0 = zero; h0 = zero; hi = zero }); shape = refl; each = place } where
+shape_is_answered shape.Place = record { some = answer.Place (record { e0 = zero; n0 = zero; h0 = zero; hi = zero }); shape = refl; each = place } where
   -- each list of four Doubles is the values of an answer of the shape `Place`
-  place : (vs : List Value) → kinds_of vs ≡ kind.Double ∷ kind.Double ∷ kind.Double ∷ kind.Double ∷ [] → Has shape.Place vs
+  place : (vs : List Value) → kinds_of vs ≡ kind.Double ∷ kind.Double ∷ kind.Double ∷ kind.Double ∷ [] → HasAnswer shape.Place vs
   place vs e =
-      let p = split kind.Double (kind.Double ∷ kind.Double ∷ kind.Double ∷ []) vs e in
-      let q = split kind.Double (kind.Double ∷ kind.Double ∷ []) p.behind p.kinds in
-      let r = split kind.Double (kind.Double ∷ []) q.behind q.kinds in
-      let s = split kind.Double [] r.behind r.kinds in
+      let p = first_value kind.Double (kind.Double ∷ kind.Double ∷ kind.Double ∷ []) vs e in
+      let q = first_value kind.Double (kind.Double ∷ kind.Double ∷ []) p.behind p.kinds in
+      let r = first_value kind.Double (kind.Double ∷ []) q.behind q.kinds in
+      let s = first_value kind.Double [] r.behind r.kinds in
       let a = a_double p.first p.kind in
       let b = a_double q.first q.kind in
       let c = a_double r.first r.kind in
@@ -166,34 +171,34 @@ made shape.Place = record { some = answer.Place (record { e0 = zero; n0 = zero; 
         refl,
         cc (a.1, b.1, c.1, d.1, none_left s.behind s.kinds, s.is, r.is, q.is, p.is),
       )
-made shape.Angles = record { some = answer.Angles zero zero; shape = refl; each = angles } where
+shape_is_answered shape.Angles = record { some = answer.Angles zero zero; shape = refl; each = angles } where
   -- each list of two Doubles is the values of an answer of the shape `Angles`
-  angles : (vs : List Value) → kinds_of vs ≡ kind.Double ∷ kind.Double ∷ [] → Has shape.Angles vs
+  angles : (vs : List Value) → kinds_of vs ≡ kind.Double ∷ kind.Double ∷ [] → HasAnswer shape.Angles vs
   angles vs e =
-      let p = split kind.Double (kind.Double ∷ []) vs e in
-      let q = split kind.Double [] p.behind p.kinds in
+      let p = first_value kind.Double (kind.Double ∷ []) vs e in
+      let q = first_value kind.Double [] p.behind p.kinds in
       let a = a_double p.first p.kind in
       let b = a_double q.first q.kind in
       (answer.Angles a.0 b.0, refl, cc (a.1, b.1, none_left q.behind q.kinds, q.is, p.is))
-made shape.Measured = record { some = answer.Measured zero zero zero; shape = refl; each = measured } where
+shape_is_answered shape.Measured = record { some = answer.Measured zero zero zero; shape = refl; each = measured } where
   -- each list of three Doubles is the values of an answer of the shape `Measured`
-  measured : (vs : List Value) → kinds_of vs ≡ kind.Double ∷ kind.Double ∷ kind.Double ∷ [] → Has shape.Measured vs
+  measured : (vs : List Value) → kinds_of vs ≡ kind.Double ∷ kind.Double ∷ kind.Double ∷ [] → HasAnswer shape.Measured vs
   measured vs e =
-      let p = split kind.Double (kind.Double ∷ kind.Double ∷ []) vs e in
-      let q = split kind.Double (kind.Double ∷ []) p.behind p.kinds in
-      let r = split kind.Double [] q.behind q.kinds in
+      let p = first_value kind.Double (kind.Double ∷ kind.Double ∷ []) vs e in
+      let q = first_value kind.Double (kind.Double ∷ []) p.behind p.kinds in
+      let r = first_value kind.Double [] q.behind q.kinds in
       let a = a_double p.first p.kind in
       let b = a_double q.first q.kind in
       let c = a_double r.first r.kind in
       (answer.Measured a.0 b.0 c.0, refl, cc (a.1, b.1, c.1, none_left r.behind r.kinds, r.is, q.is, p.is))
-made shape.MeasuredMode = record { some = answer.MeasuredMode zero zero zero (pos 0); shape = refl; each = with_mode } where
+shape_is_answered shape.MeasuredMode = record { some = answer.MeasuredMode zero zero zero (pos 0); shape = refl; each = with_mode } where
   -- each list of three Doubles and a Long is the values of an answer of the shape `MeasuredMode`
-  with_mode : (vs : List Value) → kinds_of vs ≡ kind.Double ∷ kind.Double ∷ kind.Double ∷ kind.Long ∷ [] → Has shape.MeasuredMode vs
+  with_mode : (vs : List Value) → kinds_of vs ≡ kind.Double ∷ kind.Double ∷ kind.Double ∷ kind.Long ∷ [] → HasAnswer shape.MeasuredMode vs
   with_mode vs e =
-      let p = split kind.Double (kind.Double ∷ kind.Double ∷ kind.Long ∷ []) vs e in
-      let q = split kind.Double (kind.Double ∷ kind.Long ∷ []) p.behind p.kinds in
-      let r = split kind.Double (kind.Long ∷ []) q.behind q.kinds in
-      let s = split kind.Long [] r.behind r.kinds in
+      let p = first_value kind.Double (kind.Double ∷ kind.Double ∷ kind.Long ∷ []) vs e in
+      let q = first_value kind.Double (kind.Double ∷ kind.Long ∷ []) p.behind p.kinds in
+      let r = first_value kind.Double (kind.Long ∷ []) q.behind q.kinds in
+      let s = first_value kind.Long [] r.behind r.kinds in
       let a = a_double p.first p.kind in
       let b = a_double q.first q.kind in
       let c = a_double r.first r.kind in
@@ -203,7 +208,7 @@ made shape.MeasuredMode = record { some = answer.MeasuredMode zero zero zero (po
 -- parameters are read as an answer of the call, or are unreadable for some reason
 answered : (call : Call) (params : List ℕ) → ((a : Answer) × IsAnswer call params a) ⊎ ((e : _) × IsUnreadable call params e)
 answered call params =
-    let m = made (call_fields call).answer in
+    let m = shape_is_answered (call_fields call).answer in
     elim (each_list (kinds_of (answer_fields m.some).values) params) [
       | inl read ↦
           let a = m.each read.0 read.1 in

@@ -1,4 +1,4 @@
--- Texts joined by commas, and texts each behind a comma.
+-- Texts joined by commas, and texts each after a comma.
 use Rattle.std.specs.Prelude.{◌≡◌, ◌≢◌, ◌<◌, ◌-◌, ◌++◌, ℕ, List, [], ◌∷◌, Option, length, map, take, refl}
 use Rattle.std.specs.Fmt.{decimal}
 use Rattle.std.specs.List.{flat_map}
@@ -12,36 +12,36 @@ use Rattle.gc_values.specs.declared.value.Value.{Value}
 use Rattle.gc_catalogue.specs.Lists.{before_commas, behind_commas, params_of}
 use Rattle.gc_values.proofs.TextShape.{text_is_some}
 
--- the texts of values, with a comma put in front of each, are `behind_commas`
+-- the texts of values, with a comma put before each, are `behind_commas`
 commas-map : (vs : List Value) → flat_map (λ u. 44 ∷ u) (map text vs) ≡ behind_commas vs
 commas-map [] = refl
 commas-map (v ∷ vs) = rw (commas-map vs) refl
 
--- joined values are the first one's text and the others behind commas
+-- joined values are the first one's text and the others after commas
 pub params_of-cons : (v : Value) (vs : List Value) → params_of (v ∷ vs) ≡ text v ++ behind_commas vs
 params_of-cons v vs = ap (λ rest. text v ++ rest) (commas-map vs)
 
--- parameters of at least one byte stand behind a comma
+-- parameters of at least one byte follow a comma
 params_text-some : (bytes : List ℕ) → 0 < length bytes → params_text bytes ≡ 44 ∷ bytes
 params_text-some [] h = absurd (omega arith)
 params_text-some (b ∷ bs) h = refl
 
--- where xs has at least one byte, so has xs with ys behind it
-more : (xs ys : List ℕ) → 0 < length xs → 0 < length (xs ++ ys)
-more [] ys h = absurd (omega arith)
-more (x ∷ xs) ys h = omega arith
+-- where xs has at least one byte, so has xs with ys after it
+append_not_empty : (xs ys : List ℕ) → 0 < length xs → 0 < length (xs ++ ys)
+append_not_empty [] ys h = absurd (omega arith)
+append_not_empty (x ∷ xs) ys h = omega arith
 
--- a reply's parameters stand behind a comma, where there are any
+-- a reply's parameters follow a comma, where there are any
 pub params_text-params_of : (vs : List Value) → params_text (params_of vs) ≡ behind_commas vs
 params_text-params_of [] = refl
-params_text-params_of (v ∷ vs) = ap params_text (params_of-cons v vs) ∙ params_text-some (text v ++ behind_commas vs) (more (text v) (behind_commas vs) (text_is_some v))
+params_text-params_of (v ∷ vs) = ap params_text (params_of-cons v vs) ∙ params_text-some (text v ++ behind_commas vs) (append_not_empty (text v) (behind_commas vs) (text_is_some v))
 
--- values before commas are the values joined, and a comma behind them
+-- values before commas are the values joined, and a comma after them
 before-params : (v : Value) (vs : List Value) → before_commas (v ∷ vs) ≡ params_of (v ∷ vs) ++ 44 ∷ []
 before-params v [] = simp append-nil
 before-params v (w ∷ vs) = rw (before-params w vs) (simp append_assoc)
 
--- a comma and values before commas are the values behind commas, and a comma
+-- a comma and values before commas are the values after commas, and a comma
 pub behind-before : (vs : List Value) → 44 ∷ before_commas vs ≡ behind_commas vs ++ 44 ∷ []
 behind-before [] = refl
 behind-before (v ∷ vs) =
@@ -54,8 +54,8 @@ without_last xs a =
     let n : length (xs ++ a ∷ []) - 1 ≡ length xs = omega (arith, length-append xs (a ∷ [])) in
     ap (λ k. take k (xs ++ a ∷ [])) n ∙ take-append_seam xs (a ∷ [])
 
--- where `begun` is a head and a comma, `old` has values before commas behind that, and `new` is `old` without its last byte,
--- `new` is the head and the values behind commas
+-- where `begun` is a head and a comma, `old` has values before commas after that, and `new` is `old` without its last byte,
+-- `new` is the head and the values after commas
 pub comma_list : (head : List ℕ) (vs : List Value) (begun old new : List ℕ) → begun ≡ head ++ 44 ∷ [] → old ≡ begun ++ before_commas vs
     → new ≡ take (length old - 1) old → new ≡ head ++ behind_commas vs
 comma_list head vs begun old new start is cut =
@@ -76,7 +76,7 @@ ends_once [] (y ∷ ys) a b e = let rest : [] ≡ ys ++ b ∷ [] = cc in absurd 
 ends_once (x ∷ xs) [] a b e = let rest : [] ≡ xs ++ a ∷ [] = cc in absurd (nothing_ends xs a rest)
 ends_once (x ∷ xs) (y ∷ ys) a b e = let rest : xs ++ a ∷ [] ≡ ys ++ b ∷ [] = cc in ends_once xs ys a b rest
 
--- where `old` is a head, a colon and values before commas, and `new` is `old` without a comma at its end, if one stands there,
+-- where `old` is a head, a colon and values before commas, and `new` is `old` without a comma at its end, if one is there,
 -- `new` is the head, the colon and the values joined by commas
 colon_list : (head : List ℕ) (vs : List Value) (old new : List ℕ) → old ≡ (head ++ 58 ∷ []) ++ before_commas vs
     → ((front : List ℕ) → old ≡ front ++ 44 ∷ [] → new ≡ front) → (((front : List ℕ) → old ≢ front ++ 44 ∷ []) → new ≡ old)
@@ -90,7 +90,7 @@ colon_list head (v ∷ vs) old new is comma other =
 bare_head : (rpc : ℕ) (id : Option ℕ) → request_text (record { rpc = rpc; id = id; params = [] }) ≡ (request_signature ++ (decimal rpc ++ id_text id)) ++ 58 ∷ []
 bare_head rpc id = simp append_assoc
 
--- where `old` ends in a request's head and values before commas, and `new` is `old` without a comma at its end, if one stands
+-- where `old` ends in a request's head and values before commas, and `new` is `old` without a comma at its end, if one is
 -- there, `new` ends in the request with these values as its parameters
 pub request_ends : (front : List ℕ) (rpc : ℕ) (id : Option ℕ) (vs : List Value) (old new : List ℕ)
     → old ≡ front ++ (request_text (record { rpc = rpc; id = id; params = [] }) ++ before_commas vs) → ((list : List ℕ) → old ≡ list ++ 44 ∷ [] → new ≡ list)
@@ -102,7 +102,7 @@ request_ends front rpc id vs old new is comma other =
     let end : (head ++ 58 ∷ []) ++ params_of vs ≡ front ++ request_text (record { rpc = rpc; id = id; params = params_of vs }) = simp append_assoc in
     colon_list head vs old new (is ∙ start) comma other ∙ end
 
--- a reply is the same reply without parameters, and behind that the parameters' text
+-- a reply is the same reply without parameters, and after that the parameters' text
 pub reply_text-params : (rc_com : ℕ) (id : Option ℕ) (rc : ℕ) (params : List ℕ)
     → reply_text (record { rc_com = rc_com; id = id; rc = rc; params = [] }) ++ params_text params ≡ reply_text
     (record { rc_com = rc_com; id = id; rc = rc; params = params })

@@ -32,11 +32,11 @@ id_short (Some i) = omega arith
 pub short_with : (rpc : ℕ) (id : Option ℕ) (params : List ℕ) → line_length rpc params ≤ 512 → length (request_text (record { rpc = rpc; id = id; params = params })) ≤ 512
 short_with rpc id params short = omega (arith, short, length-request rpc (Some 0) params, length-request rpc id params, id_short id)
 
--- the parameters fit behind the line's head
+-- the parameters fit after the line's head
 pub fits_behind : (rpc : ℕ) (id : Option ℕ) (params : List ℕ) → line_length rpc params ≤ 512 → length (request_text (record { rpc = rpc; id = id; params = [] })) + length params ≤ 512
 fits_behind rpc id params short = omega (arith, short, length-request rpc (Some 0) params, length-request rpc id [], id_short id)
 
--- the line's head with the parameters behind it is the line
+-- the line's head with the parameters after it is the line
 pub head-params : (rpc : ℕ) (id : Option ℕ) (params : List ℕ) → request_text (record { rpc = rpc; id = id; params = [] }) ++ params ≡ request_text (record { rpc = rpc; id = id; params = params })
 head-params rpc id params = simp append_assoc
 
@@ -44,11 +44,11 @@ head-params rpc id params = simp append_assoc
 pub params_short : (rpc : ℕ) (params : List ℕ) → rpc < 65536 → line_length rpc params ≤ 512 → length params ≤ 503
 params_short rpc params bound short = omega (arith, short, length-request rpc (Some 0) params, decimal_nonempty rpc (omega arith))
 
--- behind bytes that zeros fill up stand the zeros
+-- the zeros that fill up bytes follow them
 pub filled_zeros : (bytes all : List ℕ) → all ≡ bytes ++ replicate (503 - length bytes) 0 → drop (length bytes) all ≡ replicate (503 - length bytes) 0
 filled_zeros bytes all e = ap (drop (length bytes)) e ∙ drop-append_seam bytes (replicate (503 - length bytes) 0)
 
--- in front of them stand the bytes
+-- before the zeros are the bytes
 pub filled_front : (bytes all : List ℕ) → all ≡ bytes ++ replicate (503 - length bytes) 0 → take (length bytes) all ≡ bytes
 filled_front bytes all e = ap (take (length bytes)) e ∙ take-append_seam bytes (replicate (503 - length bytes) 0)
 

@@ -5,28 +5,29 @@ use Rattle.std.proofs.lemmas.List.{take-append-drop}
 use Rattle.gc_catalogue.specs.RawTexts.{raw_bytes}
 use Rattle.gc_catalogue.specs.declared.raw_text.RawText.{RawText}
 
--- the zeros behind so many bytes
+-- the zeros after so many bytes
 abbrev AreZeros : List ℕ → ℕ → Type 0
 AreZeros bytes len = drop len bytes ≡ replicate (503 - len) 0
 
 -- the text of these bytes and this count, with the proofs of its facts
-abbrev make : (bytes : List ℕ) (len : ℕ) → len ≤ 503 → length bytes ≡ 503 → AreZeros bytes len → RawText
-make bytes len few long zeros = record { bytes = bytes; len = len; few = few; long = long; zeros = zeros }
+abbrev text_of : (bytes : List ℕ) (len : ℕ) → len ≤ 503 → length bytes ≡ 503 → AreZeros bytes len → RawText
+text_of bytes len few long zeros = record { bytes = bytes; len = len; few = few; long = long; zeros = zeros }
 
 -- texts of the same places and count are equal whatever the proofs are
-same_proofs : (bytes : List ℕ) (len : ℕ) (few few' : len ≤ 503) (long long' : length bytes ≡ 503) (zeros zeros' : AreZeros bytes len) → make bytes len few long zeros ≡ make bytes len few' long' zeros'
+same_proofs : (bytes : List ℕ) (len : ℕ) (few few' : len ≤ 503) (long long' : length bytes ≡ 503) (zeros zeros' : AreZeros bytes len)
+    → text_of bytes len few long zeros ≡ text_of bytes len few' long' zeros'
 same_proofs bytes len few few' long long' zeros zeros' =
     let few_prop : IsProp (len ≤ 503) = hlevel props in
     let long_prop : IsProp (length bytes ≡ 503) = hlevel props in
     let zeros_prop : IsProp (drop len bytes ≡ replicate (503 - len) 0) = hlevel props in
-    ap (λ x. make bytes len x long zeros) (few_prop few few') ∙ ap (λ x. make bytes len few' x zeros) (long_prop long long') ∙ ap (make bytes len few' long') (zeros_prop zeros zeros')
+    ap (λ x. text_of bytes len x long zeros) (few_prop few few') ∙ ap (λ x. text_of bytes len few' x zeros) (long_prop long long') ∙ ap (text_of bytes len few' long') (zeros_prop zeros zeros')
 
 -- texts of equal places and counts are equal whatever the proofs are
 same_fields : (bytes : List ℕ) (len : ℕ) (few : len ≤ 503) (long : length bytes ≡ 503) (zeros : AreZeros bytes len) (others : List ℕ) (count : ℕ) → bytes ≡ others → len ≡ count
-    → (few' : count ≤ 503) (long' : length others ≡ 503) (zeros' : AreZeros others count) → make bytes len few long zeros ≡ make others count few' long' zeros'
+    → (few' : count ≤ 503) (long' : length others ≡ 503) (zeros' : AreZeros others count) → text_of bytes len few long zeros ≡ text_of others count few' long' zeros'
 same_fields bytes len few long zeros others count e f =
-    let P : List ℕ → Type 0 = λ bs. (few' : count ≤ 503) (long' : length bs ≡ 503) (zeros' : AreZeros bs count) → make bytes len few long zeros ≡ make bs count few' long' zeros' in
-    let Q : ℕ → Type 0 = λ n. (few' : n ≤ 503) (long' : length bytes ≡ 503) (zeros' : AreZeros bytes n) → make bytes len few long zeros ≡ make bytes n few' long' zeros' in
+    let P : List ℕ → Type 0 = λ bs. (few' : count ≤ 503) (long' : length bs ≡ 503) (zeros' : AreZeros bs count) → text_of bytes len few long zeros ≡ text_of bs count few' long' zeros' in
+    let Q : ℕ → Type 0 = λ n. (few' : n ≤ 503) (long' : length bytes ≡ 503) (zeros' : AreZeros bytes n) → text_of bytes len few long zeros ≡ text_of bytes n few' long' zeros' in
     subst P e (subst Q f (λ few' long' zeros'. same_proofs bytes len few few' long long' zeros zeros'))
 
 -- a text's count is how many bytes it has

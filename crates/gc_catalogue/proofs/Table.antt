@@ -36,8 +36,8 @@ same_answers : (c d : Call) → (call_fields c).number ≡ (call_fields d).numbe
 same_answers c d e = grind arith
 
 -- calls of one number are alike
-pub alike : (c d : Call) → (call_fields c).number ≡ (call_fields d).number → AreAlike c d
-alike c d e = record { kinds = same_kinds c d e; answer = same_answers c d e }
+pub same_number_alike : (c d : Call) → (call_fields c).number ≡ (call_fields d).number → AreAlike c d
+same_number_alike c d e = record { kinds = same_kinds c d e; answer = same_answers c d e }
 
 -- a call is determined by its number and its values
 pub same_call : (c d : Call) → (call_fields c).number ≡ (call_fields d).number → (call_fields c).values ≡ (call_fields d).values → c ≡ d

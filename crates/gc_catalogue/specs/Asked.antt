@@ -12,7 +12,7 @@ use Rattle.gc_catalogue.specs.RawTexts.{raw_bytes}
 use Rattle.gc_catalogue.specs.Readings.{IsReading}
 use Rattle.gc_catalogue.specs.Texts.{request_of}
 
--- the parameters of a procedure that isn't in the table, as they stand
+-- the parameters of a procedure that isn't in the table, as they are
 abbrev pub raw_params : RawCall → List ℕ
 raw_params raw = raw_bytes raw.params
 
@@ -20,7 +20,7 @@ raw_params raw = raw_bytes raw.params
 abbrev pub raw_request : Option ℕ → RawCall → RequestFields
 raw_request id raw = record { rpc = raw.rpc; id = id; params = raw_params raw }
 
--- its line, with an id or without one: the parameters stand in it as they are
+-- its line, with an id or without one: the parameters are in it as they are
 abbrev pub raw_line : Option ℕ → RawCall → List ℕ
 raw_line id raw = request_text (raw_request id raw)
 

@@ -11,7 +11,7 @@ use Rattle.gc_values.specs.declared.value.Value.TheVariants as value
 abbrev pub params_of : List Value → List ℕ
 params_of values = joined (map text values)
 
--- the values' texts, each behind a comma
+-- the values' texts, each after a comma
 abbrev pub behind_commas : List Value → List ℕ
 behind_commas values = flat_map (λ v. 44 ∷ text v) values
 

@@ -26,7 +26,7 @@ use gc_lines::{Line, Reply, Request, append, push_request};
 pub enum Asked {
     /// A call of the table.
     Table(Call),
-    /// A procedure that isn't in the table, with its parameters as they stand.
+    /// A procedure that isn't in the table, with its parameters as they are.
     Raw(RawCall),
 }
 
@@ -105,8 +105,8 @@ pub fn encode_asked(id: Option<u8>, asked: &Asked) -> Line
     line
 }
 
-/// Reads what a request asks for: a call of the table, or a procedure that isn't in it. `None`: its number is in the table and its
-/// parameters don't read, or it may not be asked for as it stands.
+/// Reads what a request asks for: a call of the table, or a procedure that isn't in it. `None`: its number is in the table
+/// and its parameters don't read, or it may not be asked for as it is.
 pub fn decode_asked(request: &Request<'_>) -> Option<Asked>
     ensures found { IfSome result (λ asked. IsAsked request.now.rpc request.now.params.now asked) }
     ensures only { (asked : Asked) → IsAsked request.now.rpc request.now.params.now asked → result ≡ Some asked }

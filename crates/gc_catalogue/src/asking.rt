@@ -23,7 +23,7 @@ pub trait Asking: Copy + Drop {
     ghost use Rattle.gc_lines.specs.Replies.{ReplyFields};
     ghost use Rattle.gc_catalogue.specs.declared.answer.Reading.{Reading};
 
-    /// What stands in a place that nothing uses.
+    /// What is in a place that nothing uses.
     ghost blank: { Self };
 
     /// The request line, with an id or without one.

@@ -11,7 +11,7 @@ use crate::raw_text::RawText;
 use gc_lines::{Request, is_plain, write_request};
 use gc_values::{ValueFault, split};
 
-/// A request for a procedure that isn't in the table, with its parameters exactly as they stand.
+/// A request for a procedure that isn't in the table, with its parameters exactly as they are.
 #[derive(Clone, Copy, Debug, PartialEq, Eq)]
 pub struct RawCall {
     rpc: u16,
@@ -19,7 +19,7 @@ pub struct RawCall {
     pub ghost is: { IsRawCall rpc (raw_bytes params) } by { IsRawCall-prop rpc (raw_bytes params) },
 }
 
-/// Why a number and parameters may not be asked for as they stand.
+/// Why a number and parameters may not be asked for as they are.
 #[derive(Clone, Copy, Debug, PartialEq, Eq)]
 pub enum RawFault {
     /// The number is that of a procedure of the table.
@@ -58,7 +58,7 @@ pub(crate) fn items_fault(params: &[u8]) -> Option<ValueFault>
     }
 }
 
-// Why a number and parameters may not be asked for as they stand: the first fault that there is. `None`: they may.
+// Why a number and parameters may not be asked for as they are: the first fault that there is. `None`: they may.
 fn raw_fault(rpc: u16, params: &[u8]) -> Option<RawFault>
     ensures found { IfSome result (λ e. IsRawRefusal rpc params.now e) }
     ensures none { IfNone result (IsRawCall rpc params.now) }
@@ -85,7 +85,7 @@ fn raw_fault(rpc: u16, params: &[u8]) -> Option<RawFault>
     }
 }
 
-/// The request for a procedure that isn't in the table, with these parameters exactly as they stand.
+/// The request for a procedure that isn't in the table, with these parameters exactly as they are.
 ///
 /// The faults come in this order: `InTable`, `NotPlain`, `TooLong`, `OpenQuote`, `TooMany`.
 pub fn raw_call(rpc: u16, params: &[u8]) -> Result<RawCall, RawFault>
@@ -112,7 +112,7 @@ impl RawCall {
         self.rpc
     }
 
-    /// The parameters, as they stand in the request's line.
+    /// The parameters, as they are in the request's line.
     pub fn params(&self) -> &[u8]
         ensures { result.now ≡ raw_bytes self.now.params }
     {

@@ -1,4 +1,4 @@
-//! The parameters of a procedure that isn't in the table: bytes as they stand.
+//! The parameters of a procedure that isn't in the table: bytes as they are.
 
 ghost use Rattle.std.specs.Prelude.{◌≡◌, ◌-◌, ◌≤◌, ◌++◌, length, drop, replicate};
 
@@ -16,7 +16,7 @@ pub struct RawText {
     pub ghost zeros: { drop len bytes ≡ replicate (503 - len) 0 },
 }
 
-// The bytes, and zeros behind them up to 503.
+// The bytes, and zeros after them up to 503.
 fn filled_up(bytes: &[u8]) -> [u8; RAW_BYTES]
     requires { length bytes.now ≤ 503 }
     ensures { result ≡ bytes.now ++ replicate (503 - length bytes.now) 0 }

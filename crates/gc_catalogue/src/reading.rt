@@ -80,7 +80,7 @@ pub(crate) fn read_row<P: Parameters>(rpc: u16, params: &mut P, call: &mut Call)
     true
 }
 
-// The rows whose parameters are large stand in functions of their own, so that the others don't make room for them.
+// The rows whose parameters are large are in functions of their own, so that the others don't make room for them.
 
 // The row of CSV_SetDateTime: a date and a time of day.
 #[inline(never)]

@@ -42,7 +42,7 @@ pub fn encode_answer_onto<const N: usize>(
     push_reply(out, 0, id, rc);
     out.push(b',');
     answer.write_row(places, out);
-    // Takes off the comma behind the last value, or behind the return code.
+    // Takes off the comma after the last value, or after the return code.
     out.pop();
 }
 

@@ -43,7 +43,7 @@ pub fn encode_call(id: Option<u8>, call: &Call) -> Line
     line
 }
 
-// Takes a comma off the end, where there is one: the one behind the last value.
+// Takes a comma off the end, where there is one: the one after the last value.
 fn end_list<const N: usize>(out: &mut ArrayVec<u8, N>)
     ensures comma { (front : List ℕ) → out.old.items ≡ front ++ 44 ∷ [] → out.new.items ≡ front }
     ensures other { ((front : List ℕ) → out.old.items ≢ front ++ 44 ∷ []) → out.new.items ≡ out.old.items }

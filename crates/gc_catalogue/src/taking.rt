@@ -113,7 +113,7 @@ impl Taker for NumberAlone {
     fn text(&mut self, _v: &Text) {}
 }
 
-/// Appends the head of a request, and then each value's text with a comma behind it.
+/// Appends the head of a request, and then each value's text with a comma after it.
 impl<const N: usize> Taker for ArrayVec<u8, N> {
     // A value's text has at most 66 bytes, and a comma follows it.
     ghost room = { λ s. (N - length s.items) / 67 };

@@ -17,16 +17,16 @@ module _ {Q : Type 0} (k : ℕ) (ws : List (Pending Q)) (p : Pending Q) (here : 
       ∙ ap (map (λ p. p.deadline)) (filter-append (λ p. not p.given_up) (take k ws) (p ∷ []))
       ∙ map-append (λ p. p.deadline) (filter (λ p. not p.given_up) (take k ws)) (filter (λ p. not p.given_up) (p ∷ []))
 
-  -- where the request at place k isn't given up, the deadlines of the first k + 1 have its deadline at their end
+  -- where the request at place k hasn't timed out, the deadlines of the first k + 1 have its deadline at their end
   pub one_more_deadline : not p.given_up ≡ true → deadlines (take (k + 1) ws) ≡ deadlines (take k ws) ++ p.deadline ∷ []
   one_more_deadline b = next_deadlines ∙ ap (λ ds. deadlines (take k ws) ++ ds) (one b) where
-    -- a request that isn't given up has one deadline in the list, its own
+    -- a request that hasn't timed out has one deadline in the list, its own
     one : not p.given_up ≡ true → deadlines (p ∷ []) ≡ p.deadline ∷ []
     one b = rw b refl
 
-  -- where the request at place k is given up, it adds no deadline
+  -- where the request at place k has timed out, it adds no deadline
   pub same_deadlines : not p.given_up ≡ false → deadlines (take (k + 1) ws) ≡ deadlines (take k ws)
   same_deadlines b = next_deadlines ∙ ap (λ ds. deadlines (take k ws) ++ ds) (none b) ∙ append-nil _ where
-    -- a request that is given up has no deadline in the list
+    -- a request that has timed out has no deadline in the list
     none : not p.given_up ≡ false → deadlines (p ∷ []) ≡ []
     none b = rw b refl

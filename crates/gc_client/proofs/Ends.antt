@@ -11,12 +11,12 @@ use Rattle.gc_client.specs.Places.{place_heard}
 use Rattle.gc_client.specs.Rule
 use Rattle.gc_client.specs.Settlements.{Says, IsAnsweredBy, IsSettledBy}
 
--- the rule's settlement of a request by a reply line, where the request was given up (true) or wasn't
+-- the rule's settlement of a request by a reply line, where the request had timed out (true) or hadn't
 abbrev met_when : {Q : Type 0} → Pending Q → List ℕ → Bool → Rule.Settlement Q
 met_when p line given_up = record { target = p.target; call = p.call; outcome = if given_up then Rule.Late else Rule.Answered line }
 
--- where a request wasn't given up, and an outcome is the answer that this reply line gives it, the request with that outcome is
--- the settlement that the rule makes of it by that line
+-- where a request hadn't timed out, and an outcome is the answer that this reply line gives it, the request with that
+-- outcome is the settlement that the rule makes of it by that line
 pub answered_is : {Q : Type 0} (says : Says Q) (p : Pending Q) (line : List ℕ) (fields : ReplyFields) (o : Outcome) → p.given_up ≡ false → reply_at line ≡ Ok fields
     → IsAnsweredBy says p.call fields line o → IsSettledBy says (record { target = p.target; call = p.call; outcome = o }) (met p line)
 answered_is says p line fields (Answered reading copy) given_up reads (same, is_said) =
@@ -36,9 +36,9 @@ settle_is zero line (w ∷ ws) p left e = let same : w ≡ p = cc in ap (λ x. m
 settle_is (suc k) line (w ∷ ws) p left e = ap (λ rs. lost w ∷ rs) (settle_is k line ws p left e)
 
 -- where `if b then Some q else None` is `Some k`, b is true and q is k
-chosen : (b : Bool) (q k : ℕ) → (if b then Some q else None) ≡ Some k → (b ≡ true) × (q ≡ k)
-chosen true q k e = (refl, cc)
-chosen false q k e = absurd (none_is_not_some e) where
+some_if : (b : Bool) (q k : ℕ) → (if b then Some q else None) ≡ Some k → (b ≡ true) × (q ≡ k)
+some_if true q k e = (refl, cc)
+some_if false q k e = absurd (none_is_not_some e) where
   -- `None` isn't `Some k`
   none_is_not_some : None ≡ Some k → ⊥
   none_is_not_some e = cc
@@ -49,13 +49,13 @@ hears_at c line None k e = absurd (none_is_not_some e) where
   -- `None` isn't `Some k`
   none_is_not_some : None ≡ Some k → ⊥
   none_is_not_some e = cc
-hears_at c line (Some id) k e = let at = chosen _ _ k e in ap₂ (λ q b. id_settled c line q b) at.1 at.0
+hears_at c line (Some id) k e = let at = some_if _ _ k e in ap₂ (λ q b. id_settled c line q b) at.1 at.0
 
 -- a line that reads as a reply to the request at place k settles the requests up to that one
 pub settles : {Q : Type 0} (c : ById Q) (line : List ℕ) (fields : ReplyFields) (k : ℕ) → reply_at line ≡ Ok fields → place_heard c.next (length c.waiting) fields.id ≡ Some k
     → hears c line (heard line) ≡ id_settled c line k true
 settles c line fields k reads fit = ap (λ r. hears c line (id_in r)) reads ∙ hears_at c line fields.id k fit
 
--- where at most `width` requests wait, at most as many are left behind place k
-pub fewer : {A : Type 0} (width k : ℕ) (ws : List A) (p : A) (left : List A) → drop k ws ≡ p ∷ left → length ws ≤ width → length left ≤ width
-fewer width k ws p left next few = let same = ap length next in omega (arith, same, length-drop k ws)
+-- where at most `width` requests wait, at most as many are left after place k
+pub fewer_left : {A : Type 0} (width k : ℕ) (ws : List A) (p : A) (left : List A) → drop k ws ≡ p ∷ left → length ws ≤ width → length left ≤ width
+fewer_left width k ws p left next few = let same = ap length next in omega (arith, same, length-drop k ws)

@@ -1,6 +1,6 @@
--- For the loop that gives requests up at a moment. A request has *got the moment* once the loop has looked at it: it is given
--- up where its deadline was reached. Here `ws` are the requests that waited at the start, and `qs` what the loop has made of
--- them so far.
+-- For the loop that times out requests at a moment. A request has *got the moment* once the loop has looked at it: it has
+-- timed out where its deadline was reached. Here `ws` are the requests that waited at the start, and `qs` what the loop has
+-- made of them so far.
 use Rattle.std.proofs.Common.{◌≡◌, ℕ, zero, suc, ◌+◌, ◌<◌, ◌≤◌, Bool, true, false, ◌||◌, ◌&&◌, not, List, [], ◌∷◌, ◌++◌, map, filter, take, drop, Some, leb, refl, sym, ◌∙◌, ap, ap₂, subst, arith}
 use Rattle.std.specs.Prelude.{slice_get, nat_le}
 use Rattle.std.proofs.lemmas.Bool.{le-leb, lt-leb}
@@ -11,47 +11,50 @@ use Rattle.gc_client.specs.Rule.{expired, is_expiring, expiring, given_up_at}
 use Rattle.gc_client.proofs.Lists.{take_turn, drop_turn}
 
 -- the requests that wait once the first k of them have got the moment
-abbrev pub partly : {Q : Type 0} → ℕ → ℕ → List (Pending Q) → List (Pending Q)
-partly now k ws = map (expired now) (take k ws) ++ drop k ws
+abbrev pub expired_up_to : {Q : Type 0} → ℕ → ℕ → List (Pending Q) → List (Pending Q)
+expired_up_to now k ws = map (expired now) (take k ws) ++ drop k ws
 
--- once the first k requests have got the moment, the one at place k is still the one that stood there at the start
-pub same_at : {Q : Type 0} (now k : ℕ) (ws : List (Pending Q)) (p : Pending Q) → slice_get (partly now k ws) k ≡ Some p → slice_get ws k ≡ Some p
+-- once the first k requests have got the moment, the one at place k is still the one that was there at the start
+pub same_at : {Q : Type 0} (now k : ℕ) (ws : List (Pending Q)) (p : Pending Q) → slice_get (expired_up_to now k ws) k ≡ Some p → slice_get ws k ≡ Some p
 same_at now zero ws p e = e
 same_at now (suc k) [] p e = e
 same_at now (suc k) (w ∷ ws) p e = same_at now k ws p e
 
--- a request that this moment gives up is the same request, marked as given up
+-- a request that times out at this moment is the same request, marked as timed out
 expired_is : {Q : Type 0} (now : ℕ) (p : Pending Q) → is_expiring now p ≡ true → expired now p ≡ record p { given_up = true }
 expired_is now p e = ap (λ b. record p { given_up = b }) (flag (nat_le p.deadline now) p.given_up e) where
-  -- of a request that is due and isn't given up yet, the new mark is true
+  -- of a request that is due and hasn't timed out yet, the new mark is true
   flag : (due given : Bool) → (due && not given) ≡ true → (given || due) ≡ true
   flag due true e = refl
   flag true false e = refl
   flag false false e = e
 
--- a request that this moment doesn't give up stays as it is
+-- a request that doesn't time out at this moment stays as it is
 stays : {Q : Type 0} (now : ℕ) (p : Pending Q) → is_expiring now p ≡ false → expired now p ≡ p
 stays now p e = ap (λ b. record p { given_up = b }) (flag (nat_le p.deadline now) p.given_up e) where
-  -- of a request that isn't due, or is given up already, the new mark is the old one
+  -- of a request that isn't due, or has timed out already, the new mark is the old one
   flag : (due given : Bool) → (due && not given) ≡ false → (given || due) ≡ given
   flag due true e = refl
   flag true false e = e
   flag false false e = refl
 
--- giving up the request at place k, once the first k have got the moment, leaves those, that one given up, and the others
+-- timing out the request at place k, once the first k have got the moment, leaves those, that one marked as timed out, and
+-- the others
 given_up_in : {Q : Type 0} (now k : ℕ) (ws : List (Pending Q)) (p : Pending Q) → slice_get ws k ≡ Some p
-    → given_up_at k (partly now k ws) ≡ map (expired now) (take k ws) ++ record p { given_up = true } ∷ drop (suc k) ws
+    → given_up_at k (expired_up_to now k ws) ≡ map (expired now) (take k ws) ++ record p { given_up = true } ∷ drop (suc k) ws
 given_up_in now k [] p e = cc
 given_up_in {Q} now zero (w ∷ ws) p e = let same : w ≡ p = cc in ap (λ (x : Pending Q). record x { given_up = true } ∷ ws) same
 given_up_in now (suc k) (w ∷ ws) p e = ap (λ qs. expired now w ∷ qs) (given_up_in now k ws p e)
 
 -- once the request at place k got the moment too, the first k + 1 have got it
-next_partly : {Q : Type 0} (now k : ℕ) (ws : List (Pending Q)) (p : Pending Q) → slice_get ws k ≡ Some p → partly now (suc k) ws ≡ map (expired now) (take k ws) ++ expired now p ∷ drop (suc k) ws
-next_partly now k [] p e = cc
-next_partly now zero (w ∷ ws) p e = let same : w ≡ p = cc in ap (λ x. expired now x ∷ ws) same
-next_partly now (suc k) (w ∷ ws) p e = ap (λ qs. expired now w ∷ qs) (next_partly now k ws p e)
+expired_one_more : {Q : Type 0} (now k : ℕ) (ws : List (Pending Q)) (p : Pending Q) → slice_get ws k ≡ Some p
+    → expired_up_to now (suc k) ws ≡ map (expired now) (take k ws) ++ expired now p ∷ drop (suc k) ws
+expired_one_more now k [] p e = cc
+expired_one_more now zero (w ∷ ws) p e = let same : w ≡ p = cc in ap (λ x. expired now x ∷ ws) same
+expired_one_more now (suc k) (w ∷ ws) p e = ap (λ qs. expired now w ∷ qs) (expired_one_more now k ws p e)
 
--- the targets that the moment gives up among the first k + 1 are those among the first k, and that at place k if it is given up
+-- the targets of the requests that time out at the moment among the first k + 1 are those among the first k, and that of the
+-- one at place k if it times out
 next_expiring : {Q : Type 0} (now k : ℕ) (ws : List (Pending Q)) (p : Pending Q) → slice_get ws k ≡ Some p → expiring now (take (suc k) ws) ≡ expiring now (take k ws) ++ expiring now (p ∷ [])
 next_expiring now k ws p e =
     ap (expiring now) (take_turn ws k p e)
@@ -59,67 +62,67 @@ next_expiring now k ws p e =
     ∙ map-append (λ p. p.target) (filter (is_expiring now) (take k ws)) (filter (is_expiring now) (p ∷ []))
 
 -- One turn of the loop: the first k have got the moment, and the loop looks at the request p at place k.
-module _ {Q : Type 0} (now k : ℕ) (ws qs : List (Pending Q)) (p : Pending Q) (done : qs ≡ partly now k ws) (here : slice_get qs k ≡ Some p) where
+module _ {Q : Type 0} (now k : ℕ) (ws qs : List (Pending Q)) (p : Pending Q) (done : qs ≡ expired_up_to now k ws) (here : slice_get qs k ≡ Some p) where
   -- the request at place k of all that wait is p
   at_k : slice_get ws k ≡ Some p
   at_k = same_at now k ws p (subst (λ l. slice_get l k ≡ Some p) done here)
 
-  -- the place behind k is k + 1
+  -- the place after k is k + 1
   suc_k : suc k ≡ k + 1
   suc_k = omega arith
 
-  -- where the moment gives up the request at place k, and `qs'` are the requests with that one marked, they are the requests of
-  -- which the first k + 1 have got the moment
-  pub due_done : (qs' : List (Pending Q)) → is_expiring now p ≡ true → qs' ≡ given_up_at k qs → qs' ≡ partly now (k + 1) ws
+  -- where the request at place k times out at the moment, and `qs'` are the requests with that one marked, they are the
+  -- requests of which the first k + 1 have got the moment
+  pub due_done : (qs' : List (Pending Q)) → is_expiring now p ≡ true → qs' ≡ given_up_at k qs → qs' ≡ expired_up_to now (k + 1) ws
   due_done qs' b e =
       e ∙ ap (given_up_at k) done ∙ given_up_in now k ws p at_k
       ∙ ap (λ x. map (expired now) (take k ws) ++ x ∷ drop (suc k) ws) (sym (expired_is now p b))
-      ∙ sym (next_partly now k ws p at_k) ∙ ap (λ m. partly now m ws) suc_k
+      ∙ sym (expired_one_more now k ws p at_k) ∙ ap (λ m. expired_up_to now m ws) suc_k
 
-  -- where the moment doesn't give up the request at place k, the requests stay as they are, and the first k + 1 have got the
-  -- moment
-  pub not_due_done : is_expiring now p ≡ false → qs ≡ partly now (k + 1) ws
+  -- where the request at place k doesn't time out at the moment, the requests stay as they are, and the first k + 1 have got
+  -- the moment
+  pub not_due_done : is_expiring now p ≡ false → qs ≡ expired_up_to now (k + 1) ws
   not_due_done b =
       done ∙ ap (λ l. map (expired now) (take k ws) ++ l) (drop_turn ws k p at_k)
       ∙ ap (λ x. map (expired now) (take k ws) ++ x ∷ drop (suc k) ws) (sym (stays now p b))
-      ∙ sym (next_partly now k ws p at_k) ∙ ap (λ m. partly now m ws) suc_k
+      ∙ sym (expired_one_more now k ws p at_k) ∙ ap (λ m. expired_up_to now m ws) suc_k
 
-  -- where the moment gives up the request at place k, its target is the next in the list
+  -- where the request at place k times out at the moment, its target is the next in the list
   pub due_told : (targets : List ℕ) → targets ≡ expiring now (take k ws) → is_expiring now p ≡ true → targets ++ p.target ∷ [] ≡ expiring now (take (k + 1) ws)
   due_told targets told b =
       ap₂ (λ xs ys. xs ++ ys) told (sym (one b)) ∙ sym (next_expiring now k ws p at_k) ∙ ap (λ m. expiring now (take m ws)) suc_k
     where
-      -- where the moment gives up p, the list of the targets given up, for p alone, is p's target
+      -- where p times out at the moment, the list of the targets timed out, for p alone, is p's target
       one : is_expiring now p ≡ true → expiring now (p ∷ []) ≡ p.target ∷ []
       one b = rw b refl
 
-  -- where the moment doesn't give up the request at place k, the list of targets stays as it is
+  -- where the request at place k doesn't time out at the moment, the list of targets stays as it is
   pub not_due_told : (targets : List ℕ) → targets ≡ expiring now (take k ws) → is_expiring now p ≡ false → targets ≡ expiring now (take (k + 1) ws)
   not_due_told targets told b =
       told ∙ sym (append_none _) ∙ ap (λ ys. expiring now (take k ws) ++ ys) (sym (none b)) ∙ sym (next_expiring now k ws p at_k) ∙ ap (λ m. expiring now (take m ws)) suc_k
     where
-      -- where the moment doesn't give up p, the list of the targets given up, for p alone, is empty
+      -- where p doesn't time out at the moment, the list of the targets timed out, for p alone, is empty
       none : is_expiring now p ≡ false → expiring now (p ∷ []) ≡ []
       none b = rw b refl
 
-      -- a list with the empty list behind it is that list
+      -- a list with the empty list after it is that list
       append_none : (xs : List ℕ) → xs ++ [] ≡ xs
       append_none [] = refl
       append_none (x ∷ xs) = ap (λ ys. x ∷ ys) (append_none xs)
 
--- a request whose deadline is reached and that wasn't given up is given up by this moment
+-- a request whose deadline is reached, and that hadn't timed out, times out at this moment
 pub is_due : {Q : Type 0} (now : ℕ) (p : Pending Q) → p.deadline ≤ now → not p.given_up ≡ true → is_expiring now p ≡ true
 is_due now p due waits =
     let b : leb p.deadline now ≡ true = le-leb _ _ due in
     rw (b, waits) refl
 
--- a request whose deadline isn't reached isn't given up by this moment
+-- a request whose deadline isn't reached doesn't time out at this moment
 pub is_not_due : {Q : Type 0} (now : ℕ) (p : Pending Q) → now < p.deadline → is_expiring now p ≡ false
 is_not_due now p early =
     let b : leb p.deadline now ≡ false = lt-leb _ _ early in
     rw b refl
 
--- a request that was given up before isn't given up again
+-- a request that had timed out before doesn't time out again
 pub is_given_up : {Q : Type 0} (now : ℕ) (p : Pending Q) → not p.given_up ≡ false → is_expiring now p ≡ false
 is_given_up now p given_up = rw given_up (flag (leb p.deadline now)) where
   -- a test and false are false together

@@ -8,13 +8,13 @@ take_turn [] k x e = cc
 take_turn (y ∷ xs) zero x e = let same : y ≡ x = cc in ap (λ z. z ∷ []) same
 take_turn (y ∷ xs) (suc k) x e = ap (λ zs. y ∷ zs) (take_turn xs k x e)
 
--- the elements from place k on are the one at place k and those behind it
+-- the elements from place k on are the one at place k and those after it
 pub drop_turn : {A : Type 0} (xs : List A) (k : ℕ) (x : A) → slice_get xs k ≡ Some x → drop k xs ≡ x ∷ drop (suc k) xs
 drop_turn [] k x e = cc
 drop_turn (y ∷ xs) zero x e = let same : y ≡ x = cc in ap (λ z. z ∷ xs) same
 drop_turn (y ∷ xs) (suc k) x e = drop_turn xs k x e
 
--- the first of the elements from place k on stands at place k
+-- the first of the elements from place k on is at place k
 pub head_of_drop : {A : Type 0} (xs : List A) (k : ℕ) (x : A) (rest : List A) → drop k xs ≡ x ∷ rest → slice_get xs k ≡ Some x
 head_of_drop [] zero x rest e = cc
 head_of_drop [] (suc k) x rest e = cc

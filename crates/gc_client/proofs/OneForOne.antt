@@ -1,13 +1,13 @@
--- A course is what has come so far: the sends that weren't refused, the settlements, and the client. It is one for one where the
--- settled requests, and behind them those that wait, are the requests that were sent. Every course that begins with a new client
--- is one for one.
+-- A course is what has come so far: the sends that weren't refused, the settlements, and the client. It is one for one where
+-- the settled requests, and after them those that wait, are the requests that were sent. Every course that begins with a new
+-- client is one for one.
 use Rattle.std.proofs.Common.{◌≡◌, ℕ, zero, suc, ◌+◌, Bool, true, false, List, [], ◌∷◌, ◌++◌, length, map, drop, Option, Some, None, refl, sym, ap, ◌∙◌, arith, append_assoc, ltb, eqb}
 use Rattle.std.proofs.lemmas.List.{map-append, append-nil}
 use Rattle.gc_client.specs.declared.pending.Pending.{Pending}
 use Rattle.gc_client.specs.Rule.{Settled, ById, expired, lost, settle, place, heard, id_send, id_settled, hears, restarts}
 use Rattle.gc_client.specs.OneForOne.{Step, Send, Hear, Expire, Restart, Course, of_settled, of_pending, begun, sent_on, settled_on, goes, course, IsOneForOne}
 
--- the requests settled through place k, and behind them the requests past that place, are those that waited, in order
+-- the requests settled through place k, and after them the requests past that place, are those that waited, in order
 settle_parts : {Q : Type 0} (k : ℕ) (line : List ℕ) (ps : List (Pending Q)) → map of_settled (settle k line ps) ++ map of_pending (drop (suc k) ps) ≡ map of_pending ps
 settle_parts k line [] = refl
 settle_parts zero line (p ∷ ps) = refl
@@ -23,14 +23,14 @@ pub expired_parts : {Q : Type 0} (now : ℕ) (ps : List (Pending Q)) → map of_
 expired_parts now [] = refl
 expired_parts now (p ∷ ps) = ap (λ qs. of_pending p ∷ qs) (expired_parts now ps)
 
--- the requests that a reply to place k settles, if it settles any, and behind them those that then wait, are those that waited
--- before
+-- the requests that a reply to place k settles, if it settles any, and after them those that then wait, are those that
+-- waited before
 reply_parts : {Q : Type 0} (c : ById Q) (line : List ℕ) (k : ℕ) (b : Bool)
     → map of_settled (id_settled c line k b).settlements ++ map of_pending (id_settled c line k b).client.waiting ≡ map of_pending c.waiting
 reply_parts c line k false = refl
 reply_parts c line k true = ap (λ n. map of_settled (settle k line c.waiting) ++ map of_pending (drop n c.waiting)) (let e : k + 1 ≡ suc k = omega arith in e) ∙ settle_parts k line c.waiting
 
--- the requests that a line settles, and behind them those that then wait, are those that waited before
+-- the requests that a line settles, and after them those that then wait, are those that waited before
 pub heard_parts : {Q : Type 0} (c : ById Q) (line : List ℕ) (o : Option ℕ) → map of_settled (hears c line o).settlements ++ map of_pending (hears c line o).client.waiting ≡ map of_pending c.waiting
 heard_parts c line None = refl
 heard_parts c line (Some id) = reply_parts c line (place c.next (length c.waiting) id) (ltb (place c.next (length c.waiting) id) (length c.waiting))
@@ -41,7 +41,7 @@ sent_keeps x target call deadline true h = h
 sent_keeps x target call deadline false h =
     simp map-append (sym (append_assoc (map of_settled x.settlements) (map of_pending x.client.waiting) _) ∙ ap (λ l. l ++ record { target = target; call = call } ∷ []) h)
 
--- a settling keeps a course one for one, where the requests settled, and behind them those that then wait, are those that
+-- a settling keeps a course one for one, where the requests settled, and after them those that then wait, are those that
 -- waited before
 settled_keeps : {Q : Type 0} (x : Course Q) (s : Settled Q (ById Q)) → map of_settled s.settlements ++ map of_pending s.client.waiting ≡ map of_pending x.client.waiting → IsOneForOne x
     → IsOneForOne (settled_on x s)
@@ -51,17 +51,17 @@ settled_keeps x s parts h = pieces ∙ ap (λ l. map of_settled x.settlements ++
   pieces = simp (map-append, append_assoc)
 
 -- every step keeps a course one for one
-goes_on : {Q : Type 0} (width : ℕ) (x : Course Q) (step : Step Q) → IsOneForOne x → IsOneForOne (goes width x step)
-goes_on width x (Send target call deadline) h = sent_keeps x target call deadline (eqb (length x.client.waiting) width) h
-goes_on width x (Hear line) h = settled_keeps x (hears x.client line (heard line)) (heard_parts x.client line (heard line)) h
-goes_on width x (Expire now) h = ap (λ l. map of_settled x.settlements ++ l) (expired_parts now x.client.waiting) ∙ h
-goes_on width x Restart h = settled_keeps x (restarts x.client) (append-nil _ ∙ lost_parts x.client.waiting) h
+step_keeps : {Q : Type 0} (width : ℕ) (x : Course Q) (step : Step Q) → IsOneForOne x → IsOneForOne (goes width x step)
+step_keeps width x (Send target call deadline) h = sent_keeps x target call deadline (eqb (length x.client.waiting) width) h
+step_keeps width x (Hear line) h = settled_keeps x (hears x.client line (heard line)) (heard_parts x.client line (heard line)) h
+step_keeps width x (Expire now) h = ap (λ l. map of_settled x.settlements ++ l) (expired_parts now x.client.waiting) ∙ h
+step_keeps width x Restart h = settled_keeps x (restarts x.client) (append-nil _ ∙ lost_parts x.client.waiting) h
 
 -- all steps, one after the other, keep a course one for one
-along : {Q : Type 0} (width : ℕ) (x : Course Q) (steps : List (Step Q)) → IsOneForOne x → IsOneForOne (course width x steps)
-along width x [] h = h
-along width x (step ∷ steps) h = along width (goes width x step) steps (goes_on width x step h)
+steps_keep : {Q : Type 0} (width : ℕ) (x : Course Q) (steps : List (Step Q)) → IsOneForOne x → IsOneForOne (course width x steps)
+steps_keep width x [] h = h
+steps_keep width x (step ∷ steps) h = steps_keep width (goes width x step) steps (step_keeps width x step h)
 
 -- a new client's course is one for one, whatever the steps
 pub one_for_one : {Q : Type 0} (width : ℕ) (steps : List (Step Q)) → IsOneForOne (course width begun steps)
-one_for_one width steps = along width begun steps refl
+one_for_one width steps = steps_keep width begun steps refl

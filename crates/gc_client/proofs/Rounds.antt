@@ -1,5 +1,5 @@
--- A window in a ring of N places: n requests wait, the oldest at place k, the next at place k + 1, and behind place N - 1 comes
--- place 0.
+-- A window in a ring of N places: n requests wait, the oldest at place k, the next at place k + 1, and after place N - 1
+-- comes place 0.
 use Rattle.std.proofs.Common.{◌≡◌, ℕ, ◌+◌, ◌-◌, ◌%◌, ◌<◌, ◌≤◌, ◌⊎◌, List, [], ◌∷◌, ◌++◌, length, get_or, set, ap, ◌∙◌, ap₂, inl, inr, mod-eq_of_lt, arith, length-append, length-drop, length-set, length-take-le, get_or-drop, get_or-take}
 use native.Mathlib.Nat.{mod-eq-sub-mod, mod-add-mod}
 use Rattle.std.proofs.lemmas.List.{same_lists, drop_more, get_or_append_left, get_or-append_right}
@@ -19,7 +19,7 @@ module _ {A : Type 0} (N k n : ℕ) (xs : List A) (start : k < N) (fits : n ≤ 
   pub length-waiting : length (waiting_in k n xs) ≡ n
   length-waiting = length-take-le n _ (simp (length-append, length-drop) (omega (arith, length-take-le k xs (omega arith))))
 
-  -- the request that is the i-th from the oldest stands in place (k + i) % N
+  -- the request that is the i-th from the oldest is in place (k + i) % N
   pub get_or-waiting : (i : ℕ) (d : A) → i < n → get_or (waiting_in k n xs) i d ≡ get_or xs ((k + i) % N) d
   get_or-waiting i d in_range =
       let length_tail = length-drop k xs in
@@ -30,7 +30,7 @@ module _ {A : Type 0} (N k n : ℕ) (xs : List A) (start : k < N) (fits : n ≤ 
 
 -- A second block, because these use the lemmas above at other windows.
 module _ {A : Type 0} (N k n : ℕ) (xs : List A) (start : k < N) (fits : n ≤ N) (length_xs : length xs ≡ N) where
-  -- writing x in the place behind the youngest request appends x to those that wait
+  -- writing x in the place after the youngest request appends x to those that wait
   pub waiting_after_push : (x : A) → n < N → waiting_in k (n + 1) (set xs ((k + n) % N) x) ≡ waiting_in k n xs ++ x ∷ []
   waiting_after_push x has_room =
       let ys = set xs ((k + n) % N) x in

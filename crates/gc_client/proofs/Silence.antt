@@ -7,11 +7,11 @@ use Rattle.gc_client.proofs.Digits.{heard_by_grammar}
 
 -- a line is the client's exactly where it is a reply with an id
 pub ours_by_grammar : (line : List ℕ) → (is_ours line ≡ true) ↔ IsReplyWithId line
-ours_by_grammar line = (λ b. there (heard line) refl b, λ is. ap is_some ((heard_by_grammar line).its is.reply is.is_reply ∙ is.has_id)) where
+ours_by_grammar line = (λ b. heard_is_reply (heard line) refl b, λ is. ap is_some ((heard_by_grammar line).its is.reply is.is_reply ∙ is.has_id)) where
   -- a line in which an id is heard is a reply with an id
-  there : (h : Option ℕ) → heard line ≡ h → is_some h ≡ true → IsReplyWithId line
-  there None e b = cc
-  there (Some id) e b =
+  heard_is_reply : (h : Option ℕ) → heard line ≡ h → is_some h ≡ true → IsReplyWithId line
+  heard_is_reply None e b = cc
+  heard_is_reply (Some id) e b =
       let found = (heard_by_grammar line).only id e in
       record { reply = found.0; id = id; is_reply = found.1; has_id = found.2 }
 
@@ -23,6 +23,6 @@ one_more_line c line lines kept None e rest = ap (λ o. first (hears c line o).s
 one_more_line c line lines kept (Some id) e rest = ap (first (hears c line (heard line)).settlements) (rest (hears c line (heard line)).client)
 
 -- a list of lines does the same as that list without those that aren't the client's
-pub silent : {Q : Type 0} (c : ById Q) (lines : List (List ℕ)) → IsSilent c lines
-silent c [] = refl
-silent c (line ∷ lines) = one_more_line c line lines (filter is_ours lines) (heard line) refl (λ d. silent d lines)
+pub foreign_lines_are_silent : {Q : Type 0} (c : ById Q) (lines : List (List ℕ)) → IsSilent c lines
+foreign_lines_are_silent c [] = refl
+foreign_lines_are_silent c (line ∷ lines) = one_more_line c line lines (filter is_ours lines) (heard line) refl (λ d. foreign_lines_are_silent d lines)

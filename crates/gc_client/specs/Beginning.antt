@@ -1,6 +1,6 @@
--- A beginning, this project's own: null procedures, one after the other, whose ids are those of a fixed list, the word. It is
--- meant to leave no line from before under way, once all are answered. It rests on ids alone, and on no clock. When it does
--- so, and what the line has to do for it, is said in `gc_field`.
+-- A beginning, this project's own: null procedures, one after the other, whose ids are those of a fixed list, the word. It
+-- is meant to leave no line from before in flight, once all are answered. It rests on ids alone, and on no clock. When it
+-- does so, and what the line has to do for it, is said in `gc_field`.
 use Rattle.std.specs.Prelude.{◌≡◌, ◌⊎◌, ℕ, Bool, true, false, List, [], ◌∷◌, Option, Some, None, nat_eq}
 use Rattle.gc_catalogue.specs.declared.call.Call.TheVariants.{NullProc}
 use Rattle.gc_catalogue.specs.Texts.{request_line}
@@ -10,7 +10,7 @@ use Rattle.gc_catalogue.specs.Texts.{request_line}
 abbrev pub the_word : List ℕ
 the_word = 6 ∷ 5 ∷ 4 ∷ 3 ∷ 2 ∷ 1 ∷ 0 ∷ 7 ∷ []
 
--- the first ids are a subsequence of the second ones: they stand among these in their order, with any others between
+-- the first ids are a subsequence of the second ones: they are among these in their order, with any others between
 abbrev pub IsSubsequence : List ℕ → List ℕ → Type 0
 IsSubsequence [] ids = Unit {0}
 IsSubsequence (w ∷ word) [] = ⊥
@@ -19,8 +19,8 @@ IsSubsequence (w ∷ word) (i ∷ ids) = ((w ≡ i) × IsSubsequence word ids) �
 -- Below, a beginning is the list of the ids of the word that aren't answered yet: the whole word at first, and empty once it
 -- has begun.
 
--- the line of the null procedure that is asked for: that of the first id that isn't answered, the same whenever it goes out. None where all
--- are answered
+-- the line of the null procedure that is asked for: that of the first id that isn't answered, the same whenever it is sent.
+-- None where all are answered
 abbrev pub asks : List ℕ → Option (List ℕ)
 asks [] = None
 asks (asked ∷ rest) = Some (request_line (Some asked) NullProc)

@@ -55,6 +55,6 @@ abbrev pub course : {Q : Type 0} → ℕ → Course Q → List (Step Q) → Cour
 course width x [] = x
 course width x (step ∷ steps) = course width (goes width x step) steps
 
--- the settlements so far, and behind them the requests that wait, are the sends that weren't refused
+-- the settlements so far, and after them the requests that wait, are the sends that weren't refused
 abbrev pub IsOneForOne : {Q : Type 0} → Course Q → Type 0
 IsOneForOne x = map of_settled x.settlements ++ map of_pending x.client.waiting ≡ x.sent

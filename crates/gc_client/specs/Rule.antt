@@ -8,8 +8,8 @@ use Rattle.gc_lines.specs.Readers.{reply_at}
 use Rattle.gc_client.specs.declared.window.TheConstants.{WINDOW, IDS}
 use Rattle.gc_client.specs.declared.pending.Pending.{Pending}
 
--- how a request ended: by a reply line, which is its bytes; by a reply line that came after the request was given up; or without
--- a reply
+-- how a request ended: by a reply line, which is its bytes; by a reply line that came after the request had timed out; or
+-- without a reply
 pub data Outcome : Type 0 where
   Answered : (line : List ℕ) → Outcome
   Late : Outcome
@@ -55,19 +55,19 @@ IsWidth width = (1 ≤ width) × (width ≤ WINDOW)
 abbrev pub pending_of : {Q : Type 0} → ℕ → Q → ℕ → Pending Q
 pending_of target call deadline = record { target = target; call = call; deadline = deadline; given_up = false }
 
--- the request, given up from now on where its deadline is at most this moment
+-- the request, marked as timed out from now on if its deadline is at most this moment
 abbrev pub expired : {Q : Type 0} → ℕ → Pending Q → Pending Q
 expired now p = record p { given_up = p.given_up || nat_le p.deadline now }
 
--- whether a request is given up at this moment and wasn't before
+-- whether a request times out at this moment, and not before
 abbrev pub is_expiring : {Q : Type 0} → ℕ → Pending Q → Bool
 is_expiring now p = nat_le p.deadline now && not p.given_up
 
--- the targets of the requests that are given up at this moment and weren't before, in order
+-- the targets of the requests that time out at this moment, and not before, in order
 abbrev pub expiring : {Q : Type 0} → ℕ → List (Pending Q) → List ℕ
 expiring now ps = map (λ p. p.target) (filter (is_expiring now) ps)
 
--- the deadlines of the requests that are not given up, in order
+-- the deadlines of the requests that haven't timed out, in order
 abbrev pub deadlines : {Q : Type 0} → List (Pending Q) → List ℕ
 deadlines ps = map (λ p. p.deadline) (filter (λ p. not p.given_up) ps)
 
@@ -76,7 +76,7 @@ abbrev pub IsEarliest : List ℕ → Option ℕ → Type 0
 IsEarliest ds None = ds ≡ []
 IsEarliest ds (Some d) = Contains ds d × All (λ e. d ≤ e) ds
 
--- the requests, with the one at place k given up
+-- the requests, with the one at place k timed out
 abbrev pub given_up_at : {Q : Type 0} → ℕ → List (Pending Q) → List (Pending Q)
 given_up_at k [] = []
 given_up_at zero (p ∷ ps) = record p { given_up = true } ∷ ps
@@ -88,7 +88,7 @@ given_up_at (suc k) (p ∷ ps) = p ∷ given_up_at k ps
 abbrev pub lost : {Q : Type 0} → Pending Q → Settlement Q
 lost p = record { target = p.target; call = p.call; outcome = Lost }
 
--- the settlement of a request by this reply line: late where the request was given up, else answered
+-- the settlement of a request by this reply line: late where the request had timed out, else answered
 abbrev pub met : {Q : Type 0} → Pending Q → List ℕ → Settlement Q
 met p line = record { target = p.target; call = p.call; outcome = if p.given_up then Late else Answered line }
 
@@ -100,7 +100,7 @@ settle (suc k) line (p ∷ ps) = lost p ∷ settle k line ps
 
 -- Ids.
 
--- how far an id lies behind the id of the oldest of `waiting` requests, going round at the number of ids
+-- how far an id lies after the id of the oldest of `waiting` requests, going round at the number of ids
 abbrev pub place : ℕ → ℕ → ℕ → ℕ
 place next waiting id = (id + IDS - (next + IDS - waiting) % IDS) % IDS
 
@@ -150,7 +150,7 @@ abbrev pub hears : {Q : Type 0} → ById Q → List ℕ → Option ℕ → Settl
 hears c line None = record { settlements = []; client = c }
 hears c line (Some id) = id_settled c line (place_in c id) (nat_lt (place_in c id) (length c.waiting))
 
--- a moment: each request whose deadline it has reached is given up, and goes on waiting
+-- a moment: each request whose deadline it has reached times out, and goes on waiting
 abbrev pub expires : {Q : Type 0} → ById Q → ℕ → ById Q
 expires c now = record { next = c.next; waiting = map (expired now) c.waiting }
 

@@ -15,7 +15,7 @@ pub record IsReplyWithId (line : List ℕ) : Type 0 where
 abbrev pub is_ours : List ℕ → Bool
 is_ours line = is_some (heard line)
 
--- `x`, with these settlements in front of its own
+-- `x`, with these settlements before its own
 abbrev pub first : {Q : Type 0} → List (Settlement Q) → Settled Q (ById Q) → Settled Q (ById Q)
 first settlements x = record { settlements = settlements ++ x.settlements; client = x.client }
 

@@ -1,4 +1,4 @@
-//! The beginning: null procedures before the first command, each of which goes out again with the same id until it is answered.
+//! The beginning: null procedures before the first command, each of which is repeated with the same id until it is answered.
 
 ghost use Rattle.std.specs.Prelude.{◌≡◌, ◌<◌, ◌≤◌, ◌↔◌, true, false, [], length, drop, Some, None, IfSome, MatchOption};
 ghost use Rattle.gc_lines.specs.Lines.{IsPlain};
@@ -14,7 +14,7 @@ pub const WORD: [u8; 8] = [6, 5, 4, 3, 2, 1, 0, 7];
 
 /// A beginning: eight null procedures, one after the other, before a new [`Client`](crate::Client) sends its first command.
 ///
-/// It discards by ids what is under way from before, so no quiet time is needed. The caller has a clock and a connection:
+/// It discards by ids what is in flight from before, so no quiet time is needed. The caller has a clock and a connection:
 ///
 /// 1. Where the connection is new, write a line feed, which clears half a request.
 /// 2. Write the line of `ask`, with CR LF, and read until a deadline. Hand each line that came to `hear`.
@@ -23,9 +23,9 @@ pub const WORD: [u8; 8] = [6, 5, 4, 3, 2, 1, 0, 7];
 /// 4. Where `hear` answered, go on at 2 with the next null procedure. Once `has_begun`, make the client and send: its first
 ///    id is 0.
 ///
-/// The connection has to keep its lines in order; it may lose, delay or repeat any of them in place. Nothing from before is under way
-/// once it has begun, unless [`WORD`] is a subsequence of the ids that were under way at the start: those of the replies, and behind
-/// them those of the requests.
+/// The connection has to keep its lines in order; it may lose, delay or repeat any of them in place. Nothing from before is
+/// in flight once it has begun, unless [`WORD`] is a subsequence of the ids that were in flight at the start: those of the
+/// replies, and after them those of the requests.
 #[derive(Drop)]
 pub struct Beginning {
     answered: usize,

@@ -61,8 +61,8 @@ impl Error for WindowFull {}
 /// 3. Hand the moment after the read to `expire`, on the clock of the deadlines. Then hand each line that came, without
 ///    its CR LF, to `on_line`. So a reply that came past its deadline is late. Go on at 1.
 /// 4. Where the connection fails, close it, keep the client, and go on over a new one: ids go on. Only where seven wait that
-///    are all given up, discard what comes until the line is quiet, `restart`, and send a null procedure alone until it is
-///    answered: ids begin at 0 again (`docs/LIBRARY.md`). By calling `restart` the caller vouches that no line is under way.
+///    have all timed out, discard what comes until the line is quiet, `restart`, and send a null procedure alone until it is
+///    answered: ids begin at 0 again (`docs/LIBRARY.md`). By calling `restart` the caller vouches that no line is in flight.
 ///
 /// What to do at each outcome:
 ///
@@ -200,10 +200,9 @@ impl<W: Window> Client<W> {
 
     /// Takes a line that came, without its CR LF.
     ///
-    /// A reply settles the request that waits with its id, and each one that was sent before it. The earlier ones are
-    /// lost. The request itself is late where it was given up, and else answered. A reply that no request waits for is
-    /// a stray, also where it has no id. A line that is no reply is unread. After a stray and an unread line the client
-    /// is unchanged.
+    /// A reply settles the request that waits with its id, and each one that was sent before it. The earlier ones are lost.
+    /// The request itself is late where it had timed out, and else answered. A reply that no request waits for is a stray,
+    /// also where it has no id. A line that is no reply is unread. After a stray and an unread line the client is unchanged.
     pub fn on_line(&mut self, line: &Line) -> Heard<W::Asked>
         ensures heard { HearsAs self.old.ids line.now.items result self.new.ids }
         ensures settled { AreSettledBy W.Asked.says (settlements_in result)
@@ -274,8 +273,8 @@ impl<W: Window> Client<W> {
     /// Sends a request to be answered before the deadline, and gives its line, without CR LF. The target comes back with
     /// the settlement.
     ///
-    /// It is refused exactly where as many requests wait as the window is wide, those that were given up included. A
-    /// refusal changes nothing.
+    /// It is refused exactly where as many requests wait as the window is wide, those that had timed out included. A refusal
+    /// changes nothing.
     pub fn send(&mut self, target: u32, call: W::Asked, deadline: u64) -> Result<Line, WindowFull>
         ensures rule { let ruled = sends self.old.width self.old.ids target call deadline in MatchResult result
             (λ line. (ruled ≡ Some (record { id = self.old.ids.next; client = self.new.ids }))

@@ -76,7 +76,7 @@ fn set_lost<Q: Asking>(p: &Pending<Q>, settlement: &mut Settlement<Q>)
     settlement.outcome = Outcome::Lost;
 }
 
-/// Writes the settlement of a request whose reply came: late where the request was given up, else answered.
+/// Writes the settlement of a request whose reply came: late where the request had timed out, else answered.
 #[inline(never)]
 pub(crate) fn meet<Q: Asking>(
     p: &Pending<Q>,

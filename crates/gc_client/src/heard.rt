@@ -17,7 +17,7 @@ pub enum Heard<Q> {
     Unread(LineFault),
 }
 
-/// What a client made of a line, without the settlements: those stand in the list that was handed in.
+/// What a client made of a line, without the settlements: those are in the list that was handed in.
 #[derive(Clone, Copy, Debug, PartialEq, Eq)]
 pub enum Hearing {
     /// The line is the reply to a request that waits. The list that was handed in holds the settlement of each request that was

@@ -7,8 +7,8 @@ pub struct Pending<Q> {
     pub target: u32,
     /// What it asks for.
     pub call: Q,
-    /// The moment from which on it may be given up, on the caller's own clock.
+    /// The moment from which on it may time out, on the caller's own clock.
     pub deadline: u64,
-    /// Whether it was given up. It goes on waiting then, and a reply settles it as late.
+    /// Whether it has timed out. It goes on waiting then, and a reply settles it as late.
     pub given_up: bool,
 }

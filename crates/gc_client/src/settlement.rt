@@ -12,7 +12,7 @@ pub enum Outcome {
     /// Its reply came in time: what the reply says of what was asked, and the very line.
     /// A reply that doesn't read is an answer too, whose reading says so.
     Answered(Reading, Line),
-    /// A reply to it came after it was given up. What the reply said is dropped.
+    /// A reply to it came after it had timed out. What the reply said is dropped.
     Late,
     /// A later request was answered first, or the client was restarted: no reply will be taken.
     /// Whether the instrument acted on it is not known.

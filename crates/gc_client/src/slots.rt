@@ -12,13 +12,13 @@ use std::marker::Model;
 const PLACES: usize = IDS as usize;
 
 /// A window in eight fixed places, for a station that must never ask for memory. `clear` begins again at place 0, as a
-/// client's ids begin at 0, so the request with id i stands at place i.
+/// client's ids begin at 0, so the request with id i is at place i.
 #[derive(Drop)]
 pub struct SlotsOf<Q: Asking> {
     places: [Pending<Q>; PLACES],
     // The place of the oldest request.
     oldest: usize,
-    // How many requests wait: the oldest, and those at the places behind it, going round.
+    // How many requests wait: the oldest, and those at the places after it, going round.
     len: usize,
 }
 
@@ -81,12 +81,12 @@ impl<Q: Asking> Window for SlotsOf<Q> {
         self.len
     }
 
-    // Request k stands k places behind the oldest, going round.
+    // Request k is k places after the oldest, going round.
     fn get(&self, k: usize) -> Pending<Q> {
         self.places[(self.oldest + k) % PLACES]
     }
 
-    // The request goes to the place behind the youngest, going round.
+    // The request goes to the place after the youngest, going round.
     fn push(&mut self, p: Pending<Q>)
         requires { length self.old < WINDOW }
         ensures { self.new ≡ self.old ++ p ∷ [] }

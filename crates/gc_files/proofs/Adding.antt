@@ -1,5 +1,5 @@
--- How calls of a file add up. The life of a file is what it held at first, and the steps (calls) since then. To mend a file is
--- to cut off what stands behind its last line feed, and to sync that. An opening mends a file, and writes the head where it has
+-- How calls of a file add up. The life of a file is what it held at first, and the steps (calls) since then. To mend a file
+-- is to cut off what follows its last line feed, and to sync that. An opening mends a file, and writes the head where it has
 -- no whole row.
 use Rattle.std.proofs.Common.{◌≡◌, inl, inr, ℕ, ◌≤◌, ◌<◌, ◌==◌, true, false, List, [], ◌∷◌, ◌++◌, length, take, refl, sym, ◌∙◌, ap, subst, arith, append_assoc, Bool, if◌then◌else◌, Option, Some, None}
 use Rattle.std.proofs.lemmas.Bool.{cases_Bool, eqb-true, eq-eqb}
@@ -30,7 +30,7 @@ cuts_two (Append bytes ∷ xs) ys one two = cuts_two xs ys one two
 cuts_two (Sync ∷ xs) ys one two = cuts_two xs ys one two
 cuts_two (Cut size ∷ xs) ys one two = let wrong : false ≡ true = one in cc
 
--- the steps `xs ++ ys` append what `xs` append, and behind that what `ys` append
+-- the steps `xs ++ ys` append what `xs` append, and after that what `ys` append
 pub appended_two : (xs ys : List Step) → appended (xs ++ ys) ≡ appended xs ++ appended ys
 appended_two [] ys = refl
 appended_two (Append bytes ∷ xs) ys = ap (λ (l : List ℕ). bytes ++ l) (appended_two xs ys) ∙ sym (append_assoc bytes (appended xs) (appended ys))
@@ -49,7 +49,7 @@ puts_more old mid new done bytes puts adds life is =
       },
     )
 
--- a file with bytes behind its whole rows is mended by a cut and a sync
+-- a file with bytes after its whole rows is mended by a cut and a sync
 pub is_cut : (held : List ℕ) (end len : ℕ) → end < len → len ≡ length held → end ≡ length (whole held) → mended held ≡ Cut end ∷ Sync ∷ []
 is_cut held end len less is ends = elim (cases_Bool (length (whole held) == length held)) [
   | inl same ↦ absurd (omega (arith, less, is, ends, eqb-true (length (whole held)) (length held) same))
@@ -67,13 +67,13 @@ is_whole held end len more within is ends = elim (cases_Bool (length (whole held
     wrong : (a b : ℕ) → a ≡ b → (a == b) ≡ false → ⊥
     wrong a b same differs = let both : true ≡ false = sym (eq-eqb a b same) ∙ differs in cc
 
--- a cut behind the whole rows, and a sync after it, mend a file
+-- a cut after the whole rows, and a sync after it, mend a file
 pub mend_all : (old mid new : Option Life) (known : Life) (end len : ℕ) → end < len → len ≡ length (content known) → end ≡ length (whole (content known))
     → Adds old mid (Cut end ∷ []) → Adds mid new (Sync ∷ []) → Adds old new (mended (content known))
 mend_all old mid new known end len less is ends cut sync =
     subst (λ (steps : List Step). Adds old new steps) (sym (is_cut (content known) end len less is ends)) (adds_two old mid new (Cut end ∷ []) (Sync ∷ []) cut sync)
 
--- behind whole rows no head is written
+-- after whole rows no head is written
 start_by : (head l : List ℕ) → 0 < length l → (if is_none l then head else []) ≡ []
 start_by head [] more = absurd (omega (arith, more))
 start_by head (b ∷ l) more = refl

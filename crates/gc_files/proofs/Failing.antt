@@ -1,6 +1,6 @@
--- Over failed syncs a table stays, where a copy takes the file's place before a run goes on. A file has two sides: what a read
--- returns, and what is on the disk. `Lasts` says of a side that whatever a crash leaves of it has the rows of some runs behind
--- the table from before them.
+-- Over failed syncs a table stays, where a copy takes the file's place before a run goes on. A file has two sides: what a
+-- read returns, and what is on the disk. `Lasts` says of a side that whatever a crash leaves of it has the rows of some runs
+-- after the table from before them.
 use Rattle.std.proofs.Common.{◌≡◌, inl, inr, ℕ, Bool, true, false, List, [], ◌∷◌, ◌++◌, refl, sym, ◌∙◌, ap, subst, append_assoc, if◌then◌else◌}
 use Rattle.std.proofs.lemmas.List.{append-nil}
 use Rattle.gc_files.specs.Files.{Life, content, later_by}
@@ -11,7 +11,7 @@ use Rattle.gc_files.proofs.Whole.{whole_front}
 use Rattle.gc_files.proofs.Moments.{may_stay}
 use Rattle.gc_files.proofs.Lasting.{Lasts, one_more}
 
--- both sides of a file have the rows of these runs behind the table `before`, and the sides are the same where the file isn't
+-- both sides of a file have the rows of these runs after the table `before`, and the sides are the same where the file isn't
 -- in doubt
 record Good (head before : List ℕ) (runs : List Run) (sides : Sides) (doubted : Bool) : Type 0 where
   read : HasRows head before runs (content sides.read)

@@ -65,14 +65,14 @@ pub puts_synced : (old mid new : Option Life) (xs : List ℕ) → PutsAll old mi
 puts_synced old mid new xs puts sync =
     subst (PutsAll old new) (append-nil xs) (puts_two old mid new xs [] puts (λ life is. (Sync ∷ [], sync life is, record { none_cut = refl; all = refl })))
 
--- where the first `at` bytes were appended, and then the block behind them, the first `at + size` bytes were
+-- where the first `at` bytes were appended, and then the block after them, the first `at + size` bytes were
 pub puts_block : (old mid new : Option Life) (held block : List ℕ) (at size : ℕ) → block ≡ take (length block) (drop at held) → length block ≡ size
     → PutsAll old mid (take at held) → PutsAll mid new block → PutsAll old new (take (at + size) held)
 puts_block old mid new held block at size is long first second =
     subst (PutsAll old new) (ap (λ (l : List ℕ). take at held ++ l) (is ∙ ap (λ n. take n (drop at held)) long) ∙ sym (take-add at size held))
     (puts_two old mid new (take at held) block first second)
 
--- where `lines` is the number of line feeds in the first `at` bytes, and `more` that of the block behind them, their sum is
+-- where `lines` is the number of line feeds in the first `at` bytes, and `more` that of the block after them, their sum is
 -- that of the first `at + size`
 pub counts_block : (held block : List ℕ) (at size lines more : ℕ) → block ≡ take (length block) (drop at held) → length block ≡ size
     → lines ≡ feeds (take at held) → more ≡ feeds block → lines + more ≡ feeds (take (at + size) held)

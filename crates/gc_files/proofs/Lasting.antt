@@ -9,7 +9,7 @@ use Rattle.gc_files.specs.Runs.{synced, Run, lines, AreRows, IsHead, IsRun, live
 use Rattle.gc_files.proofs.Whole.{whole_whole, whole_more, within}
 use Rattle.gc_files.proofs.Moments.{may_stay, leaves_two, no_sync, mends, mend_moments, two_steps, mend_synced, put_moments}
 
--- `left` has some of these rows behind what was there before, at least all those that end within the first k bytes
+-- `left` has some of these rows after what was there before, at least all those that end within the first k bytes
 pub record Has (head held : List ℕ) (rows : List (List ℕ)) (k : ℕ) (left : List ℕ) : Type 0 where
   pub count : ℕ
   pub few : count ≤ length rows
@@ -227,14 +227,14 @@ run_moments head held run left heads one may = elim one.steps [
         whole_mended : (later : List Step) → synced (mended held ++ later) ≡ synced later
         whole_mended later = ap (λ (steps : List Step). synced (steps ++ later)) (sym (two_steps held)) ∙ mend_synced held 2 later
 
--- counts for some runs, and behind them a count for one more run, are counts for all of these runs
+-- counts for some runs, and after them a count for one more run, are counts for all of these runs
 pub counts_more : (runs : List Run) (counts : List ℕ) (run : Run) (n : ℕ) → Counts runs counts → run.kept ≤ n → n ≤ length run.rows → Counts (runs ++ run ∷ []) (counts ++ n ∷ [])
 counts_more [] [] run n cs least few = (least, few, tt)
 counts_more [] (m ∷ counts) run n cs least few = absurd cs
 counts_more (r ∷ runs) [] run n cs least few = absurd cs
 counts_more (r ∷ runs) (m ∷ counts) run n cs least few = (cs.0, cs.1, counts_more runs counts run n cs.2 least few)
 
--- the rows of one more run come behind those of the others
+-- the rows of one more run come after those of the others
 pub rows_more : (runs : List Run) (counts : List ℕ) (run : Run) (n : ℕ) → Counts runs counts → rows_of (runs ++ run ∷ []) (counts ++ n ∷ []) ≡ rows_of runs counts ++ lines (take n run.rows)
 rows_more [] [] run n cs = append-nil (lines (take n run.rows))
 rows_more [] (m ∷ counts) run n cs = absurd cs
@@ -251,7 +251,7 @@ has_more head before runs run held left has more = (
       ∙ ap (λ (l : List ℕ). before ++ l) (sym (rows_more runs has.0 run more.count has.1)),
 )
 
--- whatever a crash leaves of a file with this life has the rows of the runs behind the table `before`
+-- whatever a crash leaves of a file with this life has the rows of the runs after the table `before`
 abbrev pub Lasts : List ℕ → List ℕ → List Run → Life → Type 0
 Lasts head before runs life = (left : List ℕ) → MayLeave life.start life.steps left → HasRows head before runs left
 

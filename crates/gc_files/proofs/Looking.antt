@@ -1,5 +1,5 @@
--- What a look at a file finds: whether it fits the sign (one begins with the other), and where its last whole row ends. `at` is
--- how many bytes were looked at, and `rest` is the sign behind them.
+-- What a look at a file finds: whether it fits the sign (one begins with the other), and where its last whole row ends. `at`
+-- is how many bytes were looked at, and `rest` is the sign after them.
 use Rattle.std.proofs.Common.{◌≡◌, inl, inr, ℕ, zero, suc, ◌+◌, ◌-◌, ◌≤◌, ◌<◌, ◌==◌, ◌&&◌, true, false, List, [], ◌∷◌, ◌++◌, length, take, drop, refl, sym, ◌∙◌, ap, subst, arith, append_assoc, length-append, length-drop, slice_index, Option, Some, None}
 use Rattle.std.proofs.Math.Seq.{take-add, take-append-add}
 use Rattle.std.proofs.lemmas.Bool.{cases_Bool, eqb-true, eq-eqb}
@@ -11,7 +11,7 @@ use Rattle.gc_files.specs.Rows.{has_feed, whole, fits, PutsAll, IsFront}
 use Rattle.gc_files.proofs.Whole.{whole_behind, whole_front, whole_none, feed_front}
 use Rattle.gc_files.proofs.Adding.{puts_more}
 
--- the same bytes in front of both change nothing in whether one begins with the other
+-- the same bytes before both change nothing in whether one begins with the other
 pub fits_behind : (xs sign held : List ℕ) → fits (xs ++ sign) (xs ++ held) ≡ fits sign held
 fits_behind [] sign held = refl
 fits_behind (x ∷ xs) sign held = ap (λ t. t && fits (xs ++ sign) (xs ++ held)) (eq-eqb x x refl) ∙ fits_behind xs sign held
@@ -21,9 +21,9 @@ pub fits_none : (sign : List ℕ) → fits sign [] ≡ true
 fits_none [] = refl
 fits_none (a ∷ sign) = refl
 
--- where the first k bytes are the same, the bytes behind them decide
-pub fits_on : (k : ℕ) (sign held : List ℕ) → take k sign ≡ take k held → fits sign held ≡ fits (drop k sign) (drop k held)
-fits_on k sign held same =
+-- where the first k bytes are the same, the bytes after them decide
+pub fits_from : (k : ℕ) (sign held : List ℕ) → take k sign ≡ take k held → fits sign held ≡ fits (drop k sign) (drop k held)
+fits_from k sign held same =
     ap (λ (s : List ℕ). fits s held) (sym (take-append-drop k sign)) ∙ ap (λ (h : List ℕ). fits (take k sign ++ drop k sign) h)
     (sym (take-append-drop k held) ∙ ap (λ (l : List ℕ). l ++ drop k held) (sym same))
     ∙ fits_behind (take k sign) (drop k sign) (drop k held)
@@ -39,10 +39,10 @@ fits_not (suc k) (a ∷ sign) (b ∷ held) one two differ = elim (cases_Bool (a 
   | inr isnt ↦ ap (λ t. t && fits sign held) isnt
 ]
 
--- where a piece of the file is as in the sign, the bytes behind it decide
+-- where a piece of the file is as in the sign, the bytes after it decide
 pub looked_on : (at k : ℕ) (sign held rest : List ℕ) → rest ≡ drop at sign → take k rest ≡ take k (drop at held) → fits (drop at sign) (drop at held) ≡ fits (drop (at + k) sign) (drop (at + k) held)
 looked_on at k sign held rest is same =
-    fits_on k (drop at sign) (drop at held) (ap (take k) (sym is) ∙ same)
+    fits_from k (drop at sign) (drop at held) (ap (take k) (sym is) ∙ same)
     ∙ ap (λ (s : List ℕ). fits s (drop k (drop at held))) (drop-drop k at sign) ∙ ap (λ (h : List ℕ). fits (drop (at + k) sign) h) (drop-drop k at held)
 
 -- where a piece of the file differs from the sign, the file doesn't fit the sign
@@ -55,8 +55,8 @@ looked_not at k sign held rest is one two differ =
 pub looked_all : (at : ℕ) (sign held : List ℕ) → length held ≤ at → fits (drop at sign) (drop at held) ≡ true
 looked_all at sign held past = ap (fits (drop at sign)) (drop_all at held past) ∙ fits_none (drop at sign)
 
--- where the first `done` bytes of a buffer are the file's from place `at` on, and n more are read behind them, its first `done
--- + n` bytes are the file's
+-- where the first `done` bytes of a buffer are the file's from place `at` on, and n more are read after them, its first
+-- `done + n` bytes are the file's
 pub read_more : (done n at k : ℕ) (buf ys held : List ℕ) → done ≤ length buf → n ≤ length ys → take done buf ≡ take done (drop at held) → take n ys ≡ take n (drop (at + done) held)
     → take (done + n) (put_mid done k buf ys) ≡ take (done + n) (drop at held)
 read_more done n at k buf ys held within few first second =
@@ -126,7 +126,7 @@ last_some block last h = omega (arith, last_feed block last h.0.high h.1 (λ j a
 pub last_none : (block : List ℕ) → IsLastByte (is_byte 10) block None → 0 ≡ length (whole block)
 last_none block h = sym (ap length (whole_none block (none_feed block (λ j below. h j (omega arith) below))))
 
--- a file is what stands before a block, the block, and what stands behind it
+-- a file is what is before a block, the block, and what follows it
 split_at : (at size : ℕ) (held block : List ℕ) → block ≡ take size (drop at held) → held ≡ take at held ++ (block ++ drop (at + size) held)
 split_at at size held block is =
     sym (take-append-drop at held) ∙ ap (λ (l : List ℕ). take at held ++ l)
@@ -152,7 +152,7 @@ some_whole xs some = elim (cases_Bool (has_feed xs)) [
   | inr isnt ↦ absurd (omega (arith, some, ap length (whole_none xs isnt)))
 ]
 
--- where a block of a file has no whole row, and no line feed stands behind the block, none stands behind the block's beginning
+-- where a block of a file has no whole row, and no line feed follows the block, none follows the block's beginning
 pub block_none : (at size end : ℕ) (held block : List ℕ) → block ≡ take size (drop at held) → at + size ≡ end → has_feed (drop end held) ≡ false
     → length (whole block) ≤ 0 → has_feed (drop at held) ≡ false
 block_none at size end held block is ends none no_rows =
@@ -160,8 +160,8 @@ block_none at size end held block is ends none no_rows =
     ∙ ap (λ (l : List ℕ). l ++ drop size (drop at held)) (sym is) ∙ ap (λ (l : List ℕ). block ++ l) (drop-drop size at held) in
     ap has_feed rest ∙ feed_front block (drop (at + size) held) (ap (λ n. has_feed (drop n held)) ends ∙ none) ∙ none_whole block (omega (arith, no_rows))
 
--- where a block of a file has a whole row, and no line feed stands behind the block, the file's whole rows end where the
--- block's do
+-- where a block of a file has a whole row, and no line feed follows the block, the file's whole rows end where the block's
+-- do
 pub block_some : (at size end : ℕ) (held block : List ℕ) → block ≡ take size (drop at held) → at + size ≡ end → at ≤ length held
     → has_feed (drop end held) ≡ false → 0 < length (whole block) → at + length (whole block) ≡ length (whole held)
 block_some at size end held block is ends within none rows =

@@ -1,5 +1,4 @@
--- What a file holds at each moment of a run. To mend a file is to cut off what stands behind its last line feed, and to sync
--- that.
+-- What a file holds at each moment of a run. To mend a file is to cut off what follows its last line feed, and to sync that.
 use Rattle.std.proofs.Common.{◌≡◌, ◌⊎◌, inl, inr, ℕ, zero, suc, ◌+◌, ◌≤◌, ◌==◌, true, false, List, [], ◌∷◌, ◌++◌, length, take, refl, sym, ◌∙◌, ap, subst, arith, append_assoc, length-append}
 use Rattle.std.proofs.Math.Seq.{take-append-add}
 use Rattle.std.proofs.lemmas.Bool.{cases_Bool, cases_lt, eqb-true}
@@ -75,7 +74,7 @@ mends held = elim (cases_Bool (length (whole held) == length held)) [
     all held t same = sym (take_all (length held) held (omega arith)) ∙ ap
         (λ n. take n held) (sym same) ∙ ap (take (length (whole held))) t.split ∙ take_at (whole held) t.torn (length (whole held)) refl
 
--- at each moment of a cut behind the whole rows, and of a sync after it, whatever a crash leaves has the same whole rows
+-- at each moment of a cut after the whole rows, and of a sync after it, whatever a crash leaves has the same whole rows
 cut_moments : (held : List ℕ) (count : ℕ) (left : List ℕ) → MayLeave held (take count (Cut (length (whole held)) ∷ Sync ∷ [])) left → whole left ≡ whole held
 cut_moments held zero left may = ap whole may
 cut_moments held (suc zero) left (inl now) = ap whole now.1.2 ∙ whole_take held now.1.0 now.1.1
@@ -121,7 +120,7 @@ mend_synced held count later = elim (cases_Bool (length (whole held) == length h
     none_in later (suc zero) = refl
     none_in later (suc (suc n)) = ap (λ (steps : List Step). synced (steps ++ later)) (take_nil n)
 
--- `left` is `held` and the first `count` bytes of `all` behind it, and `count` is at least the length of `least`
+-- `left` is `held` and the first `count` bytes of `all` after it, and `count` is at least the length of `least`
 pub record Reached (held all least left : List ℕ) : Type 0 where
   pub count : ℕ
   pub is : left ≡ held ++ take count all

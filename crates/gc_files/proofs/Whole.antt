@@ -46,13 +46,13 @@ pub whole_front : (xs ys : List ℕ) → has_feed ys ≡ false → whole (xs ++ 
 whole_front [] ys none = whole_none ys none
 whole_front (b ∷ xs) ys none = rw (feed_front (b ∷ xs) ys none, whole_front xs ys none) refl
 
--- bytes are their whole rows and, behind these, `torn`, which has no line feed
+-- bytes are their whole rows and, after these, `torn`, which has no line feed
 pub record Torn (xs : List ℕ) : Type 0 where
   pub torn : List ℕ
   pub none : has_feed torn ≡ false
   pub split : xs ≡ whole xs ++ torn
 
--- each file is its whole rows and what stands behind the last line feed
+-- each file is its whole rows and what follows the last line feed
 pub torn_of : (xs : List ℕ) → Torn xs
 torn_of [] = record { torn = []; none = refl; split = refl }
 torn_of (b ∷ xs) = elim (cases_Bool (has_feed (b ∷ xs))) [
@@ -65,7 +65,7 @@ torn_of (b ∷ xs) = elim (cases_Bool (has_feed (b ∷ xs))) [
       record { torn = b ∷ xs; none = e; split = ap (λ (l : List ℕ). l ++ (b ∷ xs)) (sym is) }
 ]
 
--- whole rows have nothing behind their last line feed: their whole rows are all of them
+-- whole rows have nothing after their last line feed: their whole rows are all of them
 pub whole_whole : (xs : List ℕ) → whole (whole xs) ≡ whole xs
 whole_whole xs =
     let t = torn_of xs in
@@ -133,8 +133,8 @@ within (row ∷ rows) k are = elim (cases_lt k (length (line row))) [
       }
 ]
   where
-    -- where `count` is at least the number of later rows that end within the bytes behind the first row's line, `count + 1` is
-    -- at least the number of all rows that end within k bytes
+    -- where `count` is at least the number of later rows that end within the bytes after the first row's line, `count + 1`
+    -- is at least the number of all rows that end within k bytes
     least_more : (row : List ℕ) (rows : List (List ℕ)) (k count : ℕ) → ((m : ℕ) → m ≤ length rows → length (lines (take m rows)) ≤ k - length (line row) → m ≤ count)
         → (m : ℕ) → m ≤ length (row ∷ rows) → length (lines (take m (row ∷ rows))) ≤ k → m ≤ suc count
     least_more row rows k count least zero few le = omega arith

@@ -31,7 +31,7 @@ one life = record { read = life; disk = life }
 abbrev pub done_by : List Step → Sides → Sides
 done_by steps sides = record { read = later_by steps sides.read; disk = later_by steps sides.disk }
 
--- what a failed sync may make of a side: a front that a crash might have left, and behind it, in place of what is lost, bytes
+-- what a failed sync may make of a side: a front that a crash might have left, and after it, in place of what is lost, bytes
 -- without a line feed, as zeros
 pub record Loses (life : Life) (now : List ℕ) : Type 0 where
   pub front : List ℕ
@@ -87,8 +87,8 @@ runs_of (Crashed left ∷ events) = runs_of events
 abbrev pub IsFound : Sides → List ℕ → Type 0
 IsFound sides left = (left ≡ content sides.read) ⊎ MayLeave sides.disk.start sides.disk.steps left
 
--- after any events among which runs go on only where `goes` allows it: whatever is then found of the file, the next opening makes
--- of it the table that was there before the events, and behind it the rows of the runs
+-- after any events among which runs go on only where `goes` allows it: whatever is then found of the file, the next opening
+-- makes of it the table that was there before the events, and after it the rows of the runs
 abbrev pub TablesLastWhere : (Bool → Type 0) → Type 0
 TablesLastWhere goes = (head held : List ℕ) → IsHead head → (events : List Event) → Occur goes head (one (settled held)) false events
     → (left : List ℕ) → IsFound (sides_after (one (settled held)) events) left → HasRows head (table head held) (runs_of events) left

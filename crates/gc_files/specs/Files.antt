@@ -67,7 +67,7 @@ abbrev pub Makes : {X E : Type 0} → Option Life → Option Life → Result X E
 Makes old new (Ok x) step = Adds old new (step x ∷ [])
 Makes old new (Err _) step = new ≡ old
 
--- the n bytes at the front of buf are those behind the first `at` bytes of the file; n is 0 only at its end
+-- the n bytes at the front of buf are those after the first `at` bytes of the file; n is 0 only at its end
 pub record ReadsAt (life : Life) (at n : ℕ) (buf : List ℕ) : Type 0 where
   pub bytes : take n buf ≡ take n (drop at (content life))
   pub within : n ≡ 0 → length (content life) ≤ at

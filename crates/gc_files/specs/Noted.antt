@@ -11,7 +11,7 @@ steps_done (Append bytes) = step.Append bytes.now ∷ []
 steps_done Sync = step.Sync ∷ []
 steps_done (All past) = past.now.steps
 
--- a call that went well is noted as this step, behind the steps noted before (`old`), and one that failed isn't noted
+-- a call that went well is noted as this step, after the steps noted before (`old`), and one that failed isn't noted
 abbrev pub Notes : {X E : Type 0} → List Step → List Step → Result X E → (X → Step) → Type 0
 Notes old new (Ok x) step = new ≡ old ++ step x ∷ []
 Notes old new (Err _) step = new ≡ old

@@ -32,11 +32,11 @@ is_none (b ∷ bs) = false
 abbrev pub start_of : List ℕ → List ℕ → List ℕ
 start_of head held = if is_none (whole held) then head else []
 
--- what stands in a file once it is opened: its whole rows, or the head where there are none
+-- what is in a file once it is opened: its whole rows, or the head where there are none
 abbrev pub table : List ℕ → List ℕ → List ℕ
 table head held = whole held ++ start_of head held
 
--- how an opening mends a file: what stands behind the last line feed is cut off, and that is on the disk before anything follows
+-- how an opening mends a file: what follows the last line feed is cut off, and that is on the disk before anything follows
 abbrev pub mended : List ℕ → List Step
 mended held = if length (whole held) == length held then [] else Cut (length (whole held)) ∷ Sync ∷ []
 

@@ -78,8 +78,8 @@ Counts [] (n ∷ counts) = ⊥
 Counts (run ∷ runs) [] = ⊥
 Counts (run ∷ runs) (n ∷ counts) = (run.kept ≤ n) × (n ≤ length run.rows) × Counts runs counts
 
--- a file's table is what was there before, and behind it, for each run in order, its first rows: at least those that were kept, each once,
--- none in part
+-- a file's table is what was there before, and after it, for each run in order, its first rows: at least those that were
+-- kept, each once, none in part
 abbrev pub HasRows : List ℕ → List ℕ → List Run → List ℕ → Type 0
 HasRows head before runs held = (counts : List ℕ) × Counts runs counts × (table head held ≡ before ++ rows_of runs counts)
 
@@ -110,8 +110,8 @@ abbrev pub AreKilled : List ℕ → Life → List Run → Type 0
 AreKilled head life [] = Unit {0}
 AreKilled head life (run ∷ runs) = IsKilled head (content life) run × AreKilled head (later_by run.steps life) runs
 
--- Over any runs and kills, while the machine goes on, no row is lost that went out whole, synced or not: they stand in the table behind
--- what was there before.
+-- Over any runs and kills, while the machine goes on, no row is lost that went out whole, synced or not: they are in the
+-- table after what was there before.
 abbrev pub KillsLoseNothing : Type 0
 KillsLoseNothing = (head : List ℕ) → IsHead head → (life : Life) (runs : List Run) → AreKilled head life runs
     → HasRows head (table head (content life)) runs (content (life_after life runs))

@@ -27,8 +27,8 @@ pub trait Appending {
     fn len(&self) -> Result<u64, PortFailed>
         ensures { IfOk result (λ n. (known : Life) → life self.now ≡ Some known → n ≡ length (content known)) };
 
-    /// Reads some of the bytes behind the first `at` into the front of `buf`, which is not empty, and returns how many: 0 only
-    /// where there are none.
+    /// Reads some of the bytes after the first `at` into the front of `buf`, which is not empty, and returns how many: 0
+    /// only where there are none.
     fn read_at(&self, at: u64, buf: &mut [u8]) -> Result<usize, PortFailed>
         requires { 0 < length buf.old }
         ensures room { IfOk result (λ n. n ≤ length buf.new) }

@@ -1,6 +1,6 @@
-//! What stands beside a file of rows: the mark `FILE.open`, from before the first row that is to be synced until a good end,
-//! and for a moment the copy `FILE.copy`. A start that finds the mark copies the file, because after a failed sync no later
-//! sync of it counts.
+//! What is beside a file of rows: the mark `FILE.open`, from before the first row that is to be synced until a good end, and
+//! for a moment the copy `FILE.copy`. A start that finds the mark copies the file, because after a failed sync no later sync
+//! of it counts.
 
 ghost use Rattle.std.specs.Prelude.{◌≡◌, [], true, false, Some, IfOk, OnOk, IsErrOf};
 ghost use Rattle.gc_files.specs.Files.{Life, content};
@@ -143,7 +143,7 @@ fn sync_folder<R: Files<File = File>>(rt: &R, path: &str) -> Result<(), Unfit> {
     }
 }
 
-// Syncs the folder that a symbolic link stands in, where the path is one.
+// Syncs the folder that a symbolic link is in, where the path is one.
 fn sync_link<R: Files<File = File>>(rt: &R, path: &str) -> Result<(), Unfit> {
     match fs::symlink_metadata(rt, path) {
         Ok(found) if found.is_symlink() => sync_folder(rt, path),
@@ -152,8 +152,8 @@ fn sync_link<R: Files<File = File>>(rt: &R, path: &str) -> Result<(), Unfit> {
     }
 }
 
-// Whether the last row of a file is torn: bytes stand behind the last line feed. `Foreign`: the file neither begins with the
-// sign nor is a front of it.
+// Whether the last row of a file is torn: bytes follow the last line feed. `Foreign`: the file neither begins with the sign
+// nor is a front of it.
 fn look<F: Appending>(file: &F, sign: &[u8]) -> Result<bool, Refused>
     ensures taken { OnOk result ((known : Life) → F.life file.now ≡ Some known → fits sign.now (content known) ≡ true) }
     ensures why { IsErrOf result Refused.Foreign → (known : Life) → F.life file.now ≡ Some known → fits sign.now (content known) ≡ false }
@@ -184,7 +184,7 @@ fn rows_of(lines: u64, head: &[u8]) -> u64 {
 /// Opens a file of rows by its path, as [`open_rows`] does, and locks it against every other opening of it, by a program of
 /// this kind, until it is dropped. Where the path is free, it makes the file.
 ///
-/// With `sync` the file's name is on the disk before anything is written into the file, also where the file stood there
+/// With `sync` the file's name is on the disk before anything is written into the file, also where the file was there
 /// already, because whoever made it may not have synced its name. A mark beside the file, `FILE.open`, is made and is on the
 /// disk by then, too; [`end_at`] takes it away.
 ///

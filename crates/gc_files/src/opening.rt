@@ -20,12 +20,12 @@ pub(crate) const BLOCK: usize = 4096;
 pub enum Refused {
     /// It is no file of such rows: it neither begins with the sign nor is a front of it. It was not touched.
     Foreign,
-    /// A call of the file failed, or the file is in doubt. The whole rows that it held stand. What stood behind them may be cut off. In an empty file a
-    /// front of the head may be written. The next opening repairs both.
+    /// A call of the file failed, or the file is in doubt. The whole rows that it held are still there. What followed them
+    /// may be cut off. In an empty file a front of the head may be written. The next opening repairs both.
     Failed,
 }
 
-// The bytes behind the first `at`.
+// The bytes after the first `at`.
 fn behind(bytes: &[u8], at: usize) -> &[u8]
     requires { at ≤ length bytes.now }
     ensures { result.now ≡ drop at bytes.now }
@@ -42,7 +42,7 @@ fn is_front(text: &[u8], piece: &[u8]) -> bool
     &text[..piece.len()] == piece
 }
 
-// Fills the buffer with the file's bytes behind the first `at`. It fails where a read failed or gave nothing.
+// Fills the buffer with the file's bytes after the first `at`. It fails where a read failed or gave nothing.
 pub(crate) fn read_all<F: Appending>(file: &F, at: u64, buf: &mut [u8]) -> Result<(), PortFailed>
     requires room { at + length buf.old < 2 ^ 64 }
     requires known { (known : Life) → F.life file.now ≡ Some known → at + length buf.old ≤ length (content known) }
@@ -87,7 +87,7 @@ pub(crate) fn has_sign<F: Appending>(file: &F, len: u64, sign: &[u8]) -> Result<
     Ok(true)
 }
 
-// How many bytes of a block stand through its last line feed.
+// How many bytes of a block there are up to and including its last line feed.
 fn whole_len(block: &[u8]) -> usize
     ensures len { result ≡ length (whole block.now) }
     ensures within { result ≤ length block.now }
@@ -98,7 +98,8 @@ fn whole_len(block: &[u8]) -> usize
     }
 }
 
-// Where the last whole row of a file of `len` bytes ends: behind its last line feed, or at 0 without one. The blocks are read from the end.
+// Where the last whole row of a file of `len` bytes ends: after its last line feed, or at 0 without one. The blocks are read
+// from the end.
 pub(crate) fn end_of_rows<F: Appending>(file: &F, len: u64) -> Result<u64, PortFailed>
     requires { (known : Life) → F.life file.now ≡ Some known → len ≡ length (content known) }
     ensures within { IfOk result (λ end. end ≤ len) }
@@ -154,7 +155,7 @@ pub(crate) fn append_all<F: Appending>(file: &mut F, bytes: &[u8]) -> Result<(),
     Ok(())
 }
 
-// Cuts off what stands behind the last whole row, and writes the head where there is no whole row.
+// Cuts off what follows the last whole row, and writes the head where there is no whole row.
 fn mend<F: Appending>(file: &mut F, len: u64, end: u64, head: &[u8]) -> Result<(), PortFailed>
     requires len { (known : Life) → F.life file.old ≡ Some known → len ≡ length (content known) }
     requires end { (known : Life) → F.life file.old ≡ Some known → end ≡ length (whole (content known)) }
@@ -175,7 +176,7 @@ fn mend<F: Appending>(file: &mut F, len: u64, end: u64, head: &[u8]) -> Result<(
     }
 }
 
-// Looks for the sign, cuts off what stands behind the last whole row, and writes the head where there is no whole row. It returns
+// Looks for the sign, cuts off what follows the last whole row, and writes the head where there is no whole row. It returns
 // how many bytes were cut off.
 fn prepare<F: Appending>(file: &mut F, head: &[u8], sign: &[u8]) -> Result<u64, Refused>
     ensures opened { OnOk result (Opens head.now (F.life file.old) (F.life file.new)) }
@@ -204,8 +205,8 @@ fn prepare<F: Appending>(file: &mut F, head: &[u8], sign: &[u8]) -> Result<u64, 
     }
 }
 
-/// Opens a file of rows: one that begins with `sign`, or that is a front of it, as an empty one is. It cuts off what stands
-/// behind the last line feed, and writes `head` into a file that is empty then. An `Err` hands the file back.
+/// Opens a file of rows: one that begins with `sign`, or that is a front of it, as an empty one is. It cuts off what follows
+/// the last line feed, and writes `head` into a file that is empty then. An `Err` hands the file back.
 ///
 /// For a table, `head` and `sign` are its header. For rows without a header, `head` is empty, and `sign` is what each row
 /// begins with. With `sync` what is appended is on the disk after each sync of the sink.

@@ -13,7 +13,7 @@ use crate::past::{Done, Past};
 use gc_lines::{Durable, PortFailed, Sink};
 
 /// A file that rows are appended to, as a sink. What was appended since its opening counts as taken, also over a file of the
-/// system. After a failure it stays failed, so that no row stands behind half of another.
+/// system. After a failure it stays failed, so that no row follows half of another.
 #[derive(Drop)]
 pub struct RowsFile<F: Appending> {
     file: F,

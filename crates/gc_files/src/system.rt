@@ -11,18 +11,19 @@ use std::io::{self, ErrorKind, Write};
 use std::os::unix::fs::{FileExt, MetadataExt};
 use std::rt::Files;
 
-/// Why a path can't be had as a file of rows. In each case what stood in the file stays.
+/// Why a path can't be had as a file of rows. In each case what was in the file stays.
 #[derive(Clone, Copy, Debug, PartialEq, Eq)]
 pub enum Unfit {
     /// It can't be opened for reading and appending: it is a folder or another thing that is no regular file, the path isn't
     /// there, or the system doesn't let this program use it. Nothing was touched. Where the path was free, an empty file may
-    /// stand there.
+    /// have been left there.
     Unopened,
     /// Another program, or another opening of this one, holds it. Nothing was touched.
     Held,
     /// It holds something else than such rows. It was not touched.
     Foreign,
-    /// A call of the system failed: the file could not be locked, read, cut, written or synced. Each whole row stands.
+    /// A call of the system failed: the file could not be locked, read, cut, written or synced. Each whole row is still
+    /// there.
     Failed,
 }
 
@@ -156,7 +157,7 @@ fn expect_file<R: Files<File = File>>(rt: &R, path: &str) -> Result<(), Unfit> {
     }
 }
 
-/// Opens a regular file by its path for reading and appending. Where the path is free, it makes the file. What stands in it
+/// Opens a regular file by its path for reading and appending. Where the path is free, it makes the file. What is in it
 /// stays.
 pub fn open_file<R: Files<File = File>>(rt: &R, path: &str) -> Result<SystemFile, Unfit> {
     expect_file(rt, path)?;

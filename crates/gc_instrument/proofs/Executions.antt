@@ -2,6 +2,7 @@
 -- types, and with a code other than 0 comes no answer. A call *comes out* where this holds of its outcome. A state *fits* where
 -- its values lie in their types (`IsFittingState`).
 use Rattle.std.proofs.Common.{◌≡◌, ℕ, ℤ, pos, negsuc, ◌<◌, ◌≤◌, ◌&&◌, ◌||◌, Bool, true, false, cond, T, Option, Some, None, refl, sym, subst, lit≤, arith}
+use Rattle.std.proofs.lemmas.Bool.{and_parts}
 use Rattle.std.specs.Prelude.{int_lt, int_le, nat_le, unsigned_abs}
 use Rattle.std.specs.Ordering.{int_eq}
 use Rattle.std.proofs.lemmas.Int.{ints}
@@ -54,8 +55,8 @@ told_outcome : (s : State) (call : Call) (a : Answer) → IsAnswerOf call a → 
 told_outcome s call a of_call answer_fits = done_outcome s s call a refl (λ f. f) of_call answer_fits
 
 -- a state with the same precision, serial number, name, date, prism type and kept reply fits where the other does
-moved : (s t : State) → s.precision ≡ t.precision → s.serial ≡ t.serial → s.name ≡ t.name → s.date ≡ t.date → s.prism ≡ t.prism → s.kept ≡ t.kept → IsFittingState s → IsFittingState t
-moved s t p n l d r k f = record {
+fits_likewise : (s t : State) → s.precision ≡ t.precision → s.serial ≡ t.serial → s.name ≡ t.name → s.date ≡ t.date → s.prism ≡ t.prism → s.kept ≡ t.kept → IsFittingState s → IsFittingState t
+fits_likewise s t p n l d r k f = record {
   precision = subst (λ (x : ℕ). x ≤ 15) p f.precision;
   serial = subst FitsLong n f.serial;
   name = rw (← l) f.name;
@@ -83,13 +84,13 @@ commanded_outcome s call command of_call = by_tests (int_eq command (pos 0)) (in
   -- whichever outcome the three tests of the command choose, it comes out
   by_tests : (a b c : Bool) → ComesOut s call (cond a (done s Nothing) (cond b (done (measured s) Nothing) (cond c (done (unmeasured s) Nothing) (refused s 2))))
   by_tests true b c = told_outcome s call Nothing of_call (λ _ _. tt)
-  by_tests false true c = done_outcome s (measured s) call Nothing refl (moved s (measured s) refl refl refl refl refl refl) of_call (λ _ _. tt)
-  by_tests false false true = done_outcome s (unmeasured s) call Nothing refl (moved s (unmeasured s) refl refl refl refl refl refl) of_call (λ _ _. tt)
+  by_tests false true c = done_outcome s (measured s) call Nothing refl (fits_likewise s (measured s) refl refl refl refl refl refl) of_call (λ _ _. tt)
+  by_tests false false true = done_outcome s (unmeasured s) call Nothing refl (fits_likewise s (unmeasured s) refl refl refl refl refl refl) of_call (λ _ _. tt)
   by_tests false false false = refused_outcome s s call 2 refl (λ f. f) (omega arith) (omega arith)
 
 -- pointing at a target that was met, or at none, comes out
 adjusted_outcome : (s : State) (call : Call) (t : Option Target) → IsAnswerOf call Nothing → ComesOut s call (adjusted s t)
-adjusted_outcome s call (Some t) of_call = done_outcome s (pointed s t.hz t.v) call Nothing refl (moved s (pointed s t.hz t.v) refl refl refl refl refl refl) of_call (λ _ _. tt)
+adjusted_outcome s call (Some t) of_call = done_outcome s (pointed s t.hz t.v) call Nothing refl (fits_likewise s (pointed s t.hz t.v) refl refl refl refl refl refl) of_call (λ _ _. tt)
 adjusted_outcome s call None of_call = refused_outcome s s call 8710 refl (λ f. f) (omega arith) (omega arith)
 
 -- looking for a target within areas comes out
@@ -102,23 +103,13 @@ searched_outcome s call area_hz area_v of_call = by_test (int_lt area_hz.digits 
 
 -- what the tests say
 
--- where both of two tests hold, the first does
-first : (a b : Bool) → a && b ≡ true → a ≡ true
-first true b h = refl
-first false b h = let wrong : ⊥ = cc in absurd wrong
-
--- where both of two tests hold, the second does
-second : (a b : Bool) → a && b ≡ true → b ≡ true
-second true b h = h
-second false b h = let wrong : ⊥ = cc in absurd wrong
-
 -- where the test of a ≤ b is true, a is at most b
 at_most : (a b : ℕ) → nat_le a b ≡ true → a ≤ b
 at_most a b h = lit≤ (subst T (sym h) tt)
 
 -- a precision that is allowed is at most 15
 precision_few : (n : ℤ) → is_precision n ≡ true → unsigned_abs n ≤ 15
-precision_few (pos k) h = at_most k 15 (second (nat_le 0 k) (nat_le k 15) h)
+precision_few (pos k) h = at_most k 15 (and_parts (nat_le 0 k) (nat_le k 15) h).1
 precision_few (negsuc k) h = let wrong : ⊥ = cc in absurd wrong
 
 -- a year from 1 to 9999 fits in a Short
@@ -128,29 +119,30 @@ short_fits (negsuc k) low high = let wrong : ⊥ = cc in absurd wrong
 
 -- where all nine tests of a date hold, a to i in the order of `is_date`, so does each that the ranges of its values need: all
 -- but c and e, that month and day are at least 1
-tests : (a b c d e f g h i : Bool) → a && b && c && d && e && f && g && h && i ≡ true
+date_tests : (a b c d e f g h i : Bool) → a && b && c && d && e && f && g && h && i ≡ true
     → (a ≡ true) × (b ≡ true) × (d ≡ true) × (f ≡ true) × (g ≡ true) × (h ≡ true) × (i ≡ true)
-tests a b c d e f g h i all =
-    let abcdefgh = first (a && b && c && d && e && f && g && h) i all in
-    let abcdefg = first (a && b && c && d && e && f && g) h abcdefgh in
-    let abcdef = first (a && b && c && d && e && f) g abcdefg in
-    let abcde = first (a && b && c && d && e) f abcdef in
-    let abcd = first (a && b && c && d) e abcde in
-    let abc = first (a && b && c) d abcd in
-    let ab = first (a && b) c abc in (
-      first a b ab,
-      second a b ab,
-      second (a && b && c) d abcd,
-      second (a && b && c && d && e) f abcdef,
-      second (a && b && c && d && e && f) g abcdefg,
-      second (a && b && c && d && e && f && g) h abcdefgh,
-      second (a && b && c && d && e && f && g && h) i all,
+date_tests a b c d e f g h i all =
+    let abcdefgh = and_parts (a && b && c && d && e && f && g && h) i all in
+    let abcdefg = and_parts (a && b && c && d && e && f && g) h abcdefgh.0 in
+    let abcdef = and_parts (a && b && c && d && e && f) g abcdefg.0 in
+    let abcde = and_parts (a && b && c && d && e) f abcdef.0 in
+    let abcd = and_parts (a && b && c && d) e abcde.0 in
+    let abc = and_parts (a && b && c) d abcd.0 in
+    let ab = and_parts (a && b) c abc.0 in
+    let both = and_parts a b ab.0 in (
+      both.0,
+      both.1,
+      abc.1,
+      abcde.1,
+      abcdef.1,
+      abcdefg.1,
+      abcdefgh.1,
     )
 
 -- the values of a date that the clock takes lie in their types
 date_fits : (d : DateTime) → is_date d ≡ true → AreValues (date_values d)
 date_fits d h =
-    let t = tests (int_le (pos 1) d.year) (int_le d.year (pos 9999)) (nat_le 1 d.month) (nat_le d.month 12) (nat_le 1 d.day) (nat_le d.day 31)
+    let t = date_tests (int_le (pos 1) d.year) (int_le d.year (pos 9999)) (nat_le 1 d.month) (nat_le d.month 12) (nat_le 1 d.day) (nat_le d.day 31)
     (nat_le d.hour 23) (nat_le d.minute 59) (nat_le d.second 59) h in
     let month = at_most d.month 12 t.2 in
     let day = at_most d.day 31 t.3 in
@@ -166,7 +158,7 @@ face_fits Turned = (omega (arith, ints), omega (arith, ints))
 
 -- a prism type that is allowed fits in a Long
 prism_fits : (n : ℤ) → is_prism n ≡ true → FitsLong n
-prism_fits (pos k) h = let few : k ≤ 2147483647 = at_most k 2147483647 (second (nat_le 0 k) (nat_le k 2147483647) h) in (omega (arith, ints), omega (arith, ints, few))
+prism_fits (pos k) h = let few : k ≤ 2147483647 = at_most k 2147483647 (and_parts (nat_le 0 k) (nat_le k 2147483647) h).1 in (omega (arith, ints), omega (arith, ints, few))
 prism_fits (negsuc k) h = let wrong : ⊥ = cc in absurd wrong
 
 -- a precision of at most 15 fits in a Short
@@ -190,7 +182,7 @@ prismed : (s : State) (n : ℤ) → is_prism n ≡ true → IsFittingState s →
 prismed s n h f = record { precision = f.precision; serial = f.serial; name = f.name; date = f.date; prism = prism_fits n h; kept = f.kept }
 
 -- the lemmas of which the search proves each row of the execution table
-ruleset row_rules = (told_outcome, done_outcome, set_outcome, with_outcome, commanded_outcome, searched_outcome, moved, precise, dated, prismed, face_fits, precision_fits, arith)
+ruleset row_rules = (told_outcome, done_outcome, set_outcome, with_outcome, commanded_outcome, searched_outcome, fits_likewise, precise, dated, prismed, face_fits, precision_fits, arith)
 
 -- every call comes out in every state. A new row is made of the same parts, so it needs nothing here
 pub exec_outcome : (s : State) (call : Call) → ComesOut s call (exec s call)

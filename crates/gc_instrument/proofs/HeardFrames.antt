@@ -1,4 +1,4 @@
--- Frames that an instrument answered are lines that it was handed; frames that are no lines are passed over.
+-- Frames that an instrument answered are lines that it was handed; frames that are no lines are ignored.
 use Rattle.std.proofs.Common.{◌≡◌, ℕ, ◌+◌, ◌<◌, List, [], ◌∷◌, ◌++◌, length, map, take, suc, Option, Some, None, Result, Ok, Err, refl, sym, ap, ◌∙◌, subst, true, false, append_assoc}
 use Rattle.std.specs.List.{filter_map}
 use Rattle.std.specs.Option.{option_map, option_to_list}
@@ -19,7 +19,7 @@ use Rattle.gc_instrument.specs.Replying.{IsReplied}
 use Rattle.gc_instrument.specs.Hearing.{Hears, replies_text}
 use Rattle.gc_instrument.specs.Serving.{AnswersFrame, ServesAll, ServesPart, Serves}
 
--- appending a line's reply, and CR LF behind it, is how an instrument answers the frame of that line
+-- appending a line's reply, and CR LF after it, is how an instrument answers the frame of that line
 pub answered_line : (before after : State) (line old between new : List ℕ) → AppendsAnswer (IsReplied before line after) old between true → new ≡ between ++ 13 ∷ 10 ∷ []
     → AppendsAnswer (AnswersFrame before (Line (record { items = line })) after) old new true
 answered_line before after line old between new h e = (with_end h.0, (Some h.0, h.1, refl), e ∙ ap (λ (xs : List ℕ). xs ++ 13 ∷ 10 ∷ []) h.2 ∙ append_assoc old h.0 (13 ∷ 10 ∷ []))
@@ -33,7 +33,7 @@ unanswered_line before after line old new h = ((None, h.0, refl), h.1)
 abbrev pub lines_of : List Frame → List (List ℕ)
 lines_of seen = filter_map line_in seen
 
--- mapping f over an optional element, and over the list behind it, is mapping f over the two in a row
+-- mapping f over an optional element, and over the list after it, is mapping f over the two in a row
 mapped : {X Y : Type 0} (f : X → Y) (o : Option X) (xs : List X) → option_to_list (option_map f o) ++ map f xs ≡ map f (option_to_list o ++ xs)
 mapped f None xs = refl
 mapped f (Some x) xs = refl
@@ -55,7 +55,7 @@ heard_line s u t line reply text later rest texts replied text_is h are = record
       ∙ ap (λ (ts : List (List ℕ)). option_to_list (option_map with_end reply) ++ ts) h.texts_are ∙ mapped with_end reply h.replies;
 }
 
--- for a frame that is no line, which leaves the state as it is and has no text: where `Heard` holds of the frames behind it
+-- for a frame that is no line, which leaves the state as it is and has no text: where `Heard` holds of the frames after it
 -- from the state u after it, it holds of them from the state s before it
 heard_silence : (s u t : State) (text : Option (List ℕ)) (seen : List Frame) (rest texts : List (List ℕ)) → u ≡ s → text ≡ None → Heard u t seen rest
     → texts ≡ option_to_list text ++ rest → Heard s t seen texts
@@ -81,7 +81,7 @@ heard s t (Cleared ∷ later) texts h = silent_frame s t t later (Cleared ∷ la
 heard s t (Overlong ∷ later) texts h = silent_frame s t t later (Overlong ∷ later) texts refl (heard_silence s h.0 t h.1 later h.2 texts h.3.0 h.3.1 (heard h.0 t later h.2 h.4) h.5)
 heard s t (More ∷ later) texts h = silent_frame s t t later (More ∷ later) texts refl (heard_silence s h.0 t h.1 later h.2 texts h.3.0 h.3.1 (heard h.0 t later h.2 h.4) h.5)
 
--- replies with their CR LF, one behind the other, are the replies as they are written
+-- replies with their CR LF, one after the other, are the replies as they are written
 written_as : (replies : List (List ℕ)) → all_of (map with_end replies) ≡ replies_text replies
 written_as [] = refl
 written_as (reply ∷ later) = ap (λ (bytes : List ℕ). with_end reply ++ bytes) (written_as later)
@@ -110,7 +110,7 @@ record Drawn (s t : State) (frame : Frame) (text : List ℕ) : Type 0 where
   replied : IsReplied s line t (Some reply)
   text_is : text ≡ with_end reply
 
--- a line whose text goes out has a reply, and the text is that with its CR LF
+-- a line whose text is sent has a reply, and the text is that with its CR LF
 drawn_line : (s t : State) (line : List ℕ) (reply : Option (List ℕ)) (text : List ℕ) → IsReplied s line t reply
     → ◌≡◌ {A = Option (List ℕ)} (Some text) (option_map with_end reply) → Drawn s t (Line (record { items = line })) text
 drawn_line s t line None text replied is = let wrong : ⊥ = cc in absurd wrong
@@ -120,7 +120,7 @@ drawn_line s t line (Some reply) text replied is = record { line = line; reply =
 never : (text : List ℕ) → ◌≡◌ {A = Option (List ℕ)} (Some text) None → ⊥
 never text is = cc
 
--- a frame whose text goes out is a line with a reply
+-- a frame whose text is sent is a line with a reply
 drawn : (s t : State) (frame : Frame) (text : List ℕ) → AnswersFrame s frame t (Some text) → Drawn s t frame text
 drawn s t (Line line) text h = drawn_line s t line.items h.0 text h.1 h.2
 drawn s t Cleared text h = absurd (never text h.1)
@@ -155,8 +155,8 @@ serves_frames s t seen a b (Err (Read n)) h = all_serves s t seen a b 0 n h
 serves_frames s t seen a b (Err (Write n bytes)) h = part_serves s t seen a b 0 n bytes h
 serves_frames s t seen a b (Err (TooManyReads n)) h = all_serves s t seen a b 0 n h
 
--- the lines of two streams, one behind the other, of which the first is empty or ends in a line feed, are those of the first and
--- then those of the second
+-- the lines of two streams, one after the other, of which the first is empty or ends in a line feed, are those of the first
+-- and then those of the second
 pub lines-next : (first next : List ℕ) → rest_of first ≡ [] → lines (first ++ next) ≡ lines first ++ lines next
 lines-next first next none =
     ap lines_of (frames-append first next) ∙ filter_map-append line_in (frames first) (frames_behind (rest_behind [] first) next)

@@ -25,6 +25,6 @@ hears_then s t u (x ∷ xs) ys ps qs first next = (
 pub hears_one : (s t : State) (line : List ℕ) (reply : Option (List ℕ)) → IsReplied s line t reply → Hears s (line ∷ []) t (option_to_list reply)
 hears_one s t line reply h = (t, reply, [], h, (refl, refl), sym (append-nil (option_to_list reply)))
 
--- replies are written one behind the other
+-- replies are written one after the other
 pub replies_text-append : (xs ys : List (List ℕ)) → replies_text (xs ++ ys) ≡ replies_text xs ++ replies_text ys
 replies_text-append xs ys = flat_map-append with_end xs ys

@@ -109,7 +109,7 @@ executes_apart s kept call = sym (by_rows s kept call)
 kept_stays : (s : State) (call : Call) → (exec s call).state.kept ≡ s.kept
 kept_stays s call = ap (λ (x : Executed). x.state.kept) (executes_apart s s.kept call)
 
--- what stands behind a front is what was appended to it
+-- what follows a front is what was appended to it
 drop-append : (old text : List ℕ) → drop (length old) (old ++ text) ≡ text
 drop-append [] text = refl
 drop-append (b ∷ old) text = drop-append old text

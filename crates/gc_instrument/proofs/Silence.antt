@@ -34,12 +34,12 @@ take_out s t (line ∷ foreign) later ps none h =
     let all : ps ≡ h.2 = h.5 ∙ ap (λ (reply : Option (List ℕ)). option_to_list reply ++ h.2) same.1 in
     subst (λ (qs : List (List ℕ)). Hears s later t qs) (sym all) (subst (λ (u : State). Hears u later t h.2) same.0 rest)
 
--- where ys have the replies of xs and lead where xs lead, from any state, they still do with the lines `first` in front of both
+-- where ys have the replies of xs and lead where xs lead, from any state, they still do with the lines `first` before both
 behind : (s t : State) (first xs ys ps : List (List ℕ)) → ((u : State) (qs : List (List ℕ)) → Hears u xs t qs → Hears u ys t qs) → Hears s (first ++ xs) t ps → Hears s (first ++ ys) t ps
 behind s t [] xs ys ps change h = change s ps h
 behind s t (line ∷ first) xs ys ps change h = (h.0, h.1, h.2, h.3, behind h.0 t first xs ys h.2 change h.4, h.5)
 
--- a stream that is empty or ends in a line feed has no bytes behind its last line feed
+-- a stream that is empty or ends in a line feed has no bytes after its last line feed
 whole_rest : (stream : List ℕ) → IsWhole stream → rest_of stream ≡ []
 whole_rest stream (inl e) = ap rest_of e
 whole_rest stream (inr ends) = ap rest_of ends.1 ∙ rest-append [] ends.0 (10 ∷ [])
@@ -48,7 +48,7 @@ whole_rest stream (inr ends) = ap rest_of ends.1 ∙ rest-append [] ends.0 (10 �
 same_output : (s t : State) (x y bytes : List ℕ) → ((ps : List (List ℕ)) → Hears s (lines x) t ps → Hears s (lines y) t ps) → IsOutput s x t bytes → IsOutput s y t bytes
 same_output s t x y bytes change h = record { replies = h.replies; hears = change h.replies h.hears; bytes_are = h.bytes_are }
 
--- lines that are no requests change nothing, wherever they stand
+-- lines that are no requests change nothing, wherever they are
 pub foreign_lines_are_silent : ForeignLinesAreSilent
 foreign_lines_are_silent s t front foreign back bytes front_whole foreign_whole none =
     let longer : lines (front ++ (foreign ++ back)) ≡ lines front ++ (lines foreign ++ lines back) =

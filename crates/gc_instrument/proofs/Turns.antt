@@ -51,8 +51,8 @@ one_hearing s t u (line ∷ later) ps qs h k =
       h.5 ∙ ap (λ (r : Option (List ℕ)). option_to_list r ++ h.2) first.1 ∙ ap (λ (xs : List (List ℕ)). option_to_list k.1 ++ xs) rest.1 ∙ sym k.5,
     )
 
--- the output of two streams, one behind the other, of which the first is empty or ends in a line feed, is that of the first and
--- then that of the second
+-- the output of two streams, one after the other, of which the first is empty or ends in a line feed, is that of the first
+-- and then that of the second
 pub output_then : (s t u : State) (first next xs ys : List ℕ) → rest_of first ≡ [] → IsOutput s first t xs → IsOutput t next u ys → IsOutput s (first ++ next) u (xs ++ ys)
 output_then s t u first next xs ys none h k =
     let parted = lines-next first next none in

@@ -35,10 +35,10 @@ pub record ExchangesCalls : Type 0 where
   pub replied : (s : State) (id : ℕ) (call : Call) → id < 8 → IsFitting call → IsReplied s (request_line (Some id) call) (handed s id call).state (Some (handed s id call).reply)
   pub answered : (s : State) (id : ℕ) (call : Call) → IsFittingState s → id < 8 → IsFitting call → kept_line s.kept (Some id) ≡ None → IsAnswered s id call (handed s id call).reply
 
--- `one`: from one state, lines lead to one state and one list of replies. `next`: two lists of lines, one behind the other, give
--- the replies to the first and then those to the second, which starts from the state that the first leads to. `whole`: two
--- streams of bytes, one behind the other, of which the first is empty or ends in a line feed, give what is written for the first
--- and then what is written for the second
+-- `one`: from one state, lines lead to one state and one list of replies. `next`: two lists of lines, one after the other,
+-- give the replies to the first and then those to the second, which starts from the state that the first leads to. `whole`:
+-- two streams of bytes, one after the other, of which the first is empty or ends in a line feed, give what is written for
+-- the first and then what is written for the second
 pub record AnswersInTurn : Type 0 where
   pub one : (s t u : State) (heard : List (List ℕ)) (ps qs : List (List ℕ)) → Hears s heard t ps → Hears s heard u qs → (t ≡ u) × (ps ≡ qs)
   pub next : (s t u : State) (xs ys : List (List ℕ)) (ps qs : List (List ℕ)) → Hears s xs t ps → Hears t ys u qs → Hears s (xs ++ ys) u (ps ++ qs)

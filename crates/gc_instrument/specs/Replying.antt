@@ -28,7 +28,7 @@ com_code (Parameters _) = 3080
 abbrev pub refusal_line : ℕ → CallFault → List ℕ
 refusal_line number fault = reply_text (record { rc_com = com_code fault; id = Some number; rc = 0; params = [] })
 
--- the reply to a call that was carried out: doubles have the precision that stands after it
+-- the reply to a call that was carried out: doubles have the precision that is in force after it
 abbrev pub executed_line : ℕ → Executed → List ℕ
 executed_line number x = reply_line number x.rc x.answer x.state.precision
 

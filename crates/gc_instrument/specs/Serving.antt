@@ -14,7 +14,8 @@ use Rattle.gc_instrument.specs.State.{State}
 use Rattle.gc_instrument.specs.Replying.{IsReplied}
 use Rattle.gc_instrument.specs.Hearing.{Hears, replies_text}
 
--- what an instrument does with a frame: the reply to a line goes out with its CR LF, and what is no line is answered by nothing
+-- what an instrument does with a frame: the reply to a line is sent with its CR LF, and what is no line is answered by
+-- nothing
 abbrev pub AnswersFrame : State → Frame → State → Option (List ℕ) → Type 0
 AnswersFrame before (Line line) after text = (reply : Option (List ℕ)) × IsReplied before line.items after reply × (text ≡ option_map with_end reply)
 AnswersFrame before Cleared after text = (after ≡ before) × (text ≡ None)

@@ -5,7 +5,7 @@ use Rattle.gc_values.specs.declared.decimal.Decimal.{Decimal}
 use Rattle.gc_instrument.specs.declared.pointing.Pointing.{Pointing}
 use Rattle.gc_instrument.specs.declared.target.Target.{Target}
 
--- a target of zeros, which stands in the unused places of a scene
+-- a target of zeros, which is in the unused places of a scene
 abbrev pub nowhere : Target
 nowhere = record { hz = zero; v = zero; distance = zero }
 

@@ -1,4 +1,4 @@
-//! The face in which a telescope stands, and the number that GetFace answers for it.
+//! The face in which a telescope is, and the number that GetFace answers for it.
 
 ghost use Rattle.std.specs.Prelude.{◌≡◌};
 ghost use Rattle.gc_instrument.specs.Faces.{face_number, turned};

@@ -30,9 +30,8 @@ impl Answers for Instrument {
 /// Serves the requests of a source with an instrument until its end, in at most `max_reads` reads
 /// of at most 256 bytes, and writes the replies into a sink, each with its CR LF.
 ///
-/// Bytes at the end of the input without a line feed behind them are dropped. At the return the
-/// instrument has got all lines that were read, or, after a failed write, those up to the line whose
-/// reply was being written. Serving takes no memory.
+/// Bytes at the end of the input without a line feed after them are dropped. At the return the instrument has got all lines
+/// that were read, or, after a failed write, those up to the line whose reply was being written. Serving takes no memory.
 ///
 /// It returns [`Served`] exactly where the last read was the end. Over ports that hadn't failed
 /// before, it fails with `Read` (42) exactly where the source failed, with `Write` (43) exactly

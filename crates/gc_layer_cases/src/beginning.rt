@@ -1,12 +1,11 @@
-//! Rows of a beginning, one null procedure after the other.
-//! A row is `do WORD WHAT -> CAME`. What comes of it is told to `came`, a text that is then compared with CAME.
-//! `what` is WHAT as it stands, and `bytes` are the bytes for which it stands.
+//! Rows of a beginning, one null procedure after the other. A row is `do WORD WHAT -> CAME`. What comes of it is written to
+//! `came`, a text that is then compared with CAME. `what` is WHAT as it is, and `bytes` are the bytes for which it stands.
 
 use gc_cases::{Rows, Told};
 use gc_client::Beginning;
 use std::alloc::Global;
 
-/// A beginning under way.
+/// A beginning in progress.
 #[derive(Drop)]
 pub struct Beginnings {
     beginning: Beginning,
@@ -20,7 +19,7 @@ impl Beginnings {
         }
     }
 
-    // Tells the line of the null procedure that is asked for.
+    // Reports the line of the null procedure that is asked for.
     fn ask(&self, came: &mut Told) {
         match self.beginning.ask() {
             Some(line) => came.bytes(line.as_slice()),
@@ -28,7 +27,7 @@ impl Beginnings {
         }
     }
 
-    // Tells how many null procedures are answered, and whether all are.
+    // Reports how many null procedures are answered, and whether all are.
     fn tell_answered(&self, came: &mut Told) {
         came.counted(&self.beginning.answered(), ", begun ");
         came.display(&self.beginning.has_begun());

@@ -1,6 +1,5 @@
-//! Rows of calls and answers on the line.
-//! A row is `do WORD WHAT -> CAME`. What comes of it is told to `came`, a text that is then compared with CAME.
-//! `what` is WHAT as it stands, and `bytes` are the bytes for which it stands.
+//! Rows of calls and answers on the line. A row is `do WORD WHAT -> CAME`. What comes of it is written to `came`, a text
+//! that is then compared with CAME. `what` is WHAT as it is, and `bytes` are the bytes for which it stands.
 
 use gc_cases::{Rows, Told, cut_word};
 use gc_catalogue::{
@@ -33,14 +32,14 @@ pub fn call_of(line: &[u8]) -> Option<Call> {
     }
 }
 
-// Tells a fault by its number and its name.
+// Reports a fault by its number and its name.
 fn tell_fault(fault: CallFault, came: &mut Told) {
     came.titled("fault ", &fault.number());
     came.text(" ");
     came.debug(&fault);
 }
 
-// Tells the call that a request's line asks for, and behind it that call's line, written anew; or why there is no call.
+// Reports the call that a request's line asks for, and after it that call's line, written again; or why there is no call.
 fn call_again(line: &[u8], came: &mut Told) {
     let Ok(request) = read_request(line) else {
         return came.text("no request");
@@ -66,7 +65,7 @@ fn reading_of(words: &str) -> Option<Reading> {
     }
 }
 
-// Tells the reading of two words, as `reading_of` has it.
+// Reports the reading of two words, as `reading_of` has it.
 fn tell_reading(words: &str, came: &mut Told) {
     match reading_of(words) {
         Some(reading) => came.debug(&reading),
@@ -74,8 +73,9 @@ fn tell_reading(words: &str, came: &mut Told) {
     }
 }
 
-// Reads a reply, the second word, for the call of a request, the first one (`reading_of`), and tells the reply line that an
-// instrument would write with what was read, for id 4 at precision 3. A reading that is neither a value nor a refusal has none.
+// Reads a reply, the second word, for the call of a request, the first one (`reading_of`), and reports the reply line that
+// an instrument would write with what was read, for id 4 at precision 3. A reading that is neither a value nor a refusal has
+// none.
 fn answer_again(words: &str, came: &mut Told) {
     match reading_of(words) {
         Some(Reading::Value(answer)) => { came.bytes(encode_answer(4, 0, &answer, 3).as_slice()) }

@@ -1,6 +1,6 @@
-//! Rows of a client: what happens to the client, and what it gives. A case is played twice, over each kind of window.
-//! A row is `do WORD WHAT -> CAME`. What comes of it is told to `came`, a text that is then compared with CAME.
-//! `what` is WHAT as it stands, and `bytes` are the bytes for which it stands.
+//! Rows of a client: what happens to the client, and what it gives. A case is played twice, over each kind of window. A row
+//! is `do WORD WHAT -> CAME`. What comes of it is written to `came`, a text that is then compared with CAME. `what` is WHAT
+//! as it is, and `bytes` are the bytes for which it stands.
 
 ghost use Rattle.std.specs.Prelude.{◌≤◌};
 ghost use Rattle.gc_client.specs.declared.window.TheConstants.{WINDOW};
@@ -51,7 +51,7 @@ fn width_of(case: &Case<'_>) -> u8
 }
 
 impl<W: Window<Asked = Call>> Rows for Played<W> {
-    // Plays a row, and tells what it gives, how many requests wait, and the next id.
+    // Plays a row, and reports what it gives, how many requests wait, and the next id.
     fn play(&mut self, _alloc: Global, word: &str, what: &str, bytes: &[u8], came: &mut Told) {
         self.play_word(word, what, bytes, came);
         came.titled("; ", &self.client.waiting());
@@ -60,7 +60,7 @@ impl<W: Window<Asked = Call>> Rows for Played<W> {
 }
 
 impl<W: Window<Asked = Call>> Played<W> {
-    // Makes the call of the client that the row's word names, and tells what it gives.
+    // Makes the call of the client that the row's word names, and reports what it gives.
     fn play_word(&mut self, word: &str, what: &str, bytes: &[u8], came: &mut Told) {
         match word {
             "call" => self.take_call(bytes, came),
@@ -81,7 +81,7 @@ impl<W: Window<Asked = Call>> Played<W> {
         }
     }
 
-    // Sends to the target of the first word, to be answered before the moment of the second one, and tells the line.
+    // Sends to the target of the first word, to be answered before the moment of the second one, and reports the line.
     fn send(&mut self, words: &str, came: &mut Told) {
         let (target, deadline) = cut_word(words);
         let target = u32::try_from(number_or(target, 0)).unwrap_or(0);
@@ -92,8 +92,8 @@ impl<W: Window<Asked = Call>> Played<W> {
         }
     }
 
-    // Hears a line into the list of settlements that all rows share, and tells that list and whether the line is a stray or
-    // unread.
+    // Hears a line into the list of settlements that all rows share, and reports that list and whether the line is a stray
+    // or unread.
     fn hear(&mut self, line: &[u8], came: &mut Told) {
         match self.client.hear(line, &mut self.settled) {
             Hearing::Settled => {}
@@ -103,7 +103,7 @@ impl<W: Window<Asked = Call>> Played<W> {
         tell_all(self.settled.as_slice(), came)
     }
 
-    // Hands the client a moment, and tells the targets of the requests that it gives up.
+    // Hands the client a moment, and reports the targets of the requests that it times out.
     fn expire(&mut self, now: u64, came: &mut Told) {
         for target in self.client.expire(now).as_slice() {
             came.counted(target, ", ");
@@ -111,7 +111,7 @@ impl<W: Window<Asked = Call>> Played<W> {
     }
 }
 
-// Tells settlements: each with its target, and an answer with its reading and its line.
+// Reports settlements: each with its target, and an answer with its reading and its line.
 fn tell_all(settled: &[Settlement<Call>], came: &mut Told) {
     for settlement in settled {
         came.display(&settlement.target);
@@ -119,7 +119,7 @@ fn tell_all(settled: &[Settlement<Call>], came: &mut Told) {
     }
 }
 
-// Tells how a request ended.
+// Reports how a request ended.
 fn tell_outcome(outcome: &Outcome, came: &mut Told) {
     match outcome {
         Outcome::Answered(reading, line) => tell_answer(reading, line, came),
@@ -128,7 +128,7 @@ fn tell_outcome(outcome: &Outcome, came: &mut Told) {
     }
 }
 
-// Tells an answer by its reading and its line.
+// Reports an answer by its reading and its line.
 fn tell_answer(reading: &Reading, line: &Line, came: &mut Told) {
     came.text(" ");
     came.debug(reading);

@@ -1,4 +1,4 @@
-//! An instrument behind any reader and writer, as `docs/SIMULATOR.md` shows it.
+//! An instrument over any reader and writer, as `docs/SIMULATOR.md` shows it.
 
 use gc_cases::Told;
 use gc_instrument::{Instrument, Served, Target, serve};
@@ -7,8 +7,8 @@ use gc_values::{Decimal, Text};
 use std::alloc::Global;
 use std::io::{Read, Write};
 
-// Serves an instrument with a scene of its own behind any reader and writer. `None`: it couldn't be made, or serving ended with
-// a fault.
+// Serves an instrument with a scene of its own over any reader and writer. `None`: it couldn't be made, or serving ended
+// with a fault.
 fn serve_bench<R: Read + Drop, W: Write + Drop>(input: R, output: W) -> Option<Served> {
     let name = Text::new(b"BENCH").ok()?;
     let prism = Target {
@@ -22,7 +22,7 @@ fn serve_bench<R: Read + Drop, W: Write + Drop>(input: R, output: W) -> Option<S
     serve(&mut bench, &mut source, &mut sink, u32::MAX).ok()
 }
 
-/// Serves these bytes, and tells how many replies were written, and the output.
+/// Serves these bytes, and reports how many replies were written, and the output.
 pub fn tell_embedded(alloc: Global, input: &[u8], came: &mut Told) {
     let mut output = Vec::new(alloc);
     came.debug(&serve_bench(input, &mut output));

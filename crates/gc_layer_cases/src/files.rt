@@ -1,6 +1,6 @@
 //! Rows of a file of rows, in memory: what opening it leaves of the bytes that it held, and what it holds of those that are
-//! written. A row is `do WORD WHAT -> CAME`. What comes of it is told to `came`, a text that is then compared with CAME. `what`
-//! is WHAT as it stands, and `bytes` are the bytes for which it stands.
+//! written. A row is `do WORD WHAT -> CAME`. What comes of it is written to `came`, a text that is then compared with CAME.
+//! `what` is WHAT as it is, and `bytes` are the bytes for which it stands.
 
 use gc_cases::{Rows, Told, bytes_of, cut_word};
 use gc_files::{MemoryFile, Refused, RowsFile, copy_lines, open_rows};
@@ -23,8 +23,8 @@ impl Files {
         Files { rows: None }
     }
 
-    // Opens a file that has room for as many bytes as the first word says and holds the bytes of the other words, and tells what
-    // opening it gave. `is_synced`: what is written is on the disk after each sync.
+    // Opens a file that has room for as many bytes as the first word says and holds the bytes of the other words, and
+    // reports what opening it gave. `is_synced`: what is written is on the disk after each sync.
     fn open(&mut self, alloc: Global, is_synced: bool, words: &str, came: &mut Told) {
         match file_of(alloc, words) {
             Ok(file) => self.open_file(file, is_synced, came),
@@ -43,7 +43,7 @@ impl Files {
         }
     }
 
-    // Opens this file, and tells what opening it gave.
+    // Opens this file, and reports what opening it gave.
     fn open_file(&mut self, file: MemoryFile, is_synced: bool, came: &mut Told) {
         match open_rows(file, HEAD, HEAD, is_synced) {
             Ok(rows) => {
@@ -62,8 +62,8 @@ impl Files {
         }
     }
 
-    // Copies all that the open file holds into this one, and tells how many lines that were, or that no file is open. Then opens
-    // this one.
+    // Copies all that the open file holds into this one, and reports how many lines that were, or that no file is open. Then
+    // opens this one.
     fn copy_into(&mut self, mut fresh: MemoryFile, came: &mut Told) {
         match &self.rows {
             Some(rows) => tell_copy(copy_lines(rows.file(), &mut fresh), came),
@@ -103,7 +103,7 @@ fn file_of(alloc: Global, words: &str) -> Result<MemoryFile, AllocError> {
     MemoryFile::new(alloc, held.as_slice(), room).ok_or(AllocError)
 }
 
-// Tells how many lines were copied.
+// Reports how many lines were copied.
 fn tell_copy(copied: Result<u64, PortFailed>, came: &mut Told) {
     match copied {
         Ok(lines) => came.counted(&lines, " lines copied, "),
@@ -111,20 +111,20 @@ fn tell_copy(copied: Result<u64, PortFailed>, came: &mut Told) {
     }
 }
 
-// Tells how many bytes opening the file cut off, and what it holds.
+// Reports how many bytes opening the file cut off, and what it holds.
 fn tell_rows(rows: &RowsFile<MemoryFile>, came: &mut Told) {
     came.counted(&rows.torn(), " cut off, holds ");
     came.bytes(rows.file().bytes());
 }
 
-// Tells why a file was refused, and what it holds.
+// Reports why a file was refused, and what it holds.
 fn tell_refused(why: Refused, file: &MemoryFile, came: &mut Told) {
     came.debug(&why);
     came.text(", holds ");
     came.bytes(file.bytes());
 }
 
-// Syncs what was written, writes, or tells what the file holds, as the word says.
+// Syncs what was written, writes, or reports what the file holds, as the word says.
 fn use_rows(rows: &mut RowsFile<MemoryFile>, word: &str, bytes: &[u8], came: &mut Told) {
     match word {
         "keep" => keep(rows, came),
@@ -134,12 +134,12 @@ fn use_rows(rows: &mut RowsFile<MemoryFile>, word: &str, bytes: &[u8], came: &mu
     }
 }
 
-// Syncs what was written, and tells whether that succeeded.
+// Syncs what was written, and returns whether that succeeded.
 fn keep(rows: &mut RowsFile<MemoryFile>, came: &mut Told) {
     came.either(rows.sync().is_ok(), "kept", "failed");
 }
 
-// Writes these bytes, if there are any, and tells how many were taken.
+// Writes these bytes, if there are any, and reports how many were taken.
 fn write_to(rows: &mut RowsFile<MemoryFile>, bytes: &[u8], came: &mut Told) {
     if bytes.is_empty() {
         return came.text("nothing to write");

@@ -1,6 +1,6 @@
-//! Rows of a simulated instrument: lines and calls that it takes, and its scene.
-//! A row is `do WORD WHAT -> CAME`. What comes of it is told to `came`, a text that is then compared with CAME.
-//! `what` is WHAT as it stands, and `bytes` are the bytes for which it stands.
+//! Rows of a simulated instrument: lines and calls that it takes, and its scene. A row is `do WORD WHAT -> CAME`. What comes
+//! of it is written to `came`, a text that is then compared with CAME. `what` is WHAT as it is, and `bytes` are the bytes
+//! for which it stands.
 
 use crate::calls::call_of;
 use crate::embedded::tell_embedded;
@@ -35,7 +35,7 @@ impl Instruments {
         }
     }
 
-    // Makes an instrument with the scene, by its serial number and its name, and tells that it was made, or the fault.
+    // Makes an instrument with the scene, by its serial number and its name, and reports that it was made, or the fault.
     fn make(&mut self, words: &str, came: &mut Told) {
         let (serial, name) = cut_word(words);
         let (Ok(serial), Ok(name)) = (read_long(serial.as_bytes()), Text::new(name.as_bytes()))
@@ -51,7 +51,7 @@ impl Instruments {
         }
     }
 
-    // Executes the call of a request's line, and tells the return code and the answer.
+    // Executes the call of a request's line, and reports the return code and the answer.
     fn execute(&mut self, line: &[u8], came: &mut Told) {
         let Some(call) = call_of(line) else {
             return came.text("no call");
@@ -72,14 +72,14 @@ impl Instruments {
         }
     }
 
-    // Tells the height, the precision and the prism type.
+    // Reports the height, the precision and the prism type.
     fn tell_settings(&self, came: &mut Told) {
         came.titled("height ", &self.instrument.height());
         came.titled(" precision ", &self.instrument.precision());
         came.titled(" prism ", &self.instrument.prism());
     }
 
-    // Tells where the telescope points.
+    // Reports where the telescope points.
     fn tell_pointing(&self, came: &mut Told) {
         let pointing = self.instrument.pointing();
         came.titled("hz ", &pointing.hz);
@@ -117,7 +117,7 @@ fn target_of(words: &str) -> Option<Target> {
     }
 }
 
-/// Hands in a line, and tells the reply and the id that is kept then.
+/// Hands in a line, and reports the reply and the id that is kept then.
 pub fn hand_in(instrument: &mut Instrument, bytes: &[u8], came: &mut Told) {
     push_reply(instrument, bytes, came);
     match instrument.kept_id() {
@@ -126,7 +126,7 @@ pub fn hand_in(instrument: &mut Instrument, bytes: &[u8], came: &mut Told) {
     }
 }
 
-// Hands in a line, and tells the reply.
+// Hands in a line, and reports the reply.
 fn push_reply(instrument: &mut Instrument, bytes: &[u8], came: &mut Told) {
     let mut line = Line::new();
     if line.try_extend_from_slice(bytes).is_err() {

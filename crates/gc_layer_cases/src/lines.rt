@@ -1,6 +1,6 @@
-//! Rows of lines: requests and replies read and written again, headers, and what an assembler makes of a piece.
-//! A row is `do WORD WHAT -> CAME`. What comes of it is told to `came`, a text that is then compared with CAME.
-//! `what` is WHAT as it stands, and `bytes` are the bytes for which it stands.
+//! Rows of lines: requests and replies read and written again, headers, and what an assembler makes of a piece. A row is `do
+//! WORD WHAT -> CAME`. What comes of it is written to `came`, a text that is then compared with CAME. `what` is WHAT as it
+//! is, and `bytes` are the bytes for which it stands.
 
 use gc_cases::{Rows, Told, cut_word, number_or};
 use gc_lines::{
@@ -39,7 +39,7 @@ impl Rows for Lines {
     }
 }
 
-// Tells the line that was written, or the fault.
+// Reports the line that was written, or the fault.
 fn tell_written(written: Result<Line, LineFault>, came: &mut Told) {
     match written {
         Ok(line) => came.bytes(line.as_slice()),
@@ -47,7 +47,7 @@ fn tell_written(written: Result<Line, LineFault>, came: &mut Told) {
     }
 }
 
-// Tells a request that was read, written anew; or the fault.
+// Reports a request that was read, written again; or the fault.
 fn request_again(line: &[u8], came: &mut Told) {
     match read_request(line) {
         Ok(request) if is_plain(request.params) => tell_written(write_request(&request), came),
@@ -56,7 +56,7 @@ fn request_again(line: &[u8], came: &mut Told) {
     }
 }
 
-// Tells a reply that was read, written anew; or the fault.
+// Reports a reply that was read, written again; or the fault.
 fn reply_again(line: &[u8], came: &mut Told) {
     match read_reply(line) {
         Ok(reply) if is_plain(reply.params) => tell_written(write_reply(&reply), came),
@@ -70,7 +70,7 @@ fn number(word: &str) -> Option<u16> {
     u16::try_from(number_or(word, u64::MAX)).ok()
 }
 
-// Tells the header of a request, by its number, or of a reply, by its communication code, its id and its return code.
+// Reports the header of a request, by its number, or of a reply, by its communication code, its id and its return code.
 fn header(words: &str, came: &mut Told) {
     match header_of(words) {
         Some(line) => came.bytes(line.as_slice()),
@@ -78,7 +78,7 @@ fn header(words: &str, came: &mut Told) {
     }
 }
 
-// The header that `header` tells. `None`: a word is no number of 16 bits, or the id is above 7.
+// The header that `header` reports. `None`: a word is no number of 16 bits, or the id is above 7.
 fn header_of(words: &str) -> Option<Line> {
     let (first, rest) = cut_word(words);
     let first = number(first)?;
@@ -96,7 +96,7 @@ fn header_of(words: &str) -> Option<Line> {
     Some(line)
 }
 
-// Tells how many bytes of a piece the assembler used, and the frame that they gave.
+// Reports how many bytes of a piece the assembler used, and the frame that they gave.
 fn piece(assembler: &mut Assembler, piece: &[u8], came: &mut Told) {
     let mut cut = Line::new();
     let (used, lent) = assembler.next(piece, &mut cut);

@@ -1,6 +1,6 @@
-//! A station of one page, as `docs/LIBRARY.md` shows it: it sends calls to targets, and tells how each request ended. Behind it
-//! stands what plays the rows of a case with such a station. A row is `do WORD WHAT -> CAME`. What comes of it is told to
-//! `came`, a text that is then compared with CAME.
+//! A station of one page, as `docs/LIBRARY.md` shows it: it sends calls to targets, and reports how each request ended.
+//! After it comes what plays the rows of a case with such a station. A row is `do WORD WHAT -> CAME`. What comes of it is
+//! written to `came`, a text that is then compared with CAME.
 
 use gc_cases::{Rows, Told, bytes_behind, cut_word, number_or};
 use gc_catalogue::{Answer, Call, Reading};
@@ -41,8 +41,8 @@ impl Station {
         Ok(true)
     }
 
-    /// Takes the bytes of one read, and the moment after it: gives up the requests whose deadline has come, and tells in `told` what the
-    /// bytes settle. `Err`: memory ran out.
+    /// Takes the bytes of one read, and the moment after it: times out the requests whose deadline has come, and reports in
+    /// `told` what the bytes settle. `Err`: memory ran out.
     fn hear(&mut self, bytes: &[u8], now: u64, told: &mut String) -> Result<(), AllocError> {
         self.client.expire(now);
         let mut left = bytes;
@@ -54,7 +54,7 @@ impl Station {
         Ok(())
     }
 
-    /// Takes a frame: where it is a line that settles requests, tells how they ended.
+    /// Takes a frame: where it is a line that settles requests, reports how they ended.
     fn hear_frame(&mut self, frame: &Frame, told: &mut String) -> Result<(), AllocError> {
         let Frame::Line(line) = frame else {
             return Ok(());
@@ -65,20 +65,21 @@ impl Station {
         Ok(())
     }
 
-    /// Goes on over a connection that was closed, opened again and drained: half a line is dropped, and ids go on.
+    /// Goes on over a connection that was closed and opened again, and whose stale input was discarded: half a line is
+    /// dropped, and ids go on.
     fn go_on(&mut self) {
         self.assembler = Assembler::new();
     }
 
-    /// Begins anew over a connection that was closed, opened again and drained: tells that what waits is lost. A null procedure has to
-    /// be answered next.
+    /// Begins again over a connection that was closed and opened again, and whose stale input was discarded: reports that
+    /// what waits is lost. A null procedure has to be answered next.
     fn begin_anew(&mut self, told: &mut String) -> Result<(), AllocError> {
         self.assembler = Assembler::new();
         tell_all(&self.client.restart(), told)
     }
 }
 
-// Tells how these requests ended, each in a line.
+// Reports how these requests ended, each in a line.
 fn tell_all(settled: &[Settlement<Call>], told: &mut String) -> Result<(), AllocError> {
     for settlement in settled {
         tell(settlement, told)?;
@@ -86,7 +87,7 @@ fn tell_all(settled: &[Settlement<Call>], told: &mut String) -> Result<(), Alloc
     Ok(())
 }
 
-// Tells how a request ended, in a line.
+// Reports how a request ended, in a line.
 fn tell(settlement: &Settlement<Call>, told: &mut String) -> Result<(), AllocError> {
     let target = settlement.target;
     match &settlement.outcome {
@@ -116,7 +117,7 @@ impl Stations {
         }
     }
 
-    // Asks for a measurement of a target, to be answered before the deadline behind it.
+    // Asks for a measurement of a target, to be answered before the deadline after it.
     fn ask(&mut self, words: &str, came: &mut Told) {
         let (target, deadline) = cut_word(words);
         let target = u32::try_from(number_or(target, 0)).unwrap_or(0);
@@ -135,13 +136,13 @@ impl Stations {
         }
     }
 
-    // Hands the station the bytes that stand behind a moment, as those that its read gave at that moment.
+    // Hands the station the bytes that follow a moment, as those that its read gave at that moment.
     fn hear(&mut self, now: &str, bytes: &[u8], told: &mut String) -> Result<(), AllocError> {
         let read = bytes_behind(now, bytes);
         self.station.hear(read, number_or(now, 0), told)
     }
 
-    // Plays a row at which the station tells how requests ended: `hear` with a moment and bytes, or `begin_anew`.
+    // Plays a row at which the station reports how requests ended: `hear` with a moment and bytes, or `begin_anew`.
     fn tell(
         &mut self,
         word: &str,
@@ -156,7 +157,7 @@ impl Stations {
         }
     }
 
-    // Plays a row as `tell` does, and shows in `came` what the station told.
+    // Plays a row as `tell` does, and shows in `came` what the station reported.
     fn tell_all(&mut self, alloc: Global, word: &str, what: &str, bytes: &[u8], came: &mut Told) {
         let mut told = String::new(alloc);
         if self.tell(word, what, bytes, &mut told).is_err() {

@@ -1,6 +1,6 @@
-//! Rows of the ports over a reader and a writer of std: how often a reader is asked and for how many bytes, and what fits into a
-//! writer. A row is `do WORD WHAT -> CAME`. What comes of it is told to `came`, a text that is then compared with CAME. `what` is
-//! WHAT as it stands, and `bytes` are the bytes for which it stands.
+//! Rows of the ports over a reader and a writer of std: how often a reader is asked and for how many bytes, and what fits
+//! into a writer. A row is `do WORD WHAT -> CAME`. What comes of it is written to `came`, a text that is then compared with
+//! CAME. `what` is WHAT as it is, and `bytes` are the bytes for which it stands.
 
 ghost use Rattle.std.specs.Prelude.{None};
 
@@ -84,8 +84,8 @@ fn read_through(is_ahead: bool, words: &str, came: &mut Told) {
     }
 }
 
-// Reads four times into four bytes, by the trait's bound alone, and tells of each read what came and what the reader was asked
-// by then.
+// Reads four times into four bytes, by the trait's bound alone, and reports of each read what came and what the reader was
+// asked by then.
 fn read_all<S: Source>(source: &mut S, asked: &Asked, came: &mut Told) {
     for _ in 0..4 {
         read_one(source, came);
@@ -95,7 +95,7 @@ fn read_all<S: Source>(source: &mut S, asked: &Asked, came: &mut Told) {
     }
 }
 
-// Reads once into four bytes, and tells what came and, by `!`, whether the source has failed.
+// Reads once into four bytes, and reports what came and, by `!`, whether the source has failed.
 fn read_one<S: Source>(source: &mut S, came: &mut Told) {
     let mut buf = [0u8; 4];
     match source.read(&mut buf) {
@@ -114,7 +114,7 @@ fn write_through(room: &str, came: &mut Told) {
     write_all(&mut ToWriter::new(&mut bytes[..room]), came);
 }
 
-// Writes three bytes four times, by the trait's bound alone, and tells how many were taken.
+// Writes three bytes four times, by the trait's bound alone, and reports how many were taken.
 fn write_all<K: Sink>(sink: &mut K, came: &mut Told) {
     for _ in 0..4 {
         match sink.write(b"abc") {
@@ -125,14 +125,14 @@ fn write_all<K: Sink>(sink: &mut K, came: &mut Told) {
     }
 }
 
-// Writes a line three times into 16 bytes, and tells what they then hold.
+// Writes a line three times into 16 bytes, and reports what they then hold.
 fn write_lines(room: &mut [u8; 16], came: &mut Told) {
     let line = begin_request(0, Some(1));
     write_thrice(&mut ToWriter::new(&mut room[..]), &line, came);
     came.bytes(room.as_slice());
 }
 
-// Writes a line three times, and tells of each time whether it went out whole.
+// Writes a line three times, and reports of each time whether it went out whole.
 fn write_thrice<K: Sink>(sink: &mut K, line: &Line, came: &mut Told) {
     for _ in 0..3 {
         match write_line(sink, line) {

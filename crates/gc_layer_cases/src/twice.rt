@@ -32,8 +32,8 @@ fn execute(instrument: &mut Instrument, line: &[u8]) {
     }
 }
 
-/// Hands a request to a new simulator, sets all, and hands the same request in again. Tells both replies with the ids that are kept,
-/// and the distance, which has to be as it was set.
+/// Hands a request to a new simulator, sets all, and hands the same request in again. Reports both replies with the ids that
+/// are kept, and the distance, which has to be as it was set.
 pub fn ask_twice(request: &[u8], came: &mut Told) {
     let mut instrument = Instrument::simulator();
     hand_in(&mut instrument, request, came);
@@ -43,7 +43,7 @@ pub fn ask_twice(request: &[u8], came: &mut Told) {
     tell_distance(&instrument, came)
 }
 
-// Tells the distance, if there is one.
+// Reports the distance, if there is one.
 fn tell_distance(instrument: &Instrument, came: &mut Told) {
     match instrument.distance() {
         Some(distance) => came.titled("; as set ", &distance),

@@ -1,6 +1,6 @@
-//! Rows of values: lists of parameters, decimals, and items by their kinds.
-//! A row is `do WORD WHAT -> CAME`. What comes of it is told to `came`, a text that is then compared with CAME.
-//! `what` is WHAT as it stands, and `bytes` are the bytes for which it stands.
+//! Rows of values: lists of parameters, decimals, and items by their kinds. A row is `do WORD WHAT -> CAME`. What comes of
+//! it is written to `came`, a text that is then compared with CAME. `what` is WHAT as it is, and `bytes` are the bytes for
+//! which it stands.
 
 ghost use Rattle.std.specs.Prelude.{◌≤◌};
 
@@ -33,7 +33,7 @@ impl Rows for Values {
     }
 }
 
-// Reads an item of the kind that the word says, and tells its value.
+// Reads an item of the kind that the word says, and reports its value.
 fn play_item(word: &str, item: &[u8], came: &mut Told) {
     match word {
         "byte" => tell_read(read_byte(item), came),
@@ -44,7 +44,7 @@ fn play_item(word: &str, item: &[u8], came: &mut Told) {
     }
 }
 
-// Tells the value that was read, or the fault.
+// Reports the value that was read, or the fault.
 fn tell_read<T: fmt::Display + Drop>(read: Result<T, ValueFault>, came: &mut Told) {
     match read {
         Ok(value) => came.display(&value),
@@ -52,7 +52,7 @@ fn tell_read<T: fmt::Display + Drop>(read: Result<T, ValueFault>, came: &mut Tol
     }
 }
 
-// Tells the items of a list, or the fault.
+// Reports the items of a list, or the fault.
 fn split_list(list: &[u8], came: &mut Told) {
     match split(list) {
         Ok(items) => tell_items(&items, came),
@@ -60,7 +60,7 @@ fn split_list(list: &[u8], came: &mut Told) {
     }
 }
 
-// Tells how many items there are, and each in angle brackets.
+// Reports how many items there are, and each in angle brackets.
 fn tell_items(items: &Items<'_>, came: &mut Told) {
     came.counted(&items.len(), " items");
     for k in 0..items.len() {
@@ -82,7 +82,7 @@ fn two_decimals(words: &str) -> Option<(Decimal, Decimal)> {
     }
 }
 
-// Makes a decimal of digits and a scale, and tells both as the decimal keeps them, and its text.
+// Makes a decimal of digits and a scale, and reports both as the decimal keeps them, and its text.
 fn new_decimal(words: &str, came: &mut Told) {
     let (digits, scale) = cut_word(words);
     let digits = i128::from(read_long(digits.as_bytes()).unwrap_or(0));
@@ -92,7 +92,7 @@ fn new_decimal(words: &str, came: &mut Told) {
     }
 }
 
-// Tells a decimal's digits, its scale and its text.
+// Reports a decimal's digits, its scale and its text.
 fn tell_parts(decimal: &Decimal, came: &mut Told) {
     came.titled("digits ", &decimal.digits());
     came.titled(" scale ", &decimal.scale());
@@ -104,7 +104,7 @@ fn small_number(word: &str) -> u8 {
     u8::try_from(number_or(word, 255)).unwrap_or(255)
 }
 
-// Tells how the decimals of two words compare.
+// Reports how the decimals of two words compare.
 fn compare(words: &str, came: &mut Told) {
     match two_decimals(words) {
         Some((first, second)) => came.debug(&first.cmp(&second)),
@@ -112,7 +112,7 @@ fn compare(words: &str, came: &mut Told) {
     }
 }
 
-// Tells the decimal that the second word is, rounded to as many places as the first word says, at most 24; or the fault.
+// Reports the decimal that the second word is, rounded to as many places as the first word says, at most 24; or the fault.
 fn round(words: &str, came: &mut Told) {
     let (places, text) = cut_word(words);
     match Decimal::read(text.as_bytes()) {
@@ -121,14 +121,14 @@ fn round(words: &str, came: &mut Told) {
     }
 }
 
-// Tells the text of a decimal rounded to this many places.
+// Reports the text of a decimal rounded to this many places.
 fn round_to(decimal: &Decimal, places: u8, came: &mut Told)
     requires { places ≤ 24 }
 {
     came.bytes(decimal.round(places).write().as_slice());
 }
 
-// Tells whether the decimal of the first word differs from that of the second by at most that of the third.
+// Reports whether the decimal of the first word differs from that of the second by at most that of the third.
 fn within(words: &str, came: &mut Told) {
     let (value, rest) = cut_word(words);
     match (Decimal::read(value.as_bytes()), two_decimals(rest)) {
@@ -137,13 +137,13 @@ fn within(words: &str, came: &mut Told) {
     }
 }
 
-// Reads the second word as a whole number of at most the first word, and tells the number or the fault.
+// Reads the second word as a whole number of at most the first word, and reports the number or the fault.
 fn whole(words: &str, came: &mut Told) {
     let (most, item) = cut_word(words);
     tell_read(read_whole(item.as_bytes(), number_or(most, 0)), came);
 }
 
-// Tells the string that was read, or the fault.
+// Reports the string that was read, or the fault.
 fn tell_text(read: Result<Text, ValueFault>, came: &mut Told) {
     match read {
         Ok(text) => tell_bytes(&text, came),
@@ -151,7 +151,7 @@ fn tell_text(read: Result<Text, ValueFault>, came: &mut Told) {
     }
 }
 
-// Tells how many bytes a string has, these bytes, and whether it equals the empty one.
+// Reports how many bytes a string has, these bytes, and whether it equals the empty one.
 fn tell_bytes(text: &Text, came: &mut Told) {
     came.counted(&text.as_bytes().len(), " bytes ");
     came.bytes(text.as_bytes());
@@ -171,7 +171,7 @@ fn kind_of(word: &str) -> Option<Kind> {
     }
 }
 
-// Reads an item as a value of the kind that the word names, and tells the text that is written of the value.
+// Reads an item as a value of the kind that the word names, and reports the text that is written of the value.
 fn typed(word: &str, item: &[u8], came: &mut Told) {
     match kind_of(word) {
         Some(kind) => read_as(kind, item, came),
@@ -179,7 +179,7 @@ fn typed(word: &str, item: &[u8], came: &mut Told) {
     }
 }
 
-// Reads an item as a value of this kind, and tells its text, or the fault.
+// Reads an item as a value of this kind, and reports its text, or the fault.
 fn read_as(kind: Kind, item: &[u8], came: &mut Told) {
     match Value::read(kind, item) {
         Ok(value) => came.bytes(value.write().as_slice()),

@@ -1,4 +1,4 @@
--- A stream that is cut at its line feeds, piece by piece. r is what stands before the bytes that are cut, since the last line
+-- A stream that is cut at its line feeds, piece by piece. r is what is before the bytes that are cut, since the last line
 -- feed.
 use Rattle.std.proofs.Common.{◌≡◌, ℕ, ◌+◌, ◌<◌, ◌≤◌, suc, Bool, true, false, not, cond, List, [], ◌∷◌, ◌++◌, length, take, drop, Some, None, refl, sym, ap, ◌∙◌, arith, append_assoc, ◌≢◌, eqb, map}
 use Rattle.std.specs.List.{prefix_len, position, flat_map, AllByRecursion}
@@ -12,7 +12,7 @@ use Rattle.gc_lines.specs.Frames.{is_line_feed, pieces_behind, rest_behind, piec
 abbrev pub goes_on : ℕ → Bool
 goes_on b = not (is_line_feed b)
 
--- the pieces and the rest of xs behind r, where n is the place of the first line feed of xs, or the length of xs without one
+-- the pieces and the rest of xs after r, where n is the place of the first line feed of xs, or the length of xs without one
 record CutAt (r xs : List ℕ) (n : ℕ) : Type 0 where
   ends : length xs ≤ n → (pieces_behind r xs ≡ []) × (rest_behind r xs ≡ r ++ xs)
   goes : n < length xs → (pieces_behind r xs ≡ (r ++ take n xs) ∷ pieces_behind [] (drop (n + 1) xs)) × (rest_behind r xs ≡ rest_behind [] (drop (n + 1) xs))
@@ -49,7 +49,7 @@ cut_none r xs e = (is_cut r xs).ends (elim (ltb (prefix_len goes_on xs) (length 
       | false ↦ λ f _. ltb-false _ _ f
     ] refl e)
 
--- the first line feed ends a piece, and what follows it is cut anew
+-- the first line feed ends a piece, and what follows it is cut again
 pub cut_some : (r xs : List ℕ) (at : ℕ) → position is_line_feed xs ≡ Some at →
     (pieces_behind r xs ≡ (r ++ take at xs) ∷ pieces_behind [] (drop (at + 1) xs)) × (rest_behind r xs ≡ rest_behind [] (drop (at + 1) xs))
 cut_some r xs at e = elim (ltb (prefix_len goes_on xs) (length xs)) as (λ v. ltb (prefix_len goes_on xs) (length xs) ≡ v → cond v (Some (prefix_len goes_on xs)) None ≡ Some at →
@@ -58,7 +58,7 @@ cut_some r xs at e = elim (ltb (prefix_len goes_on xs) (length xs)) as (λ v. lt
       | false ↦ λ _ f. (cc)
     ] refl e
 
--- the pieces of xs and ys in a row are those of xs, and then those of ys behind the rest of xs
+-- the pieces of xs and ys in a row are those of xs, and then those of ys after the rest of xs
 pub pieces-append : (r xs ys : List ℕ) → pieces_behind r (xs ++ ys) ≡ pieces_behind r xs ++ pieces_behind (rest_behind r xs) ys
 pieces-append r [] ys = refl
 pieces-append r (x ∷ xs) ys = elim (is_line_feed x) as (λ v. cond v (r ∷ pieces_behind [] (xs ++ ys)) (pieces_behind (r ++ x ∷ []) (xs ++ ys))
@@ -67,7 +67,7 @@ pieces-append r (x ∷ xs) ys = elim (is_line_feed x) as (λ v. cond v (r ∷ pi
       | false ↦ pieces-append (r ++ x ∷ []) xs ys
     ]
 
--- the rest of xs and ys in a row is that of ys behind the rest of xs
+-- the rest of xs and ys in a row is that of ys after the rest of xs
 pub rest-append : (r xs ys : List ℕ) → rest_behind r (xs ++ ys) ≡ rest_behind (rest_behind r xs) ys
 rest-append r [] ys = refl
 rest-append r (x ∷ xs) ys = elim (is_line_feed x) as (λ v. cond v (rest_behind [] (xs ++ ys)) (rest_behind (r ++ x ∷ []) (xs ++ ys))
@@ -97,7 +97,7 @@ not_feed b h = elim (eqb b 10) as (λ v. eqb b 10 ≡ v → v ≡ false) [
   | false ↦ λ _. refl
 ] refl
 
--- a part without a line feed, and a line feed behind it, make one piece
+-- a part without a line feed, and a line feed after it, make one piece
 pub cut_first : (r part xs : List ℕ) → HasNoLineFeed part → (pieces_behind r (part ++ 10 ∷ xs) ≡ (r ++ part) ∷ pieces_behind [] xs) × (rest_behind r (part ++ 10 ∷ xs) ≡ rest_behind [] xs)
 cut_first r [] xs clean = (ap (λ p. p ∷ pieces_behind [] xs) (sym (append-nil r)), refl)
 cut_first r (b ∷ bs) xs clean =
@@ -133,7 +133,7 @@ cut_clean r (b ∷ bs) clean = elim (is_line_feed b) as (λ v. is_line_feed b �
       | true ↦ λ _. let more = cut_clean [] bs tt in ((clean, more.0), more.1)
       | false ↦ λ e. cut_clean (r ++ b ∷ []) bs (clean_more r b clean e)
     ] refl where
-      -- bytes without a line feed, and behind them one that is none, have no line feed
+      -- bytes without a line feed, and after them one that is none, have no line feed
       clean_more : (r : List ℕ) (b : ℕ) → HasNoLineFeed r → is_line_feed b ≡ false → HasNoLineFeed (r ++ b ∷ [])
       clean_more [] b clean e = ((λ same. let t = eq-eqb b 10 same in (cc)), tt)
       clean_more (x ∷ xs) b clean e = (clean.0, clean_more xs b clean.1 e)
@@ -148,18 +148,18 @@ one_cut stream parts rest cut =
 pub is_cut_of : (stream : List ℕ) → IsCut stream (pieces stream) (rest_of stream)
 is_cut_of stream = let clean = cut_clean [] stream tt in record { whole = sym (cut_whole [] stream); each = clean.0; last = clean.1 }
 
--- bytes without a line feed in front of a stream belong to its first piece
-before : (r xs ys : List ℕ) → HasNoLineFeed xs → (pieces_behind r (xs ++ ys) ≡ pieces_behind (r ++ xs) ys) × (rest_behind r (xs ++ ys) ≡ rest_behind (r ++ xs) ys)
-before r [] ys clean = (ap (λ p. pieces_behind p ys) (sym (append-nil r)), ap (λ p. rest_behind p ys) (sym (append-nil r)))
-before r (b ∷ bs) ys clean =
-    let more = before (r ++ b ∷ []) bs ys clean.1 in
+-- bytes without a line feed before a stream belong to its first piece
+front_joins_piece : (r xs ys : List ℕ) → HasNoLineFeed xs → (pieces_behind r (xs ++ ys) ≡ pieces_behind (r ++ xs) ys) × (rest_behind r (xs ++ ys) ≡ rest_behind (r ++ xs) ys)
+front_joins_piece r [] ys clean = (ap (λ p. pieces_behind p ys) (sym (append-nil r)), ap (λ p. rest_behind p ys) (sym (append-nil r)))
+front_joins_piece r (b ∷ bs) ys clean =
+    let more = front_joins_piece (r ++ b ∷ []) bs ys clean.1 in
     let same = not_feed b clean.0 in
     (rw same (more.0 ∙ ap (λ p. pieces_behind p ys) (append_assoc r (b ∷ []) bs)), rw same (more.1 ∙ ap (λ p. rest_behind p ys) (append_assoc r (b ∷ []) bs)))
 
 -- the frames do not depend on where the stream is cut
 pub however_cut : (xs ys : List ℕ) → (frames (xs ++ ys) ≡ frames xs ++ frames (rest_of xs ++ ys)) × (rest_of (xs ++ ys) ≡ rest_of (rest_of xs ++ ys))
 however_cut xs ys =
-    let b = before [] (rest_of xs) ys (cut_clean [] xs tt).1 in (
+    let b = front_joins_piece [] (rest_of xs) ys (cut_clean [] xs tt).1 in (
       ap (λ ps. map frame_of ps) (pieces-append [] xs ys ∙ ap (λ ps. pieces xs ++ ps) (sym b.0)) ∙ map-append frame_of (pieces xs) (pieces (rest_of xs ++ ys)),
       rest-append [] xs ys ∙ sym b.1,
     )

@@ -19,8 +19,8 @@ use Rattle.gc_lines.specs.Numbers.{NoDigitFirst}
 use Rattle.gc_lines.specs.Readers.{digits_len, number_at}
 
 -- texts of digits, with their values, are numerals of base 10 as the library's lemmas on numerals take them
-pub plain : IsNumeralModel (AllDigits 10) (digits_value 10)
-plain = numerals_by_value _ tells_digits
+pub digits_are_numerals : IsNumeralModel (AllDigits 10) (digits_value 10)
+digits_are_numerals = numerals_by_value _ tells_digits
 
 -- an ASCII digit is worth less than ten
 digit_value_of : (b : ℕ) → is_ascii_digit b ≡ true → digit_value b < 10
@@ -42,7 +42,7 @@ run_is bs = length-prefix_len is_ascii_digit bs
 pub run_digits : (bs : List ℕ) → AllDigits 10 (take (digits_len bs) bs)
 run_digits bs = subst (λ (n : ℕ). AllDigits 10 (take n bs)) (sym (run_is bs)) (prefix_digits bs)
 
--- behind the run stands no digit
+-- no digit follows the run
 prefix_stops : (bs : List ℕ) → NoDigitFirst (drop (prefix_len is_ascii_digit bs) bs)
 prefix_stops [] = tt
 prefix_stops (b ∷ bs) = elim (is_ascii_digit b) as (λ v. is_ascii_digit b ≡ v → NoDigitFirst (drop (cond v (1 + prefix_len is_ascii_digit bs) 0) (b ∷ bs))) [
@@ -50,23 +50,23 @@ prefix_stops (b ∷ bs) = elim (is_ascii_digit b) as (λ v. is_ascii_digit b ≡
   | false ↦ λ e. e
 ] refl
 
--- behind the run stands no digit
+-- no digit follows the run
 pub run_stops : (bs : List ℕ) → NoDigitFirst (drop (digits_len bs) bs)
 run_stops bs = subst (λ (n : ℕ). NoDigitFirst (drop n bs)) (sym (run_is bs)) (prefix_stops bs)
 
--- where no digit stands first, there is no run
-stopped : (rest : List ℕ) → NoDigitFirst rest → prefix_len is_ascii_digit rest ≡ 0
-stopped [] h = refl
-stopped (b ∷ bs) h = rw h refl
+-- where no digit comes first, there is no run
+no_run : (rest : List ℕ) → NoDigitFirst rest → prefix_len is_ascii_digit rest ≡ 0
+no_run [] h = refl
+no_run (b ∷ bs) h = rw h refl
 
 -- a byte that is worth less than ten is an ASCII digit
-digit_is : (c : ℕ) → digit_value c < 10 → is_ascii_digit c ≡ true
-digit_is c h = let r = digit_from_value c h in grind (arith, nat_tests)
+is_digit : (c : ℕ) → digit_value c < 10 → is_ascii_digit c ≡ true
+is_digit c h = let r = digit_from_value c h in grind (arith, nat_tests)
 
 -- digits that no digit follows are the run
 prefix_length : (text rest : List ℕ) → AllDigits 10 text → NoDigitFirst rest → prefix_len is_ascii_digit (text ++ rest) ≡ length text
-prefix_length [] rest a h = stopped rest h
-prefix_length (c ∷ cs) rest a h = rw (digit_is c a.0) (omega (arith, prefix_length cs rest a.1 h))
+prefix_length [] rest a h = no_run rest h
+prefix_length (c ∷ cs) rest a h = rw (is_digit c a.0) (omega (arith, prefix_length cs rest a.1 h))
 
 -- digits that no digit follows are the run
 pub run_length : (text rest : List ℕ) → AllDigits 10 text → NoDigitFirst rest → digits_len (text ++ rest) ≡ length text
@@ -84,7 +84,7 @@ run_of_one b bs e = elim (is_ascii_digit b) as (λ v. is_ascii_digit b ≡ v →
 
 -- one digit that no digit follows is the run
 pub one_digit_runs : (i : ℕ) (rest : List ℕ) → i < 10 → NoDigitFirst rest → digits_len ((48 + i) ∷ rest) ≡ 1
-one_digit_runs i rest h stop = run_is ((48 + i) ∷ rest) ∙ rw (digit_of i h, stopped rest stop) refl where
+one_digit_runs i rest h stop = run_is ((48 + i) ∷ rest) ∙ rw (digit_of i h, no_run rest stop) refl where
   -- 48 plus a number below ten is an ASCII digit
   digit_of : (i : ℕ) → i < 10 → is_ascii_digit (48 + i) ≡ true
   digit_of i h = grind (arith, nat_tests)
@@ -95,16 +95,16 @@ one_digit_runs i rest h stop = run_is ((48 + i) ∷ rest) ∙ rw (digit_of i h, 
 below_one_place : (left : ℕ) → left < 10 ^ (0 + 1) → 10 ≤ left → ⊥
 below_one_place left below more = omega arith
 
--- a number from ten on has a place in front of its last
+-- a number from ten on has a place before its last
 some_place : (at left : ℕ) → left < 10 ^ (at + 1) → 10 ≤ left → 0 < at
 some_place at left below more = elim (cases_lt 0 at) [
   | inl some ↦ some
   | inr none ↦ let zero : at ≡ 0 = omega arith in absurd (below_one_place left (subst (λ (n : ℕ). left < 10 ^ (n + 1)) zero below) more)
 ]
 
--- A step of `push_digits`: the digits of `left` are still to be written, in front of those that stand behind place `at`, and
--- together they are those of n. Once the last digit of `left` is written at place `at`, the digits of left / 10 are still to be
--- written, and together with those that stand from that place on they are those of n.
+-- A step of `push_digits`: the digits of `left` are still to be written, before those that follow place `at`, and together
+-- they are those of n. Once the last digit of `left` is written at place `at`, the digits of left / 10 are still to be
+-- written, and together with those from that place on they are those of n.
 pub digit_written : (digits : List ℕ) (at left n : ℕ) → at ≤ 4 → length digits ≡ 5 → left < 10 ^ (at + 1) → left < 2 ^ 16 → 10 ≤ left → decimal left ++ drop (at + 1) digits ≡ decimal n
     → (0 < at) × (length (slice_set digits at (48 + left % 10)) ≡ 5) × (left / 10 < 10 ^ (at - 1 + 1)) × (decimal (left / 10) ++ drop (at - 1 + 1) (slice_set digits at (48 + left % 10)) ≡ decimal n)
 digit_written digits at left n room size below range more text =
@@ -117,7 +117,8 @@ digit_written digits at left n room size below range more text =
           (sym (append_assoc (decimal (left / 10)) ((48 + left % 10) ∷ []) (drop (at + 1) digits)) ∙ ap (λ ds. ds ++ drop (at + 1) digits) (sym (decimal_step left more (omega arith))) ∙ text),
     )
 
--- the last step of `push_digits`: once the one digit that is left is written at place `at`, the digits of n stand from there on
+-- the last step of `push_digits`: once the one digit that is left is written at place `at`, the digits of n are those from
+-- there on
 pub last_digit_written : (digits : List ℕ) (at left n : ℕ) → at ≤ 4 → length digits ≡ 5 → left < 10 → decimal left ++ drop (at + 1) digits ≡ decimal n
     → take (5 - at) (drop at (slice_set digits at (48 + left))) ≡ decimal n
 last_digit_written digits at left n room size small text =
@@ -141,12 +142,12 @@ value_next bytes i within digit = let r = digit_range (get_or bytes i 0) digit i
 
 -- at most five digits are worth less than 100000
 pub value_small : (bytes : List ℕ) (i : ℕ) → AllDigits 10 (take i bytes) → i ≤ 5 → digits_value 10 (take i bytes) < 100000
-value_small bytes i all few = omega (arith, digits_value_short plain (take i bytes) 5 all (omega (arith, few, length-take i bytes)))
+value_small bytes i all few = omega (arith, digits_value_short digits_are_numerals (take i bytes) 5 all (omega (arith, few, length-take i bytes)))
 
 -- digits in front lengthen the run by their number
 prefix_run : (text rest : List ℕ) → AllDigits 10 text → prefix_len is_ascii_digit (text ++ rest) ≡ length text + prefix_len is_ascii_digit rest
 prefix_run [] rest a = omega arith
-prefix_run (c ∷ cs) rest a = rw (digit_is c a.0) (omega (arith, prefix_run cs rest a.1))
+prefix_run (c ∷ cs) rest a = rw (is_digit c a.0) (omega (arith, prefix_run cs rest a.1))
 
 -- the run is at least as long as the digits that were read
 pub run_long : (bytes : List ℕ) (i : ℕ) → i ≤ length bytes → AllDigits 10 (take i bytes) → i ≤ digits_len bytes
@@ -154,7 +155,7 @@ run_long bytes i within all =
     let cut : prefix_len is_ascii_digit (take i bytes ++ drop i bytes) ≡ prefix_len is_ascii_digit bytes = ap (λ xs. prefix_len is_ascii_digit xs) (take-append-drop i bytes) in
     omega (arith, run_is bytes, cut, prefix_run (take i bytes) (drop i bytes) all, length-take-le i bytes within)
 
--- no number stands where the run has more than five digits
+-- there is no number where the run has more than five digits
 pub number_long : (fault : LineFault) (bytes : List ℕ) → 6 ≤ digits_len bytes → number_at fault bytes ≡ Err fault
 number_long fault bytes h = rw (lt-ltb 0 (digits_len bytes) (omega (arith, h)), le-ltb (digits_len bytes) 6 h) refl
 
@@ -177,10 +178,10 @@ number_refused fault bytes len within digits stops (inr wide) few = elim (cases_
   | inr none ↦ rw (run_read bytes len within digits stops, le-ltb 0 len none) refl
 ]
 
--- where the byte at a place is no digit, no digit stands first from there on
+-- where the byte at a place is no digit, no digit comes first from there on
 pub stops_at : (bytes : List ℕ) (len : ℕ) → len < length bytes → is_ascii_digit (get_or bytes len 0) ≡ false → NoDigitFirst (drop len bytes)
 stops_at bytes len within other = subst NoDigitFirst (sym (drop_more bytes len 0 within)) other
 
--- at the end no digit stands first
+-- at the end no digit comes first
 pub stops_end : (bytes : List ℕ) (len : ℕ) → length bytes ≤ len → NoDigitFirst (drop len bytes)
 stops_end bytes len over = subst NoDigitFirst (sym (nil_from_length (drop len bytes) (omega (arith, length-drop len bytes)))) tt

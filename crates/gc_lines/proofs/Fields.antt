@@ -2,7 +2,7 @@
 use Rattle.std.proofs.Common.{◌≡◌, ℕ, ◌+◌, ◌-◌, ◌<◌, ◌&&◌, Bool, true, false, cond, List, [], ◌∷◌, ◌++◌, length, take, drop, get_or, Option, Some, None, Result, Ok, Err, IfSome, refl, sym, ap, ◌∙◌, subst, arith, eqb}
 use Rattle.std.specs.Str.Parse.{digits_value}
 use Rattle.std.proofs.lemmas.List.{take-append-drop, take_at, drop_at}
-use Rattle.std.proofs.lemmas.Bool.{ltb-true, lt-ltb, eqb-true, eq-eqb}
+use Rattle.std.proofs.lemmas.Bool.{ltb-true, lt-ltb, eqb-true, eq-eqb, and_parts}
 use Rattle.std.specs.Cmp.Lexicographic.{bytes_decides}
 use Rattle.std.proofs.Math.Dec.{ltb}
 use Rattle.gc_lines.specs.declared.fault.LineFault.{LineFault}
@@ -11,17 +11,11 @@ use Rattle.gc_lines.specs.Numbers.{IsNumber, HasNumber, NoDigitFirst}
 use Rattle.gc_lines.specs.Headers.{HasId, EndsId, id_text, PastSignature}
 use Rattle.gc_lines.specs.Readers.{number_at, digits_len, signature_at, id_at, colon_at}
 use Rattle.gc_lines.proofs.Digits.{run_is, run_digits, run_stops, run_length, run_of_one, one_digit_runs}
-use Rattle.gc_lines.proofs.Reading.{Reads, guard_ok, guard_err}
-
--- where both tests hold, each does
-two : (a b : Bool) → (a && b) ≡ true → (a ≡ true) × (b ≡ true)
-two true true e = (refl, refl)
-two true false e = (cc)
-two false b e = (cc)
+use Rattle.gc_lines.proofs.Reading.{ReadsField, guard_ok, guard_err}
 
 -- the signature
 
--- what is read behind a signature stands behind it
+-- what is read after a signature follows it
 signature_found : (signature line rest : List ℕ) → signature_at signature line ≡ Ok rest → line ≡ signature ++ rest
 signature_found signature line rest e =
     let n = length signature in
@@ -29,14 +23,14 @@ signature_found signature line rest e =
     let front : take n line ≡ signature = (bytes_decides (take n line) signature).0 g.0 in
     sym (take-append-drop n line) ∙ ap (λ f. f ++ drop n line) front ∙ ap (λ t. signature ++ t) g.1
 
--- what stands behind a signature is read
+-- what follows a signature is read
 signature_again : (signature line rest : List ℕ) → line ≡ signature ++ rest → signature_at signature line ≡ Ok rest
 signature_again signature line rest e =
     let front : take (length signature) line ≡ signature = ap (λ l. take (length signature) l) e ∙ take_at signature rest (length signature) refl in
     rw ((bytes_decides (take (length signature) line) signature).1 front) (ap (λ (r : List ℕ). Ok r) (ap (λ l. drop (length signature) l) e ∙ drop_at signature rest (length signature) refl))
 
 -- `signature_at` reads just the lines that begin with the signature, and has one fault
-pub signature_reads : (signature : List ℕ) → Reads (signature_at signature) (λ line rest. PastSignature signature line rest) Signature
+pub signature_reads : (signature : List ℕ) → ReadsField (signature_at signature) (λ line rest. PastSignature signature line rest) Signature
 signature_reads signature = record {
   found = signature_found signature;
   again = signature_again signature;
@@ -50,8 +44,8 @@ number_found : (f : LineFault) (bytes : List ℕ) (x : ℕ × List ℕ) → numb
 number_found f bytes x e =
     let len = digits_len bytes in
     let g = guard_ok _ (digits_value 10 (take len bytes), drop len bytes) x f e in
-    let t = two _ _ g.0 in
-    let u = two _ _ t.1 in
+    let t = and_parts _ _ g.0 in
+    let u = and_parts _ _ t.1 in
     let value : digits_value 10 (take len bytes) ≡ x.0 = ap (λ (p : ℕ × List ℕ). p.0) g.1 in
     let rest : drop len bytes ≡ x.1 = ap (λ (p : ℕ × List ℕ). p.1) g.1 in
     let l : length (take len bytes) ≡ len = ap (λ n. length (take n bytes)) (run_is bytes) in
@@ -87,7 +81,7 @@ number_again : (f : LineFault) (bytes : List ℕ) (x : ℕ × List ℕ) → HasN
 number_again f bytes x has = ap (number_at f) has.whole ∙ number_of_text f has.text x.1 x.0 has.is_number has.ends
 
 -- `number_at` reads just what has the form of a number, and has one fault
-pub number_reads : (f : LineFault) → Reads (number_at f) (λ bytes x. HasNumber bytes x.0 x.1) f
+pub number_reads : (f : LineFault) → ReadsField (number_at f) (λ bytes x. HasNumber bytes x.0 x.1) f
 number_reads f = record {
   found = number_found f;
   again = number_again f;
@@ -96,7 +90,7 @@ number_reads f = record {
 
 -- the id
 
--- where no comma stands first, no id stands there
+-- where no comma comes first, no id is there
 id_none : (bytes : List ℕ) → eqb (get_or bytes 0 0) 44 ≡ false → HasId bytes None bytes
 id_none bytes e = record {
   below = tt;
@@ -104,11 +98,11 @@ id_none bytes e = record {
   ends = λ after same. let t = eq-eqb (get_or bytes 0 0) 44 (ap (λ b. get_or b 0 0) same) in (cc);
 }
 
--- what is read behind a comma as an id has the form of one
+-- what is read after a comma as an id has the form of one
 id_some : (b : ℕ) (bs : List ℕ) (x : Option ℕ × List ℕ) → cond (eqb (digits_len (b ∷ bs)) 1 && ltb b 56) (Ok (Some (b - 48), bs)) (Err Id) ≡ Ok x → HasId (44 ∷ b ∷ bs) x.0 x.1
 id_some b bs x e =
     let g = guard_ok _ (Some (b - 48), bs) x Id e in
-    let t = two _ _ g.0 in
+    let t = and_parts _ _ g.0 in
     let low = run_of_one b bs (eqb-true _ _ t.0) in
     let back : 48 + (b - 48) ≡ b = omega arith in
     let it : HasId (44 ∷ b ∷ bs) (Some (b - 48)) bs = record {
@@ -126,7 +120,7 @@ id_found (a ∷ bs) x e = elim (eqb a 44) as (λ v. eqb a 44 ≡ v → cond v
       | true ↦ λ t f. subst (λ (n : ℕ). HasId (n ∷ bs) x.0 x.1) (sym (eqb-true a 44 t)) (id_after bs x f)
       | false ↦ λ t f. let same : (let p : Option ℕ × List ℕ = (None, a ∷ bs) in p) ≡ x = cc in subst (λ (p : Option ℕ × List ℕ). HasId (a ∷ bs) p.0 p.1) same (id_none (a ∷ bs) t)
     ] refl e where
-      -- what is read behind a comma as an id has the form of one, also where no byte stands there
+      -- what is read after a comma as an id has the form of one, also where no byte is there
       id_after : (bs : List ℕ) (x : Option ℕ × List ℕ) → cond (eqb (digits_len bs) 1 && ltb (get_or bs 0 0) 56) (Ok (Some (get_or bs 0 0 - 48), drop 1 bs)) (Err Id) ≡ Ok x → HasId (44 ∷ bs) x.0 x.1
       id_after [] x f = (cc)
       id_after (b ∷ cs) x f = id_some b cs x f
@@ -163,18 +157,18 @@ id_named (a ∷ bs) d e = elim (eqb a 44) as (λ v. cond {A = Result (Option ℕ
     ] e
 
 -- `id_at` reads just what has the form of an id, or of none, and has one fault
-pub id_reads : Reads id_at (λ bytes x. HasId bytes x.0 x.1) Id
+pub id_reads : ReadsField id_at (λ bytes x. HasId bytes x.0 x.1) Id
 id_reads = record { found = id_found; again = id_again; named = id_named }
 
 -- the colon
 
--- what is read behind a colon stands behind it
+-- what is read after a colon follows it
 colon_found : (bytes rest : List ℕ) → colon_at bytes ≡ Ok rest → bytes ≡ 58 ∷ rest
 colon_found [] rest e = (cc)
 colon_found (a ∷ bs) rest e = let g = guard_ok (eqb a 58) bs rest Colon e in (let t = eqb-true a 58 g.0 in cc)
 
 -- `colon_at` reads just what begins with a colon, and has one fault
-pub colon_reads : Reads colon_at (λ bytes rest. bytes ≡ 58 ∷ rest) Colon
+pub colon_reads : ReadsField colon_at (λ bytes rest. bytes ≡ 58 ∷ rest) Colon
 colon_reads = record {
   found = colon_found;
   again = λ bytes rest e. ap colon_at e;

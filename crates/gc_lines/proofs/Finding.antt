@@ -1,4 +1,4 @@
--- Where the first byte stands that passes a test.
+-- Where the first byte is that passes a test.
 use Rattle.std.proofs.Common.{◌≡◌, ℕ, Bool, true, false, List, length, Option, Some, None, refl, arith}
 use Rattle.std.specs.List.{position, position_or_len}
 use Rattle.std.proofs.lemmas.List.Sums.{position_or_len_is}

@@ -1,4 +1,4 @@
--- Texts that wait for one another: how one more joins them, how they go out, and which part of them went out.
+-- Texts that wait for one another: how one more joins them, how they are sent, and which part of them went out.
 use Rattle.std.proofs.Common.{◌≡◌, ℕ, ◌+◌, ◌-◌, ◌<◌, ◌≤◌, Bool, true, false, List, [], ◌∷◌, ◌++◌, length, take, map, Option, Some, None, nat_lt, cond, suc, refl, sym, ap, ◌∙◌, subst, arith, append_assoc, length-append}
 use Rattle.std.specs.Option.{option_to_list}
 use Rattle.std.specs.Io.KnownBytes.{Appends}
@@ -100,7 +100,7 @@ gathering_written rule from to seen text lengths after total g took counts =
     (all_then rule from.state g.state to.state g.done g.held from.taken to.taken after from.whole to.whole total g.all out)
 
 -- the first n bytes of the texts end within one of them: the frames up to that text, and what `parted` counts
-record Cut {State : Type 0} (rule : AnswerRule State) (from : State) (seen : List Frame) (texts : List (List ℕ)) (whole n : ℕ) : Type 0 where
+record EndsWithin {State : Type 0} (rule : AnswerRule State) (from : State) (seen : List Frame) (texts : List (List ℕ)) (whole n : ℕ) : Type 0 where
   earlier : List Frame
   frame : Frame
   later : List Frame
@@ -117,18 +117,18 @@ record Cut {State : Type 0} (rule : AnswerRule State) (from : State) (seen : Lis
   front : take n (all_of texts) ≡ all_of out ++ take bytes text
 
 -- where the test of m < n is true, m is below n
-lt_true : (m n : ℕ) → nat_lt m n ≡ true → m < n
-lt_true m n e = grind (arith, nat_tests)
+nat_lt_true : (m n : ℕ) → nat_lt m n ≡ true → m < n
+nat_lt_true m n e = grind (arith, nat_tests)
 
 -- where the test of m < n is false, n is at most m
 lt_false : (m n : ℕ) → nat_lt m n ≡ false → n ≤ m
 lt_false m n e = grind (arith, nat_tests)
 
--- `Cut` is true where the n bytes end within the first text
-cut_here : {State : Type 0} (rule : AnswerRule State) (s u : State) (frame : Frame) (later : List Frame) (t : List ℕ) (rest : List (List ℕ)) (whole n : ℕ)
-    → rule s frame u (Some t) → nat_lt n (length t) ≡ true → Cut rule s (frame ∷ later) (t ∷ rest) whole n
-cut_here rule s u frame later t rest whole n draws e =
-    let less : n < length t = lt_true n (length t) e in
+-- `EndsWithin` is true where the n bytes end within the first text
+ends_in_first : {State : Type 0} (rule : AnswerRule State) (s u : State) (frame : Frame) (later : List Frame) (t : List ℕ) (rest : List (List ℕ)) (whole n : ℕ)
+    → rule s frame u (Some t) → nat_lt n (length t) ≡ true → EndsWithin rule s (frame ∷ later) (t ∷ rest) whole n
+ends_in_first rule s u frame later t rest whole n draws e =
+    let less : n < length t = nat_lt_true n (length t) e in
     let within : n ≤ length t = omega arith in
     let same : whole ≡ whole + 0 = omega arith in
     record {
@@ -148,10 +148,10 @@ cut_here rule s u frame later t rest whole n draws e =
       front = take-append-le n t (all_of rest) within;
     }
 
--- `Cut` is true where the n bytes hold the first text whole, and the others end within a later one
-cut_on : {State : Type 0} (rule : AnswerRule State) (s u : State) (frame : Frame) (later : List Frame) (t : List ℕ) (rest : List (List ℕ)) (whole n : ℕ)
-    → rule s frame u (Some t) → nat_lt n (length t) ≡ false → Cut rule u later rest (whole + 1) (n - length t) → Cut rule s (frame ∷ later) (t ∷ rest) whole n
-cut_on rule s u frame later t rest whole n draws e k =
+-- `EndsWithin` is true where the n bytes hold the first text whole, and the others end within a later one
+ends_in_later : {State : Type 0} (rule : AnswerRule State) (s u : State) (frame : Frame) (later : List Frame) (t : List ℕ) (rest : List (List ℕ)) (whole n : ℕ)
+    → rule s frame u (Some t) → nat_lt n (length t) ≡ false → EndsWithin rule u later rest (whole + 1) (n - length t) → EndsWithin rule s (frame ∷ later) (t ∷ rest) whole n
+ends_in_later rule s u frame later t rest whole n draws e k =
     let more : length t ≤ n = lt_false n (length t) e in
     let sizes : n ≡ length t + (n - length t) = omega arith in
     let counted : (whole + 1) + length k.out ≡ whole + length (t ∷ k.out) = omega arith in
@@ -173,10 +173,10 @@ cut_on rule s u frame later t rest whole n draws e k =
           ∙ sym (append_assoc t (all_of k.out) (take k.bytes k.text));
     }
 
--- `Cut` stays true with a frame without a text in front
-cut_silent : {State : Type 0} (rule : AnswerRule State) (s u : State) (frame : Frame) (later : List Frame) (texts : List (List ℕ)) (whole n : ℕ)
-    → rule s frame u None → Cut rule u later texts whole n → Cut rule s (frame ∷ later) texts whole n
-cut_silent rule s u frame later texts whole n draws k = record {
+-- `EndsWithin` stays true with a frame without a text in front
+ends_past_silent : {State : Type 0} (rule : AnswerRule State) (s u : State) (frame : Frame) (later : List Frame) (texts : List (List ℕ)) (whole n : ℕ)
+    → rule s frame u None → EndsWithin rule u later texts whole n → EndsWithin rule s (frame ∷ later) texts whole n
+ends_past_silent rule s u frame later texts whole n draws k = record {
   earlier = frame ∷ k.earlier;
   frame = k.frame;
   later = k.later;
@@ -193,36 +193,36 @@ cut_silent rule s u frame later texts whole n draws k = record {
   front = k.front;
 }
 
--- where `Cut` is true of the later frames and of any number of bytes that ends within their texts, it is true with one more frame
+-- where `EndsWithin` is true of the later frames and of any number of bytes that ends within their texts, it is true with one more frame
 -- in front, with a text or without, and of n bytes that end within the texts of all of them
-cut_text : {State : Type 0} (rule : AnswerRule State) (s u : State) (frame : Frame) (later : List Frame) (text : Option (List ℕ)) (rest : List (List ℕ)) (whole n : ℕ)
-    → rule s frame u text → n < length (all_of (option_to_list text ++ rest)) → ((w m : ℕ) → m < length (all_of rest) → Cut rule u later rest w m)
-    → Cut rule s (frame ∷ later) (option_to_list text ++ rest) whole n
-cut_text rule s u frame later None rest whole n draws less next = cut_silent rule s u frame later rest whole n draws (next whole n less)
-cut_text rule s u frame later (Some t) rest whole n draws less next = elim (nat_lt n (length t)) as (λ b. nat_lt n (length t) ≡ b → Cut rule s (frame ∷ later) (t ∷ rest) whole n) [
-  | true ↦ λ e. cut_here rule s u frame later t rest whole n draws e
+ends_at_text : {State : Type 0} (rule : AnswerRule State) (s u : State) (frame : Frame) (later : List Frame) (text : Option (List ℕ)) (rest : List (List ℕ)) (whole n : ℕ)
+    → rule s frame u text → n < length (all_of (option_to_list text ++ rest)) → ((w m : ℕ) → m < length (all_of rest) → EndsWithin rule u later rest w m)
+    → EndsWithin rule s (frame ∷ later) (option_to_list text ++ rest) whole n
+ends_at_text rule s u frame later None rest whole n draws less next = ends_past_silent rule s u frame later rest whole n draws (next whole n less)
+ends_at_text rule s u frame later (Some t) rest whole n draws less next = elim (nat_lt n (length t)) as (λ b. nat_lt n (length t) ≡ b → EndsWithin rule s (frame ∷ later) (t ∷ rest) whole n) [
+  | true ↦ λ e. ends_in_first rule s u frame later t rest whole n draws e
   | false ↦ λ e. let more : length t ≤ n = lt_false n (length t) e in
       let left : n - length t < length (all_of rest) = omega (arith, less, more, length-append t (all_of rest)) in
-      cut_on rule s u frame later t rest whole n draws e (next (whole + 1) (n - length t) left)
+      ends_in_later rule s u frame later t rest whole n draws e (next (whole + 1) (n - length t) left)
 ] refl
 
--- `Cut` is true wherever n is less than the bytes that the texts have together
-cut : {State : Type 0} (rule : AnswerRule State) (from to : State) (seen : List Frame) (texts : List (List ℕ)) (whole n : ℕ)
-    → AnswersInOrder State rule from seen to texts → n < length (all_of texts) → Cut rule from seen texts whole n
-cut rule from to [] texts whole n h less =
+-- `EndsWithin` is true wherever n is less than the bytes that the texts have together
+ends_within : {State : Type 0} (rule : AnswerRule State) (from to : State) (seen : List Frame) (texts : List (List ℕ)) (whole n : ℕ)
+    → AnswersInOrder State rule from seen to texts → n < length (all_of texts) → EndsWithin rule from seen texts whole n
+ends_within rule from to [] texts whole n h less =
     let none : length (all_of texts) ≡ 0 = ap (λ (ts : List (List ℕ)). length (all_of ts)) h.1 in
     let wrong : ⊥ = omega (arith, none, less) in
     absurd wrong
-cut rule from to (frame ∷ later) texts whole n h less =
-    subst (λ (ts : List (List ℕ)). Cut rule from (frame ∷ later) ts whole n) (sym h.5)
-    (cut_text rule from h.0 frame later h.1 h.2 whole n h.3 (subst (λ (ts : List (List ℕ)). n < length (all_of ts)) h.5 less) (λ w m fewer. cut rule h.0 to later h.2 w m h.4 fewer))
+ends_within rule from to (frame ∷ later) texts whole n h less =
+    subst (λ (ts : List (List ℕ)). EndsWithin rule from (frame ∷ later) ts whole n) (sym h.5)
+    (ends_at_text rule from h.0 frame later h.1 h.2 whole n h.3 (subst (λ (ts : List (List ℕ)). n < length (all_of ts)) h.5 less) (λ w m fewer. ends_within rule h.0 to later h.2 w m h.4 fewer))
 
 -- where a part of the texts that waited went out, frames were answered up to one whose text went out in part
 pub gathering_part : {State : Type 0} (rule : AnswerRule State) (from to : Progress State) (seen : List Frame) (text lengths : List ℕ) (after : Option (List ℕ)) (total bytes n : ℕ)
     → Gathering rule from to seen text lengths → TakesFront to.taken after n text → (total, bytes) ≡ parted to.whole n lengths
     → (reached : State) × AnswersPart rule from.state reached seen from.taken after from.whole total bytes
 gathering_part rule from to seen text lengths after total bytes n g took counts =
-    let k = cut rule g.state to.state g.held g.texts to.whole n g.holds (subst (λ (xs : List ℕ). n < length xs) g.text_is took.0) in
+    let k = ends_within rule g.state to.state g.held g.texts to.whole n g.holds (subst (λ (xs : List ℕ). n < length xs) g.text_is took.0) in
     let same : (total, bytes) ≡ (to.whole + length k.out, k.bytes) = counts ∙ ap (λ (ns : List ℕ). parted to.whole n ns) g.lengths_are ∙ k.counts in
     let out : AnswersPart rule g.state k.reached g.held to.taken after to.whole total bytes = record {
       earlier = k.earlier;
@@ -244,10 +244,11 @@ gathering_part rule from to seen text lengths after total bytes n g took counts 
     )
 
 -- a number below another passes the test
-lt_is : (m n : ℕ) → m < n → nat_lt m n ≡ true
-lt_is m n e = grind (arith, nat_tests)
+lt_nat_lt : (m n : ℕ) → m < n → nat_lt m n ≡ true
+lt_nat_lt m n e = grind (arith, nat_tests)
 
--- a frame's text joins those that wait, and then a part of them goes out: frames were answered up to one whose text went out in part
+-- a frame's text joins those that wait, and then a part of them is sent: frames were answered up to one whose text went out
+-- in part
 pub answered_part : {State : Type 0} (rule : AnswerRule State) (from to last : Progress State) (seen : List Frame) (frame : Frame)
     (text lengths more text' lengths' : List ℕ) (bytes n : ℕ) (gathers : Bool)
     → (gathers ≡ false → lengths ≡ []) → rule to.state frame last.state (Some more) → Gathering rule from to seen text lengths
@@ -261,7 +262,7 @@ answered_part rule from to last seen frame text lengths more text' lengths' byte
     let none = alone refl in
     let nothing : text ≡ [] = g.text_is ∙ ap all_of (no_texts g.texts (sym none ∙ g.lengths_are)) in
     let took_more : TakesFront to.taken last.taken n more = subst (λ (xs : List ℕ). TakesFront to.taken last.taken n xs) (longer ∙ ap (λ (xs : List ℕ). xs ++ more) nothing) took in
-    let less : nat_lt n (length more) ≡ true = lt_is n (length more) took_more.0 in
+    let less : nat_lt n (length more) ≡ true = lt_nat_lt n (length more) took_more.0 in
     let same : (last.whole, bytes) ≡ (to.whole, n) = counts ∙ ap (λ (ns : List ℕ). parted to.whole n ns) (counted ∙ ap (λ (ns : List ℕ). ns ++ length more ∷ []) none)
     ∙ ap (λ (b : Bool). cond b (to.whole, n) (to.whole + 1, n - length more)) less in
     let part : AnswersPart rule to.state last.state (frame ∷ []) to.taken last.taken to.whole to.whole n =
@@ -274,7 +275,8 @@ answered_part rule from to last seen frame text lengths more text' lengths' byte
       alone = λ _. refl;
     }
 
--- where a part of the texts that wait at the end of a piece goes out, frames were answered up to one whose text went out in part
+-- where a part of the texts that wait at the end of a piece is sent, frames were answered up to one whose text went out in
+-- part
 pub rest_part : {State : Type 0} (rule : AnswerRule State) (from to : Progress State) (seen : List Frame) (text lengths : List ℕ) (after : Option (List ℕ)) (total bytes n : ℕ) (gathers : Bool)
     → (gathers ≡ false → lengths ≡ []) → Gathering rule from to seen text lengths
     → TakesFront to.taken after n text → (total, bytes) ≡ parted to.whole n lengths → GathersPart rule from (record { state = to.state; taken = after; whole = total }) seen bytes gathers

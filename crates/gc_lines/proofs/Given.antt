@@ -13,7 +13,7 @@ use Rattle.gc_lines.proofs.InOrder.{all_then, part_then}
 use Rattle.gc_lines.proofs.Passing.{frames-append, rest_behind-append}
 
 -- what the loop has done so far: the bytes that the source gave, and that all of their frames were answered
-pub record Given {State : Type 0} (rule : AnswerRule State) (source_old source_new sink_old sink_new : Option (List ℕ)) (kept : Kept) (from to : State) (reads count : ℕ) : Type 0 where
+pub record AnsweredSoFar {State : Type 0} (rule : AnswerRule State) (source_old source_new sink_old sink_new : Option (List ℕ)) (kept : Kept) (from to : State) (reads count : ℕ) : Type 0 where
   pub given : List ℕ
   pub gave : Consumes source_old source_new given
   pub few : length given ≤ 256 * reads
@@ -22,8 +22,9 @@ pub record Given {State : Type 0} (rule : AnswerRule State) (source_old source_n
 
 -- once all frames of one more piece were answered, those of all bytes given so far were
 pub given_more : {State : Type 0} (rule : AnswerRule State) (a a' a'' b b' b'' : Option (List ℕ)) (kept kept' : Kept) (s t u : State) (reads n n' : ℕ)
-    (piece : List ℕ) → Given rule a a' b b' kept s t reads n → Consumes a' a'' piece → length piece ≤ 256
-    → ((rest : List ℕ) → StandsFor kept rest → StandsFor kept' (rest_behind rest piece) × AnswersAll rule t u (frames_behind rest piece) b' b'' n n') → Given rule a a'' b b'' kept' s u (reads + 1) n'
+    (piece : List ℕ) → AnsweredSoFar rule a a' b b' kept s t reads n → Consumes a' a'' piece → length piece ≤ 256
+    → ((rest : List ℕ) → StandsFor kept rest → StandsFor kept' (rest_behind rest piece) × AnswersAll rule t u (frames_behind rest piece) b' b'' n n')
+    → AnsweredSoFar rule a a'' b b'' kept' s u (reads + 1) n'
 given_more rule a a' a'' b b' b'' kept kept' s t u reads n n' piece so gave short answered =
     let it = answered (rest_behind [] so.given) so.stands in
     record {
@@ -36,7 +37,8 @@ given_more rule a a' a'' b b' b'' kept kept' s t u reads n n' piece so gave shor
     }
 
 -- where a read gives no byte, the frames of all bytes given were answered
-pub given_end : {State : Type 0} (rule : AnswerRule State) (a a' a'' b b' : Option (List ℕ)) (kept : Kept) (s t : State) (reads n : ℕ) → Given rule a a' b b' kept s t reads n → Consumes a' a'' []
+pub given_end : {State : Type 0} (rule : AnswerRule State) (a a' a'' b b' : Option (List ℕ)) (kept : Kept) (s t : State) (reads n : ℕ) → AnsweredSoFar rule a a' b b' kept s t reads n
+    → Consumes a' a'' []
     → (given : List ℕ) × Consumes a a'' given × (length given ≤ 256 * reads) × AnswersAll rule s t (frames given) b b' 0 n
 given_end rule a a' a'' b b' kept s t reads n so gave = (
   so.given,
@@ -47,7 +49,7 @@ given_end rule a a' a'' b b' kept s t reads n so gave = (
 
 -- where a text of one more piece went out in part, the frames of all bytes given were answered up to that text's
 pub given_part : {State : Type 0} (rule : AnswerRule State) (a a' a'' b b' b'' : Option (List ℕ)) (kept : Kept) (s t u : State) (reads n n' bytes : ℕ)
-    (piece : List ℕ) (gathers : Bool) → Given rule a a' b b' kept s t reads n → Consumes a' a'' piece → length piece ≤ 256
+    (piece : List ℕ) (gathers : Bool) → AnsweredSoFar rule a a' b b' kept s t reads n → Consumes a' a'' piece → length piece ≤ 256
     → ((rest : List ℕ) → StandsFor kept rest → GathersPart rule (record { state = t; taken = b'; whole = n }) (record { state = u; taken = b''; whole = n' }) (frames_behind rest piece) bytes gathers)
     → (reached : State) × ((given : List ℕ) × Consumes a a'' given × (length given ≤ 256 * (reads + 1)) × AnswersPart rule s reached (frames given) b b'' 0 n' bytes) × (gathers ≡ false → reached ≡ u)
 given_part rule a a' a'' b b' b'' kept s t u reads n n' bytes piece gathers so gave short answered =

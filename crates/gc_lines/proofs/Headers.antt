@@ -6,7 +6,7 @@ use Rattle.gc_lines.specs.declared.fault.LineFault.TheVariants.{Signature, Numbe
 use Rattle.gc_lines.specs.Numbers.{IsNumber, NoDigitFirst}
 use Rattle.gc_lines.specs.Headers.{EndsId, id_text, PastSignature, PastNumber, PastId, PastColon, FirstBadField}
 use Rattle.gc_lines.specs.Readers.{number_at, HeaderFields, signature_at, id_at, colon_at, header_at, ◌>>=◌}
-use Rattle.gc_lines.proofs.Reading.{refused, absent, bind_ok, bind_err, bind_on, bind_stop}
+use Rattle.gc_lines.proofs.Reading.{none_means_fault, fault_means_none, bind_ok, bind_err, bind_on, bind_stop}
 use Rattle.gc_lines.proofs.Fields.{signature_reads, number_reads, id_reads, colon_reads}
 
 -- a line whose fields through the colon have their form
@@ -21,7 +21,7 @@ after_number : (id : Option ℕ) (rest : List ℕ) → NoDigitFirst (id_text id 
 after_number None rest = refl
 after_number (Some i) rest = refl
 
--- a header's id ends in front of the colon
+-- a header's id ends before the colon
 after_id : (id : Option ℕ) (rest : List ℕ) → EndsId id (58 ∷ rest)
 after_id None rest = λ after e. let t = eq-eqb 58 44 (ap (λ b. get_or b 0 0) e) in (cc)
 after_id (Some i) rest = refl
@@ -48,29 +48,29 @@ past_colon signature line h is = record {
   here = refl;
 }
 
--- what `header_at` reads behind the id: the colon
+-- what `header_at` reads after the id: the colon
 abbrev rest_of_colon : ℕ → Option ℕ → List ℕ → Result HeaderFields LineFault
 rest_of_colon number id bytes = colon_at bytes >>= λ rest. Ok (record { number = number; id = id; rest = rest })
 
--- what `header_at` reads behind the number: the id, and what follows
+-- what `header_at` reads after the number: the id, and what follows
 abbrev rest_of_id : ℕ → List ℕ → Result HeaderFields LineFault
 rest_of_id number bytes = id_at bytes >>= λ id. rest_of_colon number id.0 id.1
 
--- what `header_at` reads behind the signature: the number, and what follows
+-- what `header_at` reads after the signature: the number, and what follows
 abbrev rest_of_number : List ℕ → Result HeaderFields LineFault
 rest_of_number bytes = number_at Number bytes >>= λ number. rest_of_id number.0 number.1
 
--- where the signature has its form, reading goes on behind it
+-- where the signature has its form, reading goes on after it
 on_signature : (signature line rest : List ℕ) → PastSignature signature line rest → header_at signature line ≡ rest_of_number rest
 unfolding header_at
 on_signature signature line rest past = bind_on (signature_at signature line) _ rest ((signature_reads signature).again line rest past)
 
--- where the fields through the number have their form, reading goes on behind them
+-- where the fields through the number have their form, reading goes on after them
 on_number : (signature line rest : List ℕ) (past : PastNumber signature line rest) → header_at signature line ≡ rest_of_id past.number rest
 on_number signature line rest past = on_signature signature line past.from past.before
     ∙ bind_on (number_at Number past.from) (λ number. rest_of_id number.0 number.1) (past.number, rest) ((number_reads Number).again past.from (past.number, rest) past.here)
 
--- where the fields through the id have their form, reading goes on behind them
+-- where the fields through the id have their form, reading goes on after them
 on_id : (signature line rest : List ℕ) (past : PastId signature line rest) → header_at signature line ≡ rest_of_colon past.before.number past.id rest
 on_id signature line rest past = on_number signature line past.from past.before
     ∙ bind_on (id_at past.from) (λ id. rest_of_colon past.before.number id.0 id.1) (past.id, rest) (id_reads.again past.from (past.id, rest) past.here)
@@ -115,24 +115,24 @@ pub header_fault : (signature : List ℕ) (Body : List ℕ → Type 0) (line : L
 unfolding header_at
 header_fault signature Body line d e = elim (bind_err _ _ d e) [
   | inl h ↦
-      let it : FirstBadField signature Body line Signature = absent _ _ _ (signature_reads signature) line d h in
+      let it : FirstBadField signature Body line Signature = fault_means_none _ _ _ (signature_reads signature) line d h in
       subst (λ (f : LineFault). FirstBadField signature Body line f) ((signature_reads signature).named line d h) it
   | inr a ↦ let sig = (signature_reads signature).found line a.0 a.1 in elim (bind_err _ _ d a.2) [
     | inl h ↦
-        let it : FirstBadField signature Body line Number = (a.0, sig, λ n rest. absent _ _ _ (number_reads Number) a.0 d h (n, rest)) in
+        let it : FirstBadField signature Body line Number = (a.0, sig, λ n rest. fault_means_none _ _ _ (number_reads Number) a.0 d h (n, rest)) in
         subst (λ (f : LineFault). FirstBadField signature Body line f) ((number_reads Number).named a.0 d h) it
     | inr b ↦
         let past : PastNumber signature line b.0.1 = record { from = a.0; number = b.0.0; before = sig; here = (number_reads Number).found a.0 b.0 b.1 } in
         elim (bind_err _ _ d b.2) [
           | inl h ↦
-              let it : FirstBadField signature Body line Id = (b.0.1, past, λ id rest. absent _ _ _ id_reads b.0.1 d h (id, rest)) in
+              let it : FirstBadField signature Body line Id = (b.0.1, past, λ id rest. fault_means_none _ _ _ id_reads b.0.1 d h (id, rest)) in
               subst (λ (f : LineFault). FirstBadField signature Body line f) (id_reads.named b.0.1 d h) it
           | inr c ↦ elim (bind_err _ _ d c.2) [
             | inl h ↦
                 let it : FirstBadField signature Body line Colon = (
                   c.0.1,
                   record { from = b.0.1; id = c.0.0; before = past; here = id_reads.found b.0.1 c.0 c.1 },
-                  absent _ _ _ colon_reads c.0.1 d h,
+                  fault_means_none _ _ _ colon_reads c.0.1 d h,
                 ) in
                 subst (λ (f : LineFault). FirstBadField signature Body line f) (colon_reads.named c.0.1 d h) it
             | inr x ↦ (cc)
@@ -168,18 +168,18 @@ pub line_bad : {A : Type 0} (signature : List ℕ) (body : HeaderFields → Resu
     → (line : List ℕ) (f : LineFault) → FirstBadField signature Body line f → line_at signature body line ≡ Err f
 unfolding header_at
 line_bad signature body Body reads line Signature bad =
-    bind_stop (header_at signature line) body Signature (bind_stop (signature_at signature line) _ Signature (refused _ _ _ (signature_reads signature) line bad))
+    bind_stop (header_at signature line) body Signature (bind_stop (signature_at signature line) _ Signature (none_means_fault _ _ _ (signature_reads signature) line bad))
 line_bad signature body Body reads line Number bad =
     let at : header_at signature line ≡ Err Number = on_signature signature line bad.0 bad.1
-    ∙ bind_stop (number_at Number bad.0) (λ number. rest_of_id number.0 number.1) Number (refused _ _ _ (number_reads Number) bad.0 (λ x. bad.2 x.0 x.1)) in
+    ∙ bind_stop (number_at Number bad.0) (λ number. rest_of_id number.0 number.1) Number (none_means_fault _ _ _ (number_reads Number) bad.0 (λ x. bad.2 x.0 x.1)) in
     bind_stop (header_at signature line) body Number at
 line_bad signature body Body reads line Id bad =
     let at : header_at signature line ≡ Err Id = on_number signature line bad.0 bad.1
-    ∙ bind_stop (id_at bad.0) (λ id. rest_of_colon bad.1.number id.0 id.1) Id (refused _ _ _ id_reads bad.0 (λ x. bad.2 x.0 x.1)) in
+    ∙ bind_stop (id_at bad.0) (λ id. rest_of_colon bad.1.number id.0 id.1) Id (none_means_fault _ _ _ id_reads bad.0 (λ x. bad.2 x.0 x.1)) in
     bind_stop (header_at signature line) body Id at
 line_bad signature body Body reads line Colon bad =
     let at : header_at signature line ≡ Err Colon = on_id signature line bad.0 bad.1
-    ∙ bind_stop (colon_at bad.0) (λ r. Ok (record { number = bad.1.before.number; id = bad.1.id; rest = r })) Colon (refused _ _ _ colon_reads bad.0 bad.2) in
+    ∙ bind_stop (colon_at bad.0) (λ r. Ok (record { number = bad.1.before.number; id = bad.1.id; rest = r })) Colon (none_means_fault _ _ _ colon_reads bad.0 bad.2) in
     bind_stop (header_at signature line) body Colon at
 line_bad signature body Body reads line Code bad =
     let h : HeaderFields = record { number = bad.1.before.before.number; id = bad.1.before.id; rest = bad.0 } in

@@ -1,5 +1,6 @@
--- Lists of frames that are answered one after the other: the state behind them, and what is written. In the lemmas, in the order
--- of the run: s, t, u are the answerer's states, a, b, c the bytes that the sink took, and i, j, k how many texts went out whole.
+-- Lists of frames that are answered one after the other: the state after them, and what is written. In the lemmas, in the
+-- order of the run: s, t, u are the answerer's states, a, b, c the bytes that the sink took, and i, j, k how many texts went
+-- out whole.
 use Rattle.std.proofs.Common.{◌≡◌, ℕ, ◌+◌, List, [], ◌∷◌, ◌++◌, take, Option, Some, refl, sym, ap, ◌∙◌, subst, arith, append_assoc, length-append}
 use Rattle.std.specs.Option.{option_to_list}
 use Rattle.std.specs.Io.KnownBytes.{Appends}
@@ -10,7 +11,7 @@ use Rattle.gc_lines.specs.Ports.{TakesFront}
 use Rattle.gc_lines.specs.declared.frame.Frame.{Frame}
 use Rattle.gc_lines.proofs.Known.{Appends-append, Appends-nil, Appends-is}
 
--- answering frames, and then others from the state behind them, is answering all of them
+-- answering frames, and then others from the state after them, is answering all of them
 pub in_order_then : {State : Type 0} (rule : AnswerRule State) (s t u : State) (xs ys : List Frame) (ps qs : List (List ℕ))
     → AnswersInOrder State rule s xs t ps → AnswersInOrder State rule t ys u qs → AnswersInOrder State rule s (xs ++ ys) u (ps ++ qs)
 in_order_then {State} rule s t u [] ys ps qs first next =
@@ -29,7 +30,7 @@ pub in_order_one : {State : Type 0} (rule : AnswerRule State) (s t : State) (fra
     → AnswersInOrder State rule s (frame ∷ []) t (option_to_list text)
 in_order_one rule s t frame text h = (t, text, [], h, (refl, refl), sym (append-nil (option_to_list text)))
 
--- texts are written one behind the other
+-- texts are written one after the other
 pub all_of-append : (xs ys : List (List ℕ)) → all_of (xs ++ ys) ≡ all_of xs ++ all_of ys
 all_of-append xs ys = flat_map-append (λ text. text) xs ys
 

@@ -30,7 +30,7 @@ all_kept old rest s room = omega (arith, ap length s.front, length-take 513 rest
 pub front_length : (old : Kept) (rest : List ℕ) → StandsFor old rest → 513 - length old.front ≡ 513 - length rest
 front_length old rest s = omega (arith, ap length s.front, length-take 513 rest)
 
--- where all further bytes fit, an assembler that keeps them stands for the rest with these bytes behind it
+-- where all further bytes fit, an assembler that keeps them stands for the rest with these bytes after it
 pub keeps_all : (old : Kept) (rest bytes front : List ℕ) (last : ℕ) → StandsFor old rest → 0 < length bytes → length bytes ≤ 513 - length old.front
     → front ≡ old.front ++ bytes → last ≡ get_or bytes (length bytes - 1) 0
     → StandsFor (record { front = front; last = last; long = old.long }) (rest ++ bytes)
@@ -43,8 +43,8 @@ keeps_all old rest bytes front last s some fits f l =
       long = s.long ∙ le-ltb 513 (length rest) (omega arith) ∙ sym (le-ltb 513 (length (rest ++ bytes)) (omega (arith, length-append rest bytes)));
     }
 
--- where only a part of further bytes fits, an assembler that keeps that part stands for the rest with all of these bytes behind
--- it
+-- where only a part of further bytes fits, an assembler that keeps that part stands for the rest with all of these bytes
+-- after it
 pub keeps_part : (old : Kept) (rest bytes front : List ℕ) (last : ℕ) → StandsFor old rest → 513 - length old.front < length bytes
     → front ≡ old.front ++ take (513 - length old.front) bytes → last ≡ get_or bytes (length bytes - 1) 0
     → StandsFor (record { front = front; last = last; long = true }) (rest ++ bytes)

@@ -32,13 +32,13 @@ pub Consumes-nil : (a : Option (List ℕ)) → Consumes a a []
 Consumes-nil None = tt
 Consumes-nil (Some a) = refl
 
--- the first at + n elements are the first `at`, and n of those behind
+-- the first at + n elements are the first `at`, and n of those after
 pub take-plus : (at n : ℕ) (xs : List ℕ) → at ≤ length xs → take (at + n) xs ≡ take at xs ++ take n (drop at xs)
 take-plus at n xs h =
     let len : length (take at xs) ≡ at = length-take-le at xs h in
     let whole = take-append-drop at xs in
     ap (λ m. take (m + n) xs) (sym len) ∙ ap (λ ys. take (length (take at xs) + n) ys) (sym whole) ∙ take-append-add (take at xs) (drop at xs) n
 
--- a text with the first n bytes of a buffer behind it is n bytes longer
+-- a text with the first n bytes of a buffer after it is n bytes longer
 pub length_more : (text buf : List ℕ) (n : ℕ) → n ≤ length buf → length (text ++ take n buf) ≡ length text + n
 length_more text buf n h = length-append text (take n buf) ∙ ap (λ m. length text + m) (length-take-le n buf h)

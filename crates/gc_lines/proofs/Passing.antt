@@ -1,4 +1,4 @@
--- A piece of the stream while it is answered: which of its frames were answered, and what is left of it (`Going`).
+-- A piece of the stream while it is answered: which of its frames were answered, and what is left of it (`PieceAnswered`).
 use Rattle.std.proofs.Common.{◌≡◌, ℕ, ◌+◌, ◌<◌, Bool, true, false, eqb, cond, ◌-◌, List, [], ◌∷◌, ◌++◌, length, take, drop, map, Some, None, refl, sym, ap, ◌∙◌, subst, arith, append_assoc}
 use Rattle.std.specs.List.{position}
 use Rattle.std.proofs.lemmas.Bool.Decides.{nat_tests}
@@ -13,17 +13,18 @@ use Rattle.gc_lines.proofs.Cutting.{cut_none, cut_some, pieces-append, rest-appe
 use Rattle.gc_lines.proofs.Gathering.{gathering_start}
 use Rattle.gc_lines.proofs.InOrder.{all_none, part_before}
 
--- with one more piece, a stream's frames are those that it had, and then those that the piece completes behind the stream's rest
+-- with one more piece, a stream's frames are those that it had, and then those that the piece completes after the stream's
+-- rest
 pub frames-append : (given piece : List ℕ) → frames (given ++ piece) ≡ frames given ++ frames_behind (rest_behind [] given) piece
 frames-append given piece = ap (λ ps. map frame_of ps) (pieces-append [] given piece) ∙ map-append frame_of (pieces_behind [] given) (pieces_behind (rest_behind [] given) piece)
 
--- with one more piece, a stream's rest is that of the piece behind the rest that it had
+-- with one more piece, a stream's rest is that of the piece after the rest that it had
 pub rest_behind-append : (given piece : List ℕ) → rest_behind [] (given ++ piece) ≡ rest_behind (rest_behind [] given) piece
 rest_behind-append given piece = rest-append [] given piece
 
 -- a frame that a line feed made is completed
-made : (bytes : List ℕ) → completed (frame_of bytes) ≡ frame_of bytes ∷ []
-made bytes = by_tests (ends_in_return bytes) _ where
+frame_is_completed : (bytes : List ℕ) → completed (frame_of bytes) ≡ frame_of bytes ∷ []
+frame_is_completed bytes = by_tests (ends_in_return bytes) _ where
   -- whichever frame the two tests of `frame_of` choose, it is completed
   by_tests : (a b : Bool) → completed (cond a (cond b Overlong (Line (record { items = take (length bytes - 1) bytes }))) Cleared) ≡ cond a
       (cond b Overlong (Line (record { items = take (length bytes - 1) bytes }))) Cleared ∷ []
@@ -40,9 +41,9 @@ pub record Takes (rest left : List ℕ) (used : ℕ) (frame : Frame) (kept : Kep
   pub rests : rest_behind rest left ≡ rest_behind now (drop used left)
 
 -- without a line feed all bytes are used, and no frame is completed
-takes_none : (rest left : List ℕ) (used : ℕ) (frame : Frame) (kept : Kept) → position is_line_feed left ≡ None → used ≡ length left → frame ≡ More
+uses_empty : (rest left : List ℕ) (used : ℕ) (frame : Frame) (kept : Kept) → position is_line_feed left ≡ None → used ≡ length left → frame ≡ More
     → StandsFor kept (rest ++ left) → Takes rest left used frame kept
-takes_none rest left used frame kept none all more s =
+uses_empty rest left used frame kept none all more s =
     let cut = cut_none rest left none in
     let nothing : drop used left ≡ [] = drop_all used left (omega arith) in
     record {
@@ -53,14 +54,14 @@ takes_none rest left used frame kept none all more s =
     }
 
 -- with a line feed the bytes through it are used, and they complete a frame
-takes_some : (rest left : List ℕ) (at used : ℕ) (frame : Frame) (kept : Kept) → position is_line_feed left ≡ Some at → used ≡ at + 1
+uses_some : (rest left : List ℕ) (at used : ℕ) (frame : Frame) (kept : Kept) → position is_line_feed left ≡ Some at → used ≡ at + 1
     → frame ≡ frame_of (rest ++ take at left) → StandsFor kept [] → Takes rest left used frame kept
-takes_some rest left at used frame kept some next is s =
+uses_some rest left at used frame kept some next is s =
     let cut = cut_some rest left at some in
     record {
       now = [];
       stands = s;
-      seen = rw (next, is, made (rest ++ take at left)) (ap (λ ps. map frame_of ps) cut.0);
+      seen = rw (next, is, frame_is_completed (rest ++ take at left)) (ap (λ ps. map frame_of ps) cut.0);
       rests = rw next cut.1;
     }
 
@@ -72,12 +73,12 @@ pub takes : (rest left : List ℕ) (used : ℕ) (frame : Frame) (kept : Kept)
     → ((at : ℕ) → position is_line_feed left ≡ Some at → (used ≡ at + 1) × (frame ≡ frame_of (rest ++ take at left)) × StandsFor kept [])
     → Takes rest left used frame kept
 takes rest left used frame kept more whole = elim (position is_line_feed left) as (λ v. position is_line_feed left ≡ v → Takes rest left used frame kept) [
-  | None ↦ λ e. let m = more e in takes_none rest left used frame kept e m.0 m.1 m.2
-  | Some at ↦ λ e. let m = whole at e in takes_some rest left at used frame kept e m.0 m.1 m.2
+  | None ↦ λ e. let m = more e in uses_empty rest left used frame kept e m.0 m.1 m.2
+  | Some at ↦ λ e. let m = whole at e in uses_some rest left at used frame kept e m.0 m.1 m.2
 ] refl
 
--- some frames of a piece behind `rest` were answered, and some of their texts wait; `left` is what is left of the piece
-pub record Going {State : Type 0} (rule : AnswerRule State) (rest piece left : List ℕ) (kept : Kept) (from to : Progress State) (text lengths : List ℕ) : Type 0 where
+-- some frames of a piece after `rest` were answered, and some of their texts wait; `left` is what is left of the piece
+pub record PieceAnswered {State : Type 0} (rule : AnswerRule State) (rest piece left : List ℕ) (kept : Kept) (from to : Progress State) (text lengths : List ℕ) : Type 0 where
   pub now : List ℕ
   pub answered : List Frame
   pub stands : StandsFor kept now
@@ -85,10 +86,10 @@ pub record Going {State : Type 0} (rule : AnswerRule State) (rest piece left : L
   pub rests : rest_behind rest piece ≡ rest_behind now left
   pub gathered : Gathering rule from to answered text lengths
 
--- `Going` is true before the first frame: nothing of the piece was used, and no text waits
-pub going_start : {State : Type 0} (rule : AnswerRule State) (rest piece : List ℕ) (kept : Kept) (start : Progress State) (text lengths : List ℕ) → text ≡ [] → lengths ≡ [] → StandsFor kept rest
-    → Going rule rest piece piece kept start start text lengths
-going_start rule rest piece kept start text lengths empty none s = record {
+-- `PieceAnswered` is true before the first frame: nothing of the piece was used, and no text waits
+pub piece_start : {State : Type 0} (rule : AnswerRule State) (rest piece : List ℕ) (kept : Kept) (start : Progress State) (text lengths : List ℕ) → text ≡ [] → lengths ≡ [] → StandsFor kept rest
+    → PieceAnswered rule rest piece piece kept start start text lengths
+piece_start rule rest piece kept start text lengths empty none s = record {
   now = rest;
   answered = [];
   stands = s;
@@ -101,12 +102,12 @@ going_start rule rest piece kept start text lengths empty none s = record {
 seen_more : (answered frame later all left : List Frame) → all ≡ answered ++ left → left ≡ frame ++ later → all ≡ (answered ++ frame) ++ later
 seen_more answered frame later all left e f = e ∙ ap (λ zs. answered ++ zs) f ∙ sym (append_assoc answered frame later)
 
--- `Going` stays true when one more frame was answered, whose text waits, or went out with all that waited
-pub going_on : {State : Type 0} (rule : AnswerRule State) (rest piece left : List ℕ) (used : ℕ) (frame : Frame) (kept kept' : Kept)
+-- `PieceAnswered` stays true when one more frame was answered, whose text waits, or went out with all that waited
+pub piece_goes_on : {State : Type 0} (rule : AnswerRule State) (rest piece left : List ℕ) (used : ℕ) (frame : Frame) (kept kept' : Kept)
     (from to next : Progress State) (text lengths text' lengths' : List ℕ)
-    → (g : Going rule rest piece left kept from to text lengths) → Takes g.now left used frame kept' → Gathering rule from next (g.answered ++ completed frame) text' lengths'
-    → Going rule rest piece (drop used left) kept' from next text' lengths'
-going_on rule rest piece left used frame kept kept' from to next text lengths text' lengths' g taken more = record {
+    → (g : PieceAnswered rule rest piece left kept from to text lengths) → Takes g.now left used frame kept' → Gathering rule from next (g.answered ++ completed frame) text' lengths'
+    → PieceAnswered rule rest piece (drop used left) kept' from next text' lengths'
+piece_goes_on rule rest piece left used frame kept kept' from to next text lengths text' lengths' g taken more = record {
   now = taken.now;
   answered = g.answered ++ completed frame;
   stands = taken.stands;
@@ -116,11 +117,11 @@ going_on rule rest piece left used frame kept kept' from to next text lengths te
 }
 
 -- where one more frame was answered and then a text went out in part, the piece was answered up to that text's frame
-pub going_part : {State : Type 0} (rule : AnswerRule State) (rest piece left : List ℕ) (used : ℕ) (frame : Frame) (kept kept' : Kept)
+pub piece_cut : {State : Type 0} (rule : AnswerRule State) (rest piece left : List ℕ) (used : ℕ) (frame : Frame) (kept kept' : Kept)
     (from to last : Progress State) (text lengths : List ℕ) (bytes : ℕ) (gathers : Bool)
-    → (g : Going rule rest piece left kept from to text lengths) → Takes g.now left used frame kept' → GathersPart rule from last (g.answered ++ completed frame) bytes gathers
+    → (g : PieceAnswered rule rest piece left kept from to text lengths) → Takes g.now left used frame kept' → GathersPart rule from last (g.answered ++ completed frame) bytes gathers
     → GathersPart rule from last (frames_behind rest piece) bytes gathers
-going_part rule rest piece left used frame kept kept' from to last text lengths bytes gathers g taken part =
+piece_cut rule rest piece left used frame kept kept' from to last text lengths bytes gathers g taken part =
     let later = frames_behind taken.now (drop used left) in
     let all = seen_more g.answered (completed frame) later (frames_behind rest piece) (frames_behind g.now left) g.seen taken.seen in
     record {
@@ -131,9 +132,10 @@ going_part rule rest piece left used frame kept kept' from to last text lengths 
     }
 
 -- where nothing is left of the piece, all of its frames were answered
-pub going_end : {State : Type 0} (rule : AnswerRule State) (rest piece : List ℕ) (kept : Kept) (from to : Progress State) (text lengths : List ℕ) → Going rule rest piece [] kept from to text lengths
+pub piece_end : {State : Type 0} (rule : AnswerRule State) (rest piece : List ℕ) (kept : Kept) (from to : Progress State) (text lengths : List ℕ)
+    → PieceAnswered rule rest piece [] kept from to text lengths
     → StandsFor kept (rest_behind rest piece) × Gathering rule from to (frames_behind rest piece) text lengths
-going_end rule rest piece kept from to text lengths g = (
+piece_end rule rest piece kept from to text lengths g = (
   subst (λ (xs : List ℕ). StandsFor kept xs) (sym g.rests) g.stands,
   subst (λ (xs : List Frame). Gathering rule from to xs text lengths) (sym (g.seen ∙ append-nil g.answered)) g.gathered,
 )

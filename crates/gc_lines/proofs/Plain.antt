@@ -18,63 +18,66 @@ use Rattle.gc_lines.proofs.Cutting.{cut_first}
 use Rattle.gc_lines.proofs.Keeping.{line_frame, last-append}
 
 -- a byte is neither CR nor LF
-abbrev Plain : ℕ → Type 0
-Plain b = (b ≢ 10) × (b ≢ 13)
+abbrev IsPlainByte : ℕ → Type 0
+IsPlainByte b = (b ≢ 10) × (b ≢ 13)
 
--- plain bytes behind plain bytes are plain
-joined : (xs ys : List ℕ) → IsPlain xs → IsPlain ys → IsPlain (xs ++ ys)
-joined xs ys = All-append Plain xs ys
+-- plain bytes after plain bytes are plain
+plain_append : (xs ys : List ℕ) → IsPlain xs → IsPlain ys → IsPlain (xs ++ ys)
+plain_append xs ys = All-append IsPlainByte xs ys
 
 -- what the fields are made of is plain
 
 -- digits are plain
-digits_plain : (ds : List ℕ) → AllDigits 10 ds → AllByRecursion Plain ds
+digits_plain : (ds : List ℕ) → AllDigits 10 ds → AllByRecursion IsPlainByte ds
 digits_plain [] h = tt
 digits_plain (d ∷ ds) h = let r = digit_from_value d h.0 in ((λ e. absurd (omega arith), λ e. absurd (omega arith)), digits_plain ds h.1)
 
 -- a written number is plain
 decimal_plain : (n : ℕ) → n < 65536 → IsPlain (decimal n)
-decimal_plain n h = All-from_recursion Plain (decimal n) (digits_plain (decimal n) (decimal_is_IsNumeral n (omega arith)).0.1)
+decimal_plain n h = All-from_recursion IsPlainByte (decimal n) (digits_plain (decimal n) (decimal_is_IsNumeral n (omega arith)).0.1)
 
 -- a byte above 13 is plain
-above : (b : ℕ) → 13 < b → Plain b
-above b h = (λ e. absurd (omega arith), λ e. absurd (omega arith))
+plain_above_13 : (b : ℕ) → 13 < b → IsPlainByte b
+plain_above_13 b h = (λ e. absurd (omega arith), λ e. absurd (omega arith))
 
 -- a written id is plain
 id_plain : (id : Option ℕ) → IsPlain (id_text id)
-id_plain None = All-from_recursion Plain [] tt
-id_plain (Some i) = All-from_recursion Plain (44 ∷ (48 + i) ∷ []) (above 44 (omega arith), (above (48 + i) (omega arith), tt))
+id_plain None = All-from_recursion IsPlainByte [] tt
+id_plain (Some i) = All-from_recursion IsPlainByte (44 ∷ (48 + i) ∷ []) (plain_above_13 44 (omega arith), (plain_above_13 (48 + i) (omega arith), tt))
 
--- plain bytes behind a colon are plain with it
+-- plain bytes after a colon are plain with it
 colon_plain : (xs : List ℕ) → IsPlain xs → IsPlain (58 ∷ xs)
-colon_plain xs h = joined (58 ∷ []) xs (All-from_recursion Plain (58 ∷ []) (above 58 (omega arith), tt)) h
+colon_plain xs h = plain_append (58 ∷ []) xs (All-from_recursion IsPlainByte (58 ∷ []) (plain_above_13 58 (omega arith), tt)) h
 
--- plain parameters are plain with the comma that a reply has in front of them
+-- plain parameters are plain with the comma that a reply has before them
 params_plain : (params : List ℕ) → IsPlain params → IsPlain (params_text params)
 params_plain [] h = h
-params_plain (b ∷ bs) h = joined (44 ∷ []) (b ∷ bs) (All-from_recursion Plain (44 ∷ []) (above 44 (omega arith), tt)) h
+params_plain (b ∷ bs) h = plain_append (44 ∷ []) (b ∷ bs) (All-from_recursion IsPlainByte (44 ∷ []) (plain_above_13 44 (omega arith), tt)) h
 
 -- a signature is plain: `%R1`, a byte `c` (Q for a request, P for a reply), and a comma
 signature_plain : (c : ℕ) → 13 < c → IsPlain (37 ∷ 82 ∷ 49 ∷ c ∷ 44 ∷ [])
-signature_plain c h = All-from_recursion Plain (37 ∷ 82 ∷ 49 ∷ c ∷ 44 ∷ []) (above 37 (omega arith), (above 82 (omega arith), (above 49 (omega arith), (above c h, (above 44 (omega arith), tt)))))
+signature_plain c h = All-from_recursion IsPlainByte (37 ∷ 82 ∷ 49 ∷ c ∷ 44 ∷ []) (
+  plain_above_13 37 (omega arith),
+  (plain_above_13 82 (omega arith), (plain_above_13 49 (omega arith), (plain_above_13 c h, (plain_above_13 44 (omega arith), tt)))),
+)
 
 -- a request with plain parameters is plain
 pub request_plain : (q : RequestFields) → IsRequestInRange q → IsPlain q.params → IsPlain (request_text q)
-request_plain q r h = joined (37 ∷ 82 ∷ 49 ∷ 81 ∷ 44 ∷ []) _ (signature_plain 81 (omega arith))
-    (joined (decimal q.rpc) _ (decimal_plain q.rpc r.rpc) (joined (id_text q.id) _ (id_plain q.id) (colon_plain q.params h)))
+request_plain q r h = plain_append (37 ∷ 82 ∷ 49 ∷ 81 ∷ 44 ∷ []) _ (signature_plain 81 (omega arith))
+    (plain_append (decimal q.rpc) _ (decimal_plain q.rpc r.rpc) (plain_append (id_text q.id) _ (id_plain q.id) (colon_plain q.params h)))
 
 -- a reply with plain parameters is plain
 pub reply_plain : (r : ReplyFields) → IsReplyInRange r → IsPlain r.params → IsPlain (reply_text r)
-reply_plain r in_range h = joined (37 ∷ 82 ∷ 49 ∷ 80 ∷ 44 ∷ []) _ (signature_plain 80 (omega arith))
-    (joined (decimal r.rc_com) _ (decimal_plain r.rc_com in_range.rc_com) (joined (id_text r.id) _ (id_plain r.id)
-    (colon_plain (decimal r.rc ++ params_text r.params) (joined (decimal r.rc) _ (decimal_plain r.rc in_range.rc) (params_plain r.params h)))))
+reply_plain r in_range h = plain_append (37 ∷ 82 ∷ 49 ∷ 80 ∷ 44 ∷ []) _ (signature_plain 80 (omega arith))
+    (plain_append (decimal r.rc_com) _ (decimal_plain r.rc_com in_range.rc_com) (plain_append (id_text r.id) _ (id_plain r.id)
+    (colon_plain (decimal r.rc ++ params_text r.params) (plain_append (decimal r.rc) _ (decimal_plain r.rc in_range.rc) (params_plain r.params h)))))
 
 -- plain bytes and CR LF are one line
 
 -- plain bytes and a CR have no line feed
-feedless : (bytes : List ℕ) → AllByRecursion Plain bytes → HasNoLineFeed (bytes ++ 13 ∷ [])
-feedless [] h = ((λ e. absurd (omega arith)), tt)
-feedless (b ∷ bs) h = (h.0.0, feedless bs h.1)
+plain_has_no_feed : (bytes : List ℕ) → AllByRecursion IsPlainByte bytes → HasNoLineFeed (bytes ++ 13 ∷ [])
+plain_has_no_feed [] h = ((λ e. absurd (omega arith)), tt)
+plain_has_no_feed (b ∷ bs) h = (h.0.0, plain_has_no_feed bs h.1)
 
 -- at most 512 bytes and a CR are the frame of these bytes as a line
 plain_frame : (bytes : List ℕ) → length bytes ≤ 512 → Line (record { items = bytes }) ≡ frame_of (bytes ++ 13 ∷ [])
@@ -89,6 +92,6 @@ plain_frame bytes fits =
 pub plain_line : (bytes : List ℕ) → IsPlain bytes → length bytes ≤ 512
     → (frames (bytes ++ 13 ∷ 10 ∷ []) ≡ Line (record { items = bytes }) ∷ []) × (rest_of (bytes ++ 13 ∷ 10 ∷ []) ≡ [])
 plain_line bytes h fits =
-    let cut = cut_first [] (bytes ++ 13 ∷ []) [] (feedless bytes (recursion_from_All Plain bytes h)) in
+    let cut = cut_first [] (bytes ++ 13 ∷ []) [] (plain_has_no_feed bytes (recursion_from_All IsPlainByte bytes h)) in
     let whole : bytes ++ 13 ∷ 10 ∷ [] ≡ (bytes ++ 13 ∷ []) ++ 10 ∷ [] = simp append_assoc in
     (ap frames whole ∙ ap (λ ps. map frame_of ps) cut.0 ∙ ap (λ f. f ∷ []) (sym (plain_frame bytes fits)), ap rest_of whole ∙ cut.1)

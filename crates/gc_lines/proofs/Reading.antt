@@ -5,24 +5,24 @@ use Rattle.gc_lines.specs.Headers.{Gives}
 use Rattle.gc_lines.specs.Readers.{◌>>=◌}
 
 -- a reader finds just what has the form, and has one fault
-pub record Reads {A : Type 0} (read : List ℕ → Result A LineFault) (Has : List ℕ → A → Type 0) (fault : LineFault) : Type 0 where
+pub record ReadsField {A : Type 0} (read : List ℕ → Result A LineFault) (Has : List ℕ → A → Type 0) (fault : LineFault) : Type 0 where
   pub found : (bytes : List ℕ) (a : A) → read bytes ≡ Ok a → Has bytes a
   pub again : (bytes : List ℕ) (a : A) → Has bytes a → read bytes ≡ Ok a
   pub named : (bytes : List ℕ) (d : LineFault) → read bytes ≡ Err d → fault ≡ d
 
 -- where nothing has the form, the reader gives its fault
-pub refused : {A : Type 0} (read : List ℕ → Result A LineFault) (Has : List ℕ → A → Type 0) (fault : LineFault) → Reads read Has fault
+pub none_means_fault : {A : Type 0} (read : List ℕ → Result A LineFault) (Has : List ℕ → A → Type 0) (fault : LineFault) → ReadsField read Has fault
     → (bytes : List ℕ) → ((a : A) → ¬ Has bytes a) → read bytes ≡ Err fault
-refused {A} read Has fault reads bytes absent = by_cases (read bytes) refl where
+none_means_fault {A} read Has fault reads bytes fault_means_none = by_cases (read bytes) refl where
   -- whatever the reader gave: as nothing has the form, it is the reader's fault
   by_cases : (r : Result A LineFault) → read bytes ≡ r → r ≡ Err fault
-  by_cases (Ok a) e = absurd (absent a (reads.found bytes a e))
+  by_cases (Ok a) e = absurd (fault_means_none a (reads.found bytes a e))
   by_cases (Err d) e = ap (λ (g : LineFault). Err g) (sym (reads.named bytes d e))
 
 -- where the reader gives a fault, nothing has the form
-pub absent : {A : Type 0} (read : List ℕ → Result A LineFault) (Has : List ℕ → A → Type 0) (fault : LineFault) → Reads read Has fault
+pub fault_means_none : {A : Type 0} (read : List ℕ → Result A LineFault) (Has : List ℕ → A → Type 0) (fault : LineFault) → ReadsField read Has fault
     → (bytes : List ℕ) (d : LineFault) → read bytes ≡ Err d → (a : A) → ¬ Has bytes a
-absent read Has fault reads bytes d e a has = let again = reads.again bytes a has in (cc)
+fault_means_none read Has fault reads bytes d e a has = let again = reads.again bytes a has in (cc)
 
 -- where a chain gives the value y, its first part gave a value x, and its second part made y of x
 pub bind_ok : {A B : Type 0} (r : Result A LineFault) (f : A → Result B LineFault) (y : B) → (r >>= f) ≡ Ok y → (x : A) × (r ≡ Ok x) × (f x ≡ Ok y)
@@ -63,16 +63,16 @@ pub record ReadsLines {F : Type 0} (read : List ℕ → Result F LineFault) (Is 
 
 -- what a caller of a reader of lines learns, who sees the result by a view: a value has the grammar, a fault is the first bad
 -- field, and each of them is given wherever the line has it
-pub record Learns {F X : Type 0} (Is : List ℕ → F → Type 0) (Bad : List ℕ → LineFault → Type 0) (view : X → F) (line : List ℕ) (r : Result X LineFault) : Type 0 where
+pub record KnowsResult {F X : Type 0} (Is : List ℕ → F → Type 0) (Bad : List ℕ → LineFault → Type 0) (view : X → F) (line : List ℕ) (r : Result X LineFault) : Type 0 where
   pub found : IfOk r (λ x. Is line (view x))
   pub only : (y : F) → Is line y → Gives view r (Ok y)
   pub fault : IfErr r (λ d. Bad line d)
   pub faulty : (d : LineFault) → Bad line d → r ≡ Err d
 
--- where a result, seen by a view, is what a reader of lines gives of the line, the caller learns what `Learns` says
-pub learns : {F X : Type 0} {read : List ℕ → Result F LineFault} {Is : List ℕ → F → Type 0} {Bad : List ℕ → LineFault → Type 0} → ReadsLines read Is Bad
-    → (view : X → F) (line : List ℕ) (r : Result X LineFault) → Gives view r (read line) → Learns Is Bad view line r
-learns {F} {X} {read} {Is} {Bad} reads view line r gives = record { found = found r gives; only = only; fault = fault r gives; faulty = faulty r gives } where
+-- where a result, seen by a view, is what a reader of lines gives of the line, the caller learns what `KnowsResult` says
+pub knows_result : {F X : Type 0} {read : List ℕ → Result F LineFault} {Is : List ℕ → F → Type 0} {Bad : List ℕ → LineFault → Type 0} → ReadsLines read Is Bad
+    → (view : X → F) (line : List ℕ) (r : Result X LineFault) → Gives view r (read line) → KnowsResult Is Bad view line r
+knows_result {F} {X} {read} {Is} {Bad} reads view line r gives = record { found = found r gives; only = only; fault = fault r gives; faulty = faulty r gives } where
   -- a value has the grammar
   found : (r : Result X LineFault) → Gives view r (read line) → IfOk r (λ x. Is line (view x))
   found (Ok x) e = reads.found line (view x) e

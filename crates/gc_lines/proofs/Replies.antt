@@ -7,13 +7,13 @@ use Rattle.gc_lines.specs.Numbers.{HasNumber, NoDigitFirst}
 use Rattle.gc_lines.specs.Headers.{id_text}
 use Rattle.gc_lines.specs.Replies.{ReplyFields, IsReply, HasCode, EndsCode, FirstBadOfReply, reply_signature}
 use Rattle.gc_lines.specs.Readers.{number_at, HeaderFields, header_at, ◌>>=◌, params_at, code_at, reply_at}
-use Rattle.gc_lines.proofs.Reading.{ReadsLines, Reads, refused, absent, bind_ok, bind_err, bind_on, guard_ok, guard_err}
+use Rattle.gc_lines.proofs.Reading.{ReadsLines, ReadsField, none_means_fault, fault_means_none, bind_ok, bind_err, bind_on, guard_ok, guard_err}
 use Rattle.gc_lines.proofs.Fields.{number_reads}
 use Rattle.gc_lines.proofs.Headers.{header_found, header_again, ReadsBody, line_fault, line_bad}
 
 -- the parameters
 
--- what is read behind a return code has the form of a reply's end
+-- what is read after a return code has the form of a reply's end
 params_found : (bytes params : List ℕ) → params_at bytes ≡ Ok params → EndsCode bytes params
 params_found [] params e = inl (refl, cc)
 params_found (b ∷ bs) params e = let g = guard_ok (eqb b 44) bs params Code e in let t = eqb-true b 44 g.0 in inr (cc)
@@ -63,47 +63,47 @@ code_named bytes d e = elim (bind_err (number_at Code bytes) _ d e) [
 ]
 
 -- `code_at` reads just what has the form of a return code and parameters, and has one fault
-code_reads : Reads code_at (λ bytes x. HasCode bytes x.0 x.1) Code
+code_reads : ReadsField code_at (λ bytes x. HasCode bytes x.0 x.1) Code
 code_reads = record { found = code_found; again = code_again; named = code_named }
 
 -- the line
 
 -- a reply's fields, made of those of its header, and of its code and parameters
-abbrev fields : HeaderFields → ℕ × List ℕ → ReplyFields
-fields h code = record { rc_com = h.number; id = h.id; rc = code.0; params = code.1 }
+abbrev reply_fields : HeaderFields → ℕ × List ℕ → ReplyFields
+reply_fields h code = record { rc_com = h.number; id = h.id; rc = code.0; params = code.1 }
 
--- what `reply_at` reads behind a header
-abbrev body : HeaderFields → Result ReplyFields LineFault
-body h = code_at h.rest >>= λ code. Ok (fields h code)
+-- what `reply_at` reads after a header
+abbrev read_body : HeaderFields → Result ReplyFields LineFault
+read_body h = code_at h.rest >>= λ code. Ok (reply_fields h code)
 
--- what may stand behind a reply's colon
-abbrev Body : List ℕ → Type 0
-Body bytes = (rc : ℕ) × (params : List ℕ) × HasCode bytes rc params
+-- what may follow a reply's colon
+abbrev IsBody : List ℕ → Type 0
+IsBody bytes = (rc : ℕ) × (params : List ℕ) × HasCode bytes rc params
 
 -- a refusal of the body is the fault `Code`, and the body hasn't its form
-body_named : (h : HeaderFields) (d : LineFault) → body h ≡ Err d → (Code ≡ d) × (¬ Body h.rest)
+body_named : (h : HeaderFields) (d : LineFault) → read_body h ≡ Err d → (Code ≡ d) × (¬ IsBody h.rest)
 body_named h d e = elim (bind_err (code_at h.rest) _ d e) [
-  | inl f ↦ (code_named h.rest d f, λ has. absent _ _ _ code_reads h.rest d f (has.0, has.1) has.2)
+  | inl f ↦ (code_named h.rest d f, λ has. fault_means_none _ _ _ code_reads h.rest d f (has.0, has.1) has.2)
   | inr a ↦ (cc)
 ]
 
 -- a body that hasn't its form is refused with `Code`
-body_refused : (h : HeaderFields) → (¬ Body h.rest) → body h ≡ Err Code
-body_refused h bad = rw (refused _ _ _ code_reads h.rest (λ x has. bad (x.0, x.1, has))) refl
+body_refused : (h : HeaderFields) → (¬ IsBody h.rest) → read_body h ≡ Err Code
+body_refused h bad = rw (none_means_fault _ _ _ code_reads h.rest (λ x has. bad (x.0, x.1, has))) refl
 
--- `body` reads just the bodies that have their form
-reads : ReadsBody body Body
-reads = record { named = body_named; refused = body_refused }
+-- `read_body` reads just the bodies that have their form
+reads_body : ReadsBody read_body IsBody
+reads_body = record { named = body_named; refused = body_refused }
 
 -- what is read as a reply has the grammar
 pub reply_found : (line : List ℕ) (r : ReplyFields) → reply_at line ≡ Ok r → IsReply line r
 unfolding reply_at
 reply_found line r e =
-    let a = bind_ok (header_at reply_signature line) body r e in
+    let a = bind_ok (header_at reply_signature line) read_body r e in
     let b = bind_ok (code_at a.0.rest) _ r a.2 in
     let h = header_found reply_signature line a.0 a.1 in
     let c = code_found a.0.rest b.0 b.1 in
-    let it : IsReply line (fields a.0 b.0) = record {
+    let it : IsReply line (reply_fields a.0 b.0) = record {
       number = h.number;
       code = c.text;
       tail = c.tail;
@@ -113,7 +113,7 @@ reply_found line r e =
       is_tail = c.is_tail;
       whole = h.whole ∙ ap (λ rest. reply_signature ++ (h.number ++ (id_text a.0.id ++ 58 ∷ rest))) c.whole;
     } in
-    let same : fields a.0 b.0 ≡ r = cc in
+    let same : reply_fields a.0 b.0 ≡ r = cc in
     subst (λ (f : ReplyFields). IsReply line f) same it
 
 -- what has the grammar of a reply is read
@@ -122,18 +122,18 @@ unfolding reply_at
 reply_again line r is =
     let h : HeaderFields = record { number = r.rc_com; id = r.id; rest = is.code ++ is.tail } in
     let c : HasCode (is.code ++ is.tail) r.rc r.params = record { text = is.code; tail = is.tail; is_number = is.is_code; is_tail = is.is_tail; whole = refl } in
-    bind_on (header_at reply_signature line) body h (header_again reply_signature line h (record { number = is.number; is_number = is.is_number; is_id = is.is_id; whole = is.whole }))
-    ∙ bind_on (code_at h.rest) (λ code. Ok (fields h code)) (r.rc, r.params) (code_again h.rest (r.rc, r.params) c)
+    bind_on (header_at reply_signature line) read_body h (header_again reply_signature line h (record { number = is.number; is_number = is.is_number; is_id = is.is_id; whole = is.whole }))
+    ∙ bind_on (code_at h.rest) (λ code. Ok (reply_fields h code)) (r.rc, r.params) (code_again h.rest (r.rc, r.params) c)
 
 -- a reply's fault is its first bad field
 pub reply_fault : (line : List ℕ) (d : LineFault) → reply_at line ≡ Err d → FirstBadOfReply line d
 unfolding reply_at
-reply_fault line d e = line_fault reply_signature body Body reads line d e
+reply_fault line d e = line_fault reply_signature read_body IsBody reads_body line d e
 
 -- a reply's first bad field is its fault
 pub reply_bad : (line : List ℕ) (f : LineFault) → FirstBadOfReply line f → reply_at line ≡ Err f
 unfolding reply_at
-reply_bad line f bad = line_bad reply_signature body Body reads line f bad
+reply_bad line f bad = line_bad reply_signature read_body IsBody reads_body line f bad
 
 -- a line reads as at most one reply
 pub reply_one : (line : List ℕ) (p r : ReplyFields) → IsReply line p → IsReply line r → p ≡ r

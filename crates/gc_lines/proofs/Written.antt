@@ -9,7 +9,7 @@ use Rattle.gc_lines.specs.Requests.{RequestFields, IsRequest, IsWrittenRequest, 
 use Rattle.gc_lines.specs.Replies.{ReplyFields, IsReply, IsWrittenReply, EndsCode, params_text, reply_signature, reply_text}
 use Rattle.gc_lines.specs.Readers.{request_at, reply_at}
 use Rattle.gc_lines.specs.Laws.{IsRequestInRange, IsReplyInRange}
-use Rattle.gc_lines.proofs.Digits.{plain}
+use Rattle.gc_lines.proofs.Digits.{digits_are_numerals}
 use Rattle.gc_lines.proofs.Requests.{request_again}
 use Rattle.gc_lines.proofs.Replies.{reply_again}
 
@@ -34,14 +34,14 @@ decimal_zeros n h zero = elim (cases_lt 0 n) [
 
 -- a number's text without leading zeros is the one that is written
 number_written : (text : List ℕ) (n : ℕ) → IsNumber text n → NoLeadingZero text → text ≡ decimal n
-number_written text n is zeros = sym (decimal-digits_value plain text is.digits is.some zeros (omega (arith, is.value, is.bound))) ∙ ap decimal is.value
+number_written text n is zeros = sym (decimal-digits_value digits_are_numerals text is.digits is.some zeros (omega (arith, is.value, is.bound))) ∙ ap decimal is.value
 
 -- the parameters of a written reply have the form of a reply's end
 params_end : (params : List ℕ) → EndsCode (params_text params) params
 params_end [] = inl (refl, refl)
 params_end (b ∷ bs) = inr refl
 
--- a written reply ends behind its return code exactly where it has no parameters
+-- a written reply ends after its return code exactly where it has no parameters
 params_comma : (params : List ℕ) → (params_text params ≡ []) ↔ (params ≡ [])
 params_comma [] = (λ e. refl, λ e. refl)
 params_comma (b ∷ bs) = (λ e. (cc), λ e. (cc))

@@ -22,7 +22,7 @@ fault_number (TooManyReads _) = 44
 abbrev pub numbered : ℕ → List ℕ
 numbered number = codes "fault " ++ decimal number
 
--- what is printed behind the number of a failed write: how many replies were written whole, and how many bytes of the next
+-- what is printed after the number of a failed write: how many replies were written whole, and how many bytes of the next
 abbrev pub how_far : (replies bytes : ℕ) → List ℕ
 how_far replies bytes = codes " reply " ++ (decimal replies ++ (codes " byte " ++ decimal bytes))
 
@@ -43,7 +43,7 @@ AnswersInOrder State rule before (frame ∷ later) after texts =
     (state : State) × (text : Option (List ℕ)) × (rest : List (List ℕ))
     × rule before frame state text × AnswersInOrder State rule state later after rest × (texts ≡ option_to_list text ++ rest)
 
--- texts as they are written, one behind the other
+-- texts as they are written, one after the other
 abbrev pub all_of : List (List ℕ) → List ℕ
 all_of texts = flat_map (λ text. text) texts
 

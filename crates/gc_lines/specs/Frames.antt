@@ -19,12 +19,12 @@ frame_of bytes =
     then (if nat_lt 512 (length bytes - 1) then Overlong else Line (record { items = take (length bytes - 1) bytes }))
     else Cleared
 
--- the pieces of a stream that a line feed ends, each without it, where some bytes without a line feed stand before the stream
+-- the pieces of a stream that a line feed ends, each without it, where some bytes without a line feed are before the stream
 abbrev pub pieces_behind : List ℕ → List ℕ → List (List ℕ)
 pieces_behind before [] = []
 pieces_behind before (b ∷ bs) = if is_line_feed b then before ∷ pieces_behind [] bs else pieces_behind (before ++ b ∷ []) bs
 
--- what follows the last line feed of a stream, where some bytes without a line feed stand before it
+-- what follows the last line feed of a stream, where some bytes without a line feed are before it
 abbrev pub rest_behind : List ℕ → List ℕ → List ℕ
 rest_behind before [] = before
 rest_behind before (b ∷ bs) = if is_line_feed b then rest_behind [] bs else rest_behind (before ++ b ∷ []) bs
@@ -56,7 +56,7 @@ lines stream = filter_map line_in (frames stream)
 abbrev pub HasNoLineFeed : List ℕ → Type 0
 HasNoLineFeed bytes = AllByRecursion (λ b. b ≢ 10) bytes
 
--- a stream is these parts, each followed by a line feed, and then a rest, and no line feed stands in a part or in the rest
+-- a stream is these parts, each followed by a line feed, and then a rest, and no line feed is in a part or in the rest
 pub record IsCut (stream : List ℕ) (parts : List (List ℕ)) (rest : List ℕ) : Type 0 where
   pub whole : stream ≡ flat_map (λ part. part ++ 10 ∷ []) parts ++ rest
   pub each : AllByRecursion HasNoLineFeed parts

@@ -5,17 +5,17 @@ use Rattle.gc_lines.specs.declared.fault.LineFault.{LineFault}
 use Rattle.gc_lines.specs.declared.fault.LineFault.TheVariants.{Signature, Number, Id, Colon, Code, TooLong}
 use Rattle.gc_lines.specs.Numbers.{NoDigitFirst, HasNumber}
 
--- an id behind a comma, or nothing
+-- an id after a comma, or nothing
 abbrev pub id_text : Option ℕ → List ℕ
 id_text None = []
 id_text (Some id) = 44 ∷ (48 + id) ∷ []
 
--- an id ends in front of these bytes: no further digit follows it, and without an id no comma follows
+-- an id ends before these bytes: no further digit follows it, and without an id no comma follows
 abbrev pub EndsId : Option ℕ → List ℕ → Type 0
 EndsId None rest = (after : List ℕ) → rest ≢ 44 ∷ after
 EndsId (Some id) rest = NoDigitFirst rest
 
--- the bytes begin with an id from 0 to 7 behind a comma, or with no comma, and the rest follows
+-- the bytes begin with an id from 0 to 7 after a comma, or with no comma, and the rest follows
 pub record HasId (bytes : List ℕ) (id : Option ℕ) (rest : List ℕ) : Type 0 where
   pub below : IfSome id (λ i. i < 8)
   pub whole : bytes ≡ id_text id ++ rest
@@ -47,8 +47,8 @@ pub record PastColon (signature line rest : List ℕ) : Type 0 where
   pub before : PastId signature line from
   pub here : from ≡ 58 ∷ rest
 
--- the fault names the first faulty field, from the left, of a line that is to have this signature. `Body` says what may stand behind the
--- colon; `Code`: what stands there doesn't fit. No field is `TooLong`
+-- the fault names the first faulty field, from the left, of a line that is to have this signature. `Body` says what may
+-- follow the colon; `Code`: what is there doesn't fit. No field is `TooLong`
 abbrev pub FirstBadField : List ℕ → (List ℕ → Type 0) → List ℕ → LineFault → Type 0
 FirstBadField signature Body line Signature = (rest : List ℕ) → ¬ PastSignature signature line rest
 FirstBadField signature Body line Number = (from : List ℕ) × PastSignature signature line from × ((n : ℕ) (rest : List ℕ) → ¬ HasNumber from n rest)

@@ -5,7 +5,7 @@ use Rattle.gc_lines.specs.Frames.{frame_of, pieces_behind}
 use Rattle.gc_lines.specs.declared.frame.Frame.{Frame}
 use Rattle.gc_lines.specs.declared.frame.Frame.TheVariants.{Line, Cleared, Overlong, More}
 
--- the frames that a piece completes behind a rest, which no line feed ends yet
+-- the frames that a piece completes after a rest, which no line feed ends yet
 abbrev pub frames_behind : List ℕ → List ℕ → List Frame
 frames_behind rest piece = map frame_of (pieces_behind rest piece)
 

@@ -20,7 +20,7 @@ abbrev pub ◌>>=◌ : {A B : Type 0} → Result A LineFault → (A → Result B
 abbrev pub signature_at : List ℕ → List ℕ → Result (List ℕ) LineFault
 signature_at signature line = if pointwise nat_eq (take (length signature) line) signature then Ok (drop (length signature) line) else Err Signature
 
--- how many digits stand at the front
+-- how many digits are at the front
 abbrev pub digits_len : List ℕ → ℕ
 digits_len bytes = length (take_while is_ascii_digit bytes)
 
@@ -31,7 +31,7 @@ number_at fault bytes =
     if nat_lt 0 len && (nat_lt len 6 && nat_lt (digits_value 10 (take len bytes)) 65536)
     then Ok (digits_value 10 (take len bytes), drop len bytes) else Err fault
 
--- the id behind a comma at the front, or none without a comma, and what follows; or the fault `Id`
+-- the id after a comma at the front, or none without a comma, and what follows; or the fault `Id`
 abbrev pub id_at : List ℕ → Result (Option ℕ × List ℕ) LineFault
 id_at bytes =
     if slice_index bytes 0 == 44
@@ -53,8 +53,8 @@ pub record HeaderFields : Type 0 where
 abbrev pub header_seen : Header → HeaderFields
 header_seen h = record { number = h.number; id = h.id; rest = h.rest.now }
 
--- reads the fields through the colon, from the left, or gives the fault of the first that hasn't its form. `from` is what stands behind
--- the signature
+-- reads the fields through the colon, from the left, or gives the fault of the first that hasn't its form. `from` is what
+-- follows the signature
 unfoldable pub header_at : List ℕ → List ℕ → Result HeaderFields LineFault
 header_at signature line = do
   from ← signature_at signature line
@@ -69,12 +69,12 @@ request_at line = do
   header ← header_at request_signature line
   Ok (record { rpc = header.number; id = header.id; params = header.rest })
 
--- the parameters behind a return code, or the fault `Code`
+-- the parameters after a return code, or the fault `Code`
 abbrev pub params_at : List ℕ → Result (List ℕ) LineFault
 params_at [] = Ok []
 params_at (b ∷ bs) = if b == 44 then Ok bs else Err Code
 
--- the return code and the parameters behind it, or the fault `Code`
+-- the return code and the parameters after it, or the fault `Code`
 abbrev pub code_at : List ℕ → Result (ℕ × List ℕ) LineFault
 code_at bytes = do
   code ← number_at Code bytes

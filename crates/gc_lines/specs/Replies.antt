@@ -17,11 +17,11 @@ pub record ReplyFields : Type 0 where
 abbrev pub reply_signature : List ℕ
 reply_signature = codes "%R1P,"
 
--- behind a return code the line ends, or a comma and then the parameters follow
+-- after a return code the line ends, or a comma and then the parameters follow
 abbrev pub EndsCode : List ℕ → List ℕ → Type 0
 EndsCode tail params = ((tail ≡ []) × (params ≡ [])) ⊎ (tail ≡ 44 ∷ params)
 
--- a line has the grammar of a reply with these fields: it is the fields' texts, one behind the other
+-- a line has the grammar of a reply with these fields: it is the fields' texts, one after the other
 pub record IsReply (line : List ℕ) (fields : ReplyFields) : Type 0 where
   pub number : List ℕ
   pub code : List ℕ
@@ -36,7 +36,7 @@ pub record IsReply (line : List ℕ) (fields : ReplyFields) : Type 0 where
 abbrev pub reply_seen : Reply → ReplyFields
 reply_seen r = record { rc_com = r.rc_com; id = r.id; rc = r.rc; params = r.params.now }
 
--- the bytes are a return code and, where any are there, the parameters behind a comma
+-- the bytes are a return code and, where any are there, the parameters after a comma
 pub record HasCode (bytes : List ℕ) (rc : ℕ) (params : List ℕ) : Type 0 where
   pub text : List ℕ
   pub tail : List ℕ
@@ -48,15 +48,15 @@ pub record HasCode (bytes : List ℕ) (rc : ℕ) (params : List ℕ) : Type 0 wh
 abbrev pub FirstBadOfReply : List ℕ → LineFault → Type 0
 FirstBadOfReply line fault = FirstBadField reply_signature (λ bytes. (rc : ℕ) × (params : List ℕ) × HasCode bytes rc params) line fault
 
--- a line is the written form of a reply: its numbers have no leading zeros, and a comma stands behind the return code exactly where
--- there are parameters
+-- a line is the written form of a reply: its numbers have no leading zeros, and a comma follows the return code exactly
+-- where there are parameters
 pub record IsWrittenReply (line : List ℕ) (fields : ReplyFields) : Type 0 where
   pub is : IsReply line fields
   pub number : NoLeadingZero is.number
   pub code : NoLeadingZero is.code
   pub comma : (is.tail ≡ []) ↔ (fields.params ≡ [])
 
--- the parameters behind a comma, where there are any
+-- the parameters after a comma, where there are any
 abbrev pub params_text : List ℕ → List ℕ
 params_text [] = []
 params_text (b ∷ bs) = 44 ∷ b ∷ bs

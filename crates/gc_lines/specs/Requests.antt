@@ -20,7 +20,7 @@ request_seen r = record { rpc = r.rpc; id = r.id; params = r.params.now }
 abbrev pub request_signature : List ℕ
 request_signature = codes "%R1Q,"
 
--- a line has the grammar of a request with these fields: it is the fields' texts, one behind the other
+-- a line has the grammar of a request with these fields: it is the fields' texts, one after the other
 pub record IsRequest (line : List ℕ) (fields : RequestFields) : Type 0 where
   pub number : List ℕ
   pub is_number : IsNumber number fields.rpc

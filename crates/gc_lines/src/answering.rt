@@ -16,7 +16,7 @@ use arrayvec::ArrayVec;
 /// How many bytes a run reads at a time at most.
 const PIECE: usize = 256;
 
-/// Texts on their way out, one behind the other. Each has at most 514 bytes, its line end counted.
+/// Texts to be sent, one after the other. Each has at most 514 bytes, its line end counted.
 pub type Outgoing = ArrayVec<u8, 8192>;
 
 /// An answerer of the frames of a stream, one after the other. It answers each with a text of at most 514 bytes, its line end
@@ -34,9 +34,9 @@ pub trait Answers {
         ensures bound { length text.new.items ≤ length text.old.items + 514 };
 }
 
-/// Answers the frames of a source until its end, in at most `max_reads` reads of at most 256 bytes, and writes the texts into a
-/// sink. Without `gathers` it writes each text before it looks at the next frame. With it the texts of one read go out
-/// together, before the next read. It takes no memory.
+/// Answers the frames of a source until its end, in at most `max_reads` reads of at most 256 bytes, and writes the texts
+/// into a sink. Without `gathers` it writes each text before it looks at the next frame. With it the texts of one read are
+/// sent together, before the next read. It takes no memory.
 ///
 /// Bytes without a line feed at the end of the input are no frame. Without `gathers` the answerer has got all frames that were
 /// read; after a failed write it has got none after the frame whose text was on its way. With `gathers` it may then have got

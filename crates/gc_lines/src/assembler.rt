@@ -60,8 +60,8 @@ impl Assembler {
     /// Uses the piece through its first line feed. It returns how many bytes those were, and the frame that they end.
     ///
     /// Where the piece has no line feed, all of it is used and the frame is [`Lent::More`], also where it is empty. After
-    /// any other frame the assembler is at the start of a line. A line that stands whole in the piece is lent from
-    /// there; one that earlier pieces began is put together in `cut`, whatever stood there, and lent from there.
+    /// any other frame the assembler is at the start of a line. A line that is whole in the piece is lent from there; one
+    /// that earlier pieces began is put together in `cut`, whatever was there, and lent from there.
     #[inline(always)]
     pub fn next<'a>(&mut self, piece: &'a [u8], cut: &'a mut Line) -> (usize, Lent<'a>)
         ensures stands { (rest : List ℕ) × StandsFor self.old rest }

@@ -14,14 +14,14 @@ use std::fmt;
 pub enum LineFault {
     /// 1: the line does not begin with `%R1Q,` (a request) or `%R1P,` (a reply).
     Signature,
-    /// 2: behind the signature there is no run of one to five digits with a value of at most 65535.
+    /// 2: after the signature there is no run of one to five digits with a value of at most 65535.
     Number,
-    /// 3: behind the number there is a comma, and behind it no run of exactly one digit from 0 to 7.
+    /// 3: after the number there is a comma, and after it no run of exactly one digit from 0 to 7.
     Id,
-    /// 4: behind the number and the id there is no colon.
+    /// 4: after the number and the id there is no colon.
     Colon,
-    /// 5: behind a reply's colon there is no run of one to five digits with a value of at most 65535, or behind it neither
-    /// the end of the line nor a comma.
+    /// 5: after a reply's colon there is no run of one to five digits with a value of at most 65535, or after it neither the
+    /// end of the line nor a comma.
     Code,
     /// 6: the line to be written would pass 512 bytes. No reader answers it.
     TooLong,

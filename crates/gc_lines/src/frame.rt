@@ -4,7 +4,7 @@ ghost use Rattle.std.specs.Prelude.{◌≡◌};
 
 use crate::line::{Line, append};
 
-/// What stands between two line feeds of a stream.
+/// What is between two line feeds of a stream.
 ///
 /// The manual ends a line by CR LF and says that a lone LF clears the receiver's buffer. That a line above 512 bytes is
 /// dropped whole is this project's own.
@@ -12,7 +12,7 @@ use crate::line::{Line, append};
 pub enum Frame {
     /// A line of at most 512 bytes, without its CR LF. CR LF alone is a line of no bytes.
     Line(Line),
-    /// A line feed without a CR before it: what stood before it is dropped.
+    /// A line feed without a CR before it: what was before it is dropped.
     Cleared,
     /// A line of more than 512 bytes, without its CR LF: it is dropped.
     Overlong,
@@ -20,7 +20,7 @@ pub enum Frame {
     More,
 }
 
-/// A frame whose line is lent: as it stands in a piece, or where it was put together.
+/// A frame whose line is lent: as it is in a piece, or where it was put together.
 #[derive(Clone, Copy, Debug, PartialEq, Eq)]
 pub enum Lent<'a> {
     /// As [`Frame::Line`].

@@ -32,7 +32,7 @@ pub(crate) fn header_of<'a>(signature: &[u8], line: &'a [u8]) -> Result<Header<'
     Ok(Header { number, id, rest })
 }
 
-// The bytes behind the signature. `Signature`: the line doesn't begin with it.
+// The bytes after the signature. `Signature`: the line doesn't begin with it.
 #[inline(always)]
 fn after_signature<'a>(signature: &[u8], line: &'a [u8]) -> Result<&'a [u8], LineFault>
     ensures { Gives (λ rest. rest.now) result (signature_at signature.now line.now) }
@@ -40,7 +40,8 @@ fn after_signature<'a>(signature: &[u8], line: &'a [u8]) -> Result<&'a [u8], Lin
     line.strip_prefix(signature).ok_or(LineFault::Signature)
 }
 
-// The id behind a comma, or none without a comma, and the bytes that follow. `Id`: no single digit from 0 to 7 follows the comma.
+// The id after a comma, or none without a comma, and the bytes that follow. `Id`: no single digit from 0 to 7 follows the
+// comma.
 #[inline(always)]
 fn id_of(bytes: &[u8]) -> Result<(Option<u8>, &[u8]), LineFault>
     ensures { Gives (λ x. (x.0, x.1.now)) result (id_at bytes.now) }
@@ -54,7 +55,7 @@ fn id_of(bytes: &[u8]) -> Result<(Option<u8>, &[u8]), LineFault>
     Ok((Some(rest[0] - b'0'), &rest[1..]))
 }
 
-// The bytes behind a colon. `Colon`: there is none at the front.
+// The bytes after a colon. `Colon`: there is none at the front.
 #[inline(always)]
 fn after_colon(bytes: &[u8]) -> Result<&[u8], LineFault>
     ensures { Gives (λ rest. rest.now) result (colon_at bytes.now) }
@@ -84,7 +85,7 @@ pub(crate) fn push_header<const N: usize>(
     to.push(b':');
 }
 
-// Appends an id behind a comma, if there is one.
+// Appends an id after a comma, if there is one.
 #[inline(always)]
 fn push_id<const N: usize>(to: &mut ArrayVec<u8, N>, id: Option<u8>)
     requires id { ForSome id (λ i. i < 8) }

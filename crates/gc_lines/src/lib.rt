@@ -1,8 +1,8 @@
 //! The lines of the GeoCOM ASCII protocol: ports, line assembly, requests and replies.
 //!
-//! Bytes come from a [`Source`] and go to a [`Sink`]. An [`Assembler`] makes lines of what was read, however it is cut: a line
-//! that stands whole in what was read is lent from there, and only a cut one is put together.
-//! A line is read as a [`Request`] or a [`Reply`] and written again. Nothing here allocates.
+//! Bytes come from a [`Source`] and go to a [`Sink`]. An [`Assembler`] makes lines of what was read, however it is cut: a
+//! line that is whole in what was read is lent from there, and only a cut one is put together. A line is read as a
+//! [`Request`] or a [`Reply`] and written again. Nothing here allocates.
 #![tactic(auto)]
 
 mod answering;

@@ -9,7 +9,7 @@ use arrayvec::ArrayVec;
 /// A line without its CR LF, of at most 512 bytes. The limit is this project's own.
 pub type Line = ArrayVec<u8, 512>;
 
-/// Whether there is neither CR nor LF in these bytes, so that they may stand inside a line.
+/// Whether there is neither CR nor LF in these bytes, so that they are allowed inside a line.
 pub fn is_plain(bytes: &[u8]) -> bool
     ensures { IsTrue result ↔ IsPlain bytes.now }
 {

@@ -11,7 +11,7 @@ use crate::fault::LineFault;
 use crate::line::append;
 use arrayvec::ArrayVec;
 
-// How many digits stand at the front.
+// How many digits are at the front.
 #[inline]
 pub(crate) fn count_digits(bytes: &[u8]) -> usize
     ensures run { result ≡ digits_len bytes.now }
@@ -20,7 +20,7 @@ pub(crate) fn count_digits(bytes: &[u8]) -> usize
     bytes.iter().take_while(|b| b.is_ascii_digit()).count()
 }
 
-// The number at the front and the bytes behind it. Where there is none, `fault` is returned, which names the number's field.
+// The number at the front and the bytes after it. Where there is none, `fault` is returned, which names the number's field.
 #[inline(always)]
 pub(crate) fn number_of(bytes: &[u8], fault: LineFault) -> Result<(u16, &[u8]), LineFault>
     ensures { Gives (λ x. (x.0, x.1.now)) result (number_at fault bytes.now) }

@@ -14,7 +14,7 @@ use arrayvec::ArrayVec;
 /// A reply: how the communication went, the request's transaction id, how the procedure went, and the bytes of the
 /// parameters.
 ///
-/// 0 is success for both codes. `params` is all that follows the comma behind `rc`, and empty where there is none. The form
+/// 0 is success for both codes. `params` is all that follows the comma after `rc`, and empty where there is none. The form
 /// is that of the GeoCOM manual's chapter on the ASCII protocol; that ids are one digit from 0 to 7 is this project's own.
 #[derive(Clone, Copy, Debug, PartialEq, Eq)]
 pub struct Reply<'a> {
@@ -28,7 +28,7 @@ ghost use Rattle.gc_lines.specs.Replies.{ReplyFields, reply_seen, IsReply, First
 ghost use Rattle.gc_lines.specs.Readers.{params_at, code_at, reply_at};
 ghost use Rattle.gc_lines.specs.Lines.{IsPlain};
 
-// The parameters behind a return code: none at the end of the line, else all that follows a comma. `Code`: neither stands there.
+// The parameters after a return code: none at the end of the line, else all that follows a comma. `Code`: neither is there.
 #[inline(always)]
 fn params_of(bytes: &[u8]) -> Result<&[u8], LineFault>
     ensures { Gives (λ params. params.now) result (params_at bytes.now) }
@@ -40,7 +40,7 @@ fn params_of(bytes: &[u8]) -> Result<&[u8], LineFault>
     }
 }
 
-// The return code and the parameters behind it. `Code`: there is no such code, or neither a comma nor the end follows it.
+// The return code and the parameters after it. `Code`: there is no such code, or neither a comma nor the end follows it.
 #[inline(always)]
 fn code_of(bytes: &[u8]) -> Result<(u16, &[u8]), LineFault>
     ensures { Gives (λ x. (x.0, x.1.now)) result (code_at bytes.now) }
@@ -79,7 +79,7 @@ pub fn read_reply(line: &[u8]) -> Result<Reply<'_>, LineFault>
     reply_of(line)
 }
 
-/// Appends a reply through its return code; parameters may follow, each behind a comma.
+/// Appends a reply through its return code; parameters may follow, each after a comma.
 #[inline]
 pub fn push_reply<const N: usize>(to: &mut ArrayVec<u8, N>, rc_com: u16, id: u8, rc: u16)
     requires id { id < 8 }
@@ -120,7 +120,7 @@ fn put_reply<const N: usize>(to: &mut ArrayVec<u8, N>, rc_com: u16, id: Option<u
     push_number(to, rc);
 }
 
-// A reply line through its return code; parameters may be appended, each behind a comma.
+// A reply line through its return code; parameters may be appended, each after a comma.
 fn begin_reply(rc_com: u16, id: Option<u8>, rc: u16) -> Line
     requires { ForSome id (λ i. i < 8) }
     ensures items { result.items ≡ reply_text (record { rc_com = rc_com; id = id; rc = rc; params = [] }) }

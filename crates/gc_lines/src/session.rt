@@ -1,5 +1,5 @@
-//! What the answering loop keeps from one read to the next, and how texts go out: each at once, or gathered. All writing of
-//! a whole run lives here.
+//! What the answering loop keeps from one read to the next, and how texts are sent: each at once, or gathered. All writing
+//! of a whole run lives here.
 
 ghost use Rattle.std.specs.Prelude.{◌≡◌, ℕ, ◌+◌, ◌<◌, ◌≤◌, ◌^◌, [], ◌∷◌, List, Option, ◌++◌, length, IfErr, OnOk, true, false};
 ghost use Rattle.std.specs.Io.KnownBytes.{Appends};
@@ -23,9 +23,9 @@ use crate::writing::write_whole;
 #[derive(Drop)]
 pub(crate) struct Session {
     assembler: Assembler,
-    // Whether the texts of one read go out together.
+    // Whether the texts of one read are sent together.
     gathers: bool,
-    // The texts on their way out, one behind the other, and the length of each.
+    // The texts to be sent, one after the other, and the length of each.
     text: Outgoing,
     lengths: Lengths,
     // How many texts were written whole.

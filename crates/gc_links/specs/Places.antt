@@ -1,4 +1,4 @@
--- What a word says of where an instrument stands: this project's own.
+-- What a word says of where an instrument is: this project's own.
 use Rattle.std.specs.Prelude.{◌≡◌, ℕ, ◌<◌, ◌≤◌, List, ◌∷◌, ◌++◌, length, get_or}
 use Rattle.gc_values.specs.Whole.{NamesNumber}
 use Rattle.gc_links.specs.declared.place.Place.{Place}
@@ -8,7 +8,7 @@ use Rattle.gc_links.specs.declared.place.Place.TheVariants.{Port, Host, Device}
 abbrev pub IsPort : List ℕ → ℕ → Type 0
 IsPort digits port = NamesNumber digits port × (1 ≤ port) × (port ≤ 65535)
 
--- a slash stands in a word
+-- a slash is in a word
 abbrev pub HasSlash : List ℕ → Type 0
 HasSlash word = (at : ℕ) × (at < length word) × (get_or word at 0 ≡ 47)
 

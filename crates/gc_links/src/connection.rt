@@ -4,8 +4,8 @@ use std::io::{self, ErrorKind};
 use std::net::{Net, SocketAddr, TcpListener, TcpStream, ToSocketAddrs};
 use std::time::Duration;
 
-/// How long the making of a connection, or one write, may wait for the other end, in milliseconds. A radio modem takes a request
-/// line in less than a second. A put whose line goes out in parts may wait so long for each of them over TCP.
+/// How long the making of a connection, or one write, may wait for the other end, in milliseconds. A radio modem takes a
+/// request line in less than a second. A put whose line is sent in parts may wait so long for each of them over TCP.
 pub(crate) const PATIENCE: u64 = 10_000;
 
 /// The other end of a connection over TCP.

@@ -240,7 +240,7 @@ impl<'a, R: Files<File = File> + Clock> Link for DeviceLink<'a, R> {
         self.gone = false;
     }
 
-    // Takes the device that is held, if one is held and still there, and else opens the path anew.
+    // Takes the device that is held, if one is held and still there, and else reopens the path.
     fn open(&mut self) -> Result<(), PortFailed> {
         self.close();
         self.file = match self.still_held() {

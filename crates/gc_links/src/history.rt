@@ -56,7 +56,8 @@ impl History {
         History {}
     }
 
-    /// The history with one more act at its end, the one that the note tells. The acts are ghost, so there is nothing to copy.
+    /// The history with one more act at its end, the one that the note reports. The acts are ghost, so there is nothing to
+    /// copy.
     pub fn then(&self, _note: &Note<'_>) -> History
         ensures { result.acts ≡ self.now.acts ++ act_of _note.now ∷ [] }
     {

@@ -1,4 +1,4 @@
-//! A link: a connection that can be made anew, and a clock, as one port, so that the order of all its calls is known.
+//! A link: a connection that can be made again, and a clock, as one port, so that the order of all its calls is known.
 
 ghost use Rattle.std.specs.Prelude.{[], ◌∷◌, ◌<◌, length};
 ghost use Rattle.gc_links.specs.Acts.{Closed, Tells, told_as, put_as, came_as, opened_as, IsWithin, IsPart};
@@ -31,7 +31,7 @@ pub enum Came {
     NoMoment,
 }
 
-/// A connection that can be closed and made anew, and its clock.
+/// A connection that can be closed and made again, and its clock.
 ///
 /// Each call is one act. `acts` are those so far, or `None` where they aren't known, as of a socket.
 pub trait Link {

@@ -1,4 +1,4 @@
-//! Where an instrument stands, as a word of the command line says it.
+//! Where an instrument is, as a word of the command line says it.
 
 ghost use Rattle.std.specs.Prelude.{IfSome};
 ghost use Rattle.gc_links.specs.Places.{IsPort, IsPlace};
@@ -7,12 +7,12 @@ use gc_values::read_whole;
 use memchr::{memchr, memrchr};
 use std::fmt::{self, Display, Formatter};
 
-/// Where an instrument stands.
+/// Where an instrument is.
 #[derive(Clone, Copy, Debug, PartialEq, Eq)]
 pub enum Place<'a> {
     /// A port of 127.0.0.1.
     Port(u16),
-    /// An address or a name, and its port: `HOST:PORT`, or `[ADDRESS]:PORT` where colons stand in the address.
+    /// An address or a name, and its port: `HOST:PORT`, or `[ADDRESS]:PORT` where colons are in the address.
     Host(&'a str),
     /// The path of a device.
     Device(&'a str),
@@ -28,9 +28,9 @@ impl<'a> Display for Place<'a> {
     }
 }
 
-/// The place that a word names. A word with a slash is the path of a device; `://`, as in a URL, is refused. Any other word is a
-/// port from 1 to 65535, or `HOST:PORT` with such a port. A host with colons (an IPv6 address) stands in brackets, and no other
-/// does. `None`: the word is none of the three.
+/// The place that a word names. A word with a slash is the path of a device; `://`, as in a URL, is refused. Any other word
+/// is a port from 1 to 65535, or `HOST:PORT` with such a port. A host with colons (an IPv6 address) is in brackets, and no
+/// other does. `None`: the word is none of the three.
 pub fn place_of(word: &str) -> Option<Place<'_>>
     ensures { IfSome result (λ place. IsPlace word.now place) }
 {
@@ -56,7 +56,7 @@ pub fn place_of(word: &str) -> Option<Place<'_>>
     }
 }
 
-// Whether `://` stands in a word.
+// Whether `://` is in a word.
 fn is_url(word: &[u8]) -> bool {
     word.windows(3).any(|part| part == b"://".as_slice())
 }
@@ -74,12 +74,12 @@ fn within_brackets(host: &[u8]) -> Option<&[u8]> {
     host.strip_prefix(b"[")?.strip_suffix(b"]")
 }
 
-// Whether a colon stands in a text.
+// Whether a colon is in a text.
 fn has_colon(text: &[u8]) -> bool {
     memchr(b':', text).is_some()
 }
 
-// Whether `[` or `]` stands in a text.
+// Whether `[` or `]` is in a text.
 fn has_bracket(text: &[u8]) -> bool {
     text.iter().any(|b| matches!(*b, b'[' | b']'))
 }

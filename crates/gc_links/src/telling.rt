@@ -9,7 +9,7 @@ use crate::history::{History, Note};
 use crate::link::{Came, Link, Moment};
 use gc_lines::PortFailed;
 
-/// A link whose acts are known, whatever link it stands over.
+/// A link whose acts are known, whatever link it uses.
 #[derive(Drop)]
 pub struct Telling<L> {
     /// The link inside.

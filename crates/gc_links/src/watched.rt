@@ -9,8 +9,9 @@ use std::rt::Files;
 
 /// A link over another, whose moments say whether a file is there by which somebody asks for the run's end.
 ///
-/// It looks for the file each time that the link inside tells a moment. A file that can't be looked at, for any error, counts as
-/// not there: a run doesn't end for a directory that can't be read. Without a file (`None`) it makes no system call of its own.
+/// It looks for the file each time that the link inside reports a moment. A file that can't be looked at, for any error,
+/// counts as not there: a run doesn't end for a directory that can't be read. Without a file (`None`) it makes no system
+/// call of its own.
 #[derive(Drop)]
 pub struct Watched<'a, R, L> {
     rt: &'a R,
@@ -33,7 +34,7 @@ impl<'a, R: Files, L> Watched<'a, R, L> {
         }
     }
 
-    // A moment that the link inside told, with whether the file is there.
+    // A moment that the link inside reported, with whether the file is there.
     fn seen(&self, moment: Moment) -> Moment {
         Moment {
             elapsed: moment.elapsed,

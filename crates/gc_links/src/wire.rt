@@ -14,7 +14,7 @@ use std::time::{Clock, Duration};
 // The system's number of the error of a device that was pulled out: EIO.
 const PULLED_OUT: i32 = 5;
 
-/// A connection that stands, over TCP or over a device.
+/// An open connection, over TCP or over a device.
 #[derive(Drop)]
 pub enum Wire<'a, R> {
     /// Over TCP.
@@ -71,7 +71,7 @@ impl<'a, R: Clock> Read for &Wire<'a, R> {
     }
 }
 
-// A write waits until the other end takes something. Each goes out at once, so there is nothing to flush.
+// A write waits until the other end takes something. Each is sent at once, so there is nothing to flush.
 impl<'a, R: Clock> Write for &Wire<'a, R> {
     fn write(&mut self, buf: &[u8]) -> io::Result<usize> {
         match *self {
@@ -101,8 +101,8 @@ fn write_to(stream: &TcpStream, buf: &[u8]) -> io::Result<usize>
     stream.write(buf)
 }
 
-/// Reads what comes over a connection within so many milliseconds, at least one. `None`: nothing came in that time. Behind it each
-/// read may wait as long as `longest` says, without end where that is `None`.
+/// Reads what comes over a connection within so many milliseconds, at least one. `None`: nothing came in that time. After it
+/// each read may wait as long as `longest` says, without end where that is `None`.
 pub fn read_stream_within(
     stream: &TcpStream,
     buf: &mut [u8],

@@ -7,8 +7,8 @@ ghost use Rattle.gc_probes.specs.Seen.{SourceSeen, ReadsAsTold, piece_size};
 use gc_lines::{PortFailed, Source};
 use std::marker::Model;
 
-/// Gives bytes in pieces of the sizes that it was made with, one for each read. Behind the last
-/// piece each read gets what it has room for. A piece of size 0 gives one byte.
+/// Gives bytes in pieces of the sizes that it was made with, one for each read. After the last piece each read gets what it
+/// has room for. A piece of size 0 gives one byte.
 #[derive(Drop)]
 pub struct PieceSource<'a> {
     left: &'a [u8],

@@ -1,7 +1,7 @@
--- What holds of a command in a station's text, by the lines in front of it. The mode at a line is the deadline there, the
--- return codes that are accepted there, whether commands are chained there, and the target of the row that a command may
--- continue there. A row is a run of commands for one target, which a line `chained` or `unchained` ends. `Says` says that a
--- mode is what these lines say.
+-- What holds of a command in a station's text, by the lines before it. The mode at a line is the deadline there, the return
+-- codes that are accepted there, whether commands are chained there, and the target of the row that a command may continue
+-- there. A row is a run of commands for one target, which a line `chained` or `unchained` ends. `Says` says that a mode is
+-- what these lines say.
 use Rattle.std.proofs.Common.{◌≡◌, inl, inr, ◌+◌, ◌*◌, ◌≤◌, nat_lt, if◌then◌else◌, arith, ℕ, zero, suc, ◌&&◌, Bool, true, false, List, [], ◌∷◌, ◌++◌, length, map, Option, Some, None, refl, sym, ap, ◌∙◌, subst, append_assoc, append-nil}
 use Rattle.std.specs.List.{AllByRecursion}
 use Rattle.std.proofs.lemmas.Bool.{eqb-true, eq-eqb}
@@ -25,17 +25,17 @@ use Rattle.gc_texts.specs.declared.task_line.TaskLine.TheVariants as says
 use Rattle.gc_texts.specs.declared.tasks.Mode.{Mode}
 use Rattle.gc_texts.specs.declared.tasks.Task.{Task}
 
--- the mode behind these lines, where `mode` holds in front of the first
+-- the mode after these lines, where `mode` holds before the first
 abbrev behind_all : Mode → List TaskLine → Mode
 behind_all mode [] = mode
 behind_all mode (line ∷ later) = behind_all (behind mode line) later
 
--- the mode behind `xs` and then `ys` is the mode behind `ys`, where the mode behind `xs` holds in front of them
+-- the mode after `xs` and then `ys` is the mode after `ys`, where the mode after `xs` holds before them
 behind_both : (mode : Mode) (xs ys : List TaskLine) → behind_all mode (xs ++ ys) ≡ behind_all (behind_all mode xs) ys
 behind_both mode [] ys = refl
 behind_both mode (x ∷ xs) ys = behind_both (behind mode x) xs ys
 
--- the set-up of `xs` and then `ys` is that of `xs`, and then that of `ys`, where the mode behind `xs` holds in front of `ys`
+-- the set-up of `xs` and then `ys` is that of `xs`, and then that of `ys`, where the mode after `xs` holds before `ys`
 setup_both : (mode : Mode) (xs ys : List TaskLine) → setup_of mode (xs ++ ys) ≡ setup_of mode xs ++ setup_of (behind_all mode xs) ys
 setup_both mode [] ys = refl
 setup_both mode (x ∷ xs) ys =
@@ -47,7 +47,7 @@ planned_both mode [] ys = refl
 planned_both mode (x ∷ xs) ys =
     ap (λ ts. planned_at mode x ++ ts) (planned_both (behind mode x) xs ys) ∙ sym (append_assoc (planned_at mode x) (planned_of (behind mode x) xs) (planned_of (behind_all (behind mode x) xs) ys))
 
--- the section behind lines is the mode's
+-- the section after lines is the mode's
 section_is : (mode : Mode) (lines : List TaskLine) → (behind_all mode lines).setup ≡ section_behind mode.setup lines
 section_is mode [] = refl
 section_is mode (says.Command c now ∷ later) = section_is (behind mode (says.Command c now)) later
@@ -133,7 +133,7 @@ record Says (deadline : ℕ) (chained : Bool) (lines : List TaskLine) (mode : Mo
   retry_is : IsRetryBehind lines mode.retry
   row : (target : ℕ) → mode.row ≡ Some target → EndsWithTarget lines target
 
--- where `d` is the deadline behind some lines, it is the deadline behind one more, too, if that line says no deadline
+-- where `d` is the deadline after some lines, it is the deadline after one more, too, if that line says no deadline
 more_deadline : (deadline d : ℕ) (lines : List TaskLine) (line : TaskLine) → SaysNoDeadline line → IsDeadlineBehind deadline lines d → IsDeadlineBehind deadline (lines ++ line ∷ []) d
 more_deadline deadline d lines line none (inl given) = inl (all_more SaysNoDeadline lines line given.0 none, given.1)
 more_deadline deadline d lines line none (inr (before, between, at, without)) =
@@ -151,13 +151,13 @@ more_retry retry lines line none (inl given) = inl (all_more SaysNoRetry lines l
 more_retry retry lines line none (inr (before, between, at, without)) =
     inr (before, between ++ line ∷ [], ap (λ xs. xs ++ line ∷ []) at ∙ append_assoc before (says.Retrying retry ∷ between) (line ∷ []), all_more SaysNoRetry between line without none)
 
--- whether commands are chained is the same behind one more line that is neither `chained` nor `unchained`
+-- whether commands are chained is the same after one more line that is neither `chained` nor `unchained`
 more_mode : (chained b : Bool) (lines : List TaskLine) (line : TaskLine) → SaysNoMode line → IsModeBehind chained lines b → IsModeBehind chained (lines ++ line ∷ []) b
 more_mode chained b lines line none (inl given) = inl (all_more SaysNoMode lines line given.0 none, given.1)
 more_mode chained b lines line none (inr (before, between, at, without)) =
     inr (before, between ++ line ∷ [], ap (λ xs. xs ++ line ∷ []) at ∙ append_assoc before (mode_line b ∷ between) (line ∷ []), all_more SaysNoMode between line without none)
 
--- where the last command of some lines is for a target, with no line `chained` or `unchained` behind it, the same holds behind
+-- where the last command of some lines is for a target, with no line `chained` or `unchained` after it, the same holds after
 -- one more line that is neither, and no command (`KeepsChains`)
 more_row : (lines : List TaskLine) (line : TaskLine) (target : ℕ) → KeepsChains line → EndsWithTarget lines target → EndsWithTarget (lines ++ line ∷ []) target
 more_row lines line target keeps (before, command, now, between, at, all, same) =
@@ -171,8 +171,8 @@ no_row lines target e = cc
 some_row : (a b : ℕ) → Some a ≡ Some b → a ≡ b
 some_row a b e = cc
 
--- where `mode` is what `lines` say (`Says`), the mode behind one more line is what all of them say. `deadline` and `chained`
--- are what holds in front of all lines
+-- where `mode` is what `lines` say (`Says`), the mode after one more line is what all of them say. `deadline` and `chained`
+-- are what holds before all lines
 says_more : (deadline : ℕ) (chained : Bool) (lines : List TaskLine) (mode : Mode) (line : TaskLine) → Says deadline chained lines mode → Says deadline chained (lines ++ line ∷ []) (behind mode line)
 says_more deadline chained lines mode (says.Command c now) h = record {
   deadline_is = more_deadline deadline mode.deadline lines (says.Command c now) tt h.deadline_is;
@@ -245,7 +245,7 @@ says_more deadline chained lines mode says.EachCycle h = record {
   row = λ target e. no_row (lines ++ says.EachCycle ∷ []) target e;
 }
 
--- where a mode is what the lines `done` say (`Says`), the mode behind further lines is what all of these lines say
+-- where a mode is what the lines `done` say (`Says`), the mode after further lines is what all of these lines say
 says_all : (deadline : ℕ) (chained : Bool) (done : List TaskLine) (mode : Mode) (lines : List TaskLine) → Says deadline chained done mode
     → Says deadline chained (done ++ lines) (behind_all mode lines)
 says_all deadline chained done mode [] h = subst (λ xs. Says deadline chained xs mode) (sym (append-nil done)) h
@@ -253,7 +253,7 @@ says_all deadline chained done mode (line ∷ later) h =
     subst (λ xs. Says deadline chained xs (behind_all (behind mode line) later)) (append_assoc done (line ∷ []) later)
     (says_all deadline chained (done ++ line ∷ []) (behind mode line) later (says_more deadline chained done mode line h))
 
--- in front of all lines the opening mode holds, which has the caller's deadline and chaining: no line has said otherwise
+-- before all lines the opening mode holds, which has the caller's deadline and chaining: no line has said otherwise
 says_opening : (deadline : ℕ) (chained : Bool) → Says deadline chained [] (opening deadline chained)
 says_opening deadline chained = record { deadline_is = inl (tt, refl); mode_is = inl (tt, refl); accepted_are = inl (tt, refl); retry_is = inl (tt, refl); row = λ target e. no_row [] target e }
 
@@ -271,14 +271,14 @@ row_stays mode (says.Retrying r ∷ later) keeps = absurd keeps.0
 row_stays mode (says.AtStart ∷ later) keeps = absurd keeps.0
 row_stays mode (says.EachCycle ∷ later) keeps = absurd keeps.0
 
--- where the last command of lines is for a target, with neither `chained` nor `unchained` behind it, the row behind them is of
+-- where the last command of lines is for a target, with neither `chained` nor `unchained` after it, the row after them is of
 -- that target
 row_of : (mode : Mode) (lines : List TaskLine) (target : ℕ) → EndsWithTarget lines target → (behind_all mode lines).row ≡ Some target
 row_of mode lines target (before, command, now, between, at, keeps, same) =
     ap (λ xs. (behind_all mode xs).row) at ∙ ap (λ (m : Mode). m.row) (behind_both mode before (says.Command command now ∷ between))
     ∙ row_stays (behind (behind_all mode before) (says.Command command now)) between keeps ∙ ap Some same
 
--- whether commands are chained is the same before and behind lines of which none is `chained` or `unchained`
+-- whether commands are chained is the same before and after lines of which none is `chained` or `unchained`
 mode_stays : (mode : Mode) (lines : List TaskLine) → AllByRecursion SaysNoMode lines → (behind_all mode lines).chained ≡ mode.chained
 mode_stays mode [] none = refl
 mode_stays mode (says.Command c now ∷ later) none = mode_stays (behind mode (says.Command c now)) later none.1
@@ -292,12 +292,12 @@ mode_stays mode (says.Retrying r ∷ later) none = mode_stays (behind mode (says
 mode_stays mode (says.AtStart ∷ later) none = mode_stays (behind mode says.AtStart) later none.1
 mode_stays mode (says.EachCycle ∷ later) none = mode_stays (behind mode says.EachCycle) later none.1
 
--- behind `chained` commands are chained, and behind `unchained` they aren't
+-- after `chained` commands are chained, and after `unchained` they aren't
 mode_said : (mode : Mode) (b : Bool) → (behind mode (mode_line b)).chained ≡ b
 mode_said mode true = refl
 mode_said mode false = refl
 
--- whether commands are chained behind some lines is as the last line `chained` or `unchained` among them says, or as it was
+-- whether commands are chained after some lines is as the last line `chained` or `unchained` among them says, or as it was
 -- before them
 mode_of : (mode : Mode) (lines : List TaskLine) (b : Bool) → IsModeBehind mode.chained lines b → (behind_all mode lines).chained ≡ b
 mode_of mode lines b (inl given) = mode_stays mode lines given.0 ∙ sym given.1
@@ -337,7 +337,7 @@ among_behind : (p : Planned) (front tasks : List Task) → Among p tasks → Amo
 among_behind p front tasks h =
     record { earlier = front ++ h.earlier; again = h.again; commands = h.commands; others = h.others; are = ap (λ ts. front ++ ts) h.are ∙ sym (append_assoc front h.earlier (in_attempt 1 h.again h.commands p ∷ h.others)) }
 
--- it is so with tasks behind, too
+-- it is so with tasks after, too
 among_before : (p : Planned) (tasks later : List Task) → Among p tasks → Among p (tasks ++ later)
 among_before p tasks later h =
     record { earlier = h.earlier; again = h.again; commands = h.commands; others = h.others ++ later; are = ap (λ ts. ts ++ later) h.are ∙ append_assoc h.earlier (in_attempt 1 h.again h.commands p ∷ h.others) later }
@@ -381,9 +381,9 @@ among_all retry chain (q ∷ front) later p = by_chained (among_all retry (chain
 cycle_joined : (mode : Mode) (target : ℕ) → mode.setup ≡ false → joined mode target ≡ (mode.chained && goes_on mode.row target)
 cycle_joined mode target e = ap (λ b. if b then nat_lt 0 mode.begun else mode.chained && goes_on mode.row target) e
 
--- a task of a command goes out as the lines in front of it say, whatever its rule, its place and its count of others
+-- a task of a command is sent as the lines before it say, whatever its rule, its place and its count of others
 module _ (deadline : ℕ) (chained : Bool) (front : List TaskLine) (command : Wish) (now : Bool) (near : Option Near) (again : Again) (others : ℕ) where
-  -- the mode in front of the command
+  -- the mode before the command
   abbrev mode : Mode
   mode = behind_all (opening deadline chained) front
 
@@ -434,11 +434,11 @@ module _ (deadline : ℕ) (chained : Bool) (front : List TaskLine) (command : Wi
             };
       }
 
--- a command of a text, behind the lines `front`
+-- a command of a text, after the lines `front`
 module _
     (text : List ℕ) (deadline : ℕ) (chained : Bool) (setup : ℕ) (tasks : List Task) (names : List Name) (nears : List Near) (is : IsTasks text deadline chained setup tasks names nears)
     (front later : List TaskLine) (command : Wish) (now : Bool) (at : is.said ≡ front ++ says.Command command now ∷ later) where
-  -- the mode in front of the command
+  -- the mode before the command
   abbrev here : Mode
   here = behind_all (opening deadline chained) front
 
@@ -505,12 +505,12 @@ module _
         refl,
       )
 
--- the law: each command goes out as the lines in front of it say
+-- the law: each command is sent as the lines before it say
 pub go_out_so : CommandsGoOutSo
 go_out_so text deadline chained setup tasks names nears is front later command now at =
     by_section text deadline chained setup tasks names nears is front later command now at (behind_all (opening deadline chained) front).setup refl
 
--- the law: a command of the cycle has the retry that the last line `retry` in front of it says
+-- the law: a command of the cycle has the retry that the last line `retry` before it says
 pub retries_hold : RetriesHold
 retries_hold deadline chained front later command now cycle =
     let first = opening deadline chained in

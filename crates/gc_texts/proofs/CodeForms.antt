@@ -1,7 +1,7 @@
 -- Which texts are lists of return codes, and of which. A listed code is a word, a number from 1 to 65535, and codes have one
--- space (byte 32) between two. A line `accept` with no code behind it sets none; a line `accept ` with a list behind it sets
--- those. While a list is read, `left` is what is unread of the text (`None` at its end), `read` the codes so far, and `count`
--- how many they are; `rest` is what is left behind the next word.
+-- space (byte 32) between two. A line `accept` with no code after it sets none; a line `accept ` with a list after it sets
+-- those. While a list is read, `left` is what is unread of the text (`None` at its end), `read` the codes so far, and
+-- `count` how many they are; `rest` is what is left after the next word.
 use Rattle.std.proofs.Common.{◌≡◌, ◌<◌, ◌≤◌, ◌+◌, ◌-◌, inl, inr, ℕ, suc, replicate, slice_set, List, [], ◌∷◌, ◌++◌, length, get_or, Option, Some, None, MatchOption, arith, refl, ap, subst, sym, ◌∙◌, append_assoc, append-nil, codes}
 use Rattle.std.proofs.lemmas.List.{append_cancel_left, length_push, length-append}
 use Rattle.gc_texts.specs.Codes.{IsFilled, IsListed, AreCodes, filled, no_codes}
@@ -37,7 +37,7 @@ one_filled : (text : List ℕ) (a b : Codes) → IsFilled text a → IsFilled te
 one_filled text a b x y =
     ap (λ cs. record { codes = cs }) (x.filled_are ∙ ap filled (one_list x.listed y.listed text x.are y.are) ∙ sym y.filled_are)
 
--- a line isn't both the word `accept` alone and `accept ` with a text behind it
+-- a line isn't both the word `accept` alone and `accept ` with a text after it
 not_both : (line rest : List ℕ) → line ≡ codes "accept" → line ≡ codes "accept " ++ rest → ⊥
 not_both line rest e f =
     let seventh : ◌≡◌ {A = ℕ} 0 32 = ap (λ bs. get_or bs 6 0) (sym e ∙ f) in
@@ -75,14 +75,14 @@ abbrev AreLeft : Option (List ℕ) → List ℕ → Type 0
 AreLeft None later = later ≡ []
 AreLeft (Some text) later = AreCodes text later
 
--- the codes `read` were read from the text: the codes of all of it are these, and behind them those of what is left. At most 16
--- were read
+-- the codes `read` were read from the text: the codes of all of it are these, and after them those of what is left. At most
+-- 16 were read
 pub record ReadsCodes (text : List ℕ) (left : Option (List ℕ)) (read : List ℕ) : Type 0 where
   pub found : (later : List ℕ) → AreLeft left later → AreCodes text (read ++ later)
   pub only : (all : List ℕ) → AreCodes text all → (later : List ℕ) × (all ≡ read ++ later) × AreLeft left later
   pub few : length read ≤ 16
 
--- `count` codes of the text were read (`ReadsCodes`), and stand in the first places of the codes given, with 0 in the others
+-- `count` codes of the text were read (`ReadsCodes`), and are in the first places of the codes given, with 0 in the others
 abbrev pub Fills : List ℕ → Option (List ℕ) → Codes → ℕ → Type 0
 Fills text left codes count = (read : List ℕ) × ReadsCodes text left read × (codes.codes ≡ filled read) × (length read ≡ count)
 
@@ -131,7 +131,7 @@ module _ (text now word : List ℕ) (left rest : Option (List ℕ)) (old : Codes
       let long : length is.listed ≡ length f.0 + length (first.0 ∷ first.1) = ap length o.1 ∙ ap (λ l. length (f.0 ++ l)) first.2 ∙ length-append f.0 (first.0 ∷ first.1) in
       omega (arith, long, is.few, full, f.3)
 
-  -- where the next word is a code, and a place is free, one more code is read and stands in that place
+  -- where the next word is a code, and a place is free, one more code is read and is in that place
   pub code_reads : (code : ℕ) (new : Codes) → IsListed word code → count < 16 → ((listed : List ℕ) → length listed ≡ count → old.codes ≡ filled listed → new.codes ≡ filled (listed ++ code ∷ []))
       → Fills text rest new (count + 1)
   code_reads code new is room more =
@@ -166,7 +166,7 @@ one_filled_more old new listed count code room set n is =
     set ∙ ap (λ l. slice_set l count code) (is ∙ ap (λ k. listed ++ replicate k 0) some) ∙ ap (λ k. slice_set (listed ++ 0 ∷ replicate (15 - length listed) 0) k code) (sym n)
     ∙ set_behind listed (replicate (15 - length listed) 0) code ∙ sym (append_assoc listed (code ∷ []) (replicate (15 - length listed) 0))
     ∙ ap (λ k. (listed ++ code ∷ []) ++ replicate k 0) (sym less) where
-      -- the place behind the elements `xs`, which has 0, is set to c
+      -- the place after the elements `xs`, which has 0, is set to c
       set_behind : (xs zs : List ℕ) (c : ℕ) → slice_set (xs ++ 0 ∷ zs) (length xs) c ≡ xs ++ c ∷ zs
       set_behind [] zs c = refl
       set_behind (x ∷ xs) zs c = ap (λ l. x ∷ l) (set_behind xs zs c)

@@ -17,7 +17,7 @@ some_is a b e = cc
 
 -- the parts of a line that has the form of a command
 module _ (line : List ℕ) (command : Command) (is : IsCommand line command) where
-  -- the first space of a command's line stands between its target and its procedure
+  -- the first space of a command's line is between its target and its procedure
   the_cut : (target : List ℕ) (rest : Option (List ℕ)) → Cuts 32 line target rest → (target ≡ is.target_text) × (rest ≡ Some is.procedure)
   the_cut target rest cut = cut_found 32 line target rest is.target_text is.procedure cut is.line_is (digits_lack_spaces is.target_text is.target_is.names.digits)
 
@@ -25,11 +25,11 @@ module _ (line : List ℕ) (command : Command) (is : IsCommand line command) whe
   pub no_space : (target : List ℕ) → Cuts 32 line target None → ⊥
   no_space target cut = let parts = the_cut target None cut in let bad : None ≡ Some is.procedure = parts.1 in cc
 
-  -- what stands before the first space of a command's line is a target
+  -- what is before the first space of a command's line is a target
   pub has_number : (target : List ℕ) (rest : Option (List ℕ)) → Cuts 32 line target rest → ((n : ℕ) → IsNumber target n 4294967295 → ⊥) → ⊥
   has_number target rest cut none = none command.target (subst (λ (ds : List ℕ). IsNumber ds command.target 4294967295) (sym (the_cut target rest cut).0) is.target_is)
 
-  -- what stands behind the first space of a command's line is a call
+  -- what follows the first space of a command's line is a call
   pub has_call : (target procedure : List ℕ) → Cuts 32 line target (Some procedure) → ((c : Call) → IsProcedure procedure c → ⊥) → ⊥
   has_call target procedure cut none = none command.call (subst (λ (p : List ℕ). IsProcedure p command.call)
       (sym (some_is procedure is.procedure (the_cut target (Some procedure) cut).1)) is.procedure_is)

@@ -12,7 +12,7 @@ lacks_before mark bs zero le none = tt
 lacks_before mark [] (suc i) le none = tt
 lacks_before mark (b ∷ bs) (suc i) le none = (none 0 (omega arith), lacks_before mark bs i (omega (arith, le)) (λ j lt. none (suc j) (omega (arith, lt))))
 
--- a text with the mark at place i is what stands before that place, the mark, and what stands behind it
+-- a text with the mark at place i is what is before that place, the mark, and what follows it
 split_place : (mark : ℕ) (bs : List ℕ) (i : ℕ) → i < length bs → get_or bs i 0 ≡ mark → bs ≡ take i bs ++ mark ∷ drop (i + 1) bs
 split_place mark [] i lt e = absurd (omega (arith, lt))
 split_place mark (b ∷ bs) zero lt e = ap (λ x. x ∷ bs) e
@@ -32,7 +32,7 @@ pub none_cuts : (mark : ℕ) (bs : List ℕ) → IsFirstByte (is_byte mark) bs N
 none_cuts mark bs none =
     (refl, subst (Lacks mark) (take_all (length bs) bs (omega arith)) (lacks_before mark bs (length bs) (omega arith) (λ j lt e. none j (omega arith) lt (eq-eqb (get_or bs j 0) mark e))))
 
--- a text has one front before its first mark and one rest behind it
+-- a text has one front before its first mark and one rest after it
 pub one_front : (mark : ℕ) (f g r s : List ℕ) → f ++ mark ∷ r ≡ g ++ mark ∷ s → Lacks mark f → Lacks mark g → (f ≡ g) × (r ≡ s)
 one_front mark [] [] r s e lf lg = (refl, cc)
 one_front mark [] (b ∷ g) r s e lf lg = let same : b ≡ mark = cc in absurd (lg.0 same)
@@ -57,7 +57,7 @@ cut_found mark text front (Some rest) g s cut e lg =
     let both = one_front mark front g rest s (sym cut.0 ∙ e) cut.1 lg in
     (both.0, ap Some both.1)
 
--- a text without the mark is cut nowhere: its front is the text, and nothing is behind
+-- a text without the mark is cut nowhere: its front is the text, and nothing is after
 pub cut_none : (mark : ℕ) (text front : List ℕ) (rest : Option (List ℕ)) → Cuts mark text front rest → Lacks mark text → (front ≡ text) × (rest ≡ None)
 cut_none mark text front None cut lacks = (sym cut.0, refl)
 cut_none mark text front (Some rest) cut lacks = absurd (has_mark mark front rest text (sym cut.0) lacks)

@@ -15,7 +15,7 @@ no_double r e d failed read = let bad : ◌≡◌ {A = Result Decimal ValueFault
 never : (b : Bool) → b ≡ true → b ≡ false → ⊥
 never b e f = let bad : true ≡ false = sym e ∙ f in cc
 
--- what can't be of four words that say where a target stands
+-- what can't be of four words that say where a target is
 module _ (target hz v tolerance : List ℕ) (near : Near) (are : AreWords target hz v tolerance near) where
   -- where the numbers that two words write are no direction of a place, the four words say no place
   pub no_place : (h w : Decimal) → IsDouble hz h → IsDouble v w → is_place (record { hz = h; v = w }) ≡ false → ⊥

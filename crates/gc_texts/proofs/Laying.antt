@@ -1,4 +1,4 @@
--- How far the chains of a text are laid out: which attempts were appended to the tasks that stood in front (`old`).
+-- How far the chains of a text are laid out: which attempts were appended to the tasks before (`old`).
 use Rattle.std.proofs.Common.{◌≡◌, ◌<◌, ◌≤◌, ◌+◌, ◌-◌, ◌*◌, ℕ, zero, suc, Bool, true, false, get_or, take, drop, List, [], ◌∷◌, ◌++◌, length, map, arith, refl, ap, subst, sym, ◌∙◌, append_assoc, if◌then◌else◌}
 use Rattle.gc_texts.specs.Again.{no_again}
 use Rattle.gc_texts.specs.Attempts.{in_attempt, attempts_from, attempts, laid_behind, laid_out}
@@ -7,7 +7,7 @@ use Rattle.gc_texts.specs.declared.retry.Retry.{Retry}
 use Rattle.gc_texts.specs.declared.tasks.Planned.{Planned}
 use Rattle.gc_texts.specs.declared.tasks.Task.{Task}
 
--- the attempts before this one were appended; with this one and those behind it, all are
+-- the attempts before this one were appended; with this one and those after it, all are
 pub record Pushes (old now : List Task) (retry : Retry) (chain : List Planned) (attempt left : ℕ) : Type 0 where
   pub same : old ++ attempts retry chain ≡ now ++ attempts_from attempt left retry.again chain
   pub counts : attempt + left ≡ retry.times + 1
@@ -40,7 +40,8 @@ pushes_last old now new retry chain attempt left h none more = more ∙ ap (λ n
 abbrev part_of : List Planned → ℕ → ℕ → List Planned
 part_of cycle from to = take (to - from) (drop from cycle)
 
--- the chains in front of the one that begins at `from` were appended; with it and those behind it, all are. It has the commands up to `place`
+-- the chains before the one that begins at `from` were appended; with it and those after it, all are. It has the commands up
+-- to `place`
 pub record Lays (old now : List Task) (cycle : List Planned) (retry : Retry) (from place : ℕ) : Type 0 where
   pub same : old ++ laid_out cycle ≡ now ++ laid_behind retry (part_of cycle from place) (drop place cycle)
   pub order : from ≤ place
@@ -50,12 +51,12 @@ pub record Lays (old now : List Task) (cycle : List Planned) (retry : Retry) (fr
 pub lays_none : (tasks : List Task) (cycle : List Planned) → Lays tasks tasks cycle no_retry 0 0
 lays_none tasks cycle = record { same = refl; order = omega arith; within = omega arith }
 
--- a place of a list has its element there, and the others behind it
+-- a place of a list has its element there, and the others after it
 here : (xs : List Planned) (i : ℕ) (x : Planned) → i < length xs → x ≡ get_or xs i x → drop i xs ≡ x ∷ drop (i + 1) xs
 here [] i x below is = absurd (omega (arith, below))
 here (y ∷ xs) zero x below is = ap (λ z. z ∷ xs) (sym is)
 here (y ∷ xs) (suc i) x below is = here xs i x (omega (arith, below)) is ∙ ap (λ n. x ∷ drop n (y ∷ xs)) (next i) where
-  -- the place behind the next
+  -- the place after the next
   next : (i : ℕ) → suc (i + 1) ≡ suc i + 1
   next i = omega arith
 
@@ -121,14 +122,14 @@ module _ (old now : List Task) (cycle : List Planned) (retry : Retry) (from plac
         within = omega (arith, below);
       }
 
--- nothing is left behind all elements
+-- nothing is left after all elements
 none_left : (xs : List Planned) (i : ℕ) → length xs ≤ i → drop i xs ≡ []
 none_left [] zero few = refl
 none_left [] (suc i) few = refl
 none_left (x ∷ xs) zero few = absurd (omega (arith, few))
 none_left (x ∷ xs) (suc i) few = none_left xs i (omega (arith, few))
 
--- behind the last command the last chain was appended
+-- after the last command the last chain was appended
 pub lays_last : (old now new : List Task) (cycle : List Planned) (retry : Retry) (from place : ℕ) → Lays old now cycle retry from place → length cycle ≤ place
     → new ≡ now ++ attempts retry (part_of cycle from place) → new ≡ old ++ laid_out cycle
 lays_last old now new cycle retry from place h done more =

@@ -16,7 +16,7 @@ line_here wanted_line left now line rest wanted so some cut last =
     let none : wanted - 1 ≡ 0 = omega (arith, last) in
     sym (so ∙ ap (λ n. get_or (lines_left left) n []) none ∙ ap (λ ls. get_or ls 0 []) (front_line left now line rest some cut))
 
--- where a later one of the lines left is wanted, it is among those behind the line that is cut off next
+-- where a later one of the lines left is wanted, it is among those after the line that is cut off next
 pub line_behind : (wanted_line : List ℕ) (left : Option (List ℕ)) (now line : List ℕ) (rest : Option (List ℕ)) (wanted : ℕ)
     → wanted_line ≡ get_or (lines_left left) (wanted - 1) [] → left ≡ Some now → Cuts 10 now line rest → 1 < wanted
     → wanted_line ≡ get_or (lines_left rest) (wanted - 1 - 1) []

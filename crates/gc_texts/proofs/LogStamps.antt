@@ -53,7 +53,7 @@ two_ink n h = All-from_recursion IsInk (two_digits n) (ink (48 + n / 10) (omega 
 three_ink : (n : ℕ) → n < 1000 → All IsInk (three_digits n)
 three_ink n h = All-append IsInk ((48 + n / 100) ∷ []) (two_digits (n % 100)) (one_ink (48 + n / 100) (omega arith) (omega (arith, h, div-add-mod n 100))) (two_ink (n % 100) (omega arith))
 
--- two printable texts without a space, one behind the other, are one printable text without a space
+-- two printable texts without a space, one after the other, are one printable text without a space
 both : (xs ys : List ℕ) → All IsInk xs → All IsInk ys → All IsInk (xs ++ ys)
 both xs ys = All-append IsInk xs ys
 
@@ -176,7 +176,7 @@ mark_prints Came = All-from_recursion IsShown (60 ∷ []) ((omega arith, omega a
 mark_prints CamePart = All-from_recursion IsShown (60 ∷ 124 ∷ []) ((omega arith, omega arith), ((omega arith, omega arith), tt))
 mark_prints Link = All-from_recursion IsShown (45 ∷ []) ((omega arith, omega arith), tt)
 
--- a printable text behind a space is printable
+-- a printable text after a space is printable
 space_prints : (bs : List ℕ) → All IsShown bs → All IsShown (32 ∷ bs)
 space_prints bs h = All-append IsShown (32 ∷ []) bs (All-from_recursion IsShown (32 ∷ []) ((omega arith, omega arith), tt)) h
 

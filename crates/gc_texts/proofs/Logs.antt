@@ -21,7 +21,7 @@ data IsEscape (b : ℕ) (text : List ℕ) : Type 0 where
   as_it_is : is_as_it_is b ≡ true → text ≡ b ∷ [] → IsEscape b text
   as_digits : is_as_it_is b ≡ false → text ≡ 92 ∷ 120 ∷ hex_digit (b / 16) ∷ hex_digit (b % 16) ∷ [] → IsEscape b text
 
--- the text that is chosen by whether a byte stands as it is (`test`) is one of the byte's two forms
+-- the text that is chosen by whether a byte is written as it is (`test`) is one of the byte's two forms
 escapes_at : (b : ℕ) (test : Bool) → is_as_it_is b ≡ test → IsEscape b (cond test (b ∷ []) (92 ∷ 120 ∷ hex_digit (b / 16) ∷ hex_digit (b % 16) ∷ []))
 escapes_at b true is = as_it_is is refl
 escapes_at b false is = as_digits is refl
@@ -46,7 +46,7 @@ one_value m n same small few =
     (λ a. cond_both (nat_lt n 10) (48 + n) (87 + n) (λ d. 87 + m ≡ d → m ≡ n) (λ b e. absurd (omega (arith, e, small, few, ltb-false m 10 a, ltb-true n 10 b))) (λ b e. omega (arith, e)))
     same
 
--- a byte that stands as it is isn't the backslash
+-- a byte that is written as it is isn't the backslash
 not_a_backslash : (b : ℕ) → is_as_it_is b ≡ true → b ≡ 92 → ⊥
 not_a_backslash b is e = let bad : false ≡ true = subst (λ x. is_as_it_is x ≡ true) e is in cc
 
@@ -98,7 +98,7 @@ behind_bytes (b ∷ bs) left (c ∷ cs) h k e =
     let next = behind_bytes bs left cs h.1 k.1 one.1 in
     record { more = next.more; joins = ap (λ x. x ∷ cs) (sym one.0) ∙ ap (λ l. b ∷ l) next.joins; are = next.are; so = next.so }
 
--- how far the reading of a text has come: it is the escaped form of `bytes`, which were read, and behind that `left`, which
+-- how far the reading of a text has come: it is the escaped form of `bytes`, which were read, and after that `left`, which
 -- wasn't
 pub record ReadsBytes (text bytes left : List ℕ) : Type 0 where
   pub so : text ≡ escaped bytes ++ left
@@ -160,7 +160,7 @@ some_is : (a b : List ℕ) → Some a ≡ Some b → a ≡ b
 some_is a b e = cc
 
 module _ (line front : List ℕ) (rest : Option (List ℕ)) (cut : Cuts 32 line front rest) (moment : List ℕ) (mark : LogMark) (bytes : List ℕ) (is : IsLogLine line moment mark bytes) where
-  -- the moment stands before the first space
+  -- the moment is before the first space
   first_word : (front ≡ moment) × (rest ≡ Some (mark_text mark ++ 32 ∷ escaped bytes))
   first_word = cut_found 32 line front rest moment (mark_text mark ++ 32 ∷ escaped bytes) cut is.is is.one_word
 
@@ -168,7 +168,7 @@ module _ (line front : List ℕ) (rest : Option (List ℕ)) (cut : Cuts 32 line 
   pub not_printable : (IsPrintable front → ⊥) → ⊥
   not_printable none = none (subst IsPrintable (sym first_word.0) is.is_printable)
 
-  -- the mark stands before the second space
+  -- the mark is before the second space
   second_word : (behind word : List ℕ) (text : Option (List ℕ)) → rest ≡ Some behind → Cuts 32 behind word text → (word ≡ mark_text mark) × (text ≡ Some (escaped bytes))
   second_word behind word text so next = cut_found 32 behind word text (mark_text mark) (escaped bytes) next (some_is behind _ (sym so ∙ first_word.1)) (mark_lacks mark)
 
@@ -184,12 +184,12 @@ module _ (line front : List ℕ) (rest : Option (List ℕ)) (cut : Cuts 32 line 
   pub another_mark : (behind word : List ℕ) (text : Option (List ℕ)) → rest ≡ Some behind → Cuts 32 behind word text → ((m : LogMark) → word ≡ mark_text m → ⊥) → ⊥
   another_mark behind word text so next none = none mark (second_word behind word text so next).0
 
-  -- a line whose text behind the mark isn't the escaped form of any bytes, 514 at most, is no log line
+  -- a line whose text after the mark isn't the escaped form of any bytes, 514 at most, is no log line
   pub other_bytes : (behind word text : List ℕ) → rest ≡ Some behind → Cuts 32 behind word (Some text) → length bytes ≤ 514
       → ((all : List ℕ) → length all ≤ 514 → All IsByte all → text ≡ escaped all → ⊥) → ⊥
   other_bytes behind word text so next room none = none bytes room is.are_bytes (some_is text (escaped bytes) (second_word behind word (Some text) so next).1)
 
--- one of two marks by the text behind a mark's first byte: `whole` where there is none, else `part`
+-- one of two marks by the text after a mark's first byte: `whole` where there is none, else `part`
 by_end : List ℕ → LogMark → LogMark → LogMark
 by_end [] whole part = whole
 by_end (b ∷ bs) whole part = part

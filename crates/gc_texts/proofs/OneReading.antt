@@ -1,4 +1,4 @@
--- One call stands in a procedure's text, and lines give one list of items where each gives one item.
+-- One call is in a procedure's text, and lines give one list of items where each gives one item.
 use Rattle.std.proofs.Common.{◌≡◌, ℕ, List, [], ◌∷◌, ◌++◌, Option, Some, None, refl, ap, subst, ◌∙◌, unwrap_or}
 use Rattle.std.proofs.lemmas.List.{append-nil}
 use Rattle.gc_catalogue.specs.declared.call.Call.{Call}
@@ -10,7 +10,7 @@ use Rattle.gc_texts.specs.Procedures.{IsNumber, IsProcedure, behind_number}
 use Rattle.gc_texts.proofs.Cutting.{digits_lack_spaces}
 use Rattle.gc_texts.proofs.Procedures.{one_number, procedure_parts}
 
--- digits without a space, and the parameters behind them, are cut at the first space
+-- digits without a space, and the parameters after them, are cut at the first space
 cut_text : (text digits : List ℕ) (params : Option (List ℕ)) → text ≡ digits ++ behind_number params → Lacks 32 digits → Cuts 32 text digits params
 cut_text text digits None e lacks = (e ∙ append-nil digits, lacks)
 cut_text text digits (Some params) e lacks = (e, lacks)

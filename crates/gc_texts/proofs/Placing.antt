@@ -1,4 +1,4 @@
--- Where targets stand, as lines of a text say it, and what follows for the tasks of a target and for an answer.
+-- Where targets are, as lines of a text say it, and what follows for the tasks of a target and for an answer.
 use Rattle.std.proofs.Common.{◌≡◌, ℕ, zero, suc, ◌+◌, take, drop, ◌<◌, get_or, slice_set, arith, ◌==◌, ◌&&◌, ◌||◌, not, nat_lt, List, [], ◌∷◌, ◌++◌, length, map, Option, Some, None, Bool, true, false, cond, refl, sym, ap, ◌∙◌, subst, append_assoc, append-nil}
 use Rattle.std.proofs.lemmas.Bool.{eq-eqb}
 use Rattle.gc_catalogue.specs.declared.answer.Answer.{Answer}
@@ -24,7 +24,8 @@ not_true : (b : Bool) → not b ≡ true → b ≡ false
 not_true true e = cc
 not_true false e = refl
 
--- where lines may stand in a text, and one of them says where a target stands, no line before it says where that target stands
+-- where each line of a text may follow those before it, and one of them says where a target is, no line before it says where
+-- that target is
 unsaid : (names : List Name) (nears : List Near) (front later : List TaskLine) (near : Near) → MayFollow names nears (front ++ says.Standing near ∷ later)
     → is_said near.target (nears ++ nears_of front) ≡ false
 unsaid names nears [] later near follow =
@@ -44,7 +45,7 @@ found_near (n ∷ nears) others near unsaid =
     let apart = none_of (n.target == near.target) (is_said near.target nears) unsaid in
     ap (λ b. cond b (Some n) (near_of near.target (nears ++ near ∷ others))) apart.0 ∙ found_near nears others near apart.1
 
--- the lines `xs` and then `ys` give the places of `xs`, and behind them those of `ys`
+-- the lines `xs` and then `ys` give the places of `xs`, and after them those of `ys`
 nears_both : (xs ys : List TaskLine) → nears_of (xs ++ ys) ≡ nears_of xs ++ nears_of ys
 nears_both [] ys = refl
 nears_both (x ∷ xs) ys = ap (λ ns. near_at x ++ ns) (nears_both xs ys) ∙ sym (append_assoc (near_at x) (nears_of xs) (nears_of ys))
@@ -53,7 +54,7 @@ nears_both (x ∷ xs) ys = ap (λ ns. near_at x ++ ns) (nears_both xs ys) ∙ sy
 first_is : (t u : Task) (ts us : List Task) → ◌≡◌ {A = List Task} (t ∷ ts) (u ∷ us) → t ≡ u
 first_is t u ts us e = cc
 
--- equal lists have equal tasks behind the first
+-- equal lists have equal tasks after the first
 others_are : (t u : Task) (ts us : List Task) → ◌≡◌ {A = List Task} (t ∷ ts) (u ∷ us) → ts ≡ us
 others_are t u ts us e = cc
 

@@ -1,5 +1,5 @@
--- Which texts are those of a procedure: its number in digits and, behind a space (byte 32), its parameters, if there are any. A
--- text that is cut at its first space has a front and, if it has a space, a rest.
+-- Which texts are those of a procedure: its number in digits and, after a space (byte 32), its parameters, if there are any.
+-- A text that is cut at its first space has a front and, if it has a space, a rest.
 use Rattle.std.proofs.Common.{◌≡◌, ◌<◌, ℕ, List, [], ◌∷◌, ◌++◌, length, Option, Some, None, arith, refl, ap, subst, sym, ◌∙◌, unwrap_or}
 use Rattle.std.specs.Prelude.{MatchOption}
 use Rattle.std.proofs.lemmas.List.{append-nil}
@@ -9,7 +9,7 @@ use Rattle.gc_texts.specs.Cuts.{Cuts, Lacks}
 use Rattle.gc_texts.specs.Procedures.{IsNumber, IsProcedure, IsMore, behind_number}
 use Rattle.gc_texts.proofs.Cutting.{cut_found, cut_none, digits_lack_spaces}
 
--- the first space of a procedure's text stands behind its digits
+-- the first space of a procedure's text follows its digits
 cut_params : (text front digits : List ℕ) (rest params : Option (List ℕ)) → Cuts 32 text front rest → Lacks 32 digits → text ≡ digits ++ behind_number params → (front ≡ digits) × (rest ≡ params)
 cut_params text front digits rest None cut lacks e =
     let whole : text ≡ digits = e ∙ append-nil digits in
@@ -33,7 +33,7 @@ not_more None e more = cc
 not_more (Some []) e more = absurd (omega (arith, more))
 not_more (Some (b ∷ bs)) e more = cc
 
--- a text with a space behind its front, and nothing behind the space, is no procedure's
+-- a text with a space after its front, and nothing after the space, is no procedure's
 pub no_parameters : (text front : List ℕ) → Cuts 32 text front (Some []) → (call : Call) → IsProcedure text call → ⊥
 no_parameters text front cut call p =
     let parts = procedure_parts text front (Some []) call cut p in
@@ -43,8 +43,8 @@ no_parameters text front cut call p =
 pub one_number : (digits : List ℕ) (m n max : ℕ) → IsNumber digits m max → IsNumber digits n max → m ≡ n
 one_number digits m n max h k = h.names.value ∙ sym k.names.value
 
--- where the front of a text is a number, and `r` is the call of that number and the parameters behind it, or `None` where they
--- make none, `r` is the call of the text, too
+-- where the front of a text is a number, and `r` is the call of that number and the parameters after it, or `None` where
+-- they make none, `r` is the call of the text, too
 pub procedure_is : (text front params : List ℕ) (rest : Option (List ℕ)) (rpc : ℕ) (r : Option Call) → Cuts 32 text front rest → IsMore rest
     → params ≡ unwrap_or rest [] → IsNumber front rpc 65535 → MatchOption r ((call : Call) → IsCall rpc params call → ⊥)
     (λ call. IsCall rpc params call) → MatchOption r ((call : Call) → IsProcedure text call → ⊥) (λ call. IsProcedure text call)
@@ -65,7 +65,7 @@ procedure_is text front params rest rpc (Some call) cut more same number calls =
       calls = subst (λ (ps : List ℕ). IsCall rpc ps call) same calls;
     }
   where
-    -- a text that is cut at its first space is its front and what stands behind that, with the space
+    -- a text that is cut at its first space is its front and what follows that, with the space
     cut_text : (text front : List ℕ) (rest : Option (List ℕ)) → Cuts 32 text front rest → text ≡ front ++ behind_number rest
     cut_text text front None cut = cut.0 ∙ sym (append-nil front)
     cut_text text front (Some rest) cut = cut.0
@@ -74,14 +74,14 @@ procedure_is text front params rest rpc (Some call) cut more same number calls =
 pub with_rest : (mark : ℕ) (text front : List ℕ) (o rest : Option (List ℕ)) → Cuts mark text front o → o ≡ rest → Cuts mark text front rest
 with_rest mark text front o rest cut e = let P : Option (List ℕ) → Type 0 = λ r. Cuts mark text front r in subst P e cut
 
--- where the front of a text is a number, with a space and at least one byte of parameters behind it, and `r` is the call of
+-- where the front of a text is a number, with a space and at least one byte of parameters after it, and `r` is the call of
 -- that number and these parameters, or `None` where they make none, `r` is the call of the text, too
 pub with_parameters : (text front params : List ℕ) (o : Option (List ℕ)) (rpc : ℕ) (r : Option Call) → Cuts 32 text front o → o ≡ Some params
     → 0 < length params → IsNumber front rpc 65535 → MatchOption r ((call : Call) → IsCall rpc params call → ⊥)
     (λ call. IsCall rpc params call) → MatchOption r ((call : Call) → IsProcedure text call → ⊥) (λ call. IsProcedure text call)
 with_parameters text front params o rpc r cut e more number called = procedure_is text front params (Some params) rpc r (with_rest 32 text front o (Some params) cut e) more refl number called
 
--- a text with nothing behind its space is no procedure's
+-- a text with nothing after its space is no procedure's
 pub without_parameters : (text front params : List ℕ) (o : Option (List ℕ)) → Cuts 32 text front o → o ≡ Some params → length params ≡ 0 → (call : Call) → IsProcedure text call → ⊥
 without_parameters text front [] o cut e none call p = no_parameters text front (with_rest 32 text front o (Some []) cut e) call p
 without_parameters text front (b ∷ bs) o cut e none call p = absurd (omega (arith, none))

@@ -15,7 +15,7 @@ use Rattle.gc_texts.proofs.Cutting.{digits_lack_spaces}
 use Rattle.gc_texts.proofs.Fronts.{before_mark, before_none, behind_mark}
 use Rattle.gc_texts.proofs.Procedures.{one_number}
 
--- what stands before the first space of digits and the parameters behind them is the digits
+-- what is before the first space of digits and the parameters after them is the digits
 before_params : (digits : List ℕ) (params : Option (List ℕ)) → AreDigits digits → before 32 (digits ++ behind_number params) ≡ digits
 before_params digits None are = ap (before 32) (append-nil digits) ∙ before_none 32 digits (digits_lack_spaces digits are)
 before_params digits (Some params) are = before_mark 32 digits params (digits_lack_spaces digits are)
@@ -43,7 +43,7 @@ one_raw line m n r s x y = (
   one_asked s.rpc (raw_bytes s.params) (Raw r) (Raw s) (one_number (third_word line) r.rpc s.rpc 65535 x.number y.number, x.params_are ∙ sym y.params_are) (refl, refl),
 )
 
--- where digits stand before the first space of a line, the line begins with a byte up to that of 9
+-- where digits are before the first space of a line, the line begins with a byte up to that of 9
 pub first_digit : (line : List ℕ) → AreDigits (first_word line) → 0 < length (first_word line) → get_or line 0 0 ≤ 57
 first_digit [] digits some = omega arith
 first_digit (b ∷ bs) digits some = low (b == 32) (before 32 bs) digits some where

@@ -33,7 +33,7 @@ named rpc name each is = each is.0 is.1 ∙ sym (names_are is.0) ∙ ap name_of 
 
 -- a line whose second word is `raw`
 module _ (line : List ℕ) (word : IsRaw line) where
-  -- where a number and what stands behind it may not be asked for, what is told of the reason is a trouble of the line
+  -- where a number and what follows it may not be asked for, what is reported of the reason is a trouble of the line
   refused : (rpc : ℕ) (fault : RawFault) → IsNumber (third_word line) rpc 65535 → IsRawRefusal rpc (behind_three line) fault → IsTrouble line (raw_trouble rpc fault)
   refused rpc InTable number is = record { word = word; rpc = rpc; number = number; is = inl (InTable, is, refl) }
   refused rpc NotPlain number is = record { word = word; rpc = rpc; number = number; is = inl (NotPlain, is, refl) }
@@ -41,18 +41,18 @@ module _ (line : List ℕ) (word : IsRaw line) where
   refused rpc OpenQuote number is = record { word = word; rpc = rpc; number = number; is = inl (OpenQuote, is, refl) }
   refused rpc TooMany number is = record { word = word; rpc = rpc; number = number; is = inl (TooMany, is, refl) }
 
-  -- a trouble of what stands behind the word `raw` is a trouble of the line
+  -- a trouble of what follows the word `raw` is a trouble of the line
   pub raw_words : (t : Trouble) → IsRawWordsTrouble (third_word line) (behind_three line) t → IsTrouble line t
   raw_words t (inl none) = subst (IsTrouble line) (sym none.0) (inl (word, none.1))
   raw_words t (inr (rpc, number, inl (fault, is, told))) = subst (IsTrouble line) (sym told) (refused rpc fault number is)
   raw_words t (inr (rpc, number, inr (may, told))) =
       subst (IsTrouble line) (sym told) (inr (inr (record { word = word; rpc = rpc; number = number; is = inr (may, refl) })))
 
--- what is at fault behind the word `raw` is told of equal words and of equal parameters
+-- what is at fault after the word `raw` is reported of equal words and of equal parameters
 pub same_words : (word other params others : List ℕ) (t : Trouble) → word ≡ other → params ≡ others → IsRawWordsTrouble word params t → IsRawWordsTrouble other others t
 same_words word other params others t e f is = subst (λ (w : List ℕ). IsRawWordsTrouble w others t) e (subst (λ (p : List ℕ). IsRawWordsTrouble word p t) f is)
 
--- the line that names a procedure of the table, its line feed within the last text or behind it
+-- the line that names a procedure of the table, its line feed within the last text or after it
 pub with_feed : (rpc name : List ℕ) → rpc ++ (codes " is " ++ (name ++ codes ": leave out raw\n")) ≡ (((rpc ++ codes " is ") ++ name) ++ codes ": leave out raw") ++ codes "\n"
 with_feed rpc name =
     sym (append_assoc ((rpc ++ codes " is ") ++ name) (codes ": leave out raw") (codes "\n")

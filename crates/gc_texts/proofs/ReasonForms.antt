@@ -1,6 +1,6 @@
--- Which texts are the words of a line `retry`, and what they name. A word is a return code, a number from 1 to 65535, or an outcome, and
--- words have one space (byte 32) between two. While they are read, `left` is what is unread of the text (`None` at its end), `read` the
--- words so far, and `rest` what is left behind the next word.
+-- Which texts are the words of a line `retry`, and what they name. A word is a return code, a number from 1 to 65535, or an
+-- outcome, and words have one space (byte 32) between two. While they are read, `left` is what is unread of the text (`None`
+-- at its end), `read` the words so far, and `rest` what is left after the next word.
 use Rattle.std.proofs.Common.{◌≡◌, ◌<◌, ◌≤◌, inl, inr, ℕ, Bool, true, false, cond, ne_eqb, ◌==◌, nat_lt, List, [], ◌∷◌, ◌++◌, get_or, Option, Some, None, MatchOption, arith, refl, ap, subst, sym, ◌∙◌, append_assoc, append-nil, codes, if◌then◌else◌}
 use Rattle.std.proofs.lemmas.Bool.Decides.{nat_tests}
 use Rattle.std.proofs.lemmas.List.{append_cancel_left}
@@ -22,7 +22,7 @@ second_low [] are = omega arith
 second_low (a ∷ []) are = omega arith
 second_low (a ∷ b ∷ bs) are = are.1.0.1
 
--- the kinds of words, told apart by the second byte: 0 a code, and 1 to 5 the outcomes
+-- the kinds of words, distinguished by the second byte: 0 a code, and 1 to 5 the outcomes
 abbrev kind : Reason → ℕ
 kind (reason.Code code) = 0
 kind reason.Unreadable = 1
@@ -138,7 +138,7 @@ abbrev AreLeft : Option (List ℕ) → List Reason → Type 0
 AreLeft None later = later ≡ []
 AreLeft (Some text) later = AreReasons text later
 
--- the words `read` were read from the text: those of all of it are these, and behind them those of what is left
+-- the words `read` were read from the text: those of all of it are these, and after them those of what is left
 pub record ReadsReasons (text : List ℕ) (left : Option (List ℕ)) (read : List Reason) : Type 0 where
   pub found : (later : List Reason) → AreLeft left later → AreReasons text (read ++ later)
   pub only : (all : List Reason) → AreReasons text all → (later : List Reason) × (all ≡ read ++ later) × AreLeft left later
@@ -157,7 +157,7 @@ names_opening text left again some none =
     subst (λ o. Names text o again 0) (sym some)
     (record { read = []; reads = record { found = λ later are. are; only = λ all are. (all, refl, are) }; again_is = none; count_is = refl; few = omega arith })
 
--- what words and one more name, where they stand behind others
+-- what words and one more name, where they follow others
 more_named : (again : Again) (count : ℕ) (read : List Reason) (r : Reason) → named_with again count (read ++ r ∷ []) ≡ again_with (named_with again count read) (codes_with count read) r
 more_named again count [] r = refl
 more_named again count (x ∷ read) r = more_named (again_with again count x) (count_with count x) read r
@@ -181,7 +181,7 @@ grow : (count : ℕ) (later : List Reason) → count ≤ codes_with count later
 grow count [] = omega arith
 grow count (r ∷ later) = let one : count ≤ count_with count r = grows count r in let all : count_with count r ≤ codes_with (count_with count r) later = grow (count_with count r) later in omega (arith, one, all)
 
--- the codes of words and later ones are those of the words, and behind them those of the later ones
+-- the codes of words and later ones are those of the words, and after them those of the later ones
 codes_both : (count : ℕ) (read later : List Reason) → codes_with count (read ++ later) ≡ codes_with (codes_with count read) later
 codes_both count [] later = refl
 codes_both count (x ∷ read) later = codes_both (count_with count x) read later
@@ -212,7 +212,7 @@ nat_lt-true m n e = grind (arith, nat_tests)
 nat_lt-false : (m n : ℕ) → nat_lt m n ≡ false → n ≤ m
 nat_lt-false m n e = grind (arith, nat_tests)
 
--- where there is no room for a word, it is one code more, behind 16 others
+-- where there is no room for a word, it is one code more, after 16 others
 no_room : (count : ℕ) (r : Reason) → count ≤ 16 → has_room count r ≡ false → 16 < count_with count r
 no_room count (reason.Code code) few e = let full : 16 ≤ count = nat_lt-false count 16 e in omega (arith, full)
 no_room count reason.Unreadable few e = cc

@@ -96,7 +96,7 @@ module _ (nears : List Near) where
   abbrev made : ℕ → Again → ℕ → List Planned → List Task
   made attempt again n ps = map (placed nears) (map (in_attempt attempt again n) ps)
 
-  -- without what tells attempts apart, the task of an attempt is the command's
+  -- without the fields that distinguish attempts, the task of an attempt is the command's
   said_one : (attempt : ℕ) (again : Again) (n : ℕ) (p : Planned) → IsSaid p → as_said (placed nears (in_attempt attempt again n p)) ≡ own p
   said_one attempt again n p h =
       let near = near_of p.task.command.target nears in
@@ -170,7 +170,7 @@ module _ (nears : List Near) where
   retry_more retry [] p have is = (is, tt)
   retry_more retry (q ∷ ps) p have is = (have.0, retry_more retry ps p have.1 is)
 
-  -- a chain in front of chains
+  -- a chain before chains
   one_more : (retry : Retry) (chain later : List Planned) (tasks : List Task) → IsOneChain (map own chain) → AllByRecursion IsSaid chain → HaveRetry retry chain → Laid tasks later
       → Laid (map (placed nears) (attempts retry chain) ++ tasks) (chain ++ later)
   one_more retry chain later tasks one all have (chains, laid, are) = (
@@ -183,7 +183,7 @@ module _ (nears : List Near) where
   none : Laid [] []
   none = ([], refl, refl)
 
-  -- the attempts of a chain that was begun, and of those behind it
+  -- the attempts of a chain that was begun, and of those after it
   laid_are : (retry : Retry) (first : Planned) (chain later : List Planned) → IsOneChain (map own (first ∷ chain)) → AllByRecursion IsSaid (first ∷ chain) → AllByRecursion IsSaid later → HaveRetry retry (first ∷ chain) → SameRules retry later
       → Laid (map (placed nears) (laid_behind retry (first ∷ chain) later)) ((first ∷ chain) ++ later)
   laid_are retry first chain [] one all rest have follow =
@@ -212,7 +212,7 @@ module _ (nears : List Near) where
     by_chained true e anew = let bad : None ≡ Some p.task.command.target = are.0 e in cc
     by_chained false e anew = anew e
 
--- the law: the tasks behind the set-up are the attempts of the chains of the text's commands
+-- the law: the tasks after the set-up are the attempts of the chains of the text's commands
 pub chains_go_out_again : ChainsGoOutAgain
 chains_go_out_again text deadline chained setup tasks names nears is =
     let first = opening deadline chained in

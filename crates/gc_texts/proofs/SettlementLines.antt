@@ -1,4 +1,4 @@
--- The lines of settlements, one more behind those before it.
+-- The lines of settlements, one more after those before it.
 use Rattle.std.proofs.Common.{◌≡◌, ◌+◌, ◌<◌, ℕ, List, [], ◌∷◌, ◌++◌, take, drop, map, get_or, length, refl, sym, ap, ◌∙◌, arith, append_assoc, append-nil}
 use Rattle.std.proofs.lemmas.List.{length-map, take_more, drop_more, length-take, take-append-drop}
 use Rattle.gc_catalogue.specs.declared.call.Call.{Call}
@@ -7,8 +7,8 @@ use Rattle.gc_client.specs.Rule
 use Rattle.gc_client.specs.Settlements.{settlement_seen}
 use Rattle.gc_texts.specs.Settlements.{settlement_line, lines_from, settlement_lines}
 
--- where x is the item at place i of a list, the first i + 1 items are the first i and x, and the list is these and what stands
--- behind them
+-- where x is the item at place i of a list, the first i + 1 items are the first i and x, and the list is these and what
+-- follows them
 pub at_place : {A : Type 0} (xs : List A) (i : ℕ) (x : A) → i < length xs → x ≡ get_or xs i x → (take (i + 1) xs ≡ take i xs ++ x ∷ []) × (xs ≡ take i xs ++ x ∷ drop (i + 1) xs)
 at_place xs i x below is = (
   take_more xs i x below ∙ ap (λ y. take i xs ++ y ∷ []) (sym is),

@@ -25,11 +25,11 @@ use Rattle.gc_texts.proofs.RawForms.{first_digit}
 use Rattle.gc_texts.proofs.WishForms.{one_wish}
 use Rattle.gc_texts.proofs.Procedures.{one_number}
 
--- the digits of a deadline's line are what stands behind `deadline `
+-- the digits of a deadline's line are what follows `deadline `
 pub deadline_digits : (line rest : List ℕ) (deadline : ℕ) → line ≡ codes "deadline " ++ rest → (is : IsDeadline line deadline) → is.digits ≡ rest
 deadline_digits line rest deadline e is = append_cancel_left (codes "deadline ") is.digits rest (sym is.line_is ∙ e)
 
--- where the number behind `deadline ` is 0, the line gives no deadline
+-- where the number after `deadline ` is 0, the line gives no deadline
 pub no_zero : (line rest : List ℕ) (n : ℕ) → line ≡ codes "deadline " ++ rest → IsNumber rest n 86400000 → n ≡ 0 → (deadline : ℕ) → IsDeadline line deadline → ⊥
 no_zero line rest n e number zero deadline is =
     let same : n ≡ deadline = one_number rest n deadline 86400000 number (subst (λ (ds : List ℕ). IsNumber ds deadline 86400000) (deadline_digits line rest deadline e is) is.number) in
@@ -37,23 +37,23 @@ no_zero line rest n e number zero deadline is =
 
 -- the parts of a line that gives a target a name
 module _ (line rest : List ℕ) (name : Name) (e : line ≡ codes "name " ++ rest) (is : IsNaming line name) where
-  -- what stands behind `name ` is the target, a space and the name
+  -- what follows `name ` is the target, a space and the name
   the_rest : rest ≡ is.target_text ++ 32 ∷ name.text.items
   the_rest = append_cancel_left (codes "name ") rest (is.target_text ++ 32 ∷ name.text.items) (sym e ∙ is.line_is)
 
-  -- the first space behind `name ` stands behind the target
+  -- the first space after `name ` follows the target
   the_cut : (target : List ℕ) (text : Option (List ℕ)) → Cuts 32 rest target text → (target ≡ is.target_text) × (text ≡ Some name.text.items)
   the_cut target text cut = cut_found 32 rest target text is.target_text name.text.items cut the_rest (digits_lack_spaces is.target_text is.target_is.names.digits)
 
-  -- the line of a name has a space behind its target
+  -- the line of a name has a space after its target
   pub no_space : (target : List ℕ) → Cuts 32 rest target None → ⊥
   no_space target cut = let parts = the_cut target None cut in let bad : None ≡ Some name.text.items = parts.1 in cc
 
-  -- what stands before the first space behind `name ` is a target
+  -- what is before the first space after `name ` is a target
   pub has_target : (target : List ℕ) (text : Option (List ℕ)) → Cuts 32 rest target text → ((n : ℕ) → IsNumber target n 4294967295 → ⊥) → ⊥
   has_target target text cut none = none name.target (subst (λ (ds : List ℕ). IsNumber ds name.target 4294967295) (sym (the_cut target text cut).0) is.target_is)
 
-  -- what stands behind the first space behind `name ` is a name
+  -- what follows the first space after `name ` is a name
   pub has_name : (target text : List ℕ) → Cuts 32 rest target (Some text) → is_name text ≡ false → ⊥
   has_name target text cut isnt =
       let some : Some text ≡ Some name.text.items = (the_cut target (Some text) cut).1 in
@@ -61,8 +61,8 @@ module _ (line rest : List ℕ) (name : Name) (e : line ≡ codes "name " ++ res
       let both : true ≡ false = sym is.text_is ∙ ap is_name (sym same) ∙ isnt in
       cc
 
--- the kinds of lines, told apart by the first byte: 0 a command, 1 `deadline`, 2 `chained`, 3 `unchained`, 4 `name` or `near`,
--- which begin alike, 5 `accept` or `at start`, which begin alike, too, 6 `retry`, 7 `each cycle`
+-- the kinds of lines, distinguished by the first byte: 0 a command, 1 `deadline`, 2 `chained`, 3 `unchained`, 4 `name` or
+-- `near`, which begin alike, 5 `accept` or `at start`, which begin alike, too, 6 `retry`, 7 `each cycle`
 abbrev kind : TaskLine → ℕ
 kind (says.Command command now) = 0
 kind (says.Deadline deadline) = 1
@@ -164,7 +164,7 @@ pub stands_so : (line rest : List ℕ) (r : Option Near) → line ≡ codes "nea
 stands_so line rest None e none = λ near is. none near (subst (λ (r : List ℕ). IsNearText r near) (append_cancel_left (codes "near ") is.rest rest (sym is.line_is ∙ e)) is.near_is)
 stands_so line rest (Some near) e is = record { rest = rest; line_is = e; near_is = is }
 
--- no line both gives a target a name (`name `) and says where a target stands (`near `)
+-- no line both gives a target a name (`name `) and says where a target is (`near `)
 never_both : (line : List ℕ) (name : Name) (near : Near) → IsNaming line name → IsStanding line near → ⊥
 never_both line name near x y =
     let second : ◌≡◌ {A = ℕ} 97 101 = ap (λ bs. get_or bs 1 0) (sym x.line_is ∙ y.line_is) in
@@ -175,7 +175,7 @@ never_start : (line : List ℕ) (accepted : Codes) → IsAccepting line accepted
 never_start line accepted (inl alone) e = let second : ◌≡◌ {A = ℕ} 99 116 = ap (λ bs. get_or bs 1 0) (sym alone.0 ∙ e) in omega (arith, second)
 never_start line accepted (inr is) e = let second : ◌≡◌ {A = ℕ} 99 116 = ap (λ bs. get_or bs 1 0) (sym is.line_is ∙ e) in omega (arith, second)
 
--- a line asks for one thing at most, and either with the moment at which it goes out or without
+-- a line asks for one thing at most, and either with the moment at which it is sent or without
 one_asked_for : (line : List ℕ) (v w : Wish) (m n : Bool) → IsAsking line v m → IsAsking line w n → says.Command v m ≡ says.Command w n
 one_asked_for line v w true true x y = ap (λ u. says.Command u true) (one_clock line v w x y)
 one_asked_for line v w false false x y = ap (λ u. says.Command u false) (one_wish line v w x y)

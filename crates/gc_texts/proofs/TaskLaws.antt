@@ -52,7 +52,7 @@ asked_forms [] (c ∷ cs) are = absurd are
 asked_forms (line ∷ lines) [] are = absurd are
 asked_forms (line ∷ lines) (c ∷ cs) are = (are.0, asked_forms lines cs are.1)
 
--- lines of commands may stand behind any names and places
+-- lines of commands may follow any names and places
 asked_follow : (names : List Name) (nears : List Near) (commands : List Command) → MayFollow names nears (asks commands)
 asked_follow names nears [] = tt
 asked_follow names nears (c ∷ cs) = (refl, asked_follow (names ++ []) (nears ++ []) cs)
@@ -74,7 +74,7 @@ record IsFirst (task : Task) : Type 0 where
   attempt : task.turn.attempt ≡ 1
   others : task.others ≡ 0
 
--- a command whose chain goes out once
+-- a command whose chain is sent once
 record IsOnce (planned : Planned) : Type 0 where
   retry : planned.retry ≡ no_retry
   first : IsFirst planned.task
@@ -96,7 +96,7 @@ once_more : (ps : List Planned) (p : Planned) → AllByRecursion IsOnce ps → I
 once_more [] p all is = (is, tt)
 once_more (q ∷ ps) p all is = (all.0, once_more ps p all.1 is)
 
--- where all chains go out once, their attempts are the commands' tasks
+-- where all chains are sent once, their attempts are the commands' tasks
 laid_once : (retry : Retry) (chain later : List Planned) → retry ≡ no_retry → AllByRecursion IsOnce chain → AllByRecursion IsOnce later
     → laid_behind retry chain later ≡ map (λ p. p.task) chain ++ map (λ p. p.task) later
 laid_once retry chain [] none all rest = ap (λ r. attempts r chain) none ∙ once_all (length chain) chain all ∙ sym (append-nil (map (λ p. p.task) chain))
@@ -117,14 +117,14 @@ unplaced : (tasks : List Task) → AllByRecursion (λ task. task.near ≡ None) 
 unplaced [] all = refl
 unplaced (t ∷ ts) all = ap (λ n. record t { near = n } ∷ map (placed []) ts) (sym all.0) ∙ ap (λ us. t ∷ us) (unplaced ts all.1)
 
--- commands alone, read in a mode of the cycle without accepted codes and without retries, in which `place` of them stand in front, and `link` of
--- the chain
+-- commands alone, read in a mode of the cycle without accepted codes and without retries, in which `place` of them are in
+-- front, and `link` of the chain
 module _ (deadline : ℕ) (chained : Bool) where
   -- the mode
   abbrev at : Option ℕ → ℕ → ℕ → Mode
   at row place link = record { deadline = deadline; chained = chained; row = row; accepted = no_codes; retry = no_retry; setup = false; begun = 0; place = place; link = link }
 
-  -- where the chain of the next command for a target stands
+  -- how far the chain of the next command for a target is
   abbrev next_link : Option ℕ → ℕ → ℕ → ℕ
   next_link row link target = (if chained && goes_on row target then link else 0) + 1
 
@@ -133,7 +133,7 @@ module _ (deadline : ℕ) (chained : Bool) where
   no_setup row place link [] = refl
   no_setup row place link (c ∷ cs) = no_setup (Some c.target) (place + 1) (next_link row link c.target) cs
 
-  -- each goes out once
+  -- each is sent once
   all_once : (row : Option ℕ) (place link : ℕ) (commands : List Command) → AllByRecursion IsOnce (planned_of (at row place link) (asks commands))
   all_once row place link [] = tt
   all_once row place link (c ∷ cs) =
@@ -240,12 +240,12 @@ rows mode before (says.Retrying r ∷ later) h = rows (behind mode (says.Retryin
 rows mode before (says.AtStart ∷ later) h = rows (behind mode says.AtStart) before later (inr (inl refl))
 rows mode before (says.EachCycle ∷ later) h = rows (behind mode says.EachCycle) before later (inr (inl refl))
 
--- rows of which the first isn't chained stand behind anything
+-- rows of which the first isn't chained follow anything
 rows_behind : (before : Option ℕ) (tasks : List Task) → AreRows None tasks → AreRows before tasks
 rows_behind before [] are = tt
 rows_behind before (t ∷ ts) are = ((λ e. let bad : None ≡ Some t.command.target = are.0 e in cc), are.1)
 
--- rows, and behind them rows of which the first isn't chained, are rows
+-- rows, and after them rows of which the first isn't chained, are rows
 rows_both : (before : Option ℕ) (xs ys : List Task) → AreRows before xs → AreRows None ys → AreRows before (xs ++ ys)
 rows_both before [] ys first behind = rows_behind before ys behind
 rows_both before (x ∷ xs) ys first behind = (first.0, rows_both (Some x.command.target) xs ys first.1 behind)
@@ -272,17 +272,17 @@ rows_more : (before : Option ℕ) (ps : List Planned) (p : Planned) → InRows b
 rows_more before [] p are is = (is, tt)
 rows_more before (q ∷ ps) p are is = (are.0, rows_more (Some q.task.command.target) ps p are.1 is)
 
--- behind one more command its target is the last
+-- after one more command its target is the last
 last_more : (before : Option ℕ) (ps : List Planned) (p : Planned) → last_of before (ps ++ p ∷ []) ≡ Some p.task.command.target
 last_more before [] p = refl
 last_more before (q ∷ ps) p = last_more (Some q.task.command.target) ps p
 
--- where a command isn't chained, it may stand in front
+-- where a command isn't chained, it may come first
 not_chained : (b : Bool) (row : Option ℕ) → b ≡ false → b ≡ true → None ≡ row
 not_chained true row e f = cc
 not_chained false row e f = cc
 
--- the attempts of a chain that was begun, and of those behind it, are in rows
+-- the attempts of a chain that was begun, and of those after it, are in rows
 laid_rows : (retry : Retry) (chain later : List Planned) → InRows None chain → InRows (last_of None chain) later → AreRows None (laid_behind retry chain later)
 laid_rows retry chain [] are more = attempts_rows 1 retry.times retry.again chain are
 laid_rows retry chain (p ∷ later) are more =
@@ -300,7 +300,7 @@ placed_rows : (nears : List Near) (before : Option ℕ) (tasks : List Task) → 
 placed_rows nears before [] are = tt
 placed_rows nears before (task ∷ later) are = (are.0, placed_rows nears (Some task.command.target) later are.1)
 
--- these tasks go on with a chain, or begin one where none stands in front
+-- these tasks go on with a chain, or begin one where none is in front
 abbrev GoOn : ℕ → List Task → Type 0
 GoOn zero tasks = IsOneChain tasks
 GoOn (suc n) tasks = AllByRecursion (λ task. task.chained ≡ true) tasks
@@ -343,7 +343,7 @@ setup_chain nears mode (says.Retrying r ∷ later) = setup_chain nears (behind m
 setup_chain nears mode (says.AtStart ∷ later) = setup_chain nears (behind mode says.AtStart) later
 setup_chain nears mode (says.EachCycle ∷ later) = setup_chain nears (behind mode says.EachCycle) later
 
--- the law: the set-up is one chain, and behind it each chained task stands behind one for the same target
+-- the law: the set-up is one chain, and after it each chained task follows one for the same target
 pub chains_are_rows : ChainsAreRows
 chains_are_rows text deadline chained setup tasks names nears is =
     let first = opening deadline chained in

@@ -1,6 +1,6 @@
--- The tasks, names and places of lines that stand one behind the other, and how far the reading of a station's text has come
--- (`ReadsTasks`). The mode at a line is the deadline, the accepted codes, whether commands are chained, and the target of the
--- row there.
+-- The tasks, names and places of lines that follow one another, and how far the reading of a station's text has come
+-- (`ReadsTasks`). The mode at a line is the deadline, the accepted codes, whether commands are chained, and the target of
+-- the row there.
 use Rattle.std.proofs.lemmas.List.{length-append}
 use Rattle.std.proofs.Common.{◌⊎◌, inl, inr, ◌<◌, map, None, cond, arith, if◌then◌else◌, ◌≡◌, ◌+◌, ◌≤◌, ℕ, List, [], ◌∷◌, ◌++◌, length, Option, Some, Bool, true, false, refl, ap, subst, sym, ◌∙◌, append_assoc, append-nil}
 use Rattle.std.specs.Prelude.{not, filter}
@@ -19,19 +19,19 @@ use Rattle.gc_texts.specs.declared.tasks.Task.{Task}
 use Rattle.gc_texts.proofs.TaskForms.{one_said}
 use Rattle.gc_texts.proofs.TextLines.{Reads, reads_few, lines_left, lines-cut, turn_skips, turn_reads}
 
--- the mode behind these lines, where `mode` holds in front of the first
+-- the mode after these lines, where `mode` holds before the first
 abbrev pub behind_all : Mode → List TaskLine → Mode
 behind_all mode [] = mode
 behind_all mode (line ∷ later) = behind_all (behind mode line) later
 
--- the set-up of lines, and of one more, is that of the lines, and that of the last in the mode behind them
+-- the set-up of lines, and of one more, is that of the lines, and that of the last in the mode after them
 setup_more : (mode : Mode) (lines : List TaskLine) (next : TaskLine) → setup_of mode (lines ++ next ∷ []) ≡ setup_of mode lines ++ setup_at (behind_all mode lines) next
 setup_more mode [] next = append-nil (setup_at mode next)
 setup_more mode (line ∷ lines) next =
     ap (λ ts. setup_at mode line ++ ts) (setup_more (behind mode line) lines next)
     ∙ sym (append_assoc (setup_at mode line) (setup_of (behind mode line) lines) (setup_at (behind_all (behind mode line) lines) next))
 
--- the cycle's commands of lines, and of one more, are those of the lines, and that of the last in the mode behind them
+-- the cycle's commands of lines, and of one more, are those of the lines, and that of the last in the mode after them
 planned_more : (mode : Mode) (lines : List TaskLine) (next : TaskLine) → planned_of mode (lines ++ next ∷ []) ≡ planned_of mode lines ++ planned_at (behind_all mode lines) next
 planned_more mode [] next = append-nil (planned_at mode next)
 planned_more mode (line ∷ lines) next =
@@ -131,12 +131,12 @@ nears_more : (lines : List TaskLine) (next : TaskLine) → nears_of (lines ++ ne
 nears_more [] next = append-nil (near_at next)
 nears_more (line ∷ lines) next = ap (λ ns. near_at line ++ ns) (nears_more lines next) ∙ sym (append_assoc (near_at line) (nears_of lines) (near_at next))
 
--- the mode behind lines and one more is the mode that the last leaves, where the mode behind the others holds in front of it
+-- the mode after lines and one more is the mode that the last leaves, where the mode after the others holds before it
 behind_more : (mode : Mode) (lines : List TaskLine) (next : TaskLine) → behind_all mode (lines ++ next ∷ []) ≡ behind (behind_all mode lines) next
 behind_more mode [] next = refl
 behind_more mode (line ∷ lines) next = behind_more (behind mode line) lines next
 
--- where lines may stand behind these names and places, and one more may stand behind the lines, all of them may stand there
+-- where lines may follow these names and places, and one more may follow the lines, all of them may follow there
 follow_more : (names : List Name) (nears : List Near) (lines : List TaskLine) (next : TaskLine) → MayFollow names nears lines
     → may_stand (names ++ names_of lines) (nears ++ nears_of lines) next ≡ true → MayFollow names nears (lines ++ next ∷ [])
 follow_more names nears [] next follow stands = (ap (λ ns. may_stand ns nears next) (sym (append-nil names)) ∙ ap (λ ps. may_stand (names ++ []) ps next) (sym (append-nil nears)) ∙ stands, tt)
@@ -147,8 +147,9 @@ follow_more names nears (line ∷ lines) next follow stands = (
       ∙ ap (λ ps. may_stand (names ++ (name_at line ++ names_of lines)) ps next) (append_assoc nears (near_at line) (nears_of lines)) ∙ stands),
 )
 
--- how far the reading has come: `left` of the text is unread, `number` lines were read, and they gave these tasks of the set-up, these
--- commands of the cycle, names and places, and the mode behind them. Where a line that says something was read, a sound line was reached
+-- how far the reading has come: `left` of the text is unread, `number` lines were read, and they gave these tasks of the
+-- set-up, these commands of the cycle, names and places, and the mode after them. Where a line that says something was read,
+-- a sound line was reached
 pub record ReadsTasks (text : List ℕ) (first : Mode) (left : Option (List ℕ)) (number : ℕ) (setup : List Task) (cycle : List Planned) (names : List Name) (nears : List Near) (mode : Mode) : Type 0 where
   pub said : List TaskLine
   pub reads : Reads IsTaskLine text left number said
@@ -230,7 +231,7 @@ module _
     (setup : List Task) (cycle : List Planned) (names : List Name) (nears : List Near) (mode : Mode) (skipped : Bool)
     (r : ReadsTasks text first left number setup cycle names nears mode) (some : left ≡ Some now) (cut : Cuts 10 now line rest)
     (is_plain : plain ≡ without_cr line) (tested : skipped ≡ is_skipped plain) where
-  -- a line may stand behind the lines that were read exactly where it may stand behind the names and places so far
+  -- a line may follow the lines that were read exactly where it may follow the names and places so far
   said_so : (said : TaskLine) → may_stand (names_of r.said) (nears_of r.said) said ≡ may_stand names nears said
   said_so said = ap (λ ns. may_stand ns (nears_of r.said) said) (sym r.names_are) ∙ ap (λ ps. may_stand names ps said) (sym r.nears_are)
 
@@ -261,7 +262,7 @@ module _
   is_line : skipped ≡ false → is_kept (without_cr line) ≡ true
   is_line isnt = ap not (ap is_skipped (sym is_plain) ∙ sym tested ∙ isnt)
 
-  -- a line that isn't skipped, and says nothing that may stand there, is the first faulty one
+  -- a line that isn't skipped, and says nothing that is allowed there, is the first faulty one
   faulty : skipped ≡ false → ((said : TaskLine) → IsTaskLine plain said → may_stand names nears said ≡ false) → IsFirstFaultyTask text (number + 1)
   faulty isnt none =
       record {
@@ -280,11 +281,11 @@ module _
   pub task_fails : skipped ≡ false → ((said : TaskLine) → IsTaskLine plain said → ⊥) → IsFirstFaultyTask text (number + 1)
   task_fails isnt none = faulty isnt (λ said is. absurd (none said is))
 
-  -- a line that has a form, and may not stand there, is the first faulty one
+  -- a line that has a form, and isn't allowed there, is the first faulty one
   pub task_refused : (said : TaskLine) (stands : Bool) → skipped ≡ false → IsTaskLine plain said → stands ≡ may_stand names nears said → stands ≡ false → IsFirstFaultyTask text (number + 1)
   task_refused said stands isnt is asked no_more = faulty isnt (λ other form. ap (may_stand names nears) (one_said plain other said form is) ∙ sym asked ∙ no_more)
 
-  -- where memory is refused at a line that has a form and may stand there, no line up to it is faulty
+  -- where memory is refused at a line that has a form and is allowed there, no line up to it is faulty
   pub task_wants : (said : TaskLine) (stands : Bool) → skipped ≡ false → IsTaskLine plain said → stands ≡ may_stand names nears said → stands ≡ true → ReachesASoundTaskLine text
   task_wants said stands isnt is asked did =
       record {
@@ -300,8 +301,8 @@ module _
         stands = said_so said ∙ sym asked ∙ did;
       }
 
-  -- a line that isn't skipped, has a form and may stand there is read: the lists grow by what it gives, and the mode is the one
-  -- behind it
+  -- a line that isn't skipped, has a form and is allowed there is read: the lists grow by what it gives, and the mode is the
+  -- one after it
   pub task_reads :
       (said : TaskLine) (new_setup : List Task) (new_cycle : List Planned) (new_names : List Name) (new_nears : List Near) (next : Mode) (stands : Bool) → skipped ≡ false → IsTaskLine plain said
       → stands ≡ may_stand names nears said → stands ≡ true → new_setup ≡ setup ++ setup_at mode said → new_cycle ≡ cycle ++ planned_at mode said → new_names ≡ names ++ name_at said → new_nears ≡ nears ++ near_at said

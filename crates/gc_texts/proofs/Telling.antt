@@ -10,7 +10,7 @@ use Rattle.gc_client.specs.Settlements.{settlement_seen}
 use Rattle.gc_texts.specs.Settlements.{settlement_line, lines_from, ToldPart}
 use Rattle.gc_texts.proofs.SettlementLines.{lines_one, map_one, at_place}
 
--- there are i settlements in front of the one at place i
+-- there are i settlements before the one at place i
 front_is : (ss : List (Settlement Call)) (i : ℕ) → i < length ss → length (map settlement_seen (take i ss)) ≡ i
 front_is ss i below = length-map (take i ss) settlement_seen ∙ omega (arith, length-take i ss, below)
 

@@ -27,7 +27,7 @@ pieces-lacking before [] lacks = ap (λ x. x ∷ []) (sym (append-nil before))
 pieces-lacking before (b ∷ bs) lacks =
     piece-on before bs b lacks.0 ∙ pieces-lacking (before ++ b ∷ []) bs lacks.1 ∙ ap (λ x. x ∷ []) (append_assoc before (b ∷ []) bs)
 
--- a text with an LF is the piece before its first LF, and the pieces behind that
+-- a text with an LF is the piece before its first LF, and the pieces after that
 pieces-cut : (before front rest : List ℕ) → Lacks 10 front → text_pieces before (front ++ 10 ∷ rest) ≡ (before ++ front) ∷ text_pieces [] rest
 pieces-cut before [] rest lacks = ap (λ x. x ∷ text_pieces [] rest) (sym (append-nil before))
 pieces-cut before (b ∷ front) rest lacks =
@@ -45,7 +45,7 @@ pieces-few : (before bs : List ℕ) → length (text_pieces before bs) ≤ lengt
 pieces-few before [] = omega arith
 pieces-few before (b ∷ bs) = few_more before bs b (b == 10) (pieces-few [] bs) (pieces-few (before ++ b ∷ []) bs)
 
--- the lines of a text are what stands before its first LF, without a CR at the end, and the rest's lines
+-- the lines of a text are what is before its first LF, without a CR at the end, and the rest's lines
 pub lines-cut : (text front : List ℕ) (rest : Option (List ℕ)) → Cuts 10 text front rest → text_lines text ≡ without_cr front ∷ lines_left rest
 lines-cut text front None cut = ap (map without_cr) (ap (text_pieces []) cut.0 ∙ pieces-lacking [] front cut.1)
 lines-cut text front (Some rest) cut = ap (map without_cr) (ap (text_pieces []) cut.0 ∙ pieces-cut [] front rest cut.1)
@@ -73,14 +73,14 @@ reads_few form text left number items within r =
     omega (arith, all, pieces, pieces-few [] text, within, r.count)
 
 -- where the kept lines of two lists (`all`) are `xs` of the first and then `ys` of the second, they are still with one more
--- line x in front of the first list, kept (`t`) or not
+-- line x before the first list, kept (`t`) or not
 filter_one :
     (x : List ℕ) (xs ys all : List (List ℕ)) (t : Bool) → all ≡ xs ++ ys →
     cond t (x ∷ all) all ≡ cond t (x ∷ xs) xs ++ ys
 filter_one x xs ys all true e = ap (λ rest. x ∷ rest) e
 filter_one x xs ys all false e = e
 
--- the lines of two lists that are kept are those of the first, and behind them those of the second
+-- the lines of two lists that are kept are those of the first, and after them those of the second
 filter-append : (xs ys : List (List ℕ)) → filter is_kept (xs ++ ys) ≡ filter is_kept xs ++ filter is_kept ys
 filter-append [] ys = refl
 filter-append (x ∷ xs) ys = filter_one x (filter is_kept xs) (filter is_kept ys) (filter is_kept (xs ++ ys)) (is_kept x) (filter-append xs ys)
@@ -89,7 +89,7 @@ filter-append (x ∷ xs) ys = filter_one x (filter is_kept xs) (filter is_kept y
 abbrev pub LineItems : {Item : Type 0} → Form Item → List ℕ → List Item → Type 0
 LineItems form line items = AreItems form (filter is_kept (line ∷ [])) items
 
--- where the reading has come to a line, and that line gives the items `more`, behind it the reading has those before and then
+-- where the reading has come to a line, and that line gives the items `more`, after it the reading has those before and then
 -- `more`
 pub reads_on : {Item : Type 0} (form : Form Item) (text now line : List ℕ) (rest : Option (List ℕ)) (number : ℕ) (items more : List Item)
     → Reads form text (Some now) number items → Cuts 10 now line rest → LineItems form (without_cr line) more

@@ -1,11 +1,11 @@
--- Behind which ends of its commands a chain goes out again: this project's own.
+-- After which endings of its commands a chain is repeated: this project's own.
 use Rattle.std.specs.Prelude.{ℕ, Bool, false, Option, Some, None}
 use Rattle.gc_texts.specs.Codes.{no_codes, are_accepted}
 use Rattle.gc_texts.specs.Endings.{End, Answered, Unreadable, Elsewhere, Late, Lost, Skipped, Missed}
 use Rattle.gc_texts.specs.declared.again.Again.{Again}
 use Rattle.gc_texts.specs.declared.codes.Codes.{Codes}
 
--- no return code and no outcome: a chain with this doesn't go out again
+-- no return code and no outcome: a chain with this isn't repeated
 abbrev pub no_again : Again
 no_again = record { codes = no_codes; unreadable = false; elsewhere = false; late = false; lost = false; skipped = false }
 

@@ -1,5 +1,5 @@
--- The attempts of the chains of a station's text: this project's own. A chain is a command that isn't chained, and the chained ones
--- behind it. It goes out at most once more than its line `retry` says, each time from its first command on.
+-- The attempts of the chains of a station's text: this project's own. A chain is a command that isn't chained, and the
+-- chained ones after it. It is sent at most once more than its line `retry` says, each time from its first command on.
 use Rattle.std.specs.Prelude.{ℕ, zero, suc, ◌+◌, ◌*◌, ◌==◌, ◌&&◌, nat_lt, List, [], ◌∷◌, ◌++◌, length, map, if◌then◌else◌}
 use Rattle.gc_texts.specs.Again.{no_again}
 use Rattle.gc_texts.specs.Retries.{no_retry}
@@ -8,8 +8,8 @@ use Rattle.gc_texts.specs.declared.retry.Retry.{Retry}
 use Rattle.gc_texts.specs.declared.tasks.Planned.{Planned}
 use Rattle.gc_texts.specs.declared.tasks.Task.{Task}
 
--- a command in this attempt of its chain. Behind the ends in `again` the chain goes out again. The first command of a later attempt says
--- how many commands this attempt and those behind it have together
+-- a command in this attempt of its chain. After the endings in `again` the chain is repeated. The first command of a later
+-- attempt says how many commands this attempt and those after it have together
 abbrev pub in_attempt : ℕ → Again → ℕ → Planned → Task
 in_attempt attempt again commands planned =
     record planned.task {
@@ -18,7 +18,7 @@ in_attempt attempt again commands planned =
       others = if (nat_lt 1 attempt) && (planned.task.turn.link == 0) then commands else 0;
     }
 
--- a chain's attempts from this one on, where as many as `left` may follow it; behind the last the chain doesn't go out again
+-- a chain's attempts from this one on, where as many as `left` may follow it; after the last the chain isn't repeated
 abbrev pub attempts_from : ℕ → ℕ → Again → List Planned → List Task
 attempts_from attempt zero again chain = map (in_attempt attempt no_again (length chain)) chain
 attempts_from attempt (suc left) again chain = map (in_attempt attempt again (length chain * suc (suc left))) chain ++ attempts_from (attempt + 1) left again chain
@@ -27,8 +27,8 @@ attempts_from attempt (suc left) again chain = map (in_attempt attempt again (le
 abbrev pub attempts : Retry → List Planned → List Task
 attempts retry chain = attempts_from 1 retry.times retry.again chain
 
--- the attempts of a chain that was begun, and those of the chains behind it: a chained command goes on with the chain, and one that
--- isn't chained begins the next
+-- the attempts of a chain that was begun, and those of the chains after it: a chained command goes on with the chain, and
+-- one that isn't chained begins the next
 abbrev pub laid_behind : Retry → List Planned → List Planned → List Task
 laid_behind retry chain [] = attempts retry chain
 laid_behind retry chain (planned ∷ later) =

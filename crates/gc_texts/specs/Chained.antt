@@ -1,5 +1,5 @@
--- What holds of a command in a station's text, by the lines in front of it: this project's own. The lines `chained` and
--- `unchained` are called lines of a mode: they say whether the commands behind them are chained.
+-- What holds of a command in a station's text, by the lines before it: this project's own. The lines `chained` and
+-- `unchained` are called lines of a mode: they say whether the commands after them are chained.
 use Rattle.std.specs.Prelude.{◌≡◌, ◌⊎◌, ℕ, ◌+◌, ◌≤◌, nat_lt, if◌then◌else◌, Bool, true, false, List, [], ◌∷◌, ◌++◌, length, Some}
 use Rattle.std.specs.List.{AllByRecursion}
 use Rattle.gc_texts.specs.Codes.{no_codes}
@@ -15,7 +15,8 @@ use Rattle.gc_texts.specs.declared.task_line.TaskLine.{TaskLine}
 use Rattle.gc_texts.specs.declared.task_line.TaskLine.TheVariants as says
 use Rattle.gc_texts.specs.declared.tasks.Task.{Task}
 
--- whether the commands behind these lines are set-up, as the last line `at start` or `each cycle` says; `setup` says it in front of them
+-- whether the commands after these lines are set-up, as the last line `at start` or `each cycle` says; `setup` says it
+-- before them
 abbrev pub section_behind : Bool → List TaskLine → Bool
 section_behind setup [] = setup
 section_behind setup (says.AtStart ∷ later) = section_behind true later
@@ -43,7 +44,7 @@ abbrev pub SaysNoDeadline : TaskLine → Type 0
 SaysNoDeadline (says.Deadline deadline) = ⊥
 SaysNoDeadline _ = Unit {0}
 
--- the deadline behind these lines: that of the last one that says a deadline, or `given` where none does
+-- the deadline after these lines: that of the last one that says a deadline, or `given` where none does
 abbrev pub IsDeadlineBehind : ℕ → List TaskLine → ℕ → Type 0
 IsDeadlineBehind given lines deadline =
     (AllByRecursion SaysNoDeadline lines × (deadline ≡ given))
@@ -60,7 +61,7 @@ abbrev pub mode_line : Bool → TaskLine
 mode_line true = says.Chained
 mode_line false = says.Unchained
 
--- whether commands are chained behind these lines: as the last line of a mode says, or as `given` says where there is none
+-- whether commands are chained after these lines: as the last line of a mode says, or as `given` says where there is none
 abbrev pub IsModeBehind : Bool → List TaskLine → Bool → Type 0
 IsModeBehind given lines chained =
     (AllByRecursion SaysNoMode lines × (chained ≡ given))
@@ -71,7 +72,7 @@ abbrev pub SaysNoCodes : TaskLine → Type 0
 SaysNoCodes (says.Accepting accepted) = ⊥
 SaysNoCodes _ = Unit {0}
 
--- the codes that are accepted behind these lines: those of the last line that sets codes, and none where no line sets any
+-- the codes that are accepted after these lines: those of the last line that sets codes, and none where no line sets any
 abbrev pub AreAcceptedBehind : List TaskLine → Codes → Type 0
 AreAcceptedBehind lines accepted =
     (AllByRecursion SaysNoCodes lines × (accepted ≡ no_codes))
@@ -82,13 +83,15 @@ abbrev pub SaysNoRetry : TaskLine → Type 0
 SaysNoRetry (says.Retrying retry) = ⊥
 SaysNoRetry _ = Unit {0}
 
--- how often chains go out again behind these lines, and behind what: as the last line `retry` says, and never where there is none
+-- how often chains are repeated after these lines, and after what: as the last line `retry` says, and never where there is
+-- none
 abbrev pub IsRetryBehind : List TaskLine → Retry → Type 0
 IsRetryBehind lines retry =
     (AllByRecursion SaysNoRetry lines × (retry ≡ no_retry))
     ⊎ ((before : List TaskLine) × (between : List TaskLine) × (lines ≡ before ++ says.Retrying retry ∷ between) × AllByRecursion SaysNoRetry between)
 
--- a line that may stand between two commands of a chain without ending it: a deadline, a name, where a target stands, or accepted codes
+-- a line that may come between two commands of a chain without ending it: a deadline, a name, where a target is, or accepted
+-- codes
 abbrev pub KeepsChains : TaskLine → Type 0
 KeepsChains (says.Deadline deadline) = Unit {0}
 KeepsChains (says.Naming name) = Unit {0}
@@ -96,27 +99,29 @@ KeepsChains (says.Standing near) = Unit {0}
 KeepsChains (says.Accepting accepted) = Unit {0}
 KeepsChains _ = ⊥
 
--- the last command of these lines is for this target, and behind it stand deadlines, names, places and codes alone
+-- the last command of these lines is for this target, and only deadlines, names, places and codes follow it
 abbrev pub EndsWithTarget : List TaskLine → ℕ → Type 0
 EndsWithTarget lines target =
     (before : List TaskLine) × (command : Wish) × (now : Bool) × (between : List TaskLine) × (lines ≡ before ++ says.Command command now ∷ between) × AllByRecursion KeepsChains between
     × (command.target ≡ target)
 
--- the task of a command of the cycle that stands behind the lines `front`: its place counts the cycle's commands among them, and it is chained
--- exactly where commands are chained there and the command before is for the same target, with no line between the two that ends the row
+-- the task of a command of the cycle that follows the lines `front`: its place counts the cycle's commands among them, and
+-- it is chained exactly where commands are chained there and the command before is for the same target, with no line between
+-- the two that ends the row
 pub record GoesInCycle (chained : Bool) (front : List TaskLine) (command : Wish) (task : Task) : Type 0 where
   pub place : task.turn.place ≡ cycle_commands false front
   pub only : task.chained ≡ true → IsModeBehind chained front true × EndsWithTarget front command.target
   pub found : IsModeBehind chained front true → EndsWithTarget front command.target → task.chained ≡ true
 
--- the task of a command of the set-up that stands behind the lines `front`: its place counts the set-up's commands among them, and it is
--- chained exactly where there is one
+-- the task of a command of the set-up that follows the lines `front`: its place counts the set-up's commands among them, and
+-- it is chained exactly where there is one
 pub record GoesAtStart (front : List TaskLine) (task : Task) : Type 0 where
   pub place : task.turn.place ≡ setup_commands false front
   pub chained : task.chained ≡ nat_lt 0 (setup_commands false front)
 
--- the task of a command that stands behind the lines `front`: it asks that command, in the first attempt of its chain, with the deadline
--- and the accepted codes that hold there, and goes out as one of its section. `deadline` and `chained` hold where no line says otherwise
+-- the task of a command that follows the lines `front`: it asks that command, in the first attempt of its chain, with the
+-- deadline and the accepted codes that hold there, and is sent as one of its section. `deadline` and `chained` hold where no
+-- line says otherwise
 pub record GoesOut (deadline : ℕ) (chained : Bool) (front : List TaskLine) (command : Wish) (now : Bool) (task : Task) : Type 0 where
   pub asks : task.command ≡ command
   pub moment : task.now ≡ now
@@ -126,8 +131,9 @@ pub record GoesOut (deadline : ℕ) (chained : Bool) (front : List TaskLine) (co
   pub at_start : section_behind false front ≡ true → GoesAtStart front task
   pub in_cycle : section_behind false front ≡ false → GoesInCycle chained front command task
 
--- each command of a text goes out as the lines in front of it say, and its task has the place that the text gives its target, if any. A
--- command of the set-up stands among the first `setup` tasks, behind as many as are in front of it in the text; one of the cycle behind them
+-- each command of a text is sent as the lines before it say, and its task has the place that the text gives its target, if
+-- any. A command of the set-up is among the first `setup` tasks, after as many as are before it in the text; one of the
+-- cycle after them
 abbrev pub CommandsGoOutSo : Type 0
 CommandsGoOutSo =
     (text : List ℕ) (deadline : ℕ) (chained : Bool) (setup : ℕ) (tasks : List Task) (names : List Name) (nears : List Near) (is : IsTasks text deadline chained setup tasks names nears)
@@ -136,7 +142,7 @@ CommandsGoOutSo =
     × (section_behind false front ≡ true → length earlier ≡ setup_commands false front) × (section_behind false front ≡ false → setup ≤ length earlier)
     × GoesOut deadline chained front command now task × (task.near ≡ near_of command.target nears)
 
--- where a line says where a target stands, it says so of each command of that target, in front of it and behind it
+-- where a line says where a target is, it says so of each command of that target, before it and after it
 abbrev pub PlacesHoldForAll : Type 0
 PlacesHoldForAll =
     (text : List ℕ) (deadline : ℕ) (chained : Bool) (setup : ℕ) (tasks : List Task) (names : List Name) (nears : List Near) (is : IsTasks text deadline chained setup tasks names nears)

@@ -30,6 +30,6 @@ pub record IsFilled (text : List ℕ) (codes : Codes) : Type 0 where
   pub few : length listed ≤ 16
   pub filled_are : codes.codes ≡ filled listed
 
--- whether this return code is among these codes; 0, which fills the places behind them, never is
+-- whether this return code is among these codes; 0, which fills the places after them, never is
 abbrev pub are_accepted : Codes → ℕ → Bool
 are_accepted accepted code = not (code == 0) && list_any (λ c. c == code) accepted.codes

@@ -4,7 +4,7 @@ use Rattle.gc_texts.specs.LineForms.{IsText, FirstFaulty, ReachesASoundLine}
 use Rattle.gc_texts.specs.Procedures.{IsNumber, IsProcedure}
 use Rattle.gc_texts.specs.declared.commands.Command.{Command}
 
--- `T RPC` or `T RPC PARAMS`: the target T, and behind one space the procedure's number and its parameters
+-- `T RPC` or `T RPC PARAMS`: the target T, and after one space the procedure's number and its parameters
 pub record IsCommand (line : List ℕ) (command : Command) : Type 0 where
   pub target_text : List ℕ
   pub procedure : List ℕ

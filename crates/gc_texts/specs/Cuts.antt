@@ -6,17 +6,18 @@ abbrev pub Lacks : ℕ → List ℕ → Type 0
 Lacks mark [] = Unit {0}
 Lacks mark (b ∷ bs) = (b ≢ mark) × Lacks mark bs
 
--- `front` is what stands before the first mark, and the last argument what stands behind it; without a mark, all of the text and `None`
+-- `front` is what is before the first mark, and the last argument what follows it; without a mark, all of the text and
+-- `None`
 abbrev pub Cuts : ℕ → List ℕ → List ℕ → Option (List ℕ) → Type 0
 Cuts mark text front None = (text ≡ front) × Lacks mark front
 Cuts mark text front (Some rest) = (text ≡ front ++ mark ∷ rest) × Lacks mark front
 
--- what stands before the first mark, or all of the text where there is none
+-- what is before the first mark, or all of the text where there is none
 abbrev pub before : ℕ → List ℕ → List ℕ
 before mark [] = []
 before mark (b ∷ bs) = if b == mark then [] else b ∷ before mark bs
 
--- what stands behind the first mark, or nothing
+-- what follows the first mark, or nothing
 abbrev pub behind : ℕ → List ℕ → List ℕ
 behind mark [] = []
 behind mark (b ∷ bs) = if b == mark then bs else behind mark bs

@@ -14,9 +14,9 @@ pub data End : Type 0 where
   Answered : (quality : Quality) (answer : Option Answer) (line : List ℕ) → End
   -- its reply came in time, with this line, whose codes are 0, and whose values have this fault
   Unreadable : (line : List ℕ) (fault : ValueFault) → End
-  -- its reply came in time, with this line, and was measured elsewhere than its target stands
+  -- its reply came in time, with this line, and was measured away from its target
   Elsewhere : (line : List ℕ) → End
-  -- a reply to it came after it was given up
+  -- a reply to it came after it had timed out
   Late : End
   -- no reply came, or none will be taken
   Lost : End

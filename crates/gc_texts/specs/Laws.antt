@@ -35,8 +35,8 @@ CommandsAreTasks =
     (text : List ℕ) (commands : List Command) (deadline : ℕ) (chained : Bool) → IsCommands text commands →
     (tasks : List Task) × IsTasks text deadline chained 0 tasks [] [] × (map (λ task. task.command) tasks ≡ map wish_of commands)
 
--- the tasks of these commands, the first of which stands at this place: with the deadline, each not chained, and without a place of its target,
--- an accepted code or a rule
+-- the tasks of these commands, the first of which is at this place: with the deadline, each not chained, and without a place
+-- of its target, an accepted code or a rule
 abbrev pub plain_tasks : ℕ → ℕ → List Command → List Task
 plain_tasks deadline place [] = []
 plain_tasks deadline place (command ∷ others) =
@@ -58,17 +58,18 @@ abbrev pub CommandsArePlain : Type 0
 CommandsArePlain =
     (text : List ℕ) (commands : List Command) (deadline : ℕ) → IsCommands text commands → IsTasks text deadline false 0 (plain_tasks deadline 0 commands) [] []
 
--- each chained task stands behind one for the same target; the task in front of these, where there is one, is for the target `before`
+-- each chained task follows one for the same target; the task before these, where there is one, is for the target `before`
 abbrev pub AreRows : Option ℕ → List Task → Type 0
 AreRows before [] = Unit {0}
 AreRows before (task ∷ later) = (task.chained ≡ true → before ≡ Some task.command.target) × AreRows (Some task.command.target) later
 
--- these tasks are one chain: the first isn't chained, and each behind it is
+-- these tasks are one chain: the first isn't chained, and each after it is
 abbrev pub IsOneChain : List Task → Type 0
 IsOneChain [] = Unit {0}
 IsOneChain (first ∷ later) = (first.chained ≡ false) × AllByRecursion (λ task. task.chained ≡ true) later
 
--- the set-up is one chain; of the tasks behind it the first isn't chained, and each chained one stands behind one for the same target
+-- the set-up is one chain; of the tasks after it the first isn't chained, and each chained one follows one for the same
+-- target
 abbrev pub ChainsAreRows : Type 0
 ChainsAreRows =
     (text : List ℕ) (deadline : ℕ) (chained : Bool) (setup : ℕ) (tasks : List Task) (names : List Name) (nears : List Near) → IsTasks text deadline chained setup tasks names nears

@@ -19,7 +19,7 @@ without_cr [] = []
 without_cr (b ∷ []) = if b == 13 then [] else b ∷ []
 without_cr (b ∷ c ∷ bs) = b ∷ without_cr (c ∷ bs)
 
--- the lines of a text; an empty piece behind the last LF is an empty line, which is skipped
+-- the lines of a text; an empty piece after the last LF is an empty line, which is skipped
 abbrev pub text_lines : List ℕ → List (List ℕ)
 text_lines text = map without_cr (text_pieces [] text)
 

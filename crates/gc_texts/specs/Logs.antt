@@ -14,7 +14,7 @@ mark_text Came = codes "<"
 mark_text CamePart = codes "<|"
 mark_text Link = codes "-"
 
--- whether a byte stands as it is: printable ASCII but the backslash
+-- whether a byte is written as it is: printable ASCII except the backslash
 abbrev pub is_as_it_is : ℕ → Bool
 is_as_it_is b = nat_lt 31 b && nat_lt b 127 && not (b == 92)
 
@@ -42,7 +42,8 @@ log_text moment mark bytes = moment ++ 32 ∷ (mark_text mark ++ 32 ∷ escaped 
 abbrev pub log_line : ℕ → LogMark → List ℕ → List ℕ
 log_line utc mark bytes = log_text (stamp_text utc) mark bytes ++ codes "\n"
 
--- a text is the log line of this moment, mark and bytes; the moment, in printable characters, is what stands before its first space
+-- a text is the log line of this moment, mark and bytes; the moment, in printable characters, is what is before its first
+-- space
 pub record IsLogLine (text moment : List ℕ) (mark : LogMark) (bytes : List ℕ) : Type 0 where
   pub is : text ≡ log_text moment mark bytes
   pub one_word : Lacks 32 moment

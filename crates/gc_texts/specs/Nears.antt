@@ -1,5 +1,5 @@
--- Where a target stands, and whether an answer was measured there: this project's own. When a direction is near another is the rule of
--- gc_values' `Directions`.
+-- Where a target is, and whether an answer was measured there: this project's own. When a direction is near another is the
+-- rule of gc_values' `Directions`.
 use Rattle.std.specs.Prelude.{◌≡◌, ℕ, ◌==◌, Bool, true, false, not, if◌then◌else◌, List, [], ◌∷◌, Option, None, Some, is_some}
 use Rattle.std.specs.List.{list_any}
 use Rattle.gc_catalogue.specs.Answers.{IsAnswerOf}
@@ -22,8 +22,8 @@ use Rattle.gc_texts.specs.declared.near.Near.{Near}
 abbrev pub IsDouble : List ℕ → Decimal → Type 0
 IsDouble text d = Spells text d.digits d.scale
 
--- these words say a target, the direction in which it stands, and how far from that each angle of a measurement may be, in radians: `hz` is
--- from 0 to a turn, and `v` and `tolerance` are from 0 to half a turn
+-- these words say a target, the direction in which it is, and how far from that each angle of a measurement may be, in
+-- radians: `hz` is from 0 to a turn, and `v` and `tolerance` are from 0 to half a turn
 pub record AreWords (target hz v tolerance : List ℕ) (near : Near) : Type 0 where
   pub target_is : IsNumber target near.target 4294967295
   pub hz_is : IsDouble hz near.place.hz
@@ -65,12 +65,12 @@ abbrev pub seeks_direction : Asked → Bool
 seeks_direction (Table call) = asks_direction call
 seeks_direction (Raw raw) = false
 
--- whether there is a direction, and it isn't near the place where the target stands
+-- whether there is a direction, and it isn't near the place where the target is
 abbrev pub is_away : Near → Option Direction → Bool
 is_away near None = false
 is_away near (Some d) = not (is_near d near.place near.tolerance)
 
--- whether an answer was measured elsewhere than its target stands; false where no place is known of the target
+-- whether an answer was measured away from its target; false where no place is known of the target
 unfoldable pub is_elsewhere : Option Near → Answer → Bool
 is_elsewhere None answer = false
 is_elsewhere (Some near) answer = is_away near (direction_of answer)

@@ -9,7 +9,7 @@ pub record IsNumber (text : List ℕ) (n max : ℕ) : Type 0 where
   pub names : NamesNumber text n
   pub within : n ≤ max
 
--- what stands behind a procedure's number: nothing, or a space and the parameters
+-- what follows a procedure's number: nothing, or a space and the parameters
 abbrev pub behind_number : Option (List ℕ) → List ℕ
 behind_number None = []
 behind_number (Some params) = 32 ∷ params
@@ -19,7 +19,7 @@ abbrev pub IsMore : Option (List ℕ) → Type 0
 IsMore None = Unit {0}
 IsMore (Some params) = 0 < length params
 
--- the text is a procedure's number, and behind a space its parameters if there are any, and these make the call
+-- the text is a procedure's number, and after a space its parameters if there are any, and these make the call
 pub record IsProcedure (text : List ℕ) (call : Call) : Type 0 where
   pub rpc_text : List ℕ
   pub rpc : ℕ

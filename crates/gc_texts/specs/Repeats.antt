@@ -15,7 +15,8 @@ use Rattle.gc_texts.specs.declared.wish.Wish.{Wish}
 use Rattle.gc_texts.specs.declared.tasks.Planned.{Planned}
 use Rattle.gc_texts.specs.declared.tasks.Task.{Task}
 
--- a task without what tells the attempts of its chain apart: what it asks, its deadline, its places and its accepted codes are left
+-- a task without the fields that distinguish the attempts of its chain: what it asks, its deadline, its places and its
+-- accepted codes are left
 abbrev pub as_said : Task → Task
 as_said task = record task { again = no_again; turn = record { place = task.turn.place; attempt = 1; link = task.turn.link }; others = 0 }
 
@@ -25,14 +26,14 @@ pub record IsAttempt (attempt : ℕ) (again : Again) (commands tasks : List Task
   pub numbered : AllByRecursion (λ task. task.turn.attempt ≡ attempt) tasks
   pub ruled : AllByRecursion (λ task. task.again ≡ again) tasks
 
--- these tasks are a chain's attempts from this one on, in order, as many as `left` behind it. Each but the last has the rule `again`, and the
--- last has none
+-- these tasks are a chain's attempts from this one on, in order, as many as `left` after it. Each but the last has the rule
+-- `again`, and the last has none
 abbrev pub AreAttempts : ℕ → ℕ → Again → List Task → List Task → Type 0
 AreAttempts attempt zero again commands tasks = IsAttempt attempt no_again commands tasks
 AreAttempts attempt (suc left) again commands tasks =
     (first : List Task) × (later : List Task) × (tasks ≡ first ++ later) × IsAttempt attempt again commands first × AreAttempts (attempt + 1) left again commands later
 
--- a chain of a text: its commands, and how often it may go out again
+-- a chain of a text: its commands, and how often it may be repeated
 pub record Chain : Type 0 where
   pub retry : Retry
   pub commands : List Task
@@ -44,8 +45,8 @@ AreLaidOut (chain ∷ others) tasks =
     IsOneChain chain.commands
     × ((mine : List Task) × (later : List Task) × (tasks ≡ mine ++ later) × AreAttempts 1 chain.retry.times chain.retry.again chain.commands mine × AreLaidOut others later)
 
--- the tasks behind the set-up are the attempts of chains, in order, and the commands of these chains, each with its chain's retry, are the text's
--- commands of the cycle, in order, each once, with the retry that holds for it
+-- the tasks after the set-up are the attempts of chains, in order, and the commands of these chains, each with its chain's
+-- retry, are the text's commands of the cycle, in order, each once, with the retry that holds for it
 abbrev pub ChainsGoOutAgain : Type 0
 ChainsGoOutAgain =
     (text : List ℕ) (deadline : ℕ) (chained : Bool) (setup : ℕ) (tasks : List Task) (names : List Name) (nears : List Near) (is : IsTasks text deadline chained setup tasks names nears)
@@ -53,7 +54,7 @@ ChainsGoOutAgain =
     × (flat_map {A = Planned} (λ (chain : Chain). map (λ task. record { task = task; retry = chain.retry }) chain.commands) chains
     ≡ map (λ planned. record { task = placed nears planned.task; retry = planned.retry }) (planned_of (opening deadline chained) is.said))
 
--- a command of the cycle has the retry that the last line `retry` in front of it says
+-- a command of the cycle has the retry that the last line `retry` before it says
 abbrev pub RetriesHold : Type 0
 RetriesHold =
     (deadline : ℕ) (chained : Bool) (front later : List TaskLine) (command : Wish) (now : Bool) → section_behind false front ≡ false

@@ -1,4 +1,5 @@
--- Lines `retry` of a station's text: how often a chain goes out again, and behind which ends of its commands. This project's own.
+-- Lines `retry` of a station's text: how often a chain is repeated, and after which endings of its commands. This project's
+-- own.
 use Rattle.std.specs.Prelude.{◌≡◌, ℕ, ◌+◌, ◌≤◌, Bool, true, nat_lt, List, [], ◌∷◌, ◌++◌, slice_set, codes}
 use Rattle.gc_texts.specs.Again.{no_again}
 use Rattle.gc_texts.specs.Codes.{IsListed}
@@ -9,7 +10,7 @@ use Rattle.gc_texts.specs.declared.retry.Reason.{Reason}
 use Rattle.gc_texts.specs.declared.retry.Reason.TheVariants.{Code, Unreadable, Elsewhere, Late, Lost, Skipped}
 use Rattle.gc_texts.specs.declared.retry.Retry.{Retry}
 
--- a chain with this doesn't go out again
+-- a chain with this isn't repeated
 abbrev pub no_retry : Retry
 no_retry = record { times = 0; again = no_again }
 
@@ -28,7 +29,7 @@ AreReasons text [] = ⊥
 AreReasons text (reason ∷ []) = IsReason text reason
 AreReasons text (reason ∷ next ∷ others) = (word : List ℕ) × (rest : List ℕ) × (text ≡ word ++ 32 ∷ rest) × IsReason word reason × AreReasons rest (next ∷ others)
 
--- whether there is room for a word behind `count` codes: for a code while they are fewer than 16, and for an outcome always
+-- whether there is room for a word after `count` codes: for a code while they are fewer than 16, and for an outcome always
 abbrev pub has_room : ℕ → Reason → Bool
 has_room count (Code code) = nat_lt count 16
 has_room count _ = true
@@ -38,7 +39,7 @@ abbrev pub count_with : ℕ → Reason → ℕ
 count_with count (Code code) = count + 1
 count_with count _ = count
 
--- what is named with one word more: a code stands in the place behind the `count` codes so far, and an outcome is named
+-- what is named with one word more: a code is in the place after the `count` codes so far, and an outcome is named
 abbrev pub again_with : Again → ℕ → Reason → Again
 again_with again count (Code code) = record again { codes = record { codes = slice_set again.codes.codes count code } }
 again_with again count Unreadable = record again { unreadable = true }
@@ -64,7 +65,7 @@ pub record IsNamedBy (text : List ℕ) (again : Again) : Type 0 where
   pub few : codes_with 0 reasons ≤ 16
   pub again_is : again ≡ named_with no_again 0 reasons
 
--- `N WORD WORD ..`: how often, from 1 to 9 times, and behind what
+-- `N WORD WORD ..`: how often, from 1 to 9 times, and after what
 pub record IsRule (text : List ℕ) (retry : Retry) : Type 0 where
   pub times_are : IsNumber (before 32 text) retry.times 9
   pub some : 1 ≤ retry.times

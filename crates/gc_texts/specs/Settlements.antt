@@ -7,7 +7,7 @@ use Rattle.gc_client.specs.Rule.{Settlement, Outcome, Answered, Late, Lost}
 use Rattle.gc_texts.specs.declared.fault.RunFault.{RunFault}
 use Rattle.gc_texts.specs.declared.fault.RunFault.TheVariants.{Output}
 
--- how a request ended, in words, and behind `answered` the line of the reply
+-- how a request ended, in words, and after `answered` the line of the reply
 abbrev pub outcome_text : Outcome → List ℕ
 outcome_text (Answered line) = codes " answered " ++ line
 outcome_text Late = codes " late"

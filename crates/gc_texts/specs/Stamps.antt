@@ -60,8 +60,8 @@ time_text millis =
 abbrev pub stamp_text : ℕ → List ℕ
 stamp_text utc = date_text (date_of (utc / 86_400_000)) ++ codes "T" ++ time_text (utc % 86_400_000) ++ codes "Z"
 
--- the moment this many milliseconds after the beginning of 1970, cut to seconds, as a date and a time of day; the years from 32767 on
--- are all told as 32767
+-- the moment this many milliseconds after the beginning of 1970, cut to seconds, as a date and a time of day; the years from
+-- 32767 on are all given as 32767
 abbrev pub date_time : ℕ → DateTime
 date_time utc =
     record {

@@ -33,7 +33,7 @@ pub record IsNaming (line : List ℕ) (name : Name) : Type 0 where
   pub target_is : IsNumber target_text name.target 4294967295
   pub text_is : is_name name.text.items ≡ true
 
--- `near T HZ V TOLERANCE`: where a target stands
+-- `near T HZ V TOLERANCE`: where a target is
 pub record IsStanding (line : List ℕ) (near : Near) : Type 0 where
   pub rest : List ℕ
   pub line_is : line ≡ codes "near " ++ rest
@@ -49,29 +49,30 @@ pub record IsList (line : List ℕ) (accepted : Codes) : Type 0 where
 abbrev pub IsAccepting : List ℕ → Codes → Type 0
 IsAccepting line accepted = ((line ≡ codes "accept") × (accepted ≡ no_codes)) ⊎ IsList line accepted
 
--- `retry N WORD WORD ..`: how often the chains behind it go out again, and behind what
+-- `retry N WORD WORD ..`: how often the chains after it are repeated, and after what
 pub record IsRuleLine (line : List ℕ) (retry : Retry) : Type 0 where
   pub rest : List ℕ
   pub line_is : line ≡ codes "retry " ++ rest
   pub rule_is : IsRule rest retry
 
--- `retry N WORD WORD ..`, or `retry 0`: the chains behind it don't go out again
+-- `retry N WORD WORD ..`, or `retry 0`: the chains after it aren't repeated
 abbrev pub IsRetrying : List ℕ → Retry → Type 0
 IsRetrying line retry = ((line ≡ codes "retry 0") × (retry ≡ no_retry)) ⊎ IsRuleLine line retry
 
--- `T 5007 now`: the target T, whose clock is set to the moment at which the command goes out. Until then the call has the first moment
+-- `T 5007 now`: the target T, whose clock is set to the moment at which the command is sent. Until then the call has the
+-- first moment
 pub record SetsClock (line : List ℕ) (wish : Wish) : Type 0 where
   pub target_is : IsNumber (first_word line) wish.target 4294967295
   pub rest_is : behind 32 line ≡ codes "5007 now"
   pub call_is : wish.call ≡ Table (SetDate FIRST_MOMENT)
 
--- a line asks for this; `true`: with the moment at which it goes out
+-- a line asks for this; `true`: with the moment at which it is sent
 abbrev pub IsAsking : List ℕ → Wish → Bool → Type 0
 IsAsking line wish true = SetsClock line wish
 IsAsking line wish false = IsWish line wish
 
--- what a line says: a command, a deadline, that commands are chained or that they aren't, a name, where a target stands, which return
--- codes are accepted, how often chains go out again, or that the commands behind it are set-up or those of each cycle
+-- what a line says: a command, a deadline, that commands are chained or that they aren't, a name, where a target is, which
+-- return codes are accepted, how often chains are repeated, or that the commands after it are set-up or those of each cycle
 abbrev pub IsTaskLine : List ℕ → TaskLine → Type 0
 IsTaskLine line (says.Command wish now) = IsAsking line wish now
 IsTaskLine line (says.Deadline deadline) = IsDeadline line deadline

@@ -1,7 +1,8 @@
--- A station's text, and the tasks, the names and the places of targets that it gives: this project's own. The mode at a line is what holds
--- for a command there: its deadline, whether commands are chained, the target of the row that it may continue, the codes that are accepted,
--- how often its chain goes out again, whether it is set-up, and how many commands of each section stand in front. A row is a run of
--- commands for one target, with no line `chained`, `unchained`, `retry`, `at start` or `each cycle` between them.
+-- A station's text, and the tasks, the names and the places of targets that it gives: this project's own. The mode at a line
+-- is what holds for a command there: its deadline, whether commands are chained, the target of the row that it may continue,
+-- the codes that are accepted, how often its chain is repeated, whether it is set-up, and how many commands of each section
+-- are in front. A row is a run of commands for one target, with no line `chained`, `unchained`, `retry`, `at start` or `each
+-- cycle` between them.
 use Rattle.std.specs.Prelude.{◌≡◌, ℕ, ◌+◌, ◌<◌, ◌≤◌, ◌==◌, ◌&&◌, Bool, true, false, not, nat_lt, List, [], ◌∷◌, ◌++◌, length, map, filter, Option, None, Some, if◌then◌else◌}
 use Rattle.gc_catalogue.specs.declared.asked.Asked.{Asked}
 use Rattle.gc_catalogue.specs.declared.asked.Asked.TheVariants.{Table}
@@ -28,12 +29,12 @@ use Rattle.gc_texts.specs.declared.turn.Turn.{Turn}
 use Rattle.gc_texts.specs.declared.wish.Wish.{Wish}
 use Rattle.gc_texts.specs.declared.text.TheConstants.{TEXT_LIMIT}
 
--- the mode before any line: this deadline, chained or not, no row, no code that is accepted beside 0, and no retry; the commands are
--- those of each cycle, and none stands in front
+-- the mode before any line: this deadline, chained or not, no row, no code that is accepted beside 0, and no retry; the
+-- commands are those of each cycle, and none is in front
 abbrev pub opening : ℕ → Bool → Mode
 opening deadline chained = record { deadline = deadline; chained = chained; row = None; accepted = no_codes; retry = no_retry; setup = false; begun = 0; place = 0; link = 0 }
 
--- whether a command for `target` continues the row in front of it, where there is one: that row is for the target `before`
+-- whether a command for `target` continues the row before it, where there is one: that row is for the target `before`
 abbrev pub goes_on : Option ℕ → ℕ → Bool
 goes_on (Some before) target = before == target
 goes_on None target = false
@@ -43,7 +44,7 @@ goes_on None target = false
 abbrev pub joined : Mode → ℕ → Bool
 joined mode target = if mode.setup then nat_lt 0 mode.begun else mode.chained && goes_on mode.row target
 
--- where a command stands in its chain: a set-up command behind all others of the set-up, a command that is chained behind the one
+-- where a command is in its chain: a set-up command after all others of the set-up, a command that is chained after the one
 -- before it, and any other in front
 abbrev pub link_at : Mode → Bool → ℕ
 link_at mode chained = if mode.setup then mode.begun else if chained then mode.link else 0
@@ -52,7 +53,7 @@ link_at mode chained = if mode.setup then mode.begun else if chained then mode.l
 abbrev pub turn_at : Mode → Bool → Turn
 turn_at mode chained = record { place = if mode.setup then mode.begun else mode.place; attempt = 1; link = link_at mode chained }
 
--- the mode behind a command for this target
+-- the mode after a command for this target
 abbrev pub behind_command : Mode → ℕ → Mode
 behind_command mode target =
     record mode {
@@ -62,10 +63,10 @@ behind_command mode target =
       link = link_at mode (joined mode target) + 1;
     }
 
--- the mode behind a line: behind a command its target is that of the row, and it is counted; a deadline changes the deadline; `chained` and
--- `unchained` change whether commands are chained, `retry` changes how often chains go out again, `at start` and `each cycle` change the
--- section, and each of these five ends the row; `accept` changes which return codes are accepted; and the name or the place of a target
--- changes nothing
+-- the mode after a line: after a command its target is that of the row, and it is counted; a deadline changes the deadline;
+-- `chained` and `unchained` change whether commands are chained, `retry` changes how often chains are repeated, `at start`
+-- and `each cycle` change the section, and each of these five ends the row; `accept` changes which return codes are
+-- accepted; and the name or the place of a target changes nothing
 abbrev pub behind : Mode → TaskLine → Mode
 behind mode (says.Command command now) = behind_command mode command.target
 behind mode (says.Deadline deadline) = record mode { deadline = deadline }
@@ -98,23 +99,24 @@ abbrev pub setup_at : Mode → TaskLine → List Task
 setup_at mode (says.Command command now) = if mode.setup then task_at mode command now ∷ [] else []
 setup_at mode _ = []
 
--- the tasks of the set-up of these lines, the first of which stands in this mode
+-- the tasks of the set-up of these lines, the first of which is in this mode
 abbrev pub setup_of : Mode → List TaskLine → List Task
 setup_of mode [] = []
 setup_of mode (line ∷ later) = setup_at mode line ++ setup_of (behind mode line) later
 
--- the command of a line that is one of each cycle, with how often its chain goes out again, as a list of one; none of another line
+-- the command of a line that is one of each cycle, with how often its chain is repeated, as a list of one; none of another
+-- line
 abbrev pub planned_at : Mode → TaskLine → List Planned
 planned_at mode (says.Command command now) = if mode.setup then [] else record { task = task_at mode command now; retry = mode.retry } ∷ []
 planned_at mode _ = []
 
--- the commands of each cycle of these lines, the first of which stands in this mode
+-- the commands of each cycle of these lines, the first of which is in this mode
 abbrev pub planned_of : Mode → List TaskLine → List Planned
 planned_of mode [] = []
 planned_of mode (line ∷ later) = planned_at mode line ++ planned_of (behind mode line) later
 
--- the tasks of these lines, before any line of which this mode holds: those of the set-up, and behind them the attempts of the chains of
--- the cycle
+-- the tasks of these lines, before any line of which this mode holds: those of the set-up, and after them the attempts of
+-- the chains of the cycle
 abbrev pub tasks_of : Mode → List TaskLine → List Task
 tasks_of mode lines = setup_of mode lines ++ laid_out (planned_of mode lines)
 
@@ -133,7 +135,7 @@ abbrev pub near_at : TaskLine → List Near
 near_at (says.Standing near) = near ∷ []
 near_at _ = []
 
--- where targets stand, as these lines say
+-- where targets are, as these lines say
 abbrev pub nears_of : List TaskLine → List Near
 nears_of [] = []
 nears_of (line ∷ later) = near_at line ++ nears_of later
@@ -142,25 +144,26 @@ nears_of (line ∷ later) = near_at line ++ nears_of later
 abbrev pub placed : List Near → Task → Task
 placed nears task = record task { near = near_of task.command.target nears }
 
--- whether a line may stand behind lines that gave these names and places: a name only where there are fewer than 64 names and its target has
--- none, and a place likewise
+-- whether a line may follow lines that gave these names and places: a name only where there are fewer than 64 names and its
+-- target has none, and a place likewise
 abbrev pub may_stand : List Name → List Near → TaskLine → Bool
 may_stand names nears (says.Naming name) = nat_lt (length names) 64 && not (is_named name.target names)
 may_stand names nears (says.Standing near) = nat_lt (length nears) 64 && not (is_said near.target nears)
 may_stand names nears _ = true
 
--- each line may stand behind these names and places, and those of the lines before it
+-- each line may follow these names and places, and those of the lines before it
 abbrev pub MayFollow : List Name → List Near → List TaskLine → Type 0
 MayFollow names nears [] = Unit {0}
 MayFollow names nears (line ∷ later) = (may_stand names nears line ≡ true) × MayFollow (names ++ name_at line) (nears ++ near_at line) later
 
--- these lines stand in a station's text: each has its form, and may stand behind those before it
+-- these lines are in a station's text: each has its form, and may follow those before it
 pub record AreTaskLines (lines : List (List ℕ)) (said : List TaskLine) : Type 0 where
   pub forms : AreItems IsTaskLine (filter is_kept lines) said
   pub follow : MayFollow [] [] said
 
--- the text gives these tasks, names and places; the first `setup` tasks are the set-up. Before any line the deadline is `deadline`, and commands are chained where
--- `chained` says so. A place holds for all tasks of its target, wherever its line stands
+-- the text gives these tasks, names and places; the first `setup` tasks are the set-up. Before any line the deadline is
+-- `deadline`, and commands are chained where `chained` says so. A place holds for all tasks of its target, wherever its line
+-- is
 pub record IsTasks (text : List ℕ) (deadline : ℕ) (chained : Bool) (setup : ℕ) (tasks : List Task) (names : List Name) (nears : List Near) : Type 0 where
   pub said : List TaskLine
   pub lines : AreTaskLines (text_lines text) said
@@ -169,8 +172,8 @@ pub record IsTasks (text : List ℕ) (deadline : ℕ) (chained : Bool) (setup : 
   pub names_are : names ≡ names_of said
   pub nears_are : nears ≡ nears_of said
 
--- line number n, counted from 1, is the first faulty one: it isn't skipped, and it has no form, or has one and may not stand
--- behind those before it
+-- line number n, counted from 1, is the first faulty one: it isn't skipped, and it has no form, or has one and may not
+-- follow those before it
 pub record IsFirstFaultyTask (text : List ℕ) (n : ℕ) : Type 0 where
   pub front : List (List ℕ)
   pub line : List ℕ
@@ -182,7 +185,7 @@ pub record IsFirstFaultyTask (text : List ℕ) (n : ℕ) : Type 0 where
   pub lines : AreTaskLines front before
   pub faulty : (said : TaskLine) → IsTaskLine line said → may_stand (names_of before) (nears_of before) said ≡ false
 
--- the text has a line that isn't faulty and has no faulty one before it: it has a form, and may stand behind the lines before it.
+-- the text has a line that isn't faulty and has no faulty one before it: it has a form, and may follow the lines before it.
 -- The reading comes to such a line, and may want memory there
 pub record ReachesASoundTaskLine (text : List ℕ) : Type 0 where
   pub front : List (List ℕ)
@@ -204,7 +207,7 @@ TaskFault text (Schedule n) = (length text ≤ TEXT_LIMIT) × IsFirstFaultyTask 
 TaskFault text Memory = (length text ≤ TEXT_LIMIT) × ReachesASoundTaskLine text
 TaskFault text _ = ⊥
 
--- what a task asks for where it goes out at this moment, in milliseconds since 1970: what its command asks for, or that the clock is set to
--- the moment, cut to seconds
+-- what a task asks for where it is sent at this moment, in milliseconds since 1970: what its command asks for, or that the
+-- clock is set to the moment, cut to seconds
 abbrev pub call_at : Task → ℕ → Asked
 call_at task utc = if task.now then Table (SetDate (date_time utc)) else task.command.call

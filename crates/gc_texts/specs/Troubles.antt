@@ -23,21 +23,21 @@ wanted rpc =
     else (if (rpc == 2008) || (rpc == 2108) then 2 else (if (rpc == 9028) || (rpc == 9037) then 3
     else (if rpc == 2010 then 4 else (if rpc == 9027 then 5 else (if rpc == 5007 then 6 else 0)))))
 
--- what is told of a procedure's parameters with this fault: how many the procedure wants, where the line has another number of
--- them; else that their spelling is at fault
+-- what is reported of a procedure's parameters with this fault: how many the procedure wants, where the line has another
+-- number of them; else that their spelling is at fault
 abbrev pub list_trouble : ℕ → ValueFault → Trouble
 list_trouble rpc Count = trouble.Wants rpc (wanted rpc)
 list_trouble rpc TooMany = trouble.Wants rpc (wanted rpc)
 list_trouble rpc _ = trouble.Parameters
 
--- the procedure refuses these parameters with some fault, and `t` is what is told of that fault
+-- the procedure refuses these parameters with some fault, and `t` is what is reported of that fault
 pub record IsListTrouble (rpc : ℕ) (params : List ℕ) (t : Trouble) : Type 0 where
   pub fault : ValueFault
   pub refused : IsRefusal rpc params (Parameters fault)
   pub is : t ≡ list_trouble rpc fault
 
--- what is at fault in a procedure's number and its parameters: no procedure has the number, or the parameters have a fault. Where
--- number and parameters make a call, nothing is at fault, which is told as `NoForm`
+-- what is at fault in a procedure's number and its parameters: no procedure has the number, or the parameters have a fault.
+-- Where number and parameters make a call, nothing is at fault, which is reported as `NoForm`
 abbrev pub IsCallTrouble : ℕ → List ℕ → Trouble → Type 0
 IsCallTrouble rpc params (trouble.NoProcedure n) = (n ≡ rpc) × IsRefusal rpc params Unknown
 IsCallTrouble rpc params trouble.NoForm = (call : Call) × IsCall rpc params call
@@ -45,15 +45,15 @@ IsCallTrouble rpc params (trouble.Wants n count) = IsListTrouble rpc params (tro
 IsCallTrouble rpc params trouble.Parameters = IsListTrouble rpc params trouble.Parameters
 IsCallTrouble rpc params _ = ⊥
 
--- what is told of a procedure's number and its parameters behind the word `raw`, where they may not be asked for so: that the number is in
--- the table, that the line would be too long, or that the parameters are at fault
+-- what is reported of a procedure's number and its parameters after the word `raw`, where they may not be asked for so: that
+-- the number is in the table, that the line would be too long, or that the parameters are at fault
 abbrev pub raw_trouble : ℕ → RawFault → Trouble
 raw_trouble rpc InTable = trouble.RawInTable rpc
 raw_trouble rpc TooLong = trouble.RawTooLong
 raw_trouble rpc _ = trouble.RawParameters
 
--- a procedure's number and its parameters may not be asked for behind the word `raw`, and `t` is what is told of the reason; or they may, and
--- nothing is at fault in them
+-- a procedure's number and its parameters may not be asked for after the word `raw`, and `t` is what is reported of the
+-- reason; or they may, and nothing is at fault in them
 abbrev pub IsRawTrouble : ℕ → List ℕ → Trouble → Type 0
 IsRawTrouble rpc params t = ((fault : RawFault) × IsRawRefusal rpc params fault × (t ≡ raw_trouble rpc fault)) ⊎ (IsRawCall rpc params × (t ≡ trouble.NoForm))
 
@@ -61,11 +61,12 @@ IsRawTrouble rpc params t = ((fault : RawFault) × IsRawRefusal rpc params fault
 abbrev pub NoNumber : List ℕ → ℕ → Type 0
 NoNumber text max = (n : ℕ) → IsNumber text n max → ⊥
 
--- behind the word `raw` stands a word that is no procedure's number; or a number that has this trouble with the parameters behind it
+-- the word after `raw` is no procedure's number; or it is one that has this trouble with the parameters
+-- after it
 abbrev pub IsRawWordsTrouble : List ℕ → List ℕ → Trouble → Type 0
 IsRawWordsTrouble word params t = ((t ≡ trouble.Number) × NoNumber word 65535) ⊎ ((rpc : ℕ) × IsNumber word rpc 65535 × IsRawTrouble rpc params t)
 
--- the second word of a line is a procedure's number, and that number and the parameters behind it have this trouble
+-- the second word of a line is a procedure's number, and that number and the parameters after it have this trouble
 pub record IsAsked (line : List ℕ) (t : Trouble) : Type 0 where
   pub rpc : ℕ
   pub number : IsNumber (second_word line) rpc 65535
@@ -75,17 +76,18 @@ pub record IsAsked (line : List ℕ) (t : Trouble) : Type 0 where
 abbrev pub IsRaw : List ℕ → Type 0
 IsRaw line = second_word line ≡ codes "raw"
 
--- the third word of a line is a procedure's number behind the word `raw`, and that number and the parameters behind it have this trouble
+-- the third word of a line is a procedure's number after the word `raw`, and that number and the parameters after it have
+-- this trouble
 pub record IsAskedRaw (line : List ℕ) (t : Trouble) : Type 0 where
   pub word : IsRaw line
   pub rpc : ℕ
   pub number : IsNumber (third_word line) rpc 65535
   pub is : IsRawTrouble rpc (behind_three line) t
 
--- in a line that is known to be faulty, this may be at fault; more than one trouble may fit a line. `Deadline`: the line begins with that
--- word, so its value is at fault, and so it is with `retry`, `at` and `each`. `Now`: more stands behind `5007 now`.
--- `NoForm`: the line has one word alone, or its number and its parameters make a call, or may be asked for behind the word `raw`, so that
--- neither of these is at fault
+-- in a line that is known to be faulty, this may be at fault; more than one trouble may fit a line. `Deadline`: the line
+-- begins with that word, so its value is at fault, and so it is with `retry`, `at` and `each`. `Now`: more follows `5007
+-- now`. `NoForm`: the line has one word alone, or its number and its parameters make a call, or may be asked for after the
+-- word `raw`, so that neither of these is at fault
 abbrev pub IsTrouble : List ℕ → Trouble → Type 0
 IsTrouble line trouble.Deadline = first_word line ≡ codes "deadline"
 IsTrouble line trouble.Name = (first_word line ≡ codes "name") × ((n : ℕ) × IsNumber (second_word line) n 4294967295)

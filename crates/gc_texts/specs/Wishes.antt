@@ -1,4 +1,4 @@
--- Wishes: what a station is to ask, and whom, this project's own: a procedure of the table, or any other as it stands.
+-- Wishes: what a station is to ask, and whom, this project's own: a procedure of the table, or any other as it is.
 use Rattle.std.specs.Prelude.{◌≡◌, ◌⊎◌, ◌<◌, ℕ, List, length, codes}
 use Rattle.gc_catalogue.specs.declared.asked.Asked.{Asked}
 use Rattle.gc_catalogue.specs.declared.asked.Asked.TheVariants.{Table, Raw}
@@ -14,8 +14,8 @@ use Rattle.gc_texts.specs.declared.wish.Wish.{Wish}
 abbrev pub wish_of : Command → Wish
 wish_of command = record { target = command.target; call = Table command.call }
 
--- `T raw RPC` or `T raw RPC PARAMS`: the target T, the word `raw`, the number of a procedure that isn't in the table, and its parameters as
--- they stand. A space stands behind the number only where parameters do
+-- `T raw RPC` or `T raw RPC PARAMS`: the target T, the word `raw`, the number of a procedure that isn't in the table, and
+-- its parameters as they are. A space follows the number only where parameters do
 pub record IsRawWish (line : List ℕ) (target : ℕ) (raw : RawCall) : Type 0 where
   pub target_is : IsNumber (first_word line) target 4294967295
   pub word : second_word line ≡ codes "raw"
@@ -23,7 +23,8 @@ pub record IsRawWish (line : List ℕ) (target : ℕ) (raw : RawCall) : Type 0 w
   pub params_are : raw_bytes raw.params ≡ behind_three line
   pub some : (length (third_word line) ≡ length (behind_two line)) ⊎ (0 < length (behind_three line))
 
--- the line asks this target for this: for a call of the table as a command does, and for any other procedure behind the word `raw`
+-- the line asks this target for this: for a call of the table as a command does, and for any other procedure after the word
+-- `raw`
 abbrev pub AsksFor : List ℕ → ℕ → Asked → Type 0
 AsksFor line target (Table call) = IsCommand line (record { target = target; call = call })
 AsksFor line target (Raw raw) = IsRawWish line target raw

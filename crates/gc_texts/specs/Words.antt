@@ -10,7 +10,7 @@ first_word line = before 32 line
 abbrev pub second_word : List ℕ → List ℕ
 second_word line = before 32 (behind 32 line)
 
--- what stands behind the first two words of a line
+-- what follows the first two words of a line
 abbrev pub behind_two : List ℕ → List ℕ
 behind_two line = behind 32 (behind 32 line)
 
@@ -18,6 +18,6 @@ behind_two line = behind 32 (behind 32 line)
 abbrev pub third_word : List ℕ → List ℕ
 third_word line = before 32 (behind_two line)
 
--- what stands behind the first three words of a line
+-- what follows the first three words of a line
 abbrev pub behind_three : List ℕ → List ℕ
 behind_three line = behind 32 (behind_two line)

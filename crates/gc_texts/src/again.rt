@@ -1,4 +1,4 @@
-//! Behind which ends of its commands a chain goes out again.
+//! After which endings of its commands a chain is repeated.
 
 ghost use Rattle.std.specs.Prelude.{◌≡◌};
 ghost use Rattle.gc_texts.specs.Again.{has_code, is_named, no_again};
@@ -7,25 +7,25 @@ ghost use Rattle.gc_texts.specs.Endings.{ending_seen};
 use crate::codes::Codes;
 use crate::ending::Ending;
 
-/// The return codes and outcomes behind which a chain goes out again.
+/// The return codes and outcomes after which a chain is repeated.
 #[derive(Clone, Copy, Debug, PartialEq, Eq)]
 pub struct Again {
     /// The return codes of an answered command.
     pub codes: Codes,
-    /// Whether it goes out again behind a reply whose values don't read.
+    /// Whether it is repeated after a reply whose values don't read.
     pub unreadable: bool,
-    /// Whether it goes out again behind a measurement that was made elsewhere.
+    /// Whether it is repeated after a measurement that was made elsewhere.
     pub elsewhere: bool,
-    /// Whether it goes out again behind a late reply.
+    /// Whether it is repeated after a late reply.
     pub late: bool,
-    /// Whether it goes out again where no reply came.
+    /// Whether it is repeated where no reply came.
     pub lost: bool,
-    /// Whether it goes out again where a command was skipped.
+    /// Whether it is repeated where a command was skipped.
     pub skipped: bool,
 }
 
 impl Again {
-    /// No code and no outcome: a chain with this doesn't go out again.
+    /// No code and no outcome: a chain with this isn't repeated.
     pub fn none() -> Again
         ensures { result ≡ no_again }
     {

@@ -17,7 +17,7 @@ const CODE_MAX: u64 = 65535;
 /// Return codes, each from 1 to 65535, in the order of their line. An answer with such a code is a warning, and counts as good.
 #[derive(Clone, Copy, Debug, PartialEq, Eq)]
 pub struct Codes {
-    /// The codes, and 0 in the places behind them.
+    /// The codes, and 0 in the places after them.
     pub codes: [u16; CODES_MAX],
 }
 
@@ -38,7 +38,7 @@ impl Codes {
         self.codes.iter().any(|c| *c == code)
     }
 
-    /// Whether this return code is among the codes; 0, which fills the places behind them, never is.
+    /// Whether this return code is among the codes; 0, which fills the places after them, never is.
     pub fn has(&self, code: u16) -> bool
         ensures { result ≡ are_accepted self.now code }
     {
@@ -55,7 +55,7 @@ impl Codes {
         Codes { codes }
     }
 
-    // These codes, of which there are `count`, with one more behind them.
+    // These codes, of which there are `count`, with one more after them.
     fn with_next(self, count: usize, code: u16) -> Codes
         requires { count < 16 }
         ensures { (listed : List ℕ) → length listed ≡ count → self.codes ≡ filled listed → result.codes ≡ filled (listed ++ code ∷ []) }

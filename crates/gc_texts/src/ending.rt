@@ -16,10 +16,10 @@ pub enum Ending<'a> {
     Answered(Quality, Option<&'a Answer>, &'a Line),
     /// Its reply came in time, with this line, whose codes are 0, and whose values don't read.
     Unreadable(&'a Line, ValueFault),
-    /// Its reply came in time, with this line, whose codes are 0, or whose return code is an accepted one; its values read, and
-    /// have a direction that isn't near where its target stands.
+    /// Its reply came in time, with this line, whose codes are 0, or whose return code is an accepted one; its values read,
+    /// and have a direction that isn't near where its target is.
     Elsewhere(&'a Line),
-    /// A reply to it came after it was given up.
+    /// A reply to it came after it had timed out.
     Late,
     /// No reply came, or none will be taken.
     Lost,
@@ -83,7 +83,7 @@ impl<'a> Ending<'a> {
     {
         match self {
             Ending::Answered(_, _, line) | Ending::Unreadable(line, _) => Some(line),
-            // The codes and values of a reply that was measured elsewhere stand in the row, too.
+            // The codes and values of a reply that was measured elsewhere are in the row, too.
             Ending::Elsewhere(line) => Some(line),
             Ending::Late | Ending::Lost | Ending::Skipped | Ending::Missed => None,
         }

@@ -1,4 +1,4 @@
-//! Why a run ended before its end: each fault has one number, one printed line, and says what stands afterwards.
+//! Why a run ended before its end: each fault has one number, one printed line, and says what holds afterwards.
 
 ghost use Rattle.std.specs.Prelude.{◌≡◌, OnOk};
 ghost use Rattle.std.specs.Io.KnownBytes.{Appends};
@@ -8,7 +8,7 @@ use gc_lines::{READ_FAILED, READS_SPENT, WRITE_FAILED};
 use std::io::{self, Write};
 use thiserror::Error;
 
-/// Why an engine of the program stopped. The text is what the program prints behind its name.
+/// Why an engine of the program stopped. The text is what the program prints after its name.
 #[derive(Clone, Copy, Debug, PartialEq, Eq, Error)]
 pub enum RunFault {
     /// The scene has more than 32 targets.
@@ -26,10 +26,10 @@ pub enum RunFault {
     /// The other end of the link closed it.
     #[error("fault {}", self.number())]
     LinkClosed,
-    /// No reply came any more, though the link stood.
+    /// No reply came any more, though the link was open.
     #[error("fault {}", self.number())]
     Mute,
-    /// The clock can't be read, or stands before 1970.
+    /// The clock can't be read, or is before 1970.
     #[error("fault {}", self.number())]
     Clock,
     /// No good answer came for as long as `--stale` allows.

@@ -38,7 +38,7 @@ pub fn chains_go_out_again()
     ensures { ChainsGoOutAgain }
 {}
 
-/// A command of the cycle has the retry that the last line `retry` before it says; without one it doesn't go out again.
+/// A command of the cycle has the retry that the last line `retry` before it says; without one it isn't repeated.
 pub fn retries_hold_behind_their_lines()
     ensures { RetriesHold }
 {}

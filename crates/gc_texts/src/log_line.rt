@@ -16,13 +16,13 @@ pub type LogBytes = ArrayVec<u8, 514>;
 // The bytes of the longest log line: a moment, a mark of two bytes, each byte as four, two spaces and a line feed.
 const LOG_ROOM: usize = 40 + 1 + 2 + 1 + 4 * 514 + 1;
 
-/// Which way the bytes of a log line were going, and what stood behind them.
+/// Which way the bytes of a log line were going, and what followed them.
 #[derive(Clone, Copy, Debug, PartialEq, Eq)]
 pub enum LogMark {
     /// `>`: a line that went, without its CR LF.
     Went,
-    /// `>|`: these bytes went, and no CR LF behind them is left out: they end in a line feed without a CR, a close cut them off,
-    /// or they are a part of a line of more than 512 bytes.
+    /// `>|`: these bytes went, and no CR LF after them is left out: they end in a line feed without a CR, a close cut them
+    /// off, or they are a part of a line of more than 512 bytes.
     WentPart,
     /// `<`: a line that came, without its CR LF.
     Came,
@@ -49,8 +49,8 @@ impl LogMark {
 }
 
 /// Writes a line of a log, in one write where the sink takes all of it: the moment in milliseconds since 1970, UTC, a space,
-/// the mark, a space, and the bytes. Printable ASCII stands as it is, but the backslash; each other byte is `\x` and two
-/// lower-case digits of base 16.
+/// the mark, a space, and the bytes. Printable ASCII except the backslash is written as it is; each other byte is `\x` and
+/// two lower-case digits of base 16.
 ///
 /// `Err(n)`: the sink took the first n bytes of the line, which aren't all, and failed.
 pub fn write_log_line<K: Sink>(
@@ -115,7 +115,7 @@ fn append_escape<const N: usize>(to: &mut ArrayVec<u8, N>, b: u8)
     }
 }
 
-// Whether a byte stands as it is: printable ASCII but the backslash.
+// Whether a byte is written as it is: printable ASCII except the backslash.
 pub(crate) fn is_as_it_is(b: u8) -> bool
     ensures { result ≡ is_as_it_is b }
 {

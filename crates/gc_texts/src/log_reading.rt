@@ -10,9 +10,9 @@ use crate::log_line::{LogBytes, LogMark, is_as_it_is};
 /// What a line of a log says.
 #[derive(Debug, PartialEq, Eq, Drop)]
 pub struct LogLine<'a> {
-    /// The moment, as it stands: one word of printable ASCII.
+    /// The moment, as it is: one word of printable ASCII.
     pub moment: &'a [u8],
-    /// Which way the bytes were going, and what stood behind them.
+    /// Which way the bytes were going, and what followed them.
     pub mark: LogMark,
     /// The bytes themselves.
     pub bytes: LogBytes,
@@ -91,8 +91,8 @@ fn read_bytes(text: &[u8]) -> Option<LogBytes>
     Some(bytes)
 }
 
-// Reads the byte that a text begins with, as it is or as `\x` and two digits, and returns it with what stands behind it.
-// `None`: the text begins with no byte in the form that a log gives it.
+// Reads the byte that a text begins with, as it is or as `\x` and two digits, and returns it with what follows it. `None`:
+// the text begins with no byte in the form that a log gives it.
 fn read_byte(text: &[u8]) -> Option<(u8, &[u8])>
     ensures { MatchOption result
         ((b : ℕ) (more : List ℕ) → b < 256 → text.now ≡ escape b ++ more → ⊥)
@@ -110,8 +110,8 @@ fn read_byte(text: &[u8]) -> Option<(u8, &[u8])>
     read_digits(digits)
 }
 
-// Reads the two digits behind `\x`, and returns their byte with what stands behind them. `None`: there are no two digits of
-// base 16, or they write a byte that a log never writes by digits: printable ASCII but the backslash.
+// Reads the two digits after `\x`, and returns their byte with what follows them. `None`: there are no two digits of base
+// 16, or they write a byte that a log never writes by digits: printable ASCII but the backslash.
 fn read_digits(text: &[u8]) -> Option<(u8, &[u8])>
     ensures { MatchOption result
         ((b : ℕ) (more : List ℕ) → b < 256 → 92 ∷ 120 ∷ text.now ≡ escape b ++ more → ⊥)

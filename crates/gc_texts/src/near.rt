@@ -1,4 +1,4 @@
-//! Where a target stands, and whether an answer was measured there.
+//! Where a target is, and whether an answer was measured there.
 
 ghost use Rattle.std.specs.Prelude.{◌≡◌, MatchOption};
 ghost use Rattle.gc_texts.specs.Nears.{IsDouble, AreWords, IsNearText, is_said, near_of, direction_of, asks_direction, seeks_direction, is_elsewhere};
@@ -13,7 +13,7 @@ use crate::turn::Turn;
 use gc_catalogue::{Answer, Asked, Call};
 use gc_values::{Decimal, Direction, is_tolerance};
 
-/// Where a target stands, as a text says it. Angles are in radians.
+/// Where a target is, as a text says it. Angles are in radians.
 #[derive(Clone, Copy, Debug, PartialEq, Eq)]
 pub struct Near {
     /// Which target.
@@ -27,11 +27,11 @@ pub struct Near {
 /// What the text says of a command beside what it asks and how long it waits: what is expected of its answer, and which turn it is.
 #[derive(Clone, Copy, Debug, PartialEq, Eq)]
 pub struct Expected {
-    /// Where the command's target stands, if the text says so.
+    /// Where the command's target is, if the text says so.
     pub near: Option<Near>,
     /// The return codes that are accepted, beside 0.
     pub accepted: Codes,
-    /// Behind which ends of it the command's chain goes out again.
+    /// After which endings of the command its chain is repeated.
     pub again: Again,
     /// Which command of the text it is, and in which attempt of its chain.
     pub turn: Turn,
@@ -47,7 +47,7 @@ pub fn read_double(text: &[u8]) -> Option<Decimal>
     }
 }
 
-// Reads the words that say where a target stands: its number, its horizontal and vertical angle, and the tolerance of both, in
+// Reads the words that say where a target is: its number, its horizontal and vertical angle, and the tolerance of both, in
 // radians. `None`: a word is no number, or a number lies outside its range.
 fn read_words(target: &[u8], hz: &[u8], v: &[u8], tolerance: &[u8]) -> Option<Near>
     ensures { MatchOption result ((near : Near) → AreWords target.now hz.now v.now tolerance.now near → ⊥) (λ near. AreWords target.now hz.now v.now tolerance.now near) }
@@ -91,14 +91,14 @@ pub(crate) fn read_near(text: &[u8]) -> Option<Near>
     )
 }
 
-/// Whether one of `nears` says where this target stands.
+/// Whether one of `nears` says where this target is.
 pub(crate) fn is_said(target: u32, nears: &[Near]) -> bool
     ensures { result ≡ is_said target nears.now }
 {
     nears.iter().any(|near| near.target == target)
 }
 
-/// Where a target stands, by the first of `nears` that is this target's. `None`: none of them is.
+/// Where a target is, by the first of `nears` that is this target's. `None`: none of them is.
 pub(crate) fn near_of(target: u32, nears: &[Near]) -> Option<Near>
     ensures { result ≡ near_of target nears.now }
 {
@@ -142,8 +142,8 @@ pub(crate) fn seeks_direction(asked: &Asked) -> bool
     }
 }
 
-/// Whether an answer was measured elsewhere than its target stands, by its direction. It is `false` where nothing says where the
-/// target stands, and for an answer without a direction.
+/// Whether an answer was measured away from its target, by its direction. It is `false` where nothing says where the target
+/// is, and for an answer without a direction.
 #[tactic(auto, unfolding(crate::specs::Nears::is_elsewhere))]
 pub fn is_elsewhere(near: Option<Near>, answer: &Answer) -> bool
     ensures { result ≡ is_elsewhere near answer.now }

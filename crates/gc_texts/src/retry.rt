@@ -1,4 +1,4 @@
-//! Lines `retry` of a station's text: how often a chain goes out again, and behind which ends of its commands.
+//! Lines `retry` of a station's text: how often a chain is repeated, and after which endings of its commands.
 
 ghost use Rattle.std.specs.Prelude.{◌≡◌, ◌<◌, ℕ, true, MatchOption};
 ghost use Rattle.gc_texts.specs.Retries.{IsReason, IsNamedBy, IsRule, again_with, count_with, has_room, no_retry};
@@ -11,19 +11,19 @@ use crate::codes::{CODES_MAX, code_of};
 use crate::cuts::{before, behind, cut_at, is_word};
 use crate::procedure::number_of;
 
-// How often a chain goes out again at most.
+// How often a chain is repeated at most.
 const TIMES_MAX: u64 = 9;
 
-// How often a chain goes out again at most, and behind which ends of its commands.
+// How often a chain is repeated at most, and after which endings of its commands.
 #[derive(Clone, Copy)]
 pub(crate) struct Retry {
-    // At most 9; 0: it doesn't go out again.
+    // At most 9; 0: it isn't repeated.
     pub(crate) times: u8,
     pub(crate) again: Again,
 }
 
 impl Retry {
-    // A chain with this doesn't go out again.
+    // A chain with this isn't repeated.
     pub(crate) fn none() -> Retry
         ensures { result ≡ no_retry }
     {
@@ -70,7 +70,7 @@ fn reason_of(word: &[u8]) -> Option<Reason>
     }
 }
 
-// Whether there is room for a word behind `count` codes: for an outcome always.
+// Whether there is room for a word after `count` codes: for an outcome always.
 fn has_room(count: usize, reason: Reason) -> bool
     ensures { result ≡ has_room count reason }
 {

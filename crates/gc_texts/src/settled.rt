@@ -26,7 +26,7 @@ pub fn append_settlements(
     Ok(())
 }
 
-// Appends the line of the settlement at a place, which is made in `line`, whatever stood there. It fails where memory was
+// Appends the line of the settlement at a place, which is made in `line`, whatever was there. It fails where memory was
 // refused.
 fn append_settlement(
     text: &mut Vec<u8>,

@@ -159,8 +159,8 @@ pub(crate) const FIRST_MOMENT: DateTime = DateTime {
 // The greatest year of a date and a time of day.
 const YEAR_MAX: u64 = 32767;
 
-/// The moment `utc` milliseconds after the beginning of 1970, cut to seconds, as a date and a time of day. The years from 32767 on are
-/// all told as 32767.
+/// The moment `utc` milliseconds after the beginning of 1970, cut to seconds, as a date and a time of day. The years from
+/// 32767 on are all given as 32767.
 pub fn date_time(utc: u64) -> DateTime
     ensures { result ≡ date_time utc }
 {

@@ -25,29 +25,29 @@ pub const DEADLINE_MAX: u64 = 86400000;
 // What a line of a station's text says.
 #[derive(Drop)]
 pub(crate) enum TaskLine {
-    // A command is to be asked; `true`: it sets the clock to the moment at which it goes out.
+    // A command is to be asked; `true`: it sets the clock to the moment at which it is sent.
     Command(Wish, bool),
-    // The deadline of the commands behind it, in milliseconds.
+    // The deadline of the commands after it, in milliseconds.
     Deadline(u64),
-    // The commands behind it are chained.
+    // The commands after it are chained.
     Chained,
-    // The commands behind it aren't chained.
+    // The commands after it aren't chained.
     Unchained,
     // A target has a name.
     Naming(Name),
-    // Where a target stands.
+    // Where a target is.
     Standing(Near),
-    // The return codes that are accepted of the commands behind it.
+    // The return codes that are accepted of the commands after it.
     Accepting(Codes),
-    // How often the chains behind it go out again, and behind what.
+    // How often the chains after it are repeated, and after what.
     Retrying(Retry),
-    // The commands behind it are set-up.
+    // The commands after it are set-up.
     AtStart,
-    // The commands behind it are those of each cycle.
+    // The commands after it are those of each cycle.
     EachCycle,
 }
 
-// What stands behind a word at the front of a line. `None`: the line doesn't begin with the word.
+// What follows a word at the front of a line. `None`: the line doesn't begin with the word.
 fn behind<'a>(word: &[u8], line: &'a [u8]) -> Option<&'a [u8]>
     ensures { MatchOption result ((rest : List ℕ) → line.now ≡ word.now ++ rest → ⊥) (λ rest. line.now ≡ word.now ++ rest.now) }
 {
@@ -88,7 +88,7 @@ fn read_naming(line: &[u8]) -> Option<Name>
     Some(name_of_bytes(target as u32, text))
 }
 
-// Reads `near T HZ V TOLERANCE`: where a target stands. `None`: the line has no such form, or a number lies outside its range.
+// Reads `near T HZ V TOLERANCE`: where a target is. `None`: the line has no such form, or a number lies outside its range.
 fn read_standing(line: &[u8]) -> Option<Near>
     ensures { MatchOption result ((near : Near) → IsStanding line.now near → ⊥) (λ near. IsStanding line.now near) }
 {
@@ -125,7 +125,8 @@ fn read_retrying(line: &[u8]) -> Option<Retry>
     }
 }
 
-// Reads `T 5007 now`: a target whose clock is set to the moment at which the command goes out. `None`: the line has no such form.
+// Reads `T 5007 now`: a target whose clock is set to the moment at which the command is sent. `None`: the line has no such
+// form.
 fn read_clock(line: &[u8]) -> Option<Wish>
     ensures { MatchOption result ((wish : Wish) → SetsClock line.now wish → ⊥) (λ wish. SetsClock line.now wish) }
 {

@@ -1,9 +1,10 @@
-//! Tasks: commands of a station's text, with how each goes out and where its target stands.
+//! Tasks: commands of a station's text, with how each is sent and where its target is.
 //!
-//! A row is a run of commands for one target, with no line `chained`, `unchained`, `retry`, `at start` or `each cycle` between them. Where
-//! commands are chained, each command of a row but the first is chained to the one before it. A mode is what the lines read so far make
-//! hold for the next command: its deadline, whether commands are chained, the row that it may continue, the return codes accepted, how
-//! often its chain goes out again, and whether it is set-up. All commands of the set-up are one chain.
+//! A row is a run of commands for one target, with no line `chained`, `unchained`, `retry`, `at start` or `each cycle`
+//! between them. Where commands are chained, each command of a row but the first is chained to the one before it. A mode is
+//! what the lines read so far make hold for the next command: its deadline, whether commands are chained, the row that it
+//! may continue, the return codes accepted, how often its chain is repeated, and whether it is set-up. All commands of the
+//! set-up are one chain.
 
 ghost use Rattle.std.specs.Prelude.{◌-◌, take, drop, ◌≡◌, ◌<◌, ◌≤◌, ◌↔◌, ◌⊎◌, ◌++◌, ◌==◌, ◌&&◌, ℕ, length, map, Err, None, IfOk, IfErr, OnOk, OnErr};
 ghost use Rattle.std.specs.List.{list_any};
@@ -31,30 +32,31 @@ use crate::wish::Wish;
 use gc_catalogue::{Asked, Call};
 use std::alloc::{AllocError, Global};
 
-/// A command of a station's cycle, and how it goes out.
+/// A command of a station's cycle, and how it is sent.
 #[derive(Clone, Copy, Debug, PartialEq, Eq)]
 pub struct Task {
     /// What is asked, and whom.
     pub command: Wish,
-    /// How long its request waits before it is given up, in milliseconds.
+    /// How long its request waits before it times out, in milliseconds.
     pub deadline: u64,
-    /// Whether it goes out only once the command before it was answered well.
+    /// Whether it is sent only once the command before it was answered well.
     pub chained: bool,
-    /// Where its target stands, where the text says so.
+    /// Where its target is, if the text says so.
     pub near: Option<Near>,
     /// The return codes that are accepted of its answer, beside 0.
     pub accepted: Codes,
-    /// Behind which ends of its command the chain goes out again.
+    /// After which endings of its command the chain is repeated.
     pub again: Again,
     /// Which command of the text it is, and which attempt of its chain it belongs to.
     pub turn: Turn,
-    /// Of the first command of a later attempt: how many commands this attempt and those behind it have together. 0 of any other.
+    /// Of the first command of a later attempt: how many commands this attempt and those after it have together. 0 of any
+    /// other.
     pub others: usize,
-    /// Whether it sets the instrument's clock to the moment at which it goes out.
+    /// Whether it sets the instrument's clock to the moment at which it is sent.
     pub now: bool,
 }
 
-/// What a station's text gives: what is asked in each cycle, and what the targets are called and where they stand.
+/// What a station's text gives: what is asked in each cycle, and what the targets are called and where they are.
 #[derive(Drop)]
 pub struct Tasks {
     /// How many of the commands in front are the set-up.
@@ -63,13 +65,14 @@ pub struct Tasks {
     pub tasks: Vec<Task>,
     /// The names, in order: one at most for each target, and 64 at most.
     pub names: Vec<Name>,
-    /// Where targets stand, in order: once at most for each, and 64 at most.
+    /// Where targets are, in order: once at most for each, and 64 at most.
     pub nears: Vec<Near>,
 }
 
 impl Task {
-    /// What it asks for where it goes out at this moment, in milliseconds since 1970: what its command asks for; or, where it sets the
-    /// clock, that the clock is set to this moment, cut to seconds, UTC. The years from 32767 on are all told as 32767.
+    /// What it asks for where it is sent at this moment, in milliseconds since 1970: what its command asks for; or, where it
+    /// sets the clock, that the clock is set to this moment, cut to seconds, UTC. The years from 32767 on are all given as
+    /// 32767.
     pub fn call_at(&self, utc: u64) -> Asked
         ensures { result ≡ call_at self.entry.now utc }
     {
@@ -102,10 +105,10 @@ impl Tasks {
 // The most targets that have a name.
 const NAMES_MAX: usize = 64;
 
-// The most targets of which it is said where they stand.
+// The most targets whose place may be given.
 const NEARS_MAX: usize = 64;
 
-// What the lines in front of a command make hold for it: the mode there.
+// What the lines before a command make hold for it: the mode there.
 #[derive(Clone, Copy)]
 struct Mode {
     // The deadline, in milliseconds.
@@ -116,26 +119,26 @@ struct Mode {
     row: Option<u32>,
     // The return codes that are accepted of commands, beside 0.
     accepted: Codes,
-    // How often a chain goes out again, and behind what.
+    // How often a chain is repeated, and after what.
     retry: Retry,
     // Whether commands are set-up.
     setup: bool,
-    // How many commands of the set-up stand in front.
+    // How many commands of the set-up are in front.
     begun: usize,
-    // How many commands of the cycle stand in front.
+    // How many commands of the cycle are in front.
     place: usize,
     // How many commands the chain has that was begun.
     link: usize,
 }
 
-// A command of the cycle: its task in the first attempt, and how often its chain goes out again.
+// A command of the cycle: its task in the first attempt, and how often its chain is repeated.
 #[derive(Clone, Copy)]
 struct Planned {
     task: Task,
     retry: Retry,
 }
 
-// Where a command stands in its chain. Of the set-up it stands behind all others; of the cycle a chained one stands behind the command
+// Where a command is in its chain. Of the set-up it follows all others; of the cycle a chained one follows the command
 // before it.
 fn link_at(mode: Mode, chained: bool) -> usize
     ensures { result ≡ link_at mode chained }
@@ -161,7 +164,7 @@ fn joined(mode: Mode, target: u32) -> bool
     }
 }
 
-// The mode behind a command for this target.
+// The mode after a command for this target.
 fn behind_command(mode: Mode, target: u32) -> Mode
     requires begun { mode.begun < 4294967296 }
     requires place { mode.place < 4294967296 }
@@ -186,10 +189,10 @@ fn behind_command(mode: Mode, target: u32) -> Mode
     }
 }
 
-// The mode behind a line, where `mode` holds in front of it. Behind a command the row is its target's, and it is counted. A line
-// `deadline` sets the deadline, `chained` and `unchained` set whether commands are chained, `retry` sets how often chains go out again,
-// `at start` and `each cycle` set the section, and each of these five ends the row; `accept` sets which return codes are accepted. A name
-// or a place changes nothing.
+// The mode after a line, where `mode` holds before it. After a command the row is its target's, and it is counted. A line
+// `deadline` sets the deadline, `chained` and `unchained` set whether commands are chained, `retry` sets how often chains
+// are repeated, `at start` and `each cycle` set the section, and each of these five ends the row; `accept` sets which return
+// codes are accepted. A name or a place changes nothing.
 fn behind(mode: Mode, said: &TaskLine) -> Mode
     requires begun { mode.begun < 4294967296 }
     requires place { mode.place < 4294967296 }
@@ -246,8 +249,9 @@ fn goes_on(row: Option<u32>, target: u32) -> bool
     }
 }
 
-// Whether a line may stand behind lines that gave these names and places. A name may only where there are fewer than 64 names and
-// its target has none yet; a place only where there are fewer than 64 places and its target has none yet; any other line may.
+// Whether a line may follow lines that gave these names and places. A name may only where there are fewer than 64 names and
+// its target has none yet; a place only where there are fewer than 64 places and its target has none yet; any other line
+// may.
 fn may_stand(names: &Vec<Name>, nears: &Vec<Near>, said: &TaskLine) -> bool
     ensures { result ≡ may_stand names.now.items nears.now.items said.now }
 {
@@ -260,7 +264,8 @@ fn may_stand(names: &Vec<Name>, nears: &Vec<Near>, said: &TaskLine) -> bool
     }
 }
 
-// The task of a command in its first attempt. Where its target stands and what its chain's rule is are set at the end of the text.
+// The task of a command in its first attempt. Where its target is and what its chain's rule is are set at the end of the
+// text.
 fn task_at(mode: Mode, command: Wish, now: bool) -> Task
     ensures { result ≡ task_at mode command now }
 {
@@ -282,8 +287,8 @@ fn task_at(mode: Mode, command: Wish, now: bool) -> Task
     }
 }
 
-// Appends the command, the name or the place that a line gives, if it gives one; a command to those of its section. `mode` holds in
-// front of the line. It fails where memory was refused.
+// Appends the command, the name or the place that a line gives, if it gives one; a command to those of its section. `mode`
+// holds before the line. It fails where memory was refused.
 fn keep(
     setup: &mut Vec<Task>,
     cycle: &mut Vec<Planned>,
@@ -327,8 +332,8 @@ fn keep(
     }
 }
 
-// A command in this attempt of its chain. `again` is what the chain goes out again behind. The first command of a later attempt says how
-// many commands this attempt and those behind it have.
+// A command in this attempt of its chain. `again` says after which endings the chain is repeated. The first command of a later attempt
+// says how many commands this attempt and those after it have.
 fn in_attempt(attempt: u64, again: Again, commands: usize, planned: &Planned) -> Task
     ensures { result ≡ in_attempt attempt again commands planned.now }
 {
@@ -426,7 +431,7 @@ fn placed(task: Task, nears: &[Near]) -> Task
     }
 }
 
-// Sets in each task where its target stands.
+// Sets in each task where its target is.
 fn place_tasks(tasks: &mut Vec<Task>, nears: &[Near])
     ensures { tasks.new.items ≡ map (placed nears.now) tasks.old.items }
 {
@@ -435,11 +440,11 @@ fn place_tasks(tasks: &mut Vec<Task>, nears: &[Near])
     }
 }
 
-/// Reads a station's text: its commands with how each goes out, the names of targets, and where they stand. Until a line says
+/// Reads a station's text: its commands with how each is sent, the names of targets, and where they are. Until a line says
 /// otherwise the commands have `deadline`, in milliseconds, and are chained where `chained` says so.
 ///
-/// The tasks are those of the set-up, which are one chain, and behind them those of the cycle: each chain as often as it may go out, one attempt
-/// behind the other, each from the chain's first command on.
+/// The tasks are those of the set-up, which are one chain, and after them those of the cycle: each chain as often as it may
+/// be sent, one attempt after the other, each from the chain's first command on.
 ///
 /// Refused are a text of more than 65,536 bytes (`InputTooLong`, before any line is looked at), and the first faulty line
 /// (`Schedule`, with its number counted from 1): one that has no form, or gives a target a second name or a second place, or
@@ -474,7 +479,7 @@ pub fn read_tasks(
     read_task_lines(alloc, text, opening)
 }
 
-// Reads the lines of a station's text. `opening` holds in front of the first. The faults are `Schedule` and `Memory`, as
+// Reads the lines of a station's text. `opening` holds before the first. The faults are `Schedule` and `Memory`, as
 // `read_tasks` has them.
 fn read_task_lines(alloc: Global, text: &[u8], opening: Mode) -> Result<Tasks, RunFault>
     requires short { length text.now ≤ TEXT_LIMIT }

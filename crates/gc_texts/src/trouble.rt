@@ -34,19 +34,19 @@ pub enum Trouble {
     Near,
     /// The procedure with this number is in the table, so the word `raw` is to be left out.
     RawInTable(u16),
-    /// The parameters behind `raw` and a number are more than 16, or have a double quote without its end, or a CR.
+    /// The parameters after `raw` and a number are more than 16, or have a double quote without its end, or a CR.
     RawParameters,
-    /// The request behind `raw` would have more than 512 bytes.
+    /// The request after `raw` would have more than 512 bytes.
     RawTooLong,
-    /// A word behind `accept` is no code from 1 to 65535, or there are more than 16.
+    /// A word after `accept` is no code from 1 to 65535, or there are more than 16.
     Accept,
     /// A line `retry` names no number from 0 to 9, a word that is neither a code nor an outcome, no word, or more than 16 codes.
     Retry,
-    /// The line begins as `at start`, and more or something else stands there.
+    /// The line begins as `at start`, and more or something else is there.
     AtStart,
-    /// The line begins as `each cycle`, and more or something else stands there.
+    /// The line begins as `each cycle`, and more or something else is there.
     EachCycle,
-    /// More stands behind `5007 now`.
+    /// More follows `5007 now`.
     Now,
     /// The line has the form of nothing.
     NoForm,
@@ -140,7 +140,7 @@ fn call_trouble(rpc: u16, params: &[u8]) -> Trouble
     }
 }
 
-// What is told of a procedure's parameters that have this fault: how many it wants, or that their spelling is at fault.
+// What is reported of a procedure's parameters that have this fault: how many it wants, or that their spelling is at fault.
 fn list_trouble(rpc: u16, fault: ValueFault) -> Trouble
     ensures { result ≡ list_trouble rpc fault }
 {
@@ -150,7 +150,7 @@ fn list_trouble(rpc: u16, fault: ValueFault) -> Trouble
     }
 }
 
-// What is told of a procedure's number and its parameters behind the word `raw`, which may not be asked for so.
+// What is reported of a procedure's number and its parameters after the word `raw`, which may not be asked for so.
 fn raw_trouble(rpc: u16, fault: RawFault) -> Trouble
     ensures { result ≡ raw_trouble rpc fault }
 {
@@ -161,7 +161,7 @@ fn raw_trouble(rpc: u16, fault: RawFault) -> Trouble
     }
 }
 
-// What is at fault in a procedure's number and its parameters behind the word `raw`. `NoForm`: nothing.
+// What is at fault in a procedure's number and its parameters after the word `raw`. `NoForm`: nothing.
 fn raw_call_trouble(rpc: u16, params: &[u8]) -> Trouble
     ensures { IsRawTrouble rpc params.now result }
 {
@@ -171,7 +171,7 @@ fn raw_call_trouble(rpc: u16, params: &[u8]) -> Trouble
     }
 }
 
-// What is at fault behind the word `raw`: the procedure's number, or the parameters that stand behind it.
+// What is at fault after the word `raw`: the procedure's number, or the parameters that follow it.
 fn raw_words_trouble(number: &[u8], params: &[u8]) -> Trouble
     ensures { IsRawWordsTrouble number.now params.now result }
 {

@@ -31,8 +31,8 @@ impl Wish {
     }
 }
 
-// Reads `T raw RPC` or `T raw RPC PARAMS`: a target's number, and a procedure that isn't in the table with its parameters as they stand.
-// `None`: the line has no such form.
+// Reads `T raw RPC` or `T raw RPC PARAMS`: a target's number, and a procedure that isn't in the table with its parameters as
+// they are. `None`: the line has no such form.
 fn read_raw(line: &[u8]) -> Option<(u32, RawCall)>
     ensures { MatchOption result ((target : ℕ) (raw : RawCall) → IsRawWish line.now target raw → ⊥) (λ r. IsRawWish line.now r.0 r.1) }
 {

@@ -15,7 +15,7 @@ ascii_more : (b : ℕ) (bs : List ℕ) → b < 128 → IsAscii bs → IsAscii (b
 ascii_more b bs h k zero = h
 ascii_more b bs h k (suc i) = k i
 
--- ASCII bytes behind ASCII bytes are ASCII
+-- ASCII bytes after ASCII bytes are ASCII
 ascii-append : (xs ys : List ℕ) → IsAscii xs → IsAscii ys → IsAscii (xs ++ ys)
 ascii-append [] ys h k = k
 ascii-append (x ∷ xs) ys h k = ascii_more x (xs ++ ys) (h 0) (ascii-append xs ys (λ i. h (suc i)) k)

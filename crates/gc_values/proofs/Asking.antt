@@ -10,12 +10,12 @@ use Rattle.gc_values.specs.declared.fault.ValueFault.TheVariants.{OpenQuote, Too
 use Rattle.gc_values.specs.declared.value.Kind.{Kind}
 use Rattle.gc_values.proofs.ListLaws.{split_fault}
 
--- the fault that `IsFaultFrom` tells at place 0, where no fault was found so far, is the fault of all the items
+-- the fault that `IsFaultFrom` reports at place 0, where no fault was found so far, is the fault of all the items
 items_fault : (items : List (List ℕ)) (ks : List Kind) (e : ValueFault) → length items ≤ 16 → IsFaultFrom items 0 None ks e → IsItemsFault ks items e
 items_fault items ks e few (wrong_count is other) = lists.wrong_count is few (λ same. other (omega arith))
 items_fault items ks e few (first_fault same f) = faulty_item few (omega arith) f
 
--- Where r is the result of splitting a list, as the contract of `split` says: the fault that the reader tells before any
+-- Where r is the result of splitting a list, as the contract of `split` says: the fault that the reader reports before any
 -- parameter was asked for is the fault of the list.
 pub list_fault : (r : Result (List (List ℕ)) ValueFault) (ks : List Kind) (params : List ℕ) (e : ValueFault)
     → IfOk r (λ items. IsParams params items × (length items ≤ 16)) → IfErr r (λ f. (f ≡ OpenQuote) ⊎ (f ≡ TooMany))

@@ -17,20 +17,20 @@ range_prop : (m : ℤ) (s : ℕ) → IsProp (IsInRange m s)
 range_prop m s = hlevel props
 
 -- the decimal of digits and a scale, with the proofs of its facts
-abbrev make : (m : ℤ) (s : ℕ) → s ≤ 24 → IsInRange m s → IsCanonical m s → Decimal
-make m s p r c = record { digits = m; scale = s; has_few_places = p; is_in_range = r; is_canonical = c }
+abbrev decimal_of : (m : ℤ) (s : ℕ) → s ≤ 24 → IsInRange m s → IsCanonical m s → Decimal
+decimal_of m s p r c = record { digits = m; scale = s; has_few_places = p; is_in_range = r; is_canonical = c }
 
 -- decimals of the same digits and scale are equal whatever the proofs are
-same_proofs : (m : ℤ) (s : ℕ) (p p' : s ≤ 24) (r r' : IsInRange m s) (c c' : IsCanonical m s) → make m s p r c ≡ make m s p' r' c'
+same_proofs : (m : ℤ) (s : ℕ) (p p' : s ≤ 24) (r r' : IsInRange m s) (c c' : IsCanonical m s) → decimal_of m s p r c ≡ decimal_of m s p' r' c'
 same_proofs m s p p' r r' c c' =
-    ap (λ x. make m s x r c) (le_prop s 24 p p') ∙ ap (λ x. make m s p' x c) (range_prop m s r r') ∙ ap (make m s p' r') (canonical_prop m s c c')
+    ap (λ x. decimal_of m s x r c) (le_prop s 24 p p') ∙ ap (λ x. decimal_of m s p' x c) (range_prop m s r r') ∙ ap (decimal_of m s p' r') (canonical_prop m s c c')
 
 -- decimals of equal digits and scales are equal whatever the proofs are
 same_fields : (m : ℤ) (s : ℕ) (p : s ≤ 24) (r : IsInRange m s) (c : IsCanonical m s) (n : ℤ) (t : ℕ) → m ≡ n → s ≡ t
-    → (p' : t ≤ 24) (r' : IsInRange n t) (c' : IsCanonical n t) → make m s p r c ≡ make n t p' r' c'
+    → (p' : t ≤ 24) (r' : IsInRange n t) (c' : IsCanonical n t) → decimal_of m s p r c ≡ decimal_of n t p' r' c'
 same_fields m s p r c n t e f =
-    let P : ℤ → Type 0 = λ n. (p' : t ≤ 24) (r' : IsInRange n t) (c' : IsCanonical n t) → make m s p r c ≡ make n t p' r' c' in
-    let Q : ℕ → Type 0 = λ t. (p' : t ≤ 24) (r' : IsInRange m t) (c' : IsCanonical m t) → make m s p r c ≡ make m t p' r' c' in
+    let P : ℤ → Type 0 = λ n. (p' : t ≤ 24) (r' : IsInRange n t) (c' : IsCanonical n t) → decimal_of m s p r c ≡ decimal_of n t p' r' c' in
+    let Q : ℕ → Type 0 = λ t. (p' : t ≤ 24) (r' : IsInRange m t) (c' : IsCanonical m t) → decimal_of m s p r c ≡ decimal_of m t p' r' c' in
     subst P e (subst Q f (λ p' r' c'. same_proofs m s p p' r r' c c'))
 
 -- decimals of equal digits and scale are equal

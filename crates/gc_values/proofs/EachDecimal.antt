@@ -1,4 +1,4 @@
--- Each text spells a decimal, or a number out of its range, or none. `Decided` says of something that it holds, or that it
+-- Each text spells a decimal, or a number out of its range, or none. `IsDecided` says of something that it holds, or that it
 -- doesn't.
 use Rattle.std.proofs.Common.{◌≡◌, ℕ, ◌+◌, ◌*◌, ◌^◌, ◌<◌, ◌≤◌, Bool, true, false, List, [], ◌∷◌, ◌++◌, length, ℤ, unsigned_abs, Option, Some, None, refl, sym, ap, ◌∙◌, subst, ◌⊎◌, inl, inr, arith}
 use Rattle.std.proofs.lemmas.Bool.{cases_lt, cases_eq}
@@ -10,7 +10,7 @@ use Rattle.gc_values.specs.Nearest.{half_up}
 use Rattle.gc_values.specs.RoundedFacts.{half_up_rounds}
 use Rattle.gc_values.specs.Spelling.{Sign, is_minus, Exponent, IsShort, IsExponent, exponent_text, mark, ups, downs, fraction_digits, fraction_text, Parts, IsNumeral, spelling, value, Names, Spells, SpellsBeyond, SpellsNothing}
 use Rattle.gc_values.specs.declared.decimal.Decimal.{Decimal}
-use Rattle.gc_values.proofs.EachWhole.{Decided, digits_or_not, digits_cut, sign_cut}
+use Rattle.gc_values.proofs.EachWhole.{IsDecided, digits_or_not, digits_cut, sign_cut}
 use Rattle.gc_values.proofs.Powers.{ten_pow_pos}
 use Rattle.gc_values.proofs.Rounded.{zeros_off, rounded_from}
 use Rattle.gc_values.proofs.Unique.{SameParts, same_parts, sign_once, digits_no_sign}
@@ -36,7 +36,7 @@ fraction_cut (b ∷ bs) none = elim (cases_eq b 46) [
 ]
 
 -- a text is one to three digits, or isn't
-short_or_not : (text : List ℕ) → Decided (IsShort text)
+short_or_not : (text : List ℕ) → IsDecided (IsShort text)
 short_or_not [] = inr (λ s. let some = s.some in omega (arith, some))
 short_or_not (b ∷ bs) = elim (cases_lt 3 (length (b ∷ bs))) [
   | inl long ↦ inr (λ s. let few = s.few in omega (arith, long, few))
@@ -60,14 +60,14 @@ same_digits capital bs negative rest cut e short is =
     (sign_once cut.sign e.sign rest e.digits cut.first bare (sym cut.text_is ∙ behind)).1
 
 -- a text that begins with a mark is an exponent, or isn't
-marked : (capital : Bool) (bs : List ℕ) → Decided (ExponentOf (mark capital ∷ bs))
-marked capital bs =
+exponent_after_mark : (capital : Bool) (bs : List ℕ) → IsDecided (ExponentOf (mark capital ∷ bs))
+exponent_after_mark capital bs =
     let cut = sign_cut bs in
     elim (short_or_not cut.1) [
       | inl short ↦ inl (Some (record { capital = capital; sign = cut.2.sign; digits = cut.1 }), short, ap (λ xs. mark capital ∷ xs) cut.2.text_is)
       | inr other ↦ inr (none other)
     ] where
-      -- where the bytes behind the mark and a sign aren't one to three digits, the text is no exponent
+      -- where the bytes after the mark and a sign aren't one to three digits, the text is no exponent
       none : (IsShort (sign_cut bs).1 → ⊥) → ExponentOf (mark capital ∷ bs) → ⊥
       none other (None, form, is) = absurd (cc)
       none other (Some e, form, is) = let cut = sign_cut bs in other (subst IsShort (sym (same_digits capital bs cut.0 cut.1 cut.2 e form is)) form)
@@ -82,12 +82,12 @@ no_mark b bs small large (Some e, form, is) = by_capital e.capital refl where
   by_capital false same = let first : b ≡ mark e.capital = cc in small (first ∙ ap mark same)
 
 -- a text is an exponent or empty, or isn't
-exponent_or_not : (text : List ℕ) → Decided (ExponentOf text)
+exponent_or_not : (text : List ℕ) → IsDecided (ExponentOf text)
 exponent_or_not [] = inl (None, tt, refl)
 exponent_or_not (b ∷ bs) = elim (cases_eq b 101) [
-  | inl small ↦ subst (λ x. Decided (ExponentOf (x ∷ bs))) (sym small) (marked false bs)
+  | inl small ↦ subst (λ x. IsDecided (ExponentOf (x ∷ bs))) (sym small) (exponent_after_mark false bs)
   | inr no_small ↦ elim (cases_eq b 69) [
-    | inl large ↦ subst (λ x. Decided (ExponentOf (x ∷ bs))) (sym large) (marked true bs)
+    | inl large ↦ subst (λ x. IsDecided (ExponentOf (x ∷ bs))) (sym large) (exponent_after_mark true bs)
     | inr no_large ↦ inr (no_mark b bs no_small no_large)
   ]
 ]
@@ -109,8 +109,8 @@ record Cut (text : List ℕ) : Type 0 where
   point : CutsFraction behind_whole fraction rest
 
 -- each text is cut into a sign, digits, a fraction and a rest, as `Cut` has them
-cut_of : (text : List ℕ) → Cut text
-cut_of text =
+cut_from_left : (text : List ℕ) → Cut text
+cut_from_left text =
     let s = sign_cut text in
     let d = digits_cut s.1 in
     let f = fraction_cut d.1 d.2.longest in
@@ -136,9 +136,9 @@ numeral_made text c some x = (
 )
 
 -- a text is a numeral, or isn't
-numeral_or_not : (text : List ℕ) → Decided (NumeralOf text)
+numeral_or_not : (text : List ℕ) → IsDecided (NumeralOf text)
 numeral_or_not text =
-    let c = cut_of text in
+    let c = cut_from_left text in
     elim (cases_lt 0 (length c.whole + length c.fraction)) [
       | inr empty ↦ inr (λ n. let same = cut_same text c n in
           let none = n.1.some in omega (arith, empty, none, ap length same.whole_is, ap length same.fraction_is))

@@ -1,4 +1,4 @@
--- Each item is read as a value of a kind, or has a fault; and so is each parameter list read as values, or has a fault. `Decided`
+-- Each item is read as a value of a kind, or has a fault; and so is each parameter list read as values, or has a fault. `IsDecided`
 -- says of something that it holds, or that it doesn't.
 use Rattle.std.proofs.Common.{◌≡◌, ◌≢◌, ℕ, zero, suc, ◌+◌, ◌*◌, ◌%◌, ◌<◌, ◌≤◌, Bool, true, false, List, [], ◌∷◌, ◌++◌, length, replicate, ℤ, pos, negsuc, Option, Some, None, refl, sym, ap, ◌∙◌, subst, ◌⊎◌, inl, inr, arith}
 use Rattle.std.proofs.lemmas.Bool.{cases_lt, cases_eq}
@@ -18,7 +18,7 @@ use Rattle.gc_values.specs.declared.value.Kind.TheVariants as kind
 use Rattle.gc_values.specs.declared.value.Value.{Value}
 use Rattle.gc_values.specs.declared.value.Value.TheVariants as value
 use Rattle.gc_values.proofs.EachDecimal.{each_decimal}
-use Rattle.gc_values.proofs.EachWhole.{Decided, whole_between}
+use Rattle.gc_values.proofs.EachWhole.{IsDecided, whole_between}
 use Rattle.gc_values.proofs.ParamLists.{has_pieces, odd_or}
 use Rattle.gc_values.proofs.TextLemmas.{one_quoted}
 
@@ -31,15 +31,15 @@ abbrev ByteOf : List ℕ → Type 0
 ByteOf item = (n : ℕ) × IsByte item n
 
 -- two bytes between single quotes are a byte parameter, or aren't
-byte_or_not : (a b : ℕ) → Decided (ByteOf (39 ∷ a ∷ b ∷ 39 ∷ []))
+byte_or_not : (a b : ℕ) → IsDecided (ByteOf (39 ∷ a ∷ b ∷ 39 ∷ []))
 byte_or_not a b = by_high (hex_digit_value a) refl where
   -- where a is a hexadecimal digit: a byte parameter or none, by whether b is a hexadecimal digit
-  by_low : (high : ℕ) → hex_digit_value a ≡ Some high → (low : Option ℕ) → hex_digit_value b ≡ low → Decided (ByteOf (39 ∷ a ∷ b ∷ 39 ∷ []))
+  by_low : (high : ℕ) → hex_digit_value a ≡ Some high → (low : Option ℕ) → hex_digit_value b ≡ low → IsDecided (ByteOf (39 ∷ a ∷ b ∷ 39 ∷ []))
   by_low high h (Some low) l = inl (high * 16 + low, record { a = a; b = b; high = high; low = low; text_is = refl; high_is = h; low_is = l; value = refl })
   by_low high h None l = inr (λ x. let same : b ≡ x.1.b = let e = x.1.text_is in cc in let is = x.1.low_is in let none = ap hex_digit_value same in absurd (cc))
 
   -- a byte parameter or none, by whether a is a hexadecimal digit
-  by_high : (high : Option ℕ) → hex_digit_value a ≡ high → Decided (ByteOf (39 ∷ a ∷ b ∷ 39 ∷ []))
+  by_high : (high : Option ℕ) → hex_digit_value a ≡ high → IsDecided (ByteOf (39 ∷ a ∷ b ∷ 39 ∷ []))
   by_high (Some high) h = by_low high h (hex_digit_value b) refl
   by_high None h = inr (λ x. let same : a ≡ x.1.a = let e = x.1.text_is in cc in let is = x.1.high_is in let none = ap hex_digit_value same in absurd (cc))
 
@@ -48,7 +48,7 @@ no_quoted_byte : (p a b q : ℕ) → (p ≡ 39 → q ≡ 39 → ⊥) → ByteOf 
 no_quoted_byte p a b q none x = let e = x.1.text_is in none (let first : p ≡ 39 = cc in first) (let last : q ≡ 39 = cc in last)
 
 -- an item is a byte parameter, or isn't
-each_byte : (item : List ℕ) → Decided (ByteOf item)
+each_byte : (item : List ℕ) → IsDecided (ByteOf item)
 each_byte [] = inr (λ x. let e = x.1.text_is in absurd (cc))
 each_byte (p ∷ []) = inr (λ x. let e = x.1.text_is in absurd (cc))
 each_byte (p ∷ a ∷ []) = inr (λ x. let e = x.1.text_is in absurd (cc))
@@ -58,7 +58,7 @@ each_byte (p ∷ a ∷ b ∷ q ∷ []) = elim (cases_eq p 39) [
   | inr other ↦ inr (no_quoted_byte p a b q (λ first last. other first))
   | inl first ↦ elim (cases_eq q 39) [
     | inr other ↦ inr (no_quoted_byte p a b q (λ first last. other last))
-    | inl last ↦ subst (λ x. Decided (ByteOf (x ∷ a ∷ b ∷ q ∷ []))) (sym first) (subst (λ x. Decided (ByteOf (39 ∷ a ∷ b ∷ x ∷ []))) (sym last) (byte_or_not a b))
+    | inl last ↦ subst (λ x. IsDecided (ByteOf (x ∷ a ∷ b ∷ q ∷ []))) (sym first) (subst (λ x. IsDecided (ByteOf (39 ∷ a ∷ b ∷ x ∷ []))) (sym last) (byte_or_not a b))
   ]
 ]
 
@@ -78,7 +78,7 @@ end_behind b c rest ([], is) = absurd (cc)
 end_behind b c rest (x ∷ xs, is) = (xs, let same : c ∷ rest ≡ xs ++ 34 ∷ [] = cc in same)
 
 -- a text ends in a double quote, or doesn't
-end_or_not : (text : List ℕ) → Decided (EndsInQuote text)
+end_or_not : (text : List ℕ) → IsDecided (EndsInQuote text)
 end_or_not [] = inr none where
   -- the empty text doesn't end in a double quote
   none : EndsInQuote [] → ⊥
@@ -93,8 +93,8 @@ end_or_not (b ∷ c ∷ rest) = elim (end_or_not (c ∷ rest)) [
   | inr none ↦ inr (λ h. none (end_behind b c rest h))
 ]
 
--- a byte may stand in a string, or may not
-string_byte_or_not : (b : ℕ) → Decided (IsStringByte b)
+-- a byte is allowed in a string, or isn't
+string_byte_or_not : (b : ℕ) → IsDecided (IsStringByte b)
 string_byte_or_not b = elim (cases_eq b 34) [
   | inl quote ↦ inr (λ h. h.0 quote)
   | inr no_quote ↦ elim (cases_eq b 13) [
@@ -106,8 +106,8 @@ string_byte_or_not b = elim (cases_eq b 34) [
   ]
 ]
 
--- bytes may all stand in a string, or not
-string_bytes_or_not : (bytes : List ℕ) → Decided (AreStringBytes bytes)
+-- bytes are all allowed in a string, or not
+string_bytes_or_not : (bytes : List ℕ) → IsDecided (AreStringBytes bytes)
 string_bytes_or_not [] = inl tt
 string_bytes_or_not (b ∷ bs) = elim (string_byte_or_not b) [
   | inr other ↦ inr (λ h. other h.0)
@@ -119,7 +119,7 @@ abbrev StringOf : List ℕ → Type 0
 StringOf item = (bytes : List ℕ) × IsString item bytes
 
 -- an item is a string, or isn't
-string_or_not : (item : List ℕ) → Decided (StringOf item)
+string_or_not : (item : List ℕ) → IsDecided (StringOf item)
 string_or_not [] = inr (λ s. let e = s.1.item_is in absurd (cc))
 string_or_not (b ∷ rest) = elim (cases_eq b 34) [
   | inr other ↦ inr (λ s. let e = s.1.item_is in other (let same : b ≡ 34 = cc in same))
@@ -135,15 +135,15 @@ string_or_not (b ∷ rest) = elim (cases_eq b 34) [
 ]
 
 -- a number from 0 to 1 is that of a truth value
-truth : (z : ℤ) → IsBetween 0 1 z → (b : Bool) × (z ≡ pos (number_of b))
-truth (pos zero) within = (false, refl)
-truth (pos (suc zero)) within = (true, refl)
-truth (pos (suc (suc n))) within = let high = within.1 in absurd (omega (arith, ints, high))
-truth (negsuc n) within = let low = within.0 in absurd (omega (arith, ints, low))
+number_of_boolean : (z : ℤ) → IsBetween 0 1 z → (b : Bool) × (z ≡ pos (number_of b))
+number_of_boolean (pos zero) within = (false, refl)
+number_of_boolean (pos (suc zero)) within = (true, refl)
+number_of_boolean (pos (suc (suc n))) within = let high = within.1 in absurd (omega (arith, ints, high))
+number_of_boolean (negsuc n) within = let low = within.0 in absurd (omega (arith, ints, low))
 
 -- an item that names 0 or 1 is a Boolean
 boolean_of : (item : List ℕ) → ((z : ℤ) × NamesWhole item z × IsBetween 0 1 z) → (b : Bool) × NamesBoolean item b
-boolean_of item found = let t = truth found.0 found.2 in (t.0, subst (NamesWhole item) t.1 found.1)
+boolean_of item found = let t = number_of_boolean found.0 found.2 in (t.0, subst (NamesWhole item) t.1 found.1)
 
 -- each item is read as a value of each kind, or has a fault for it
 pub each_item : (k : Kind) (item : List ℕ) → IsReadOrFaulty k item
@@ -207,7 +207,7 @@ params_read ks params items split = elim (cases_lt 16 (length items)) [
 ]
 
 -- bytes are spaces alone, or aren't
-spaces_or_not : (bytes : List ℕ) → Decided (AreSpaces bytes)
+spaces_or_not : (bytes : List ℕ) → IsDecided (AreSpaces bytes)
 spaces_or_not [] = inl (0, refl)
 spaces_or_not (b ∷ bs) = elim (cases_eq b 32) [
   | inr other ↦ inr (first b bs other)
@@ -221,7 +221,7 @@ spaces_or_not (b ∷ bs) = elim (cases_eq b 32) [
   first b bs other (zero, is) = absurd (cc)
   first b bs other (suc n, is) = other (let same : b ≡ 32 = cc in same)
 
-  -- where the bytes behind the first one aren't spaces alone, neither are all of them
+  -- where the bytes after the first one aren't spaces alone, neither are all of them
   rest : (b : ℕ) (bs : List ℕ) → (AreSpaces bs → ⊥) → AreSpaces (b ∷ bs) → ⊥
   rest b bs none (zero, is) = absurd (cc)
   rest b bs none (suc n, is) = none (n, let same : bs ≡ replicate n 32 = cc in same)

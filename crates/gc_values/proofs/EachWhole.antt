@@ -10,11 +10,11 @@ use Rattle.gc_values.specs.Whole.{NamesNumber, NamesWhole, NamesNoWhole, NamesWh
 use Rattle.gc_values.proofs.WholeLemmas.{cut_names, names_cut}
 
 -- something holds, or it doesn't
-abbrev pub Decided : Type 0 → Type 0
-Decided P = P ⊎ (P → ⊥)
+abbrev pub IsDecided : Type 0 → Type 0
+IsDecided P = P ⊎ (P → ⊥)
 
 -- a byte is a digit, or isn't
-pub digit_or_not : (b : ℕ) → Decided (IsDigit b)
+pub digit_or_not : (b : ℕ) → IsDecided (IsDigit b)
 digit_or_not b = elim (cases_lt b 48) [
   | inl below ↦ inr (λ d. let low = d.0 in omega (arith, below, low))
   | inr above ↦ elim (cases_lt 57 b) [
@@ -24,7 +24,7 @@ digit_or_not b = elim (cases_lt b 48) [
 ]
 
 -- a text is digits alone, or isn't
-pub digits_or_not : (text : List ℕ) → Decided (AreDigits text)
+pub digits_or_not : (text : List ℕ) → IsDecided (AreDigits text)
 digits_or_not [] = inl tt
 digits_or_not (b ∷ bs) = elim (digit_or_not b) [
   | inr other ↦ inr (λ d. other d.0)
@@ -41,7 +41,7 @@ digits_cut (b ∷ bs) = elim (digit_or_not b) [
       (b ∷ more.0, more.1, record { text_is = ap (λ xs. b ∷ xs) more.2.text_is; digits = (digit, more.2.digits); longest = more.2.longest })
 ]
 
--- each text is cut into a sign, where one stands first, and a rest
+-- each text is cut into a sign, where one comes first, and a rest
 pub sign_cut : (text : List ℕ) → (negative : Bool) × (rest : List ℕ) × CutsSign text negative rest
 sign_cut [] = (false, [], record { sign = Absent; text_is = refl; negative_is = refl; first = λ _. tt })
 sign_cut (b ∷ bs) = elim (cases_eq b 43) [
@@ -70,7 +70,7 @@ whole_or_not text =
     ]
 
 -- a number is from -below to above, or isn't
-between_or_not : (below above : ℕ) (z : ℤ) → Decided (IsBetween below above z)
+between_or_not : (below above : ℕ) (z : ℤ) → IsDecided (IsBetween below above z)
 between_or_not below above (pos n) = elim (cases_lt above n) [
   | inl far ↦ inr (λ b. let h = b.1 in omega (arith, ints, far, h))
   | inr near ↦ inl (omega (arith, ints), omega (arith, ints, near))

@@ -46,15 +46,15 @@ counts_room text most value i c few =
 -- digits, a point and digits, and then the end or a comma, are cut off as an item
 front_cut : (text w f tail : List ℕ) (rest : Option (List ℕ)) → text ≡ w ++ 46 ∷ (f ++ tail) → AreDigits w → AreDigits f → Stands tail [] rest → CutsPlain text (w ++ 46 ∷ f) rest
 front_cut text w f tail rest e is_w is_f stands = record {
-  text_is = stood rest stands;
+  text_is = item_before_comma rest stands;
   param = bare_param (w ++ 46 ∷ f) (AreBare-append w (46 ∷ f) (bare_digits w is_w) (bare_above 46 (omega arith), bare_digits f is_f));
   some = omega (arith, length-append w (46 ∷ f));
 }
   where
-    -- where the end or a comma stands behind the number, the text is the number as an item, and what follows its comma
-    stood : (r : Option (List ℕ)) → Stands tail [] r → Stands text (w ++ 46 ∷ f) r
-    stood None h = e ∙ ap (λ t. w ++ 46 ∷ (f ++ t)) h ∙ ap (λ t. w ++ 46 ∷ t) (append-nil f)
-    stood (Some behind) h = e ∙ ap (λ t. w ++ 46 ∷ (f ++ t)) h ∙ sym (append_assoc w (46 ∷ f) (44 ∷ behind))
+    -- where the end or a comma follows the number, the text is the number as an item, and what follows its comma
+    item_before_comma : (r : Option (List ℕ)) → Stands tail [] r → Stands text (w ++ 46 ∷ f) r
+    item_before_comma None h = e ∙ ap (λ t. w ++ 46 ∷ (f ++ t)) h ∙ ap (λ t. w ++ 46 ∷ t) (append-nil f)
+    item_before_comma (Some behind) h = e ∙ ap (λ t. w ++ 46 ∷ (f ++ t)) h ∙ sym (append_assoc w (46 ∷ f) (44 ∷ behind))
 
 -- digits w, a point and digits f, at most 13 before the point and 18 in all, spell the decimal made of their number with as many
 -- places as f has digits
@@ -79,7 +79,7 @@ front_spells w f units m s is_w is_f some short few e made =
     (capped_short (w ++ f) (length f) 0 0 (10 ^ 37 + 1) units digits (omega (arith, size)) (omega (arith, size)) refl refl (lit≤ tt) e)
     (omega (arith, e, below, most, pow-add 10 13 (length f))) made
 
--- where digits, a point and digits were counted, and the end or a comma stands behind them, a decimal was cut off
+-- where digits, a point and digits were counted, and the end or a comma follows them, a decimal was cut off
 pub front_found : (text behind tail : List ℕ) (at places whole value : ℕ) (rest : Option (List ℕ)) (d : Decimal) → CountsDigits 0 text 13 whole at → 0 < at
     → at < length text → get_or text at 0 ≡ 46 → behind ≡ drop (at + 1) text
     → CountsDigits whole behind (18 - at) value places → tail ≡ drop places behind → Stands tail [] rest → MadeOf false value places d.digits d.scale → CutsDecimal text d rest
@@ -102,7 +102,7 @@ front_found text behind tail at places whole value rest d a some inside point be
           (omega (arith, long_w, long_f)) number_is (subst (λ k. MadeOf false value k d.digits d.scale) (sym long_f) made);
     }
 
--- the number that was counted before and behind the point is in range
+-- the number that was counted before and after the point is in range
 pub front_range : (text behind : List ℕ) (at places whole value : ℕ) → CountsDigits 0 text 13 whole at → CountsDigits whole behind (18 - at) value places → value ≤ 10 ^ 13 * 10 ^ places
 front_range text behind at places whole value a b =
     let small_a : number (take at text) < 10 ^ length (take at text) = number-lt (take at text) a.digits in
@@ -114,7 +114,7 @@ front_range text behind at places whole value a b =
     let all : (whole + 1) * 10 ^ places ≤ 10 ^ 13 * 10 ^ places = mul-le-mul_right {m = whole + 1} {n = 10 ^ 13} (10 ^ places) (omega (arith, a.value_is, small_a, ap (λ k. 10 ^ k) long_w, most)) in
     omega (arith, b.value_is, small_b, ap (λ k. 10 ^ k) long_f, all)
 
--- where digits were counted, and the end or a comma stands behind them, a whole number was cut off
+-- where digits were counted, and the end or a comma follows them, a whole number was cut off
 pub number_found : (text tail : List ℕ) (count n : ℕ) (rest : Option (List ℕ)) → CountsDigits 0 text 18 n count → 0 < count → tail ≡ drop count text → Stands tail [] rest → CutsNumber text n rest
 number_found text tail count n rest c some tail_is stands =
     let ds : List ℕ = take count text in
@@ -123,14 +123,14 @@ number_found text tail count n rest c some tail_is stands =
     record {
       item = ds;
       cut = record {
-        text_is = stood rest stands parted;
+        text_is = item_before_comma rest stands parted;
         param = bare_param ds (bare_digits ds c.digits);
         some = omega (arith, size);
       };
       names = record { sign = Absent; digits = ds; n = n; text_is = refl; number_is = record { digits = c.digits; some = omega (arith, size); value = omega (arith, c.value_is) }; value = refl };
     }
   where
-    -- where the end or a comma stands behind the number, the text is the number as an item, and what follows its comma
-    stood : (r : Option (List ℕ)) → Stands tail [] r → text ≡ take count text ++ tail → Stands text (take count text) r
-    stood None h e = e ∙ ap (λ t. take count text ++ t) h ∙ append-nil (take count text)
-    stood (Some behind) h e = e ∙ ap (λ t. take count text ++ t) h
+    -- where the end or a comma follows the number, the text is the number as an item, and what follows its comma
+    item_before_comma : (r : Option (List ℕ)) → Stands tail [] r → text ≡ take count text ++ tail → Stands text (take count text) r
+    item_before_comma None h e = e ∙ ap (λ t. take count text ++ t) h ∙ append-nil (take count text)
+    item_before_comma (Some behind) h e = e ∙ ap (λ t. take count text ++ t) h

@@ -37,7 +37,7 @@ kept_within : (ds : List ℕ) (i : ℕ) → i ≤ length ds → kept ds i ≡ nu
 unfolding kept
 kept_within ds i h = let e : i - length ds ≡ 0 = omega arith in rw e (omega arith)
 
--- where there are at most i digits, `kept` is the number that all write, with a zero behind it for each that is missing
+-- where there are at most i digits, `kept` is the number that all write, with a zero after it for each that is missing
 kept_past : (ds : List ℕ) (i : ℕ) → length ds ≤ i → kept ds i ≡ number ds * 10 ^ (i - length ds)
 unfolding kept
 kept_past ds i h = rw (take_all i ds h) refl
@@ -87,7 +87,7 @@ low_digit d h = grind (arith, nat_tests)
 high_digit : (d : ℕ) → 5 ≤ d → carry d ≡ 1
 high_digit d h = grind (arith, nat_tests)
 
--- for digits behind a point: their value times 10^k, rounded to a whole number, is the number of the first k digits, with the
+-- for digits after a point: their value times 10^k, rounded to a whole number, is the number of the first k digits, with the
 -- next one rounded in
 pub rounds_digits : (ds : List ℕ) (k : ℕ) → AreDigits ds → RoundsHalfUp (number ds * 10 ^ k) (10 ^ length ds) (kept_and_rounded ds k)
 rounds_digits ds k digits = elim (cases_lt k (length ds)) [
@@ -117,7 +117,7 @@ AreDigits-at [] i d h lt = absurd (omega arith)
 AreDigits-at (b ∷ bs) zero d h lt = h.0
 AreDigits-at (b ∷ bs) (suc i) d h lt = AreDigits-at bs i d h.1 (omega arith)
 
--- digits behind digits are digits
+-- digits after digits are digits
 pub AreDigits-append : (xs ys : List ℕ) → AreDigits xs → AreDigits ys → AreDigits (xs ++ ys)
 AreDigits-append [] ys h k = k
 AreDigits-append (x ∷ xs) ys h k = (h.0, AreDigits-append xs ys h.1 k)
@@ -136,7 +136,7 @@ at_first xs ys i h = ap (λ b. b - 48) (get_or_default xs i 0 48 h ∙ sym (get_
 pub at_second : (xs ys : List ℕ) (i : ℕ) → length xs ≤ i → i - length xs < length ys → get_or ys (i - length xs) 0 - 48 ≡ digit_or_zero (xs ++ ys) i
 at_second xs ys i h h' = ap (λ b. b - 48) (get_or_default ys (i - length xs) 0 48 h' ∙ sym (get_or-append_right xs ys i 48 h))
 
--- behind both runs stands 0
+-- 0 follows both runs
 pub at_neither : (xs ys : List ℕ) (i : ℕ) → length xs ≤ i → length ys ≤ i - length xs → 0 ≡ digit_or_zero (xs ++ ys) i
 at_neither xs ys i h h' = ap (λ b. b - 48) (sym (get_or_past ys (i - length xs) 48 h') ∙ sym (get_or-append_right xs ys i 48 h))
 
@@ -144,7 +144,7 @@ at_neither xs ys i h h' = ap (λ b. b - 48) (sym (get_or_past ys (i - length xs)
 pub is_digit : (ds : List ℕ) (i : ℕ) → AreDigits ds → i < length ds → 48 ≤ get_or ds i 0
 is_digit ds i h lt = (AreDigits-at ds i 0 h lt).0
 
--- past the last digit, `kept_and_rounded` is the number of all digits with zeros behind it: nothing is rounded in
+-- past the last digit, `kept_and_rounded` is the number of all digits with zeros after it: nothing is rounded in
 pub kept_behind : (ds : List ℕ) (i : ℕ) → length ds ≤ i → kept_and_rounded ds i ≡ kept ds (length ds) * 10 ^ (i - length ds)
 kept_behind ds i h =
     let none : carry (digit_or_zero ds i) ≡ 0 = low_digit (digit_or_zero ds i) (omega (arith, get_or_past ds i 48 h)) in
@@ -206,14 +206,16 @@ AreDigits-take ds zero h = tt
 AreDigits-take [] (suc i) h = tt
 AreDigits-take (d ∷ ds) (suc i) h = (h.0, AreDigits-take ds i h.1)
 
--- a step of reading digits behind a number `front`: one more digit makes the number ten times as large, and adds its own value
+-- a step of reading digits after a number `front`: one more digit makes the number ten times as large, and adds its own
+-- value
 pub followed_more : (front value more : ℕ) (ds : List ℕ) (i : ℕ) → i < length ds → value ≡ front * 10 ^ i + number (take i ds)
     → more ≡ value * 10 + (get_or ds i 0 - 48) → more ≡ front * 10 ^ (i + 1) + number (take (i + 1) ds)
 followed_more front value more ds i inside e f =
     let power : 10 ^ (i + 1) ≡ 10 ^ i * 10 = rw add-one (pow-suc 10 i) in
     omega (arith, e, f, number-take_more ds i inside, ap (λ p. front * p) power)
 
--- the number of `front` and the digits that were read behind it is below 10^18, if the front leaves room for all of these digits
+-- the number of `front` and the digits that were read after it is below 10^18, if the front leaves room for all of these
+-- digits
 pub followed_small : (front value : ℕ) (ds : List ℕ) (i : ℕ) → AreDigits ds → i < length ds → value ≡ front * 10 ^ i + number (take i ds) → (front + 1) * 10 ^ length ds ≤ 10 ^ 18 → value < 10 ^ 18
 followed_small front value ds i digits inside e room =
     let small : number (take i ds) < 10 ^ length (take i ds) = number-lt (take i ds) (AreDigits-take ds i digits) in
@@ -222,7 +224,7 @@ followed_small front value ds i digits inside e room =
     let all : (front + 1) * 10 ^ i ≤ (front + 1) * 10 ^ length ds = mul-le-mul_left {m = 10 ^ i} {n = 10 ^ length ds} (front + 1) most in
     omega (arith, e, small, ap (λ k. 10 ^ k) size, all, room)
 
--- where two runs have at most 18 digits together, the number of the first leaves room for the second behind it, within 10^18
+-- where two runs have at most 18 digits together, the number of the first leaves room for the second after it, within 10^18
 pub room_behind : (ws fs : List ℕ) → AreDigits ws → length ws + length fs ≤ 18 → (number ws + 1) * 10 ^ length fs ≤ 10 ^ 18
 room_behind ws fs digits few =
     let most : (number ws + 1) * 10 ^ length fs ≤ 10 ^ length ws * 10 ^ length fs =

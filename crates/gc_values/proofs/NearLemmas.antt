@@ -1,5 +1,6 @@
 -- What the code of directions computes, in whole numbers that 128 bits hold.
 use Rattle.std.proofs.Common.{◌≡◌, zero, suc, ◌*◌, ◌^◌, ◌≤◌, ◌&&◌, ◌||◌, ◌⊎◌, inl, inr, T, Bool, true, false, ℤ, pos, negsuc, ◌+ℤ◌, ◌-ℤ◌, ◌*ℤ◌, ◌≤ℤ◌, int_le, unsigned_abs, FitsSigned, to_z, of_z, refl, sym, ap, ◌∙◌, arith}
+use Rattle.std.proofs.lemmas.Bool.{and_parts, or_left, or_right}
 use mir.Syntax.{w128}
 use Rattle.std.proofs.lemmas.Int.{ints, to_z-of_z, fits_signed_from_abs, unsigned_abs-mul}
 use Rattle.gc_values.specs.Decimals.{units}
@@ -8,12 +9,12 @@ use Rattle.gc_values.specs.declared.decimal.Decimal.{Decimal}
 use Rattle.gc_values.specs.declared.direction.Direction.{Direction}
 
 -- a number as 128 bits hold it
-abbrev held : ℤ → ℤ
-held x = to_z w128 (of_z w128 x)
+abbrev as_i128 : ℤ → ℤ
+as_i128 x = to_z w128 (of_z w128 x)
 
 -- 128 bits hold a number of at most 4 * 10^37
-held_is : (x : ℤ) → unsigned_abs x ≤ 4 * 10 ^ 37 → held x ≡ x
-held_is x small = to_z-of_z w128 x (fits_signed_from_abs w128 x (omega arith))
+as_i128_same : (x : ℤ) → unsigned_abs x ≤ 4 * 10 ^ 37 → as_i128 x ≡ x
+as_i128_same x small = to_z-of_z w128 x (fits_signed_from_abs w128 x (omega arith))
 
 -- at most two turns are at most 10^37 units
 turns_small : (turns : ℤ) → unsigned_abs turns ≤ 2 → unsigned_abs (turns *ℤ turn) ≤ 10 ^ 37
@@ -24,20 +25,20 @@ sum_small : (x y : ℤ) → unsigned_abs x ≤ 2 * 10 ^ 37 → unsigned_abs y �
 sum_small x y h k = omega (arith, ints)
 
 -- a number plus at most two turns either way, computed in 128 bits, is exact
-turned_held : (turns x : ℤ) → unsigned_abs turns ≤ 2 → unsigned_abs x ≤ 2 * 10 ^ 37 → held (held x +ℤ held (held turns *ℤ turn)) ≡ x +ℤ turns *ℤ turn
+turned_held : (turns x : ℤ) → unsigned_abs turns ≤ 2 → unsigned_abs x ≤ 2 * 10 ^ 37 → as_i128 (as_i128 x +ℤ as_i128 (as_i128 turns *ℤ turn)) ≡ x +ℤ turns *ℤ turn
 turned_held turns x few small =
-    ap (λ t. held (held x +ℤ held (t *ℤ turn))) (held_is turns (omega (arith, few)))
-    ∙ ap (λ t. held (held x +ℤ t)) (held_is (turns *ℤ turn) (omega (arith, turns_small turns few)))
-    ∙ ap (λ t. held (t +ℤ turns *ℤ turn)) (held_is x (omega (arith, small)))
-    ∙ held_is (x +ℤ turns *ℤ turn) (sum_small x (turns *ℤ turn) small (turns_small turns few))
+    ap (λ t. as_i128 (as_i128 x +ℤ as_i128 (t *ℤ turn))) (as_i128_same turns (omega (arith, few)))
+    ∙ ap (λ t. as_i128 (as_i128 x +ℤ t)) (as_i128_same (turns *ℤ turn) (omega (arith, turns_small turns few)))
+    ∙ ap (λ t. as_i128 (t +ℤ turns *ℤ turn)) (as_i128_same x (omega (arith, small)))
+    ∙ as_i128_same (x +ℤ turns *ℤ turn) (sum_small x (turns *ℤ turn) small (turns_small turns few))
 
 -- the test that the code makes in 128 bits is `is_close_turned`
 pub close_turned : (most turns x y : ℤ) → FitsSigned w128 most → unsigned_abs turns ≤ 2 → unsigned_abs x ≤ 2 * 10 ^ 37 → unsigned_abs y ≤ 10 ^ 37
-    → is_close (held most) (held (held x +ℤ held (held turns *ℤ turn))) (held y) ≡ is_close_turned most turns x y
+    → is_close (as_i128 most) (as_i128 (as_i128 x +ℤ as_i128 (as_i128 turns *ℤ turn))) (as_i128 y) ≡ is_close_turned most turns x y
 close_turned most turns x y fits few small low =
-    ap (λ m. is_close m (held (held x +ℤ held (held turns *ℤ turn))) (held y)) (to_z-of_z w128 most fits)
-    ∙ ap (λ z. is_close most z (held y)) (turned_held turns x few small)
-    ∙ ap (λ z. is_close most (x +ℤ turns *ℤ turn) z) (held_is y (omega (arith, low)))
+    ap (λ m. is_close m (as_i128 (as_i128 x +ℤ as_i128 (as_i128 turns *ℤ turn))) (as_i128 y)) (to_z-of_z w128 most fits)
+    ∙ ap (λ z. is_close most z (as_i128 y)) (turned_held turns x few small)
+    ∙ ap (λ z. is_close most (x +ℤ turns *ℤ turn) z) (as_i128_same y (omega (arith, low)))
 
 -- where v and hz are the tests of the two angles, both together are `is_near`
 pub near_is : (d place : Direction) (tolerance : Decimal) (v hz : Bool) → v ≡ is_close (units tolerance) (v_of d) (units place.v)
@@ -56,26 +57,21 @@ passes_test true h = refl
 passes_test false h = absurd h
 
 -- numbers that pass the test of an order are in order
-le_of : (x y : ℤ) → int_le x y ≡ true → x ≤ℤ y
-le_of x y h = record { le = test_passes (int_le x y) h }
+int_le_sound : (x y : ℤ) → int_le x y ≡ true → x ≤ℤ y
+int_le_sound x y h = record { le = test_passes (int_le x y) h }
 
 -- numbers in order pass the test
-of_le : (x y : ℤ) → x ≤ℤ y → int_le x y ≡ true
-of_le x y h = passes_test (int_le x y) h.le
-
--- where both of two tests hold, each does
-both_true : (a b : Bool) → (a && b) ≡ true → (a ≡ true) × (b ≡ true)
-both_true true b e = (refl, e)
-both_true false b e = cc
+int_le_complete : (x y : ℤ) → x ≤ℤ y → int_le x y ≡ true
+int_le_complete x y h = passes_test (int_le x y) h.le
 
 -- where one of two tests holds, the first or the second does
-one_true : (a b : Bool) → (a || b) ≡ true → (a ≡ true) ⊎ (b ≡ true)
-one_true true b e = inl refl
-one_true false b e = inr e
+or_true : (a b : Bool) → (a || b) ≡ true → (a ≡ true) ⊎ (b ≡ true)
+or_true true b e = inl refl
+or_true false b e = inr e
 
 -- numbers that are close on the circle are close after some number of turns, at most two either way
 some_turns : (most x y : ℤ) → is_close_on_circle most x y ≡ true → (k : ℤ) × (unsigned_abs k ≤ 2) × (is_close_turned most k x y ≡ true)
-some_turns most x y e = first (one_true _ _ e) where
+some_turns most x y e = first (or_true _ _ e) where
   -- where x is close to y after 1 or 2 turns, it is so after k turns, for a k of at most 2 either way
   last : (is_close_turned most (pos 1) x y ≡ true) ⊎ (is_close_turned most (pos 2) x y ≡ true) → (k : ℤ) × (unsigned_abs k ≤ 2) × (is_close_turned most k x y ≡ true)
   last (inl h) = (pos 1, omega arith, h)
@@ -85,38 +81,28 @@ some_turns most x y e = first (one_true _ _ e) where
   third : (is_close_turned most (pos 0) x y ≡ true) ⊎ ((is_close_turned most (pos 1) x y || is_close_turned most (pos 2) x y) ≡ true)
       → (k : ℤ) × (unsigned_abs k ≤ 2) × (is_close_turned most k x y ≡ true)
   third (inl h) = (pos 0, omega arith, h)
-  third (inr h) = last (one_true _ _ h)
+  third (inr h) = last (or_true _ _ h)
 
   -- where x is close to y after -1, 0, 1 or 2 turns, it is so after k turns, for a k of at most 2 either way
   second : (is_close_turned most (negsuc 0) x y ≡ true) ⊎ ((is_close_turned most (pos 0) x y || (is_close_turned most (pos 1) x y || is_close_turned most (pos 2) x y)) ≡ true)
       → (k : ℤ) × (unsigned_abs k ≤ 2) × (is_close_turned most k x y ≡ true)
   second (inl h) = (negsuc 0, omega arith, h)
-  second (inr h) = third (one_true _ _ h)
+  second (inr h) = third (or_true _ _ h)
 
   -- where x is close to y after -2, -1, 0, 1 or 2 turns, it is so after k turns, for a k of at most 2 either way
   first : (is_close_turned most (negsuc 1) x y ≡ true)
       ⊎ ((is_close_turned most (negsuc 0) x y || (is_close_turned most (pos 0) x y || (is_close_turned most (pos 1) x y || is_close_turned most (pos 2) x y))) ≡ true)
       → (k : ℤ) × (unsigned_abs k ≤ 2) × (is_close_turned most k x y ≡ true)
   first (inl h) = (negsuc 1, omega arith, h)
-  first (inr h) = second (one_true _ _ h)
-
--- one of two tests holds where the second does
-or_right : (a b : Bool) → b ≡ true → (a || b) ≡ true
-or_right true b e = refl
-or_right false b e = e
-
--- one of two tests holds where the first does
-or_left : (a b : Bool) → a ≡ true → (a || b) ≡ true
-or_left true b e = refl
-or_left false b e = cc
+  first (inr h) = second (or_true _ _ h)
 
 -- one of five tests holds where any does
-five : (a b c d e : Bool) → (a ≡ true) ⊎ ((b ≡ true) ⊎ ((c ≡ true) ⊎ ((d ≡ true) ⊎ (e ≡ true)))) → (a || (b || (c || (d || e)))) ≡ true
-five a b c d e (inl h) = or_left a (b || (c || (d || e))) h
-five a b c d e (inr (inl h)) = or_right a (b || (c || (d || e))) (or_left b (c || (d || e)) h)
-five a b c d e (inr (inr (inl h))) = or_right a (b || (c || (d || e))) (or_right b (c || (d || e)) (or_left c (d || e) h))
-five a b c d e (inr (inr (inr (inl h)))) = or_right a (b || (c || (d || e))) (or_right b (c || (d || e)) (or_right c (d || e) (or_left d e h)))
-five a b c d e (inr (inr (inr (inr h)))) = or_right a (b || (c || (d || e))) (or_right b (c || (d || e)) (or_right c (d || e) (or_right d e h)))
+or_of_five : (a b c d e : Bool) → (a ≡ true) ⊎ ((b ≡ true) ⊎ ((c ≡ true) ⊎ ((d ≡ true) ⊎ (e ≡ true)))) → (a || (b || (c || (d || e)))) ≡ true
+or_of_five a b c d e (inl h) = or_left a (b || (c || (d || e))) h
+or_of_five a b c d e (inr (inl h)) = or_right a (b || (c || (d || e))) (or_left b (c || (d || e)) h)
+or_of_five a b c d e (inr (inr (inl h))) = or_right a (b || (c || (d || e))) (or_right b (c || (d || e)) (or_left c (d || e) h))
+or_of_five a b c d e (inr (inr (inr (inl h)))) = or_right a (b || (c || (d || e))) (or_right b (c || (d || e)) (or_right c (d || e) (or_left d e h)))
+or_of_five a b c d e (inr (inr (inr (inr h)))) = or_right a (b || (c || (d || e))) (or_right b (c || (d || e)) (or_right c (d || e) (or_right d e h)))
 
 -- an integer of magnitude at most 2 is -2, -1, 0, 1 or 2
 few_turns : (k : ℤ) → unsigned_abs k ≤ 2 → (k ≡ negsuc 1) ⊎ ((k ≡ negsuc 0) ⊎ ((k ≡ pos 0) ⊎ ((k ≡ pos 1) ⊎ (k ≡ pos 2))))
@@ -131,7 +117,7 @@ few_turns (negsuc (suc (suc n))) few = absurd (omega (arith, few))
 -- numbers that are close after at most two turns either way are close on the circle
 on_circle : (most x y k : ℤ) → unsigned_abs k ≤ 2 → is_close_turned most k x y ≡ true → is_close_on_circle most x y ≡ true
 on_circle most x y k few near =
-    five (is_close_turned most (negsuc 1) x y) (is_close_turned most (negsuc 0) x y) (is_close_turned most (pos 0) x y) (is_close_turned most (pos 1) x y) (is_close_turned most (pos 2) x y)
+    or_of_five (is_close_turned most (negsuc 1) x y) (is_close_turned most (negsuc 0) x y) (is_close_turned most (pos 0) x y) (is_close_turned most (pos 1) x y) (is_close_turned most (pos 2) x y)
     (which (few_turns k few)) where
       -- where k is j, x is close to y after j turns
       so : (j : ℤ) → k ≡ j → is_close_turned most j x y ≡ true
@@ -152,17 +138,17 @@ pub near_is_within : NearIsWithinTheTolerance
 unfolding is_near
 near_is_within d place tolerance = (
   (λ e.
-      let parts = both_true (is_close (units tolerance) (v_of d) (units place.v)) (is_close_on_circle (units tolerance) (hz_of d) (units place.hz)) e in
+      let parts = and_parts (is_close (units tolerance) (v_of d) (units place.v)) (is_close_on_circle (units tolerance) (hz_of d) (units place.hz)) e in
       let some = some_turns (units tolerance) (hz_of d) (units place.hz) parts.1 in
       record {
         turns = some.0;
         few = some.1;
-        v_near = le_of (pos (unsigned_abs (v_of d -ℤ units place.v))) (units tolerance) parts.0;
-        hz_near = le_of (pos (unsigned_abs (hz_of d +ℤ some.0 *ℤ turn -ℤ units place.hz))) (units tolerance) some.2;
+        v_near = int_le_sound (pos (unsigned_abs (v_of d -ℤ units place.v))) (units tolerance) parts.0;
+        hz_near = int_le_sound (pos (unsigned_abs (hz_of d +ℤ some.0 *ℤ turn -ℤ units place.hz))) (units tolerance) some.2;
       }),
   (λ is.
-      let v = of_le (pos (unsigned_abs (v_of d -ℤ units place.v))) (units tolerance) is.v_near in
-      let hz = of_le (pos (unsigned_abs (hz_of d +ℤ is.turns *ℤ turn -ℤ units place.hz))) (units tolerance) is.hz_near in
+      let v = int_le_complete (pos (unsigned_abs (v_of d -ℤ units place.v))) (units tolerance) is.v_near in
+      let hz = int_le_complete (pos (unsigned_abs (hz_of d +ℤ is.turns *ℤ turn -ℤ units place.hz))) (units tolerance) is.hz_near in
       ap (λ b. b && is_close_on_circle (units tolerance) (hz_of d) (units place.hz)) v
       ∙ on_circle (units tolerance) (hz_of d) (units place.hz) is.turns is.few hz),
 )

@@ -1,6 +1,6 @@
--- One text has the form of a written number and names it. A whole part is the digits in front of a point, or of a whole number; a
--- fraction part is the digits behind the point. `Holds` says of a text that it is what is written of some digits and places, as a
--- decimal has them.
+-- One text has the form of a written number and names it. A whole part is the digits before a point, or of a whole number; a
+-- fraction part is the digits after the point. `IsTextOf` says of a text that it is what is written of some digits and places,
+-- as a decimal has them.
 use Rattle.std.proofs.Common.{◌≡◌, ◌≢◌, ◌↔◌, ℕ, zero, suc, ◌+◌, ◌-◌, ◌*◌, ◌/◌, ◌%◌, ◌^◌, ◌<◌, ◌≤◌, Bool, true, false, cond, get_or, ℤ, pos, negsuc, List, [], ◌∷◌, ◌++◌, length, map, refl, sym, ap, ◌∙◌, subst, inl, inr, arith, lit<, lit≤, length-append}
 use Rattle.std.proofs.Math.Nat.{pow-suc, pos_of_ne-zero, div-one, div-add-mod', mul-pos}
 use Rattle.std.proofs.lemmas.Bool.{cases_order}
@@ -19,15 +19,15 @@ use Rattle.gc_values.proofs.Kept.{number-append, number-lt}
 use Rattle.gc_values.proofs.Powers.{ten_pow_pos, ten_pow_le}
 use Rattle.gc_values.proofs.ReadLemmas.{spells_once}
 use Rattle.gc_values.proofs.Signs.{unsigned_abs-signed}
-use Rattle.gc_values.proofs.Trimming.{last_of}
+use Rattle.gc_values.proofs.Trimming.{last_same}
 use Rattle.gc_values.proofs.WholeLemmas.{one_whole}
 use Rattle.gc_values.proofs.WholeText.{signed_reads}
 use Rattle.gc_values.proofs.WrittenLemmas.{length-last_digits, last_over}
 use Rattle.gc_values.proofs.WrittenSpells.{writes_whole, AreDigits-last_digits, number-last_digits, behind, written_spells}
 
 -- a number is made of a multiple of p and a rest below p in one way
-heads : (a b p m n : ℕ) → m < p → n < p → a * p + m ≡ b * p + n → (a ≡ b) × (m ≡ n)
-heads a b p m n few less e =
+quotient_unique : (a b p m n : ℕ) → m < p → n < p → a * p + m ≡ b * p + n → (a ≡ b) × (m ≡ n)
+quotient_unique a b p m n few less e =
     let same : a ≡ b = sym (div-mul-add a p m few) ∙ ap (λ x. x / p) e ∙ div-mul-add b p n less in
     (same, omega (arith, e, ap (λ x. x * p) same))
 
@@ -39,25 +39,25 @@ digits_once (x ∷ xs) [] dx dy long e = absurd (omega (arith, long))
 digits_once (x ∷ xs) (y ∷ ys) dx dy long e =
     let few : length xs ≡ length ys = omega (arith, long) in
     let power : 10 ^ length xs ≡ 10 ^ length ys = ap (λ k. 10 ^ k) few in
-    let both = heads (x - 48) (y - 48) (10 ^ length ys) (number xs) (number ys) (subst (λ p. number xs < p) power (number-lt xs dx.1)) (number-lt ys dy.1)
+    let both = quotient_unique (x - 48) (y - 48) (10 ^ length ys) (number xs) (number ys) (subst (λ p. number xs < p) power (number-lt xs dx.1)) (number-lt ys dy.1)
     (ap (λ p. (x - 48) * p + number xs) (sym power) ∙ e) in
     let first : x ≡ y = let h = both.0 in let a = dx.0 in let b = dy.0 in omega (arith, h, a, b) in
     ap (λ d. d ∷ xs) first ∙ ap (λ ds. y ∷ ds) (digits_once xs ys dx.1 dy.1 few both.1)
 
--- a number r whose first digit, the byte b, isn't 0, and which has k digits behind it, is at least 10^k
-large : (b k n r : ℕ) → 48 < b → r ≡ (b - 48) * 10 ^ k + n → 10 ^ k ≤ r
-large b k n r above e =
+-- a number r whose first digit, the byte b, isn't 0, and which has k digits after it, is at least 10^k
+first_digit_bounds : (b k n r : ℕ) → 48 < b → r ≡ (b - 48) * 10 ^ k + n → 10 ^ k ≤ r
+first_digit_bounds b k n r above e =
     let back : b - 48 ≡ (b - 49) + 1 = omega arith in
     omega (arith, e ∙ ap (λ x. x * 10 ^ k + n) back)
 
 -- what a whole part of n digits says of its number: it is below 10^n, and where n is above 1 it is at least 10^(n - 1)
-record Sized (ds : List ℕ) : Type 0 where
+record IsSized (ds : List ℕ) : Type 0 where
   pub some : 0 < length ds
   pub small : number ds < 10 ^ length ds
   pub least : 1 < length ds → 10 ^ (length ds - 1) ≤ number ds
 
--- each whole part has the size that `Sized` says
-sized : (ds : List ℕ) → IsWholePart ds → Sized ds
+-- each whole part has the size that `IsSized` says
+sized : (ds : List ℕ) → IsWholePart ds → IsSized ds
 sized [] w = let s = w.some in absurd (omega (arith, s))
 sized (b ∷ bs) w = record {
   some = w.some;
@@ -68,14 +68,14 @@ sized (b ∷ bs) w = record {
         let l = ap length none in absurd (omega (arith, more, l))
     | inr other ↦ elim other [
       | inl below ↦ let d = w.are_digits.0 in absurd (omega (arith, d, below))
-      | inr above ↦ subst (λ k. 10 ^ k ≤ number (b ∷ bs)) (let e : length bs ≡ length (b ∷ bs) - 1 = omega arith in e) (large b (length bs) (number bs) (number (b ∷ bs)) above refl)
+      | inr above ↦ subst (λ k. 10 ^ k ≤ number (b ∷ bs)) (let e : length bs ≡ length (b ∷ bs) - 1 = omega arith in e) (first_digit_bounds b (length bs) (number bs) (number (b ∷ bs)) above refl)
     ]
   ];
 }
 
 -- a shorter whole part doesn't write the same number
-shorter : (xs ys : List ℕ) → Sized xs → Sized ys → number xs ≡ number ys → length xs < length ys → ⊥
-shorter xs ys x y e less =
+shorter_is_smaller : (xs ys : List ℕ) → IsSized xs → IsSized ys → number xs ≡ number ys → length xs < length ys → ⊥
+shorter_is_smaller xs ys x y e less =
     let s = x.some in
     let power = ten_pow_le (length xs) (length ys - 1) (omega arith) in
     let l = y.least (omega (arith, s, less)) in
@@ -87,8 +87,8 @@ pub whole_once : (xs ys : List ℕ) → IsWholePart xs → IsWholePart ys → nu
 whole_once xs ys x y e = elim (cases_order (length xs) (length ys)) [
   | inl same ↦ digits_once xs ys x.are_digits y.are_digits same e
   | inr other ↦ elim other [
-    | inl less ↦ absurd (shorter xs ys (sized xs x) (sized ys y) e less)
-    | inr more ↦ absurd (shorter ys xs (sized ys y) (sized xs x) (sym e) more)
+    | inl less ↦ absurd (shorter_is_smaller xs ys (sized xs x) (sized ys y) e less)
+    | inr more ↦ absurd (shorter_is_smaller ys xs (sized ys y) (sized xs x) (sym e) more)
   ]
 ]
 
@@ -102,7 +102,7 @@ zero_alone : (rest : List ℕ) → 48 ∷ [] ≡ 48 ∷ rest → rest ≡ []
 zero_alone [] e = refl
 zero_alone (r ∷ rest) e = absurd (let l = ap length e in omega (arith, l))
 
--- what is written in front of the point is a whole part
+-- what is written before the point is a whole part
 pub whole_part : (n : ℕ) → IsWholePart (whole_text n)
 whole_part n =
     let w = writes_whole n in
@@ -155,14 +155,14 @@ whole_text_once z text = (
       is ∙ ap signed_text same,
 )
 
--- the digits in front of the last one, and the last
-record Ends (ds : List ℕ) : Type 0 where
+-- the digits before the last one, and the last
+record LastSplit (ds : List ℕ) : Type 0 where
   pub front : List ℕ
   pub last : ℕ
   pub ds_are : ds ≡ front ++ last ∷ []
 
 -- digits, if there are any, have a last one
-ends : (ds : List ℕ) → 0 < length ds → Ends ds
+ends : (ds : List ℕ) → 0 < length ds → LastSplit ds
 ends [] some = absurd (omega (arith, some))
 ends (d ∷ []) some = record { front = []; last = d; ds_are = refl }
 ends (d ∷ e ∷ ds) some = let r = ends (e ∷ ds) (omega arith) in record { front = d ∷ r.front; last = r.last; ds_are = ap (λ xs. d ∷ xs) r.ds_are }
@@ -177,17 +177,17 @@ AreDigits-back [] ys h = h
 AreDigits-back (x ∷ xs) ys h = AreDigits-back xs ys h.1
 
 -- the text is what is written of a decimal, with some digits m and some places s
-record Holds (text : List ℕ) : Type 0 where
+record IsTextOf (text : List ℕ) : Type 0 where
   pub m : ℤ
   pub s : ℕ
   pub canonical : IsCanonical m s
   pub places : s ≤ 24
   pub text_is : text ≡ written m s
 
--- `Holds` is true of a text of a decimal's form where a / 10^s has the text's digits in front of the point and behind it
-holds : (text : List ℕ) (f : HasDecimalForm text) (a s : ℕ) → (f.negative ≡ true → 0 < a) → (0 < s → a % 10 ≢ 0) → s ≤ 24 →
-    a / 10 ^ s ≡ number f.whole → behind_text s (a % 10 ^ s) ≡ f.fraction → Holds text
-holds text f a s some canonical places front back = record {
+-- `IsTextOf` is true of a text of a decimal's form where a / 10^s has the text's digits before the point and after it
+is_text_of : (text : List ℕ) (f : HasDecimalForm text) (a s : ℕ) → (f.negative ≡ true → 0 < a) → (0 < s → a % 10 ≢ 0) → s ≤ 24 →
+    a / 10 ^ s ≡ number f.whole → behind_text s (a % 10 ^ s) ≡ f.fraction → IsTextOf text
+is_text_of text f a s some canonical places front back = record {
   m = signed f.negative a;
   s = s;
   canonical = λ more divides. canonical more (ap (λ n. n % 10) (sym (unsigned_abs-signed f.negative a)) ∙ divides);
@@ -198,13 +198,13 @@ holds text f a s some canonical places front back = record {
       ∙ sym (written-signed f.negative a s some);
 }
 
--- `Holds` is true of a text of a decimal's form with a lone 0 behind the point
-holds_none : (text : List ℕ) (f : HasDecimalForm text) → f.fraction ≡ 48 ∷ [] → Holds text
-holds_none text f none =
+-- `IsTextOf` is true of a text of a decimal's form with a lone 0 after the point
+is_text_of_whole : (text : List ℕ) (f : HasDecimalForm text) → f.fraction ≡ 48 ∷ [] → IsTextOf text
+is_text_of_whole text f none =
     let all : number (f.whole ++ f.fraction) ≡ number f.whole * 10 = ap (λ ds. number (f.whole ++ ds)) none ∙ omega (arith, number-append f.whole (48 ∷ [])) in
-    holds text f (number f.whole) 0 (λ e. let h = f.no_minus_on_zero e in omega (arith, h, all)) (λ h. absurd (omega (arith, h))) (lit≤ tt) (div-one (number f.whole)) (sym none)
+    is_text_of text f (number f.whole) 0 (λ e. let h = f.no_minus_on_zero e in omega (arith, h, all)) (λ h. absurd (omega (arith, h))) (lit≤ tt) (div-one (number f.whole)) (sym none)
 
--- s digits that write n are what is written behind the point for n at s places
+-- s digits that write n are what is written after the point for n at s places
 behind_again : (s n : ℕ) (ds : List ℕ) → AreDigits ds → length ds ≡ s → number ds ≡ n → 0 < s → behind_text s n ≡ ds
 behind_again s n ds digits long is some = elim (eqb_tells s 0) [
   | inl none ↦ let e = none.1 in absurd (omega (arith, e, some))
@@ -215,45 +215,45 @@ behind_again s n ds digits long is some = elim (eqb_tells s 0) [
 ]
 
 -- where a is a multiple of p plus f, and f is below p, f is the remainder of a by p
-mod_is : (a w p f : ℕ) → f < p → a ≡ w * p + f → a % p ≡ f
-mod_is a w p f few e = let d : a / p ≡ w = ap (λ x. x / p) e ∙ div-mul-add w p f few in omega (arith, e, div-add-mod' a p, ap (λ x. x * p) d)
+mod_of_multiple : (a w p f : ℕ) → f < p → a ≡ w * p + f → a % p ≡ f
+mod_of_multiple a w p f few e = let d : a / p ≡ w = ap (λ x. x / p) e ∙ div-mul-add w p f few in omega (arith, e, div-add-mod' a p, ap (λ x. x * p) d)
 
--- `Holds` is true of a text of a decimal's form whose digits behind the point don't end in 0
-holds_some : (text : List ℕ) (f : HasDecimalForm text) → number f.fraction % 10 ≢ 0 → Holds text
-holds_some text f other =
+-- `IsTextOf` is true of a text of a decimal's form whose digits after the point don't end in 0
+is_text_of_fraction : (text : List ℕ) (f : HasDecimalForm text) → number f.fraction % 10 ≢ 0 → IsTextOf text
+is_text_of_fraction text f other =
     let p : ℕ = 10 ^ length f.fraction in
     let all : number (f.whole ++ f.fraction) ≡ number f.whole * p + number f.fraction = number-append f.whole f.fraction in
     let few : number f.fraction < p = number-lt f.fraction f.fraction_is.are_digits in
     let tens : number (f.whole ++ f.fraction) % 10 ≡ number f.fraction % 10 = last_of_all f.whole f.fraction f.fraction_is.some in
-    holds text f (number (f.whole ++ f.fraction)) (length f.fraction) f.no_minus_on_zero (λ _ divides. other (sym tens ∙ divides)) f.fraction_is.few
+    is_text_of text f (number (f.whole ++ f.fraction)) (length f.fraction) f.no_minus_on_zero (λ _ divides. other (sym tens ∙ divides)) f.fraction_is.few
     (ap (λ x. x / p) all ∙ div-mul-add (number f.whole) p (number f.fraction) few)
     (behind_again (length f.fraction) (number (f.whole ++ f.fraction) % p) f.fraction f.fraction_is.are_digits refl
-    (sym (mod_is (number (f.whole ++ f.fraction)) (number f.whole) p (number f.fraction) few all)) f.fraction_is.some) where
+    (sym (mod_of_multiple (number (f.whole ++ f.fraction)) (number f.whole) p (number f.fraction) few all)) f.fraction_is.some) where
       -- the last digit of two runs of digits in a row is that of the second run
       last_of_all : (ws fs : List ℕ) → 0 < length fs → number (ws ++ fs) % 10 ≡ number fs % 10
       last_of_all ws [] some = absurd (omega (arith, some))
       last_of_all ws (d ∷ ds) some = omega (arith, number-append ws (d ∷ ds), pow-suc 10 (length ds), ap (λ x. number ws * x) (pow-suc 10 (length ds)))
 
--- `Holds` is true of every text of a decimal's form
-every_form : (text : List ℕ) → HasDecimalForm text → Holds text
+-- `IsTextOf` is true of every text of a decimal's form
+every_form : (text : List ℕ) → HasDecimalForm text → IsTextOf text
 every_form text f = elim (eqb_tells (number f.fraction % 10) 0) [
   | inl divides ↦
       let r = ends f.fraction f.fraction_is.some in
       let digit : IsDigit r.last = (AreDigits-back r.front (r.last ∷ []) (subst AreDigits r.ds_are f.fraction_is.are_digits)).0 in
       let zero : r.last ≡ 48 = omega (arith, ap (λ ds. number ds % 10) r.ds_are, divides.1, last_digit r.front r.last digit, digit) in
       let ends_so : f.fraction ≡ r.front ++ 48 ∷ [] = r.ds_are ∙ ap (λ d. r.front ++ d ∷ []) zero in
-      holds_none text f (ends_so ∙ ap (λ xs. xs ++ 48 ∷ []) (f.fraction_is.no_zero_at_the_end r.front ends_so))
-  | inr other ↦ holds_some text f other.1
+      is_text_of_whole text f (ends_so ∙ ap (λ xs. xs ++ 48 ∷ []) (f.fraction_is.no_zero_at_the_end r.front ends_so))
+  | inr other ↦ is_text_of_fraction text f other.1
 ]
 
 -- where '0' alone is a front and a '0', the front is empty
-alone : (front : List ℕ) → 48 ∷ [] ≡ front ++ 48 ∷ [] → front ≡ []
-alone [] e = refl
-alone (x ∷ front) e = absurd (let l = ap length e in omega (arith, l, length-append front (48 ∷ [])))
+zero_alone_front : (front : List ℕ) → 48 ∷ [] ≡ front ++ 48 ∷ [] → front ≡ []
+zero_alone_front [] e = refl
+zero_alone_front (x ∷ front) e = absurd (let l = ap length e in omega (arith, l, length-append front (48 ∷ [])))
 
 -- a lone 0 is a fraction part
 zero_behind : IsFractionPart (48 ∷ [])
-zero_behind = record { are_digits = ((lit≤ tt, lit≤ tt), tt); some = lit< tt; few = lit≤ tt; no_zero_at_the_end = alone }
+zero_behind = record { are_digits = ((lit≤ tt, lit≤ tt), tt); some = lit< tt; few = lit≤ tt; no_zero_at_the_end = zero_alone_front }
 
 -- the last s digits of a number that doesn't end in 0 are a fraction part
 last_part : (a s : ℕ) → s ≤ 24 → 0 < s → a % 10 ≢ 0 → IsFractionPart (last_digits s (a % 10 ^ s))
@@ -263,11 +263,11 @@ last_part a (suc s) few some other = record {
   some = omega (arith, length-last_digits (suc s) (a % 10 ^ suc s));
   few = omega (arith, length-last_digits (suc s) (a % 10 ^ suc s));
   no_zero_at_the_end = λ front e.
-      let last = last_of (last_digits s (a % 10 ^ suc s / 10)) front (48 + a % 10 ^ suc s % 10) 48 e in
+      let last = last_same (last_digits s (a % 10 ^ suc s / 10)) front (48 + a % 10 ^ suc s % 10) 48 e in
       absurd (other (let o = last_over a s in omega (arith, last, o)));
 }
 
--- what is written behind the point is a fraction part
+-- what is written after the point is a fraction part
 fraction_part : (a s : ℕ) → s ≤ 24 → (0 < s → a % 10 ≢ 0) → IsFractionPart (behind_text s (a % 10 ^ s))
 fraction_part a s few canonical = elim (eqb_tells s 0) [
   | inl none ↦ subst IsFractionPart (ap (λ b. cond b (48 ∷ []) (last_digits s (a % 10 ^ s))) (sym none.0)) zero_behind
@@ -277,9 +277,9 @@ fraction_part a s few canonical = elim (eqb_tells s 0) [
 ]
 
 -- where x * b is the product of two numbers above 0, x is above 0
-positive : (a p x b : ℕ) → 0 < a → 0 < p → a * p ≡ x * b → 0 < x
-positive a p zero b h k e = let both : 0 < a * p = mul-pos h k in absurd (omega (arith, e, both))
-positive a p (suc x) b h k e = omega arith
+factor_positive : (a p x b : ℕ) → 0 < a → 0 < p → a * p ≡ x * b → 0 < x
+factor_positive a p zero b h k e = let both : 0 < a * p = mul-pos h k in absurd (omega (arith, e, both))
+factor_positive a p (suc x) b h k e = omega arith
 
 -- what is written of a sign, digits and places has a decimal's form
 decimal_form_of : (negative : Bool) (a s : ℕ) → s ≤ 24 → (0 < s → a % 10 ≢ 0) → (negative ≡ true → 0 < a) →
@@ -293,14 +293,14 @@ decimal_form_of negative a s few canonical some = record {
   fraction_is = fraction_part a s few canonical;
   no_minus_on_zero = λ e. above_zero (some e);
 } where
-  -- where a is above 0, so is the number that the digits before and behind the point write
+  -- where a is above 0, so is the number that the digits before and after the point write
   above_zero : 0 < a → 0 < number (whole_text (a / 10 ^ s) ++ behind_text s (a % 10 ^ s))
   above_zero h =
       let b = behind a s in
       let ds : List ℕ = behind_text s (a % 10 ^ s) in
       let all : number (whole_text (a / 10 ^ s) ++ ds) ≡ a / 10 ^ s * 10 ^ length ds + number ds =
       number-append (whole_text (a / 10 ^ s)) ds ∙ ap (λ n. n * 10 ^ length ds + number ds) (writes_whole (a / 10 ^ s)).number_is in
-      subst (λ x. 0 < x) (sym all) (positive a (10 ^ length ds) (a / 10 ^ s * 10 ^ length ds + number ds) (10 ^ s) h (ten_pow_pos (length ds)) b.same)
+      subst (λ x. 0 < x) (sym all) (factor_positive a (10 ^ length ds) (a / 10 ^ s * 10 ^ length ds + number ds) (10 ^ s) h (ten_pow_pos (length ds)) b.same)
 
 -- a written decimal has a decimal's form
 decimal_form : (m : ℤ) (s : ℕ) → IsCanonical m s → s ≤ 24 → HasDecimalForm (written m s)

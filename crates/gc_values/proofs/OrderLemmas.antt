@@ -11,73 +11,73 @@ use Rattle.gc_values.specs.Decimals.{fraction, units, decimal_cmp}
 use Rattle.gc_values.specs.Fraction.{signed, IsBelow}
 use Rattle.gc_values.specs.declared.decimal.Decimal.{Decimal}
 use Rattle.gc_values.proofs.DecimalLemmas.{same_decimal}
-use Rattle.gc_values.proofs.Rounded.{sign_of}
+use Rattle.gc_values.proofs.Rounded.{has_sign}
 use Rattle.gc_values.proofs.Signs.{signed-mul}
 use Rattle.gc_values.proofs.WithinLemmas.{whole_place}
 
 -- the number of sign b and magnitude x is below the one of sign c and magnitude y, where `true` is a minus
-abbrev less : Bool → ℕ → Bool → ℕ → Type 0
-less false x false y = x < y
-less false x true y = ⊥
-less true x false y = 0 < x + y
-less true x true y = y < x
+abbrev signed_less : Bool → ℕ → Bool → ℕ → Type 0
+signed_less false x false y = x < y
+signed_less false x true y = ⊥
+signed_less true x false y = 0 < x + y
+signed_less true x true y = y < x
 
--- where one signed number is below another, `less` holds of their signs and magnitudes
-less_from : (b : Bool) (x : ℕ) (c : Bool) (y : ℕ) → signed b x <ℤ signed c y → less b x c y
+-- where one signed number is below another, `signed_less` holds of their signs and magnitudes
+less_from : (b : Bool) (x : ℕ) (c : Bool) (y : ℕ) → signed b x <ℤ signed c y → signed_less b x c y
 less_from false x false y h = omega (arith, ints, h)
 less_from false x true y h = omega (arith, ints, h)
 less_from true x false y h = omega (arith, ints, h)
 less_from true x true y h = omega (arith, ints, h)
 
--- where `less` holds of signs and magnitudes, the one signed number is below the other
-less_to : (b : Bool) (x : ℕ) (c : Bool) (y : ℕ) → less b x c y → signed b x <ℤ signed c y
+-- where `signed_less` holds of signs and magnitudes, the one signed number is below the other
+less_to : (b : Bool) (x : ℕ) (c : Bool) (y : ℕ) → signed_less b x c y → signed b x <ℤ signed c y
 less_to false x false y h = omega (arith, ints)
 less_to false x true y h = absurd h
 less_to true x false y h = omega (arith, ints)
 less_to true x true y h = omega (arith, ints)
 
 -- numbers keep their order when both are multiplied by p, which is above 0
-times : (x y p : ℕ) → 0 < p → x < y → x * p < y * p
-times x y p some h = omega (arith, mul-lt-mul_of_pos_left {m = x} {n = y} {k = p} h some)
+times_keeps_order : (x y p : ℕ) → 0 < p → x < y → x * p < y * p
+times_keeps_order x y p some h = omega (arith, mul-lt-mul_of_pos_left {m = x} {n = y} {k = p} h some)
 
 -- numbers keep their order when a common factor is taken out
-over : (x y p : ℕ) → x * p < y * p → x < y
-over x y p h = lt_of_mul-lt-mul_left p (omega arith)
+factor_keeps_order : (x y p : ℕ) → x * p < y * p → x < y
+factor_keeps_order x y p h = lt_of_mul-lt-mul_left p (omega arith)
 
 -- signed numbers keep their order when both are multiplied by p, which is above 0
-less_times : (b : Bool) (x : ℕ) (c : Bool) (y p : ℕ) → 0 < p → less b x c y → less b (x * p) c (y * p)
-less_times false x false y p some h = times x y p some h
+less_times : (b : Bool) (x : ℕ) (c : Bool) (y p : ℕ) → 0 < p → signed_less b x c y → signed_less b (x * p) c (y * p)
+less_times false x false y p some h = times_keeps_order x y p some h
 less_times false x true y p some h = h
-less_times true x false y p some h = let all : 0 * p < (x + y) * p = times 0 (x + y) p some h in omega arith
-less_times true x true y p some h = times y x p some h
+less_times true x false y p some h = let all : 0 * p < (x + y) * p = times_keeps_order 0 (x + y) p some h in omega arith
+less_times true x true y p some h = times_keeps_order y x p some h
 
 -- signed numbers keep their order when a common factor is taken out
-less_over : (b : Bool) (x : ℕ) (c : Bool) (y p : ℕ) → less b (x * p) c (y * p) → less b x c y
-less_over false x false y p h = over x y p h
+less_over : (b : Bool) (x : ℕ) (c : Bool) (y p : ℕ) → signed_less b (x * p) c (y * p) → signed_less b x c y
+less_over false x false y p h = factor_keeps_order x y p h
 less_over false x true y p h = h
-less_over true x false y p h = over 0 (x + y) p (omega arith)
-less_over true x true y p h = over y x p h
+less_over true x false y p h = factor_keeps_order 0 (x + y) p (omega arith)
+less_over true x true y p h = factor_keeps_order y x p h
 
 -- Two values m / a and n / d with signs, where a and d are powers of ten: in units of 10^-24 they are m * a' and n * d'. Where
 -- these are in order, m * d and n * a are, too. p is 10^24.
-moved : (b : Bool) (m : ℕ) (c : Bool) (n a a' d d' p : ℕ) → 0 < p → a * a' ≡ p → d * d' ≡ p → less b (m * a') c (n * d') → less b (m * d) c (n * a)
-moved b m c n a a' d d' p some e f h =
+less_at_other_scale : (b : Bool) (m : ℕ) (c : Bool) (n a a' d d' p : ℕ) → 0 < p → a * a' ≡ p → d * d' ≡ p → signed_less b (m * a') c (n * d') → signed_less b (m * d) c (n * a)
+less_at_other_scale b m c n a a' d d' p some e f h =
     let left : m * a' * p ≡ m * d * (a' * d') = omega (arith, ap (λ x. m * a' * x) f) in
     let right : n * d' * p ≡ n * a * (a' * d') = omega (arith, ap (λ x. n * d' * x) e) in
-    less_over b (m * d) c (n * a) (a' * d') (subst (λ x. less b x c (n * a * (a' * d'))) left (subst (λ y. less b (m * a' * p) c y) right (less_times b (m * a') c (n * d') p some h)))
+    less_over b (m * d) c (n * a) (a' * d') (subst (λ x. signed_less b x c (n * a * (a' * d'))) left (subst (λ y. signed_less b (m * a' * p) c y) right (less_times b (m * a') c (n * d') p some h)))
 
--- the same as `moved`, of integers that are made of a sign and a magnitude: where m * a' is below n * d', m * d is below n * a
+-- the same as `less_at_other_scale`, of integers that are made of a sign and a magnitude: where m * a' is below n * d', m * d is below n * a
 moved_signed : (b : Bool) (m : ℕ) (c : Bool) (n a a' d d' p : ℕ) → 0 < p → a * a' ≡ p → d * d' ≡ p → (signed b m *ℤ pos a') <ℤ (signed c n *ℤ pos d') → (signed b m *ℤ pos d) <ℤ (signed c n *ℤ pos a)
 moved_signed b m c n a a' d d' p some e f h =
     let there = less_from b (m * a') c (n * d') (subst (λ x. x <ℤ signed c (n * d')) (signed-mul b m a') (subst (λ y. (signed b m *ℤ pos a') <ℤ y) (signed-mul c n d') h)) in
     subst (λ x. x <ℤ (signed c n *ℤ pos a)) (sym (signed-mul b m d)) (subst (λ y. signed b (m * d) <ℤ y) (sym (signed-mul c n a))
-    (less_to b (m * d) c (n * a) (moved b m c n a a' d d' p some e f there)))
+    (less_to b (m * d) c (n * a) (less_at_other_scale b m c n a a' d d' p some e f there)))
 
--- the same as `moved`, of integers: where z * a' is below w * d', z * d is below w * a
+-- the same as `less_at_other_scale`, of integers: where z * a' is below w * d', z * d is below w * a
 moved_whole : (z w : ℤ) (a a' d d' p : ℕ) → 0 < p → a * a' ≡ p → d * d' ≡ p → (z *ℤ pos a') <ℤ (w *ℤ pos d') → (z *ℤ pos d) <ℤ (w *ℤ pos a)
 moved_whole z w a a' d d' p some e f =
-    let x = sign_of z in
-    let y = sign_of w in
+    let x = has_sign z in
+    let y = has_sign w in
     subst (λ z. (z *ℤ pos a') <ℤ (w *ℤ pos d') → (z *ℤ pos d) <ℤ (w *ℤ pos a)) (sym x.2)
     (subst (λ w. (signed x.0 x.1 *ℤ pos a') <ℤ (w *ℤ pos d') → (signed x.0 x.1 *ℤ pos d) <ℤ (w *ℤ pos a)) (sym y.2) (moved_signed x.0 x.1 y.0 y.1 a a' d d' p some e f))
 

@@ -1,6 +1,6 @@
--- A parameter list is split at its commas in one way. A piece is what stands between two commas, and an item is a piece without
--- the spaces at its ends. `HasPieces` says of a text that it is pieces joined by commas, each of them a parameter with any spaces
--- round it.
+-- A parameter list is split at its commas in one way. A piece is what is between two commas, and an item is a piece without
+-- the spaces at its ends. `HasPieces` says of a text that it is pieces joined by commas, each of them a parameter with any
+-- spaces round it.
 use Rattle.std.proofs.Common.{◌≡◌, ℕ, zero, suc, ◌+◌, ◌%◌, ◌<◌, List, [], ◌∷◌, ◌++◌, length, replicate, Some, None, refl, sym, ap, ◌∙◌, subst, inl, inr, arith, length-append, append_assoc}
 use Rattle.std.proofs.lemmas.List.{append-nil}
 use Rattle.std.proofs.lemmas.Bool.{cases_eq}
@@ -26,26 +26,26 @@ pieces_of [] (i ∷ is) h = absurd h
 pieces_of (p ∷ ps) [] h = absurd h
 pieces_of (p ∷ ps) (i ∷ is) h = (padded_piece p i h.0 h.1, pieces_of ps is h.2)
 
--- padded parameters behind padded parameters are padded parameters
+-- padded parameters after padded parameters are padded parameters
 pub ArePieces-append : (ps is qs js : List (List ℕ)) → ArePieces ps is → ArePieces qs js → ArePieces (ps ++ qs) (is ++ js)
 ArePieces-append [] [] qs js h k = k
 ArePieces-append [] (i ∷ is) qs js h k = absurd h
 ArePieces-append (p ∷ ps) [] qs js h k = absurd h
 ArePieces-append (p ∷ ps) (i ∷ is) qs js h k = (h.0, h.1, ArePieces-append ps is qs js h.2 k)
 
--- pieces, each with the comma behind it, and then the rest
-abbrev pub led : List (List ℕ) → List ℕ → List ℕ
-led [] rest = rest
-led (p ∷ ps) rest = p ++ 44 ∷ led ps rest
+-- pieces, each with the comma after it, and then the rest
+abbrev pub each_with_comma : List (List ℕ) → List ℕ → List ℕ
+each_with_comma [] rest = rest
+each_with_comma (p ∷ ps) rest = p ++ 44 ∷ each_with_comma ps rest
 
--- joined pieces are the first ones, each with a comma behind it, and then the others joined
-pub joined-append : (ps : List (List ℕ)) (q : List ℕ) (qs : List (List ℕ)) → joined (ps ++ q ∷ qs) ≡ led ps (joined (q ∷ qs))
+-- joined pieces are the first ones, each with a comma after it, and then the others joined
+pub joined-append : (ps : List (List ℕ)) (q : List ℕ) (qs : List (List ℕ)) → joined (ps ++ q ∷ qs) ≡ each_with_comma ps (joined (q ∷ qs))
 joined-append [] q qs = refl
 joined-append (p ∷ []) q qs = refl
 joined-append (p ∷ r ∷ rs) q qs = ap (λ xs. p ++ 44 ∷ xs) (joined-append (r ∷ rs) q qs)
 
--- `led` of the pieces ps and then p, and a rest, is `led` of ps, and then p, a comma and the rest
-pub led-push : (ps : List (List ℕ)) (p rest : List ℕ) → led (ps ++ p ∷ []) rest ≡ led ps (p ++ 44 ∷ rest)
+-- `each_with_comma` of the pieces ps and then p, and a rest, is `each_with_comma` of ps, and then p, a comma and the rest
+pub led-push : (ps : List (List ℕ)) (p rest : List ℕ) → each_with_comma (ps ++ p ∷ []) rest ≡ each_with_comma ps (p ++ 44 ∷ rest)
 led-push [] p rest = refl
 led-push (q ∷ qs) p rest = ap (λ xs. q ++ 44 ∷ xs) (led-push qs p rest)
 
@@ -106,7 +106,7 @@ one_list bytes [] (y ∷ ys) h k = absurd (k.some h)
 one_list bytes (x ∷ xs) [] h k = absurd (h.some k)
 one_list bytes (x ∷ xs) (y ∷ ys) h k = one_joined h.pieces xs k.pieces ys x y h.pieces_are k.pieces_are (sym h.bytes_are ∙ k.bytes_are)
 
--- the text is one piece, and others behind commas, and each piece is a parameter with any spaces round it
+-- the text is one piece, and others after commas, and each piece is a parameter with any spaces round it
 pub record HasPieces (text : List ℕ) : Type 0 where
   pub first : List ℕ
   pub others : List (List ℕ)
@@ -135,7 +135,7 @@ more_pieces piece rest keeps even r =
       are = (t.padded, trimmed_is_param piece _ t keeps even, r.are);
     }
 
--- where a text's quotes are in pairs, and those before one of its commas are, those behind that comma are, too
+-- where a text's quotes are in pairs, and those before one of its commas are, those after that comma are, too
 even_behind : (xs ys : List ℕ) → quotes xs % 2 ≡ 0 → quotes (xs ++ 44 ∷ ys) % 2 ≡ 0 → quotes ys % 2 ≡ 0
 even_behind xs ys first both = let sum = quotes-comma xs ys in omega (arith, first, both, sum)
 
@@ -164,10 +164,10 @@ has_pieces_from front (b ∷ bs) keeps even =
 pub has_pieces : (text : List ℕ) → quotes text % 2 ≡ 0 → HasPieces text
 has_pieces text even = has_pieces_from [] text KeepsCommas-nil even
 
--- the text is the items so far, each padded and with a comma behind it, and the rest
+-- the text is the items so far, each padded and with a comma after it, and the rest
 pub record SplitSoFar (text : List ℕ) (items : List (List ℕ)) (rest : List ℕ) : Type 0 where
   pub pieces : List (List ℕ)
-  pub text_is : text ≡ led pieces rest
+  pub text_is : text ≡ each_with_comma pieces rest
   pub are : ArePieces pieces items
   pub even : quotes rest % 2 ≡ 0
 
@@ -176,7 +176,7 @@ pub split_more : (text rest piece next item : List ℕ) (items : List (List ℕ)
     → IsTrimmed piece item → SplitSoFar text (items ++ item ∷ []) next
 split_more text rest piece next item items s cut t = record {
   pieces = s.pieces ++ piece ∷ [];
-  text_is = s.text_is ∙ ap (led s.pieces) cut.0 ∙ sym (led-push s.pieces piece next);
+  text_is = s.text_is ∙ ap (each_with_comma s.pieces) cut.0 ∙ sym (led-push s.pieces piece next);
   are = ArePieces-append s.pieces items (piece ∷ []) (item ∷ []) s.are (t.padded, trimmed_is_param piece item t cut.1 cut.2, tt);
   even = even_behind piece next cut.2 (ap (λ xs. quotes xs % 2) (sym cut.0) ∙ s.even);
 }
@@ -193,12 +193,12 @@ split_last text rest piece item items s cut t some =
     let even : quotes piece % 2 ≡ 0 = ap (λ xs. quotes xs % 2) (sym cut.0) ∙ s.even in
     params_from text (items ++ item ∷ []) (omega (arith, length-append items (item ∷ []))) (record {
       pieces = s.pieces ++ piece ∷ [];
-      bytes_are = s.text_is ∙ ap (led s.pieces) (cut.0 ∙ sym (append-nil piece)) ∙ sym (joined-append s.pieces piece []);
+      bytes_are = s.text_is ∙ ap (each_with_comma s.pieces) (cut.0 ∙ sym (append-nil piece)) ∙ sym (joined-append s.pieces piece []);
       pieces_are = ArePieces-append s.pieces items (piece ∷ []) (item ∷ []) s.are (t.padded, trimmed_is_param piece item t cut.1 even, tt);
       some = some;
     })
 
--- where a rest is left behind the items that were cut off, the whole text is a list of more items than these
+-- where a rest is left after the items that were cut off, the whole text is a list of more items than these
 pub split_longer : (text rest : List ℕ) (items : List (List ℕ)) → SplitSoFar text items rest → (AreSpaces text → ⊥) → (all : List (List ℕ)) × IsParams text all × (length items < length all)
 split_longer text rest items s some =
     let r = has_pieces rest s.even in
@@ -206,7 +206,7 @@ split_longer text rest items s some =
       items ++ r.item ∷ r.items,
       params_from text (items ++ r.item ∷ r.items) (omega arith) (record {
         pieces = s.pieces ++ r.first ∷ r.others;
-        bytes_are = s.text_is ∙ ap (led s.pieces) r.text_is ∙ sym (joined-append s.pieces r.first r.others);
+        bytes_are = s.text_is ∙ ap (each_with_comma s.pieces) r.text_is ∙ sym (joined-append s.pieces r.first r.others);
         pieces_are = ArePieces-append s.pieces items (r.first ∷ r.others) (r.item ∷ r.items) s.are r.are;
         some = some;
       }),

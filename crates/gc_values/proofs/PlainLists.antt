@@ -9,7 +9,7 @@ use Rattle.gc_values.specs.declared.value.Value.{Value}
 use Rattle.gc_values.proofs.ParamLists.{joined_params}
 use Rattle.gc_values.proofs.TextShape.{AreBare, IsBare, bare_param}
 
--- bare bytes with one more behind them are bare
+-- bare bytes with one more after them are bare
 all_snoc : (xs : List ℕ) (b : ℕ) → AreBare xs → IsBare b → AreBare (xs ++ b ∷ [])
 all_snoc [] b h k = (k, tt)
 all_snoc (x ∷ xs) b h k = (h.0, all_snoc xs b h.1 k)
@@ -41,7 +41,7 @@ one_plain text item v cut x = record {
   read = (x, tt);
 }
 
--- an item up to a comma, and a list behind it, are a list of one value more
+-- an item up to a comma, and a list after it, are a list of one value more
 next_plain : (text item rest : List ℕ) (v : Value) (vs : List Value) → CutsPlain text item (Some rest) → IsItem item v → ArePlain rest vs → ArePlain text (v ∷ vs)
 next_plain text item rest v vs cut x left = record {
   first = item;
@@ -52,7 +52,7 @@ next_plain text item rest v vs cut x left = record {
   read = (x, left.read);
 }
 
--- an item that was cut off, and what is left behind it, are a list of one value more
+-- an item that was cut off, and what is left after it, are a list of one value more
 pub plain_next : (text item : List ℕ) (rest : Option (List ℕ)) (v : Value) (vs : List Value) → CutsPlain text item rest → IsItem item v → LeftPlain rest vs → ArePlain text (v ∷ vs)
 plain_next text item None v vs cut x left = subst (λ ws. ArePlain text (v ∷ ws)) (sym left) (one_plain text item v cut x)
 plain_next text item (Some rest) v vs cut x left = next_plain text item rest v vs cut x left

@@ -6,20 +6,20 @@ use Rattle.gc_values.specs.Params.{quotes}
 use Rattle.gc_values.specs.Pieces.{KeepsCommas}
 
 -- what a byte adds to the number of double quotes: 1 or 0
-abbrev counted : ℕ → ℕ
-counted b = cond (eqb b 34) 1 0
+abbrev quote_count : ℕ → ℕ
+quote_count b = cond (eqb b 34) 1 0
 
 -- quotes in two texts add up
 pub quotes-append : (xs ys : List ℕ) → quotes (xs ++ ys) ≡ quotes xs + quotes ys
-quotes-append xs ys = sum_by-append counted xs ys
+quotes-append xs ys = sum_by-append quote_count xs ys
 
 -- a byte in front adds 1 to the number of double quotes if it is one, else 0
 pub quotes-cons : (b : ℕ) (bs : List ℕ) → quotes (b ∷ bs) ≡ cond (eqb b 34) 1 0 + quotes bs
-quotes-cons b bs = sum_by-cons counted b bs
+quotes-cons b bs = sum_by-cons quote_count b bs
 
 -- the next byte adds 1 to the number of double quotes in the first i bytes if it is one, else 0
 pub quotes_more : (xs : List ℕ) (i : ℕ) → i < length xs → quotes (take (i + 1) xs) ≡ quotes (take i xs) + cond (eqb (get_or xs i 0) 34) 1 0
-quotes_more xs i h = sum_by_more counted xs i 0 h
+quotes_more xs i h = sum_by_more quote_count xs i 0 h
 
 -- a byte other than a double quote adds none
 pub quotes_same : (b : ℕ) (bs : List ℕ) → eqb b 34 ≡ false → quotes (b ∷ bs) ≡ quotes bs
@@ -35,7 +35,7 @@ no_cut : (fs rest : List ℕ) → [] ≡ fs ++ 44 ∷ rest → ⊥
 no_cut [] rest e = cc
 no_cut (f ∷ fs) rest e = cc
 
--- a list and one byte more, cut at a comma: the comma is that byte, or stands before it
+-- a list and one byte more, cut at a comma: the comma is that byte, or is before it
 pub push_cut : (xs front rest : List ℕ) (b : ℕ) → xs ++ b ∷ [] ≡ front ++ 44 ∷ rest → ((b ≡ 44) × (front ≡ xs)) ⊎ ((r : List ℕ) × (xs ≡ front ++ 44 ∷ r))
 push_cut [] [] rest b e = let h : b ≡ 44 = cc in inl (h, refl)
 push_cut [] (f ∷ fs) rest b e = let t : [] ≡ fs ++ 44 ∷ rest = cc in absurd (no_cut fs rest t)
@@ -59,7 +59,7 @@ KeepsCommas-push xs b keeps comma front rest e = elim (push_cut xs front rest b 
   | inr h ↦ keeps front h.0 h.1
 ]
 
--- two cuts of one text at a comma are the same, or the comma of one stands before that of the other
+-- two cuts of one text at a comma are the same, or the comma of one is before that of the other
 pub cuts_compare : (xs ys us vs : List ℕ) → xs ++ 44 ∷ us ≡ ys ++ 44 ∷ vs → ((xs ≡ ys) × (us ≡ vs)) ⊎ (((r : List ℕ) × (xs ≡ ys ++ 44 ∷ r)) ⊎ ((r : List ℕ) × (ys ≡ xs ++ 44 ∷ r)))
 cuts_compare [] [] us vs e = let h : us ≡ vs = cc in inl (refl, h)
 cuts_compare [] (y ∷ ys) us vs e = let h : y ∷ ys ≡ 44 ∷ ys = cc in inr (inr (ys, h))

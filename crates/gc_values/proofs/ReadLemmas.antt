@@ -1,5 +1,5 @@
--- What a text spells that reads as the parts of a number: whether there is a minus, the digits before the point (`whole`) and
--- behind it (`fraction`), and how often the exponent multiplies (`up`) and divides (`down`) by ten.
+-- What a text spells that reads as the parts of a number: whether there is a minus, the digits before the point (`whole`)
+-- and after it (`fraction`), and how often the exponent multiplies (`up`) and divides (`down`) by ten.
 use Rattle.std.proofs.Common.{◌≡◌, ℕ, ◌+◌, ◌-◌, ◌*◌, ◌^◌, ◌<◌, ◌≤◌, Bool, List, ◌++◌, length, ℤ, unsigned_abs, sym, ap, ◌∙◌, subst, arith}
 use Rattle.std.proofs.Math.Nat.{mul-lt-mul_of_pos_left, lt_of_mul-lt-mul_left}
 use Rattle.std.proofs.lemmas.Nat.{pow-add}
@@ -14,8 +14,8 @@ use Rattle.gc_values.proofs.Rounded.{zeros_off, rounded_from, rounds_to_one}
 use Rattle.gc_values.proofs.Signs.{unsigned_abs-signed}
 use Rattle.gc_values.proofs.Unique.{names_once}
 
--- the fraction that a number's parts stand for, as `cut_numeral` has them: whether there is a minus, the digits before and behind
--- the point, and how often the exponent multiplies and divides by ten
+-- the fraction that a number's parts stand for, as `cut_numeral` has them: whether there is a minus, the digits before and
+-- after the point, and how often the exponent multiplies and divides by ten
 abbrev pub fraction_of : Bool → List ℕ → List ℕ → ℕ → ℕ → Fraction
 fraction_of negative whole fraction up down = record { n = signed negative (number (whole ++ fraction) * 10 ^ up); k = length fraction + down }
 
@@ -60,8 +60,8 @@ reads_value text negative whole fraction up down units p m s r c within made =
     )
 
 -- a number above the bound stays so without the zeros at its end
-beyond : (m p n s : ℕ) → 10 ^ 13 * 10 ^ p < m → WithoutZeros m p n s → 10 ^ 13 * 10 ^ s < n
-beyond m p n s large w =
+beyond_bound : (m p n s : ℕ) → 10 ^ 13 * 10 ^ p < m → WithoutZeros m p n s → 10 ^ 13 * 10 ^ s < n
+beyond_bound m p n s large w =
     let same = w.same in
     lt_of_mul-lt-mul_left (10 ^ p) (omega (arith, same, mul-lt-mul_of_pos_left {m = 10 ^ 13 * 10 ^ p} {n = m} {k = 10 ^ s} large (ten_pow_pos s)))
 
@@ -79,7 +79,7 @@ reads_beyond text negative whole fraction up down units p r c above =
         reads_names text negative whole fraction up down r,
         rounded_from negative (number (whole ++ fraction) * 10 ^ up) (length fraction + down) 24 (c.m * 10 ^ (24 - p)) z.0 z.1 c.rounds (zeros_at_last c.m p z.0 z.1 c.places z.2),
       ),
-      subst (λ n. 10 ^ 13 * 10 ^ z.1 < n) (sym (unsigned_abs-signed negative z.0)) (beyond c.m p z.0 z.1 large z.2),
+      subst (λ n. 10 ^ 13 * 10 ^ z.1 < n) (sym (unsigned_abs-signed negative z.0)) (beyond_bound c.m p z.0 z.1 large z.2),
     )
 
 -- a text spells at most one decimal

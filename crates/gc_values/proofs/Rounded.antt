@@ -28,8 +28,8 @@ distance_signed neg n s a k =
     ∙ gap_signed neg (n * 10 ^ k) (a * 10 ^ s)
 
 -- where n / 10^s and m / 10^p are one value, the distance of a / 10^k from the one is its distance from the other, multiplied out
-moved : (a k p m n s : ℕ) → m * 10 ^ s ≡ n * 10 ^ p → gap (n * 10 ^ k) (a * 10 ^ s) * 10 ^ p ≡ gap (a * 10 ^ p) (m * 10 ^ k) * 10 ^ s
-moved a k p m n s same =
+gap_at_other_scale : (a k p m n s : ℕ) → m * 10 ^ s ≡ n * 10 ^ p → gap (n * 10 ^ k) (a * 10 ^ s) * 10 ^ p ≡ gap (a * 10 ^ p) (m * 10 ^ k) * 10 ^ s
+gap_at_other_scale a k p m n s same =
     let left : n * 10 ^ k * 10 ^ p ≡ m * 10 ^ k * 10 ^ s = omega (arith, ap (λ x. x * 10 ^ k) same) in
     let right : a * 10 ^ s * 10 ^ p ≡ a * 10 ^ p * 10 ^ s = omega arith in
     sym (gap-mul (n * 10 ^ k) (a * 10 ^ s) (10 ^ p)) ∙ ap (λ x. gap x (a * 10 ^ s * 10 ^ p)) left ∙ ap (gap (m * 10 ^ k * 10 ^ s)) right
@@ -40,7 +40,7 @@ moved a k p m n s same =
 pub rounded_from : (neg : Bool) (a k p m n s : ℕ) → RoundsHalfUp (a * 10 ^ p) (10 ^ k) m → WithoutZeros m p n s → IsRounded (record { n = signed neg a; k = k }) p (signed neg n) s
 rounded_from neg a k p m n s r w =
     let far = distance_signed neg n s a k in
-    let move = moved a k p m n s w.same in
+    let move = gap_at_other_scale a k p m n s w.same in
     record {
       canonical = λ some h. w.canonical some (ap (λ x. x % 10) (sym (unsigned_abs-signed neg n)) ∙ h);
       places = w.fewer;
@@ -92,15 +92,15 @@ keeps_sign true a k p (pos (suc x)) s r = absurd (far_apart x k p a s r.places (
 
 -- u is the whole number of 10^-p that is nearest to a / 10^k, and m / 10^s is u / 10^p with the sign, without the zeros at its
 -- end
-pub record Units (neg : Bool) (a k p : ℕ) (m : ℤ) (s : ℕ) : Type 0 where
+pub record IsNearestUnits (neg : Bool) (a k p : ℕ) (m : ℤ) (s : ℕ) : Type 0 where
   pub n : ℕ
   pub u : ℕ
   pub m_is : m ≡ signed neg n
   pub zeros : WithoutZeros u p n s
   pub rounds : RoundsHalfUp (a * 10 ^ p) (10 ^ k) u
 
--- each rounding to p places that has the sign of its fraction is the nearest whole number of 10^-p, as `Units` has it
-with_sign_known : (neg : Bool) (a k p n s : ℕ) → IsRounded (record { n = signed neg a; k = k }) p (signed neg n) s → Units neg a k p (signed neg n) s
+-- each rounding to p places that has the sign of its fraction is the nearest whole number of 10^-p, as `IsNearestUnits` has it
+with_sign_known : (neg : Bool) (a k p n s : ℕ) → IsRounded (record { n = signed neg a; k = k }) p (signed neg n) s → IsNearestUnits neg a k p (signed neg n) s
 with_sign_known neg a k p n s r =
     let u : ℕ = n * 10 ^ (p - s) in
     let places : s ≤ p = r.places in
@@ -108,7 +108,7 @@ with_sign_known neg a k p n s r =
     let power : 10 ^ (p - s) * 10 ^ s ≡ 10 ^ p = sym (pow-add 10 (p - s) s) ∙ ap (λ e. 10 ^ e) back in
     let same : u * 10 ^ s ≡ n * 10 ^ p = omega (arith, ap (λ x. n * x) power) in
     let far = distance_signed neg n s a k in
-    let move = moved a k p u n s same in
+    let move = gap_at_other_scale a k p u n s same in
     record {
       n = n;
       u = u;
@@ -124,12 +124,12 @@ with_sign_known neg a k p n s r =
       };
     }
 
--- each rounding to p places is the nearest whole number of 10^-p, with the sign of its fraction, as `Units` has it
-pub rounded_to : (neg : Bool) (a k p : ℕ) (m : ℤ) (s : ℕ) → IsRounded (record { n = signed neg a; k = k }) p m s → Units neg a k p m s
+-- each rounding to p places is the nearest whole number of 10^-p, with the sign of its fraction, as `IsNearestUnits` has it
+pub rounded_to : (neg : Bool) (a k p : ℕ) (m : ℤ) (s : ℕ) → IsRounded (record { n = signed neg a; k = k }) p m s → IsNearestUnits neg a k p m s
 rounded_to neg a k p m s r =
     let sign = keeps_sign neg a k p m s r in
     let there : IsRounded (record { n = signed neg a; k = k }) p (signed neg sign.0) s = subst (λ z. IsRounded (record { n = signed neg a; k = k }) p z s) sign.1 r in
-    subst (λ z. Units neg a k p z s) (sym sign.1) (with_sign_known neg a k p sign.0 s there)
+    subst (λ z. IsNearestUnits neg a k p z s) (sym sign.1) (with_sign_known neg a k p sign.0 s there)
 
 -- a fraction with a sign rounds to at most one decimal
 pub rounded_once : (neg : Bool) (a k p : ℕ) (m : ℤ) (s : ℕ) (n : ℤ) (t : ℕ) → IsRounded (record { n = signed neg a; k = k }) p m s
@@ -142,14 +142,14 @@ rounded_once neg a k p m s n t r q =
     (x.m_is ∙ ap (signed neg) one.0 ∙ sym y.m_is, one.1)
 
 -- each whole number is a magnitude with a sign
-pub sign_of : (z : ℤ) → (neg : Bool) × (a : ℕ) × (z ≡ signed neg a)
-sign_of (pos n) = (false, n, refl)
-sign_of (negsuc n) = (true, suc n, refl)
+pub has_sign : (z : ℤ) → (neg : Bool) × (a : ℕ) × (z ≡ signed neg a)
+has_sign (pos n) = (false, n, refl)
+has_sign (negsuc n) = (true, suc n, refl)
 
 -- a fraction rounds to at most one decimal
 pub rounds_to_one : (q : Fraction) (p : ℕ) (m : ℤ) (s : ℕ) (n : ℤ) (t : ℕ) → IsRounded q p m s → IsRounded q p n t → (m ≡ n) × (s ≡ t)
 rounds_to_one q p m s n t r r' =
-    let z = sign_of q.n in
+    let z = has_sign q.n in
     let same : q ≡ record { n = signed z.0 z.1; k = q.k } = ap (λ (x : ℤ). let f : Fraction = record { n = x; k = q.k } in f) z.2 in
     rounded_once z.0 z.1 q.k p m s n t (subst (λ f. IsRounded f p m s) same r) (subst (λ f. IsRounded f p n t) same r')
 
@@ -158,14 +158,14 @@ same_place : (x : ℤ) → unsigned_abs (x -ℤ x) ≡ 0
 same_place x = omega (arith, ints)
 
 -- twice 0 times anything is 0
-nothing : (x : ℕ) → 2 * 0 * x ≡ 0
-nothing x = omega arith
+twice_zero : (x : ℕ) → 2 * 0 * x ≡ 0
+twice_zero x = omega arith
 
 -- where m / 10^s has the value of q, needs all its places and has at most p, it is q rounded to p places
 pub exact_rounds : (q : Fraction) (p : ℕ) (m : ℤ) (s : ℕ) → IsCanonical m s → s ≤ p → m *ℤ pos (10 ^ q.k) ≡ q.n *ℤ pos (10 ^ s) → IsRounded q p m s
 exact_rounds q p m s canonical places same =
     let near : distance m s q.n q.k ≡ 0 = ap (λ x. unsigned_abs (x -ℤ q.n *ℤ pos (10 ^ s))) same ∙ same_place (q.n *ℤ pos (10 ^ s)) in
-    let none : 2 * distance m s q.n q.k * 10 ^ p ≡ 0 = ap (λ d. 2 * d * 10 ^ p) near ∙ nothing (10 ^ p) in
+    let none : 2 * distance m s q.n q.k * 10 ^ p ≡ 0 = ap (λ d. 2 * d * 10 ^ p) near ∙ twice_zero (10 ^ p) in
     let some : 0 < 10 ^ s * 10 ^ q.k = let e = pow-add 10 s q.k in let h = ten_pow_pos (s + q.k) in omega arith in
     record {
       canonical = canonical;

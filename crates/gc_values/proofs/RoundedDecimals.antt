@@ -16,8 +16,8 @@ half_up-one : (m : ℕ) → half_up m 1 ≡ m
 half_up-one m = omega arith
 
 -- at s places or more, what `rounded_to` gives is m / 10^s rounded, which is the number itself
-stays : (b : Bool) (m s p : ℕ) → s ≤ p → IsRounded (record { n = signed b m; k = s }) p (signed b (rounded_to m s p).digits) (rounded_to m s p).places
-stays b m s p h =
+rounded_at_enough_places : (b : Bool) (m s p : ℕ) → s ≤ p → IsRounded (record { n = signed b m; k = s }) p (signed b (rounded_to m s p).digits) (rounded_to m s p).places
+rounded_at_enough_places b m s p h =
     let r = rounded_to m s p in
     let zeros = rounded_to_zeros m s p in
     let none : s - p ≡ 0 = omega arith in
@@ -28,8 +28,8 @@ stays b m s p h =
     (signed-mul b r.digits (10 ^ s) ∙ ap (signed b) same ∙ sym (signed-mul b m (10 ^ r.places)))
 
 -- at fewer than s places, what `rounded_to` gives is m / 10^s rounded
-nears : (b : Bool) (m s p : ℕ) → p < s → IsRounded (record { n = signed b m; k = s }) p (signed b (rounded_to m s p).digits) (rounded_to m s p).places
-nears b m s p h =
+rounded_at_fewer_places : (b : Bool) (m s p : ℕ) → p < s → IsRounded (record { n = signed b m; k = s }) p (signed b (rounded_to m s p).digits) (rounded_to m s p).places
+rounded_at_fewer_places b m s p h =
     let r = rounded_to m s p in
     let few : min s p ≡ p = omega arith in
     let zeros : WithoutZeros (half_up m (10 ^ (s - p))) p r.digits r.places = subst (λ e. WithoutZeros (half_up m (10 ^ (s - p))) e r.digits r.places) few (rounded_to_zeros m s p) in
@@ -38,7 +38,7 @@ nears b m s p h =
 
 -- `rounded_to` gives the rounding of a number with a sign
 pub rounded_to_rounds : (b : Bool) (m s p : ℕ) → IsRounded (record { n = signed b m; k = s }) p (signed b (rounded_to m s p).digits) (rounded_to m s p).places
-rounded_to_rounds b m s p = elim (cases_lt p s) [ inl fewer ↦ nears b m s p fewer | inr own ↦ stays b m s p own ]
+rounded_to_rounds b m s p = elim (cases_lt p s) [ inl fewer ↦ rounded_at_fewer_places b m s p fewer | inr own ↦ rounded_at_enough_places b m s p own ]
 
 -- a number is its magnitude with its sign
 signed-unsigned_abs : (z : ℤ) → signed (is_negative z) (unsigned_abs z) ≡ z

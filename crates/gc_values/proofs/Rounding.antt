@@ -60,13 +60,13 @@ rounds_whole m b pos = record { near = omega arith; tie = λ h. absurd (omega ar
 pub rounds_to_zero : (a b : ℕ) → 0 < b → 2 * a < b → RoundsHalfUp a b 0
 rounds_to_zero a b pos small = record { near = omega arith; tie = λ h. absurd (omega arith) }
 
--- a first digit below 5 behind the place rounds down, where u is that digit's weight and r what comes after it
+-- a first digit below 5 after the place rounds down, where u is that digit's weight and r what comes after it
 pub rounds_down : (m d u r : ℕ) → d < 5 → r < u → RoundsHalfUp (m * (10 * u) + (d * u + r)) (10 * u) m
 rounds_down m d u r small rest =
     let part : d * u + u ≤ 5 * u = omega (arith, mul-le-mul_right {m = d + 1} {n = 5} u (omega arith)) in
     record { near = omega arith; tie = λ h. absurd (omega arith) }
 
--- a first digit from 5 on behind the place rounds up, where u is that digit's weight and r what comes after it
+-- a first digit from 5 on after the place rounds up, where u is that digit's weight and r what comes after it
 pub rounds_up : (m d u r : ℕ) → 5 ≤ d → d < 10 → r < u → RoundsHalfUp (m * (10 * u) + (d * u + r)) (10 * u) (m + 1)
 rounds_up m d u r large digit rest =
     let part : 5 * u ≤ d * u = mul-le-mul_right {m = 5} {n = d} u large in

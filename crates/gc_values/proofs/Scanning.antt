@@ -12,14 +12,14 @@ pub record Scanned (text : List ℕ) (i : ℕ) (quoted : Bool) : Type 0 where
   pub parity : quotes (take i text) % 2 ≡ cond quoted 1 0
 
 -- whether bytes end inside quotes once one more byte, the first argument, came; the second one says whether they did before it
-abbrev pub turned : ℕ → Bool → Bool
-turned b quoted = cond (eqb b 34) (not quoted) quoted
+abbrev pub parity_after : ℕ → Bool → Bool
+parity_after b quoted = cond (eqb b 34) (not quoted) quoted
 
 -- before the first byte no comma was passed, and no quote is open
 pub scanned_none : (text : List ℕ) → Scanned text 0 false
 scanned_none text = record { keeps = KeepsCommas-nil; parity = refl }
 
--- where `quoted` says whether the number n of quotes is odd, it is odd after one more byte as `turned` has it; `same` says
+-- where `quoted` says whether the number n of quotes is odd, it is odd after one more byte as `parity_after` has it; `same` says
 -- whether that byte is a double quote
 parity_step : (n : ℕ) (quoted same : Bool) → n % 2 ≡ cond quoted 1 0 → (n + cond same 1 0) % 2 ≡ cond (cond same (not quoted) quoted) 1 0
 parity_step n true true h = omega arith
@@ -33,7 +33,7 @@ odd_inside n quoted e h = h ∙ ap (λ b. cond b 1 0) e
 
 -- `Scanned` is true of one byte more, which is no comma outside quotes
 pub scanned_more : (text : List ℕ) (i : ℕ) (quoted now : Bool) → Scanned text i quoted → i < length text → (get_or text i 0 ≡ 44 → quoted ≡ true)
-    → now ≡ turned (get_or text i 0) quoted → Scanned text (i + 1) now
+    → now ≡ parity_after (get_or text i 0) quoted → Scanned text (i + 1) now
 scanned_more text i quoted now s within comma step =
     let b : ℕ = get_or text i 0 in
     record {

@@ -6,18 +6,18 @@ use Rattle.gc_values.specs.Padding.{IsKept}
 use Rattle.gc_values.specs.declared.text.Text.TheInside.{Inside}
 use Rattle.gc_values.specs.Text.{IsStringByte, AreStringBytes, quoted, IsString}
 
--- two lists of bytes that may stand in a string may stand in it one behind the other
+-- two lists of bytes that are allowed in a string are allowed in it one after the other
 pub AreStringBytes-append : (xs ys : List ℕ) → AreStringBytes xs → AreStringBytes ys → AreStringBytes (xs ++ ys)
 AreStringBytes-append [] ys h k = k
 AreStringBytes-append (x ∷ xs) ys h k = (h.0, AreStringBytes-append xs ys h.1 k)
 
--- the byte at a place of a string's bytes may stand in a string
+-- the byte at a place of a string's bytes is allowed in a string
 pub string_byte_at : (bytes : List ℕ) (i : ℕ) → i < length bytes → AreStringBytes bytes → IsStringByte (get_or bytes i 0)
 string_byte_at [] i within h = absurd (omega arith)
 string_byte_at (b ∷ bs) zero within h = h.0
 string_byte_at (b ∷ bs) (suc i) within h = string_byte_at bs i (omega arith) h.1
 
--- two texts that are equal with a double quote behind each are equal
+-- two texts that are equal with a double quote after each are equal
 end_same : (xs ys : List ℕ) → xs ++ 34 ∷ [] ≡ ys ++ 34 ∷ [] → xs ≡ ys
 end_same [] [] e = refl
 end_same [] (y ∷ []) e = cc
@@ -34,7 +34,7 @@ one_quoted xs ys e = let t : xs ++ 34 ∷ [] ≡ ys ++ 34 ∷ [] = cc in end_sam
 pub one_string : (item xs ys : List ℕ) → IsString item xs → IsString item ys → xs ≡ ys
 one_string item xs ys x y = one_quoted xs ys (sym x.item_is ∙ y.item_is)
 
--- bytes with zeros behind them are what a text keeps
+-- bytes with zeros after them are what a text keeps
 pub filled_is_kept : (bytes all : List ℕ) → all ≡ bytes ++ replicate (64 - length bytes) 0 → length bytes ≤ 64 → AreStringBytes bytes
     → (let t : Inside = record { bytes = all; len = length bytes } in IsKept t)
 filled_is_kept bytes all e few plain =

@@ -18,7 +18,7 @@ use Rattle.gc_values.specs.declared.value.Value.{Value}
 use Rattle.gc_values.specs.declared.value.Value.TheVariants as value
 use Rattle.gc_values.proofs.Quotes.{quotes-append, quotes-cons, quotes_same, push_cut}
 use Rattle.gc_values.proofs.Powers.{ten_pow_pos}
-use Rattle.gc_values.proofs.Trimming.{last_of}
+use Rattle.gc_values.proofs.Trimming.{last_same}
 use Rattle.gc_values.proofs.WholeText.{length-whole_text, length-minus_text, length-long, length-short}
 use Rattle.gc_values.proofs.WrittenLemmas.{length-behind_text}
 use Rattle.gc_values.proofs.ParamLists.{joined_params}
@@ -44,7 +44,7 @@ bare_above b h = record { space = λ e. omega (arith, e); quote = λ e. omega (a
 bare_quote : IsBare 39
 bare_quote = record { space = λ e. omega (arith, e); quote = λ e. omega (arith, e); comma = λ e. omega (arith, e); cr = λ e. omega (arith, e); lf = λ e. omega (arith, e) }
 
--- bare bytes behind bare bytes are bare
+-- bare bytes after bare bytes are bare
 pub AreBare-append : (xs ys : List ℕ) → AreBare xs → AreBare ys → AreBare (xs ++ ys)
 AreBare-append [] ys h k = k
 AreBare-append (x ∷ xs) ys h k = (h.0, AreBare-append xs ys h.1 k)
@@ -158,13 +158,13 @@ quoted_commas bytes (f ∷ fs) rest h e =
 quoted_param : (bytes : List ℕ) → AreStringBytes bytes → IsParam (quoted bytes)
 quoted_param bytes h = record {
   first = λ rest e. let bad : ◌≡◌ {A = ℕ} 34 32 = cc in omega (arith, bad);
-  last = λ front e. let bad = last_of (34 ∷ bytes) front 34 32 e in omega (arith, bad);
+  last = λ front e. let bad = last_same (34 ∷ bytes) front 34 32 e in omega (arith, bad);
   pairs = let one = quotes-cons 34 (bytes ++ 34 ∷ []) in let two = quotes-append bytes (34 ∷ []) in let none = quotes-string bytes h in
       let both : quotes (34 ∷ []) ≡ 1 = refl in omega (arith, one, two, none, both);
   commas = λ front rest e. quoted_commas bytes front rest h e;
 }
 
--- a string's bytes, and the quote behind them, end no line
+-- a string's bytes, and the quote after them, end no line
 string_plain : (bytes : List ℕ) → AreStringBytes bytes → AllByRecursion EndsNoLine (bytes ++ 34 ∷ [])
 string_plain [] h = ((λ e. omega (arith, e), λ e. omega (arith, e)), tt)
 string_plain (b ∷ bs) h = ((h.0.2, h.0.1), string_plain bs h.1)

@@ -6,7 +6,7 @@ use Rattle.gc_values.specs.Params.{quotes, IsPadded, IsParam, AreSpaces}
 use Rattle.gc_values.specs.Pieces.{KeepsCommas, StartsNoSpace, EndsNoSpace, TrimsFront, TrimsBack, IsTrimmed}
 use Rattle.gc_values.proofs.Quotes.{quotes-append, quotes_same, quotes-spaces, KeepsCommas-push}
 
--- spaces in front of a text leave its commas within quotes
+-- spaces before a text leave its commas within quotes
 front_spaces : (n : ℕ) (xs : List ℕ) → KeepsCommas xs → KeepsCommas (replicate n 32 ++ xs)
 front_spaces zero xs keeps front rest e = keeps front rest e
 front_spaces (suc n) xs keeps [] rest e = let h : ◌≡◌ {A = ℕ} 32 44 = cc in absurd (omega (arith, h))
@@ -17,7 +17,7 @@ front_spaces (suc n) xs keeps (f ∷ fs) rest e =
     let odd = front_spaces n xs keeps fs rest tail in
     omega (arith, odd, other)
 
--- spaces behind a text leave its commas within quotes
+-- spaces after a text leave its commas within quotes
 back_spaces : (n : ℕ) (xs : List ℕ) → KeepsCommas xs → KeepsCommas (xs ++ replicate n 32)
 back_spaces zero xs keeps = subst KeepsCommas (sym (append-nil xs)) keeps
 back_spaces (suc n) xs keeps =
@@ -41,8 +41,8 @@ pub padded_keeps : (piece item : List ℕ) → IsPadded piece item → IsParam i
 padded_keeps piece item p h = subst KeepsCommas (sym p.piece_is) (front_spaces p.before (item ++ replicate p.behind 32) (back_spaces p.behind item h.commas))
 
 -- bytes with a comma among them may be grouped round the comma
-regroup : (a b c d e : List ℕ) → a ++ ((b ++ 44 ∷ c) ++ d) ≡ (a ++ b) ++ 44 ∷ (c ++ d)
-regroup a b c d e = simp append_assoc
+regroup_at_comma : (a b c d e : List ℕ) → a ++ ((b ++ 44 ∷ c) ++ d) ≡ (a ++ b) ++ 44 ∷ (c ++ d)
+regroup_at_comma a b c d e = simp append_assoc
 
 -- a piece with its quotes in pairs and its commas within quotes, without the spaces at its ends, is a parameter
 pub trimmed_is_param : (piece item : List ℕ) → IsTrimmed piece item → KeepsCommas piece → quotes piece % 2 ≡ 0 → IsParam item
@@ -55,7 +55,7 @@ trimmed_is_param piece item t keeps even =
       pairs = omega (arith, same, even);
       commas = λ front rest e.
           let whole : piece ≡ (replicate p.before 32 ++ front) ++ 44 ∷ (rest ++ replicate p.behind 32) =
-          p.piece_is ∙ ap (λ xs. replicate p.before 32 ++ (xs ++ replicate p.behind 32)) e ∙ regroup (replicate p.before 32) front rest (replicate p.behind 32) [] in
+          p.piece_is ∙ ap (λ xs. replicate p.before 32 ++ (xs ++ replicate p.behind 32)) e ∙ regroup_at_comma (replicate p.before 32) front rest (replicate p.behind 32) [] in
           let odd = keeps _ _ whole in
           omega (arith, odd, quotes-append (replicate p.before 32) front, quotes-spaces p.before);
     }
@@ -65,7 +65,7 @@ abbrev pub front_off : List ℕ → List ℕ
 front_off [] = []
 front_off (b ∷ bs) = cond (eqb b 32) (front_off bs) (b ∷ bs)
 
--- byte b in front of a trimmed rest: nothing where b is a space and the rest is empty
+-- byte b before a trimmed rest: nothing where b is a space and the rest is empty
 abbrev pub kept_front : ℕ → List ℕ → List ℕ
 kept_front b [] = cond (eqb b 32) [] (b ∷ [])
 kept_front b (x ∷ xs) = b ∷ x ∷ xs
@@ -90,7 +90,7 @@ back_off-spaces : (n : ℕ) → back_off (replicate n 32) ≡ []
 back_off-spaces zero = refl
 back_off-spaces (suc n) = ap (kept_front 32) (back_off-spaces n)
 
--- a byte in front of a text without spaces at its end stays
+-- a byte before a text without spaces at its end stays
 kept_front_same : (b : ℕ) (bs : List ℕ) → EndsNoSpace (b ∷ bs) → kept_front b bs ≡ b ∷ bs
 kept_front_same b [] h = ap (λ c. cond c [] (b ∷ [])) (ne_eqb b 32 (λ e. h [] (ap (λ x. x ∷ []) e)))
 kept_front_same b (x ∷ xs) h = refl
@@ -99,17 +99,17 @@ kept_front_same b (x ∷ xs) h = refl
 tail_ends : (b : ℕ) (bs : List ℕ) → EndsNoSpace (b ∷ bs) → EndsNoSpace bs
 tail_ends b bs h front e = h (b ∷ front) (ap (λ xs. b ∷ xs) e)
 
--- spaces behind a text without spaces at its end are taken off
+-- spaces after a text without spaces at its end are taken off
 back_off_same : (xs : List ℕ) (n : ℕ) → EndsNoSpace xs → back_off (xs ++ replicate n 32) ≡ xs
 back_off_same [] n h = back_off-spaces n
 back_off_same (b ∷ bs) n h = ap (kept_front b) (back_off_same bs n (tail_ends b bs h)) ∙ kept_front_same b bs h
 
--- a text without a space in front is empty, or has none in front when spaces are put behind it
+-- a text without a space in front is empty, or has none in front when spaces are put after it
 empty_or_first : (xs : List ℕ) (n : ℕ) → StartsNoSpace xs → (xs ≡ []) ⊎ (StartsNoSpace (xs ++ replicate n 32))
 empty_or_first [] n h = inl refl
 empty_or_first (b ∷ bs) n h = inr (λ rest e. h bs (let head : b ≡ 32 = cc in ap (λ x. x ∷ bs) head))
 
--- a text without spaces at its ends, with spaces put behind it, is trimmed back to that text
+-- a text without spaces at its ends, with spaces put after it, is trimmed back to that text
 trims_once : (n : ℕ) (xs : List ℕ) → StartsNoSpace xs → EndsNoSpace xs → back_off (front_off (xs ++ replicate n 32)) ≡ xs
 trims_once n xs f l = elim (empty_or_first xs n f) [
   | inl h ↦ ap (λ ys. back_off (front_off (ys ++ replicate n 32))) h ∙ ap back_off
@@ -159,7 +159,7 @@ one_last : (b : ℕ) (front : List ℕ) → b ∷ [] ≡ front ++ 32 ∷ [] → 
 one_last b [] e = cc
 one_last b (f ∷ fs) e = let t : [] ≡ fs ++ 32 ∷ [] = cc in absurd (no_last fs t)
 
--- a byte in front of a text without a space at its end changes nothing of its end
+-- a byte before a text without a space at its end changes nothing of its end
 longer_last : (b : ℕ) (xs front : List ℕ) (x : ℕ) → EndsNoSpace (x ∷ xs) → b ∷ x ∷ xs ≡ front ++ 32 ∷ [] → ⊥
 longer_last b xs [] x h e = cc
 longer_last b xs (f ∷ fs) x h e = let t : x ∷ xs ≡ fs ++ 32 ∷ [] = cc in h fs t
@@ -198,8 +198,8 @@ pub trimmed_exists : (text : List ℕ) → IsTrimmed text (back_off (front_off t
 trimmed_exists text = both_ends text (front_off text) _ (trims_front text) (trims_back (front_off text))
 
 -- a slice from a place to the end is what is left from there
-pub rest_of : (text : List ℕ) (i : ℕ) → take (length text - i) (drop i text) ≡ drop i text
-rest_of text i = take_all (length text - i) (drop i text) (omega (arith, length-drop i text))
+pub slice_to_end : (text : List ℕ) (i : ℕ) → take (length text - i) (drop i text) ≡ drop i text
+slice_to_end text i = take_all (length text - i) (drop i text) (omega (arith, length-drop i text))
 
 -- where a loop from the front passed i spaces and stops at another byte, the text from there on is trimmed at its front
 pub front_at : (text : List ℕ) (i : ℕ) → i < length text → take i text ≡ replicate i 32 → (get_or text i 0 ≡ 32 → ⊥) → TrimsFront text (drop i text)
@@ -217,7 +217,7 @@ front_all text i all spaces = record {
   first = λ rest e. cc;
 }
 
--- where the text from `end` on is spaces, and a space stands before that, the text from `end - 1` on is spaces, too
+-- where the text from `end` on is spaces, and a space is before that, the text from `end - 1` on is spaces, too
 pub back_more : (text : List ℕ) (end : ℕ) → 0 < end → end ≤ length text → drop end text ≡ replicate (length text - end) 32 → get_or text (end - 1) 0 ≡ 32
     → drop (end - 1) text ≡ replicate (length text - (end - 1)) 32
 back_more text end some within spaces here =
@@ -226,13 +226,13 @@ back_more text end some within spaces here =
     drop_more text (end - 1) 0 (omega arith) ∙ ap (λ b. b ∷ drop (end - 1 + 1) text) here ∙ ap (λ i. 32 ∷ drop i text) back ∙ ap (λ xs. 32 ∷ xs) spaces ∙ ap (λ n. replicate n 32) size
 
 -- two elements that end the same list are equal
-pub last_of : (xs ys : List ℕ) (a b : ℕ) → xs ++ a ∷ [] ≡ ys ++ b ∷ [] → a ≡ b
-last_of [] [] a b e = cc
-last_of [] (y ∷ ys) a b e = let t : [] ≡ ys ++ b ∷ [] = cc in absurd (no_end ys b t)
-last_of (x ∷ xs) [] a b e = let t : [] ≡ xs ++ a ∷ [] = cc in absurd (no_end xs a t)
-last_of (x ∷ xs) (y ∷ ys) a b e = let t : xs ++ a ∷ [] ≡ ys ++ b ∷ [] = cc in last_of xs ys a b t
+pub last_same : (xs ys : List ℕ) (a b : ℕ) → xs ++ a ∷ [] ≡ ys ++ b ∷ [] → a ≡ b
+last_same [] [] a b e = cc
+last_same [] (y ∷ ys) a b e = let t : [] ≡ ys ++ b ∷ [] = cc in absurd (no_end ys b t)
+last_same (x ∷ xs) [] a b e = let t : [] ≡ xs ++ a ∷ [] = cc in absurd (no_end xs a t)
+last_same (x ∷ xs) (y ∷ ys) a b e = let t : xs ++ a ∷ [] ≡ ys ++ b ∷ [] = cc in last_same xs ys a b t
 
--- where a loop from the end passed spaces, and stops at the front of the text or behind another byte, the text up to there is
+-- where a loop from the end passed spaces, and stops at the front of the text or after another byte, the text up to there is
 -- trimmed at its end
 pub back_at : (text : List ℕ) (end : ℕ) → end ≤ length text → drop end text ≡ replicate (length text - end) 32
     → (end ≡ 0) ⊎ ((0 < end) × (get_or text (end - 1) 0 ≡ 32 → ⊥)) → TrimsBack text (take end text)
@@ -244,11 +244,11 @@ back_at text end within spaces stop = record {
     | inr some ↦
         let back : end - 1 + 1 ≡ end = let h = some.0 in omega arith in
         let more : take end text ≡ take (end - 1) text ++ get_or text (end - 1) 0 ∷ [] = ap (λ i. take i text) (sym back) ∙ take_more text (end - 1) 0 (let h = some.0 in omega arith) in
-        some.1 (last_of (take (end - 1) text) front (get_or text (end - 1) 0) 32 (sym more ∙ e))
+        some.1 (last_same (take (end - 1) text) front (get_or text (end - 1) 0) 32 (sym more ∙ e))
   ];
 }
 
--- spaces in front of another byte aren't spaces alone
+-- spaces before another byte aren't spaces alone
 first_not_space : (b : ℕ) (bs : List ℕ) (m n : ℕ) → StartsNoSpace (b ∷ bs) → replicate m 32 ++ b ∷ bs ≡ replicate n 32 → ⊥
 first_not_space b bs zero zero h e = cc
 first_not_space b bs zero (suc n) h e = let head : b ≡ 32 = cc in h bs (ap (λ x. x ∷ bs) head)

@@ -116,11 +116,11 @@ numeral_sign p n = record {
   first = λ _. number_no_sign p.whole p.fraction (exponent_text p.exponent) n.whole n.some;
 }
 
--- behind the sign a numeral's text is cut into its digits and the rest
+-- after the sign a numeral's text is cut into its digits and the rest
 numeral_digits : (p : Parts) → IsNumeral p → CutsDigits (p.whole ++ (fraction_text p.fraction ++ exponent_text p.exponent)) p.whole (fraction_text p.fraction ++ exponent_text p.exponent)
 numeral_digits p n = record { text_is = refl; digits = n.whole; longest = fraction_no_digit p.fraction p.exponent }
 
--- behind the digits a numeral's text is cut into its fraction and its exponent
+-- after the digits a numeral's text is cut into its fraction and its exponent
 numeral_fraction : (p : Parts) → IsNumeral p → CutsFraction (fraction_text p.fraction ++ exponent_text p.exponent) (fraction_digits p.fraction) (exponent_text p.exponent)
 numeral_fraction p n = record {
   fraction = p.fraction;

@@ -1,6 +1,6 @@
--- What `units` computes of a number's text: ds are all its digits, w of them before the point and f behind it, and its exponent
--- multiplies by ten `up` times and divides by ten `down` times. Up to the last of p (or 24) places it has k digits, with zeros
--- for those that are missing: k + down = w + up + p. "The value" is the text's number in units of 10^-p.
+-- What `units` computes of a number's text: ds are all its digits, w of them before the point and f after it, and its
+-- exponent multiplies by ten `up` times and divides by ten `down` times. Up to the last of p (or 24) places it has k digits,
+-- with zeros for those that are missing: k + down = w + up + p. "The value" is the text's number in units of 10^-p.
 use Rattle.std.proofs.Common.{◌≡◌, ℕ, ◌+◌, ◌-◌, ◌*◌, ◌^◌, ◌<◌, ◌≤◌, List, length, min, sym, ap, ◌∙◌, subst, arith, lit≤}
 use Rattle.std.proofs.Math.Nat.{mul-lt-mul_of_pos_left}
 use Rattle.std.proofs.lemmas.Nat.{pow-add}
@@ -16,8 +16,8 @@ times_one : (n : ℕ) → n ≡ n * 10 ^ (24 - 24)
 times_one n = omega arith
 
 -- a product may be regrouped where b is a times c
-product : (n a b c : ℕ) → b ≡ a * c → n * b ≡ n * a * c
-product n a b c e = omega (arith, ap (λ x. n * x) e)
+product_regrouped : (n a b c : ℕ) → b ≡ a * c → n * b ≡ n * a * c
+product_regrouped n a b c e = omega (arith, ap (λ x. n * x) e)
 
 -- the number of the first k digits, with the next one rounded in, is the value rounded to a whole number
 pub units_kept : (ds : List ℕ) (w f up down p k : ℕ) → AreDigits ds → length ds ≡ w + f → k + down ≡ w + up + p →
@@ -31,7 +31,7 @@ units_kept ds w f up down p k digits size places =
     rounds_same_value (number ds * 10 ^ k) (10 ^ length ds) (number ds * 10 ^ up * 10 ^ p) (10 ^ (f + down)) (kept_and_rounded ds k) (ten_pow_pos (length ds))
     (ten_pow_pos (f + down)) same (rounds_digits ds k digits)
 
--- the value rounds to 0 where the exponent moves the first digit more than a place behind the last one that counts
+-- the value rounds to 0 where the exponent moves the first digit more than a place after the last one that counts
 pub units_none : (ds : List ℕ) (w f up down p : ℕ) → AreDigits ds → length ds ≡ w + f → w + up + p < down →
     RoundsHalfUp (number ds * 10 ^ up * 10 ^ p) (10 ^ (f + down)) 0
 units_none ds w f up down p digits size places =
@@ -53,7 +53,7 @@ capped_few ds w f up down cap k units digits size places e = record {
   places = lit≤ tt;
 }
 
--- where the last digit stands at place p behind the point, p at most 24, the number is that of all digits, at most the cap, over
+-- where the last digit is at place p after the point, p at most 24, the number is that of all digits, at most the cap, over
 -- 10^p
 pub capped_zeros : (ds : List ℕ) (w f up down cap k size more units p : ℕ) → AreDigits ds → length ds ≡ size → size ≡ w + f → k + down ≡ w + up + 24
     → size + more ≡ k → more + p ≡ 24 → units ≡ min cap (kept ds size) →
@@ -69,8 +69,8 @@ capped_zeros ds w f up down cap k size more units p digits is_size sum places be
       places = omega arith;
     }
 
--- where the last digit stands `more` places before the last one in front of the point, the number is that of all digits with
--- `more` zeros behind them, at most the cap
+-- where the last digit is `more` places before the last one before the point, the number is that of all digits with
+-- `more` zeros after them, at most the cap
 pub capped_many : (ds : List ℕ) (w f up down cap k size more x units : ℕ) → AreDigits ds → length ds ≡ size → size ≡ w + f → k + down ≡ w + up + 24
     → size + (24 + more) ≡ k → x ≡ min cap (kept ds size) → units ≡ min cap (x * 10 ^ more) →
     IsCapped (number ds * 10 ^ up) (f + down) cap units 0
@@ -79,7 +79,7 @@ capped_many ds w f up down cap k size more x units digits is_size sum places beh
     let power : 10 ^ (more + 24) ≡ 10 ^ more * 10 ^ 24 = pow-add 10 more 24 in
     let value : kept_and_rounded ds k ≡ kept ds size * 10 ^ (more + 24) =
     kept_behind ds k (omega arith) ∙ ap (λ n. kept ds n * 10 ^ (k - length ds)) is_size ∙ ap (λ z. kept ds size * 10 ^ z) own in
-    let whole : kept_and_rounded ds k ≡ kept ds size * 10 ^ more * 10 ^ 24 = value ∙ product (kept ds size) (10 ^ more) (10 ^ (more + 24)) (10 ^ 24) power in
+    let whole : kept_and_rounded ds k ≡ kept ds size * 10 ^ more * 10 ^ 24 = value ∙ product_regrouped (kept ds size) (10 ^ more) (10 ^ (more + 24)) (10 ^ 24) power in
     record {
       m = kept ds size * 10 ^ more;
       rounds = subst (λ n. RoundsHalfUp (number ds * 10 ^ up * 10 ^ 24) (10 ^ (f + down)) n) whole (units_kept ds w f up down 24 k digits (omega arith) places);
@@ -87,11 +87,11 @@ capped_many ds w f up down cap k size more x units digits is_size sum places beh
       places = lit≤ tt;
     }
 
--- where the exponent moves all digits more than a place behind the last of 24 places, the number is 0 in units of 10^-24
+-- where the exponent moves all digits more than a place after the last of 24 places, the number is 0 in units of 10^-24
 pub capped_none : (ds : List ℕ) (w f up down cap : ℕ) → AreDigits ds → length ds ≡ w + f → w + up + 24 < down → IsCapped (number ds * 10 ^ up) (f + down) cap 0 24
 capped_none ds w f up down cap digits size places = record { m = 0; rounds = units_none ds w f up down 24 digits size places; capped = omega arith; places = lit≤ tt }
 
--- at most 18 digits without an exponent, f of them behind the point: the number is that of all digits over 10^f
+-- at most 18 digits without an exponent, f of them after the point: the number is that of all digits over 10^f
 pub capped_short : (ds : List ℕ) (f up down cap units : ℕ) → AreDigits ds → f ≤ length ds → length ds ≤ 18 → up ≡ 0 → down ≡ 0 → 10 ^ 18 ≤ cap → units ≡ number ds →
     IsCapped (number ds * 10 ^ up) (f + down) cap units f
 capped_short ds f up down cap units digits part few no_up no_down room e =

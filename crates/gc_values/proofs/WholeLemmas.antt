@@ -29,7 +29,7 @@ counted_more text i cap value more c within here e = record {
 }
 
 -- the value is the number that a text of digits writes, or the cap, where the number is above the cap
-pub record Counted (text : List ℕ) (cap value : ℕ) : Type 0 where
+pub record IsCounted (text : List ℕ) (cap value : ℕ) : Type 0 where
   pub names : NamesNumber text (number text)
   pub value_is : value ≡ min cap (number text)
 
@@ -82,7 +82,7 @@ size_from true n below above h = let l = h.0 in omega (arith, ints, l)
 beyond_size : (negative : Bool) (n most below above : ℕ) → most ≡ cond negative below above → most < n → IsBetween below above (signed negative n) → ⊥
 beyond_size negative n most below above e far between = let few = size_from negative n below above between in omega (arith, e, few)
 
--- the fault of the digits behind a sign, as a number of at most what the sign allows, is the fault of the whole number
+-- the fault of the digits after a sign, as a number of at most what the sign allows, is the fault of the whole number
 pub whole_fault : (text rest : List ℕ) (negative : Bool) (most below above : ℕ) (e : ValueFault) → CutsSign text negative rest
     → most ≡ cond negative below above → IsNumberFault most rest e → IsWholeFault below above text e
 whole_fault text rest negative most below above e cut size (inl none) = inl (none.0, λ z w. let r = names_cut text rest negative z cut w in none.1 r.0 r.1)

@@ -11,37 +11,37 @@ use Rattle.gc_values.specs.Decimals.{fraction, units, is_within}
 use Rattle.gc_values.specs.Fraction.{signed, distance, IsWithin}
 use Rattle.gc_values.specs.declared.decimal.Decimal.{Decimal}
 use Rattle.gc_values.proofs.Powers.{ten_pow_pos}
-use Rattle.gc_values.proofs.Rounded.{sign_of, abs_pos_neg, abs_neg_pos}
+use Rattle.gc_values.proofs.Rounded.{has_sign, abs_pos_neg, abs_neg_pos}
 use Rattle.gc_values.proofs.Rounding.{gap, gap-mul}
 use Rattle.gc_values.proofs.Signs.{signed-mul, gap_signed}
 
 -- how far two numbers are apart, each given by its sign, where `true` is a minus, and its magnitude
-abbrev spread : Bool → ℕ → Bool → ℕ → ℕ
-spread false m false n = gap m n
-spread false m true n = m + n
-spread true m false n = m + n
-spread true m true n = gap m n
+abbrev signed_distance : Bool → ℕ → Bool → ℕ → ℕ
+signed_distance false m false n = gap m n
+signed_distance false m true n = m + n
+signed_distance true m false n = m + n
+signed_distance true m true n = gap m n
 
 -- two numbers that are both multiplied by k are k times as far apart
-spread-mul : (b : Bool) (m : ℕ) (c : Bool) (n k : ℕ) → spread b (m * k) c (n * k) ≡ spread b m c n * k
-spread-mul false m false n k = gap-mul m n k
-spread-mul false m true n k = omega arith
-spread-mul true m false n k = omega arith
-spread-mul true m true n k = gap-mul m n k
+signed_distance-mul : (b : Bool) (m : ℕ) (c : Bool) (n k : ℕ) → signed_distance b (m * k) c (n * k) ≡ signed_distance b m c n * k
+signed_distance-mul false m false n k = gap-mul m n k
+signed_distance-mul false m true n k = omega arith
+signed_distance-mul true m false n k = omega arith
+signed_distance-mul true m true n k = gap-mul m n k
 
--- the distance of two numbers with signs is their `spread`
-abs_spread : (b : Bool) (m : ℕ) (c : Bool) (n : ℕ) → unsigned_abs (signed b m -ℤ signed c n) ≡ spread b m c n
+-- the distance of two numbers with signs is their `signed_distance`
+abs_spread : (b : Bool) (m : ℕ) (c : Bool) (n : ℕ) → unsigned_abs (signed b m -ℤ signed c n) ≡ signed_distance b m c n
 abs_spread false m false n = gap_signed false m n
 abs_spread false m true n = abs_pos_neg m n
 abs_spread true m false n = abs_neg_pos m n
 abs_spread true m true n = gap_signed true m n
 
 -- how far z * k and w * l are apart
-abbrev apart : ℤ → ℕ → ℤ → ℕ → ℕ
-apart z k w l = unsigned_abs (z *ℤ pos k -ℤ w *ℤ pos l)
+abbrev scaled_distance : ℤ → ℕ → ℤ → ℕ → ℕ
+scaled_distance z k w l = unsigned_abs (z *ℤ pos k -ℤ w *ℤ pos l)
 
--- multiples of numbers with signs are as far apart as the `spread` of the products
-apart_signed : (b : Bool) (m k : ℕ) (c : Bool) (n l : ℕ) → apart (signed b m) k (signed c n) l ≡ spread b (m * k) c (n * l)
+-- multiples of numbers with signs are as far apart as the `signed_distance` of the products
+apart_signed : (b : Bool) (m k : ℕ) (c : Bool) (n l : ℕ) → scaled_distance (signed b m) k (signed c n) l ≡ signed_distance b (m * k) c (n * l)
 apart_signed b m k c n l =
     ap (λ x. unsigned_abs (x -ℤ signed c n *ℤ pos l)) (signed-mul b m k)
     ∙ ap (λ x. unsigned_abs (signed b (m * k) -ℤ x)) (signed-mul c n l)
@@ -49,27 +49,27 @@ apart_signed b m k c n l =
 
 -- where k and l are both multiplied by p, the two products are p times as far apart; the numbers are given as signs and
 -- magnitudes
-apart-mul_signed : (b : Bool) (m k : ℕ) (c : Bool) (n l p : ℕ) → apart (signed b m) k (signed c n) l * p ≡ apart (signed b m) (k * p) (signed c n) (l * p)
+apart-mul_signed : (b : Bool) (m k : ℕ) (c : Bool) (n l p : ℕ) → scaled_distance (signed b m) k (signed c n) l * p ≡ scaled_distance (signed b m) (k * p) (signed c n) (l * p)
 apart-mul_signed b m k c n l p =
     let left : m * k * p ≡ m * (k * p) = omega arith in
     let right : n * l * p ≡ n * (l * p) = omega arith in
-    ap (λ x. x * p) (apart_signed b m k c n l) ∙ sym (spread-mul b (m * k) c (n * l) p)
-    ∙ ap (λ x. spread b x c (n * l * p)) left ∙ ap (spread b (m * (k * p)) c) right ∙ sym (apart_signed b m (k * p) c n (l * p))
+    ap (λ x. x * p) (apart_signed b m k c n l) ∙ sym (signed_distance-mul b (m * k) c (n * l) p)
+    ∙ ap (λ x. signed_distance b x c (n * l * p)) left ∙ ap (signed_distance b (m * (k * p)) c) right ∙ sym (apart_signed b m (k * p) c n (l * p))
 
 -- where k and l are both multiplied by p, z * k and w * l are p times as far apart
-apart-mul : (z : ℤ) (k : ℕ) (w : ℤ) (l p : ℕ) → apart z k w l * p ≡ apart z (k * p) w (l * p)
+apart-mul : (z : ℤ) (k : ℕ) (w : ℤ) (l p : ℕ) → scaled_distance z k w l * p ≡ scaled_distance z (k * p) w (l * p)
 apart-mul z k w l p =
-    let x = sign_of z in
-    let y = sign_of w in
-    subst (λ z. apart z k w l * p ≡ apart z (k * p) w (l * p)) (sym x.2)
-    (subst (λ w. apart (signed x.0 x.1) k w l * p ≡ apart (signed x.0 x.1) (k * p) w (l * p)) (sym y.2) (apart-mul_signed x.0 x.1 k y.0 y.1 l p))
+    let x = has_sign z in
+    let y = has_sign w in
+    subst (λ z. scaled_distance z k w l * p ≡ scaled_distance z (k * p) w (l * p)) (sym x.2)
+    (subst (λ w. scaled_distance (signed x.0 x.1) k w l * p ≡ scaled_distance (signed x.0 x.1) (k * p) w (l * p)) (sym y.2) (apart-mul_signed x.0 x.1 k y.0 y.1 l p))
 
 -- the distance of z / a and w / b in units of 1 / p, which are z * a' and w * b', is the distance that is multiplied out
-in_units : (z : ℤ) (a a' : ℕ) (w : ℤ) (b b' p : ℕ) → a * a' ≡ p → b * b' ≡ p → apart z a' w b' * (a * b) ≡ apart z b w a * p
+in_units : (z : ℤ) (a a' : ℕ) (w : ℤ) (b b' p : ℕ) → a * a' ≡ p → b * b' ≡ p → scaled_distance z a' w b' * (a * b) ≡ scaled_distance z b w a * p
 in_units z a a' w b b' p e f =
     let left : a' * (a * b) ≡ b * p = omega (arith, ap (λ x. x * b) e) in
     let right : b' * (a * b) ≡ a * p = omega (arith, ap (λ x. x * a) f) in
-    apart-mul z a' w b' (a * b) ∙ ap (λ x. apart z x w (b' * (a * b))) left ∙ ap (λ x. apart z (b * p) w x) right ∙ sym (apart-mul z b w a p)
+    apart-mul z a' w b' (a * b) ∙ ap (λ x. scaled_distance z x w (b' * (a * b))) left ∙ ap (λ x. scaled_distance z (b * p) w x) right ∙ sym (apart-mul z b w a p)
 
 -- where the distance is at most the area, both in units, it is at most the area multiplied out, too
 within_to : (x y ab n c c' p : ℕ) → 0 < p → x * ab ≡ y * p → c * c' ≡ p → x ≤ n * c' → y * c ≤ n * ab
@@ -98,12 +98,12 @@ le_pos : (x y : ℕ) → pos x ≤ℤ pos y → x ≤ y
 le_pos x y h = omega (arith, ints, h)
 
 -- a distance is at most an area in units exactly where it is multiplied out, also for an area below zero
-both : (x y ab : ℕ) (z : ℤ) (c c' p : ℕ) → 0 < p → 0 < c' → 0 < ab * c → 0 < ab → x * ab ≡ y * p → c * c' ≡ p → (pos x ≤ℤ (z *ℤ pos c')) ↔ (pos (y * c) ≤ℤ (z *ℤ pos ab))
-both x y ab (pos n) c c' p p_pos c'_pos abc_pos ab_pos e f = (
+within_scaled : (x y ab : ℕ) (z : ℤ) (c c' p : ℕ) → 0 < p → 0 < c' → 0 < ab * c → 0 < ab → x * ab ≡ y * p → c * c' ≡ p → (pos x ≤ℤ (z *ℤ pos c')) ↔ (pos (y * c) ≤ℤ (z *ℤ pos ab))
+within_scaled x y ab (pos n) c c' p p_pos c'_pos abc_pos ab_pos e f = (
   λ h. subst (λ w. pos (y * c) ≤ℤ w) (sym (pos-*ℤ-pos n ab)) (pos_le (y * c) (n * ab) (within_to x y ab n c c' p p_pos e f (le_pos x (n * c') (subst (λ w. pos x ≤ℤ w) (pos-*ℤ-pos n c') h)))),
   λ h. subst (λ w. pos x ≤ℤ w) (sym (pos-*ℤ-pos n c')) (pos_le x (n * c') (within_from x y ab n c c' p abc_pos e f (le_pos (y * c) (n * ab) (subst (λ w. pos (y * c) ≤ℤ w) (pos-*ℤ-pos n ab) h)))),
 )
-both x y ab (negsuc n) c c' p p_pos c'_pos abc_pos ab_pos e f = (λ h. absurd (below_zero x n c' c'_pos h), λ h. absurd (below_zero (y * c) n ab ab_pos h))
+within_scaled x y ab (negsuc n) c c' p p_pos c'_pos abc_pos ab_pos e f = (λ h. absurd (below_zero x n c' c'_pos h), λ h. absurd (below_zero (y * c) n ab ab_pos h))
 
 -- 10^s times the power of ten that it lacks is 10^24
 pub whole_place : (s : ℕ) → s ≤ 24 → 10 ^ s * 10 ^ (24 - s) ≡ 10 ^ 24
@@ -120,7 +120,7 @@ triple_pos s t u = omega (arith, ap (λ x. x * 10 ^ u) (pow-add 10 s t), pow-add
 -- two values are at most the area apart in units of 10^-24 exactly where their fractions are
 pub within_units : (a b area : Decimal) → (pos (unsigned_abs (units a -ℤ units b)) ≤ℤ units area) ↔ IsWithin (fraction a) (fraction b) (fraction area)
 within_units a b area =
-    both (apart a.digits (10 ^ (24 - a.scale)) b.digits (10 ^ (24 - b.scale))) (distance a.digits a.scale b.digits b.scale)
+    within_scaled (scaled_distance a.digits (10 ^ (24 - a.scale)) b.digits (10 ^ (24 - b.scale))) (distance a.digits a.scale b.digits b.scale)
     (10 ^ a.scale * 10 ^ b.scale) area.digits (10 ^ area.scale) (10 ^ (24 - area.scale)) (10 ^ 24)
     (ten_pow_pos 24) (ten_pow_pos (24 - area.scale)) (triple_pos a.scale b.scale area.scale) (product_pos a.scale b.scale)
     (in_units a.digits (10 ^ a.scale) (10 ^ (24 - a.scale)) b.digits (10 ^ b.scale) (10 ^ (24 - b.scale)) (10 ^ 24) (whole_place a.scale a.has_few_places) (whole_place b.scale b.has_few_places))
@@ -146,8 +146,8 @@ unfolding is_within
 is_within_is a b area = int_le_is (pos (distance a.digits a.scale b.digits b.scale * 10 ^ area.scale)) (area.digits *ℤ pos (10 ^ a.scale * 10 ^ b.scale))
 
 -- the comparison that the code makes holds exactly where the values are at most the area apart
-pub compared : (a b area : Decimal) (x y : ℤ) → x ≡ pos (unsigned_abs (units a -ℤ units b)) → y ≡ units area → IsTrue (int_le x y) ↔ IsWithin (fraction a) (fraction b) (fraction area)
-compared a b area x y e f =
+pub comparison_is_within : (a b area : Decimal) (x y : ℤ) → x ≡ pos (unsigned_abs (units a -ℤ units b)) → y ≡ units area → IsTrue (int_le x y) ↔ IsWithin (fraction a) (fraction b) (fraction area)
+comparison_is_within a b area x y e f =
     let w = within_units a b area in
     let t = int_le_is x y in (
       λ h. w.0 (subst (λ z. z ≤ℤ units area) e (subst (λ z. x ≤ℤ z) f (t.0 h))),
@@ -157,7 +157,7 @@ compared a b area x y e f =
 -- the comparison that the code makes is `is_within`
 pub compared_exact : (a b area : Decimal) (x y : ℤ) → x ≡ pos (unsigned_abs (units a -ℤ units b)) → y ≡ units area → int_le x y ≡ is_within a b area
 compared_exact a b area x y e f =
-    let c = compared a b area x y e f in
+    let c = comparison_is_within a b area x y e f in
     let t = is_within_is a b area in
     both_ways (int_le x y) (is_within a b area) (λ h. t.1 (c.0 h)) (λ h. c.1 (t.0 h))
 

@@ -28,7 +28,7 @@ pub length-last_digits : (k n : ℕ) → length (last_digits k n) ≡ k
 length-last_digits zero n = refl
 length-last_digits (suc k) n = omega (arith, length-append (last_digits k (n / 10)) ((48 + n % 10) ∷ []), length-last_digits k (n / 10))
 
--- A step of writing the number n from its first digit on: where all digits but the last p stand behind `old`, the next one joins
+-- A step of writing the number n from its first digit on: where all digits but the last p follow `old`, the next one joins
 -- them.
 pub digits_more : (old out new : List ℕ) (n p : ℕ) → 0 < p → 0 < n / 10 ^ (p - 1) → out ≡ old ++ digits_text (n / 10 ^ p)
     → new ≡ out ++ (48 + n / 10 ^ (p - 1) % 10) ∷ [] → new ≡ old ++ digits_text (n / 10 ^ (p - 1))
@@ -36,7 +36,7 @@ digits_more old out new n p some rest e f =
     f ∙ ap (λ xs. xs ++ (48 + n / 10 ^ (p - 1) % 10) ∷ []) e ∙ append_assoc old (digits_text (n / 10 ^ p)) ((48 + n / 10 ^ (p - 1) % 10) ∷ []) ∙ ap (λ xs. old ++ xs)
     (ap (λ x. digits_text x ++ (48 + n / 10 ^ (p - 1) % 10) ∷ []) (sym (next_place n p some)) ∙ sym (digits_text_step (n / 10 ^ (p - 1)) rest))
 
--- A step of writing the last k digits of n from the first of them on: where all but the last p stand behind `old`, the next one
+-- A step of writing the last k digits of n from the first of them on: where all but the last p follow `old`, the next one
 -- joins them.
 pub last_more : (old out new : List ℕ) (n k p : ℕ) → 0 < p → p ≤ k → out ≡ old ++ last_digits (k - p) (n / 10 ^ p)
     → new ≡ out ++ (48 + n / 10 ^ (p - 1) % 10) ∷ [] → new ≡ old ++ last_digits (k - (p - 1)) (n / 10 ^ (p - 1))
@@ -45,7 +45,7 @@ last_more old out new n k p some within e f =
     f ∙ ap (λ xs. xs ++ (48 + n / 10 ^ (p - 1) % 10) ∷ []) e ∙ append_assoc old (last_digits (k - p) (n / 10 ^ p)) ((48 + n / 10 ^ (p - 1) % 10) ∷ []) ∙ ap (λ xs. old ++ xs)
     (ap (λ x. last_digits (k - p) x ++ (48 + n / 10 ^ (p - 1) % 10) ∷ []) (sym (next_place n p some)) ∙ ap (λ j. last_digits j (n / 10 ^ (p - 1))) (sym more))
 
--- the last k + 1 digits of a number are its last one, and in front of it the last k of the others
+-- the last k + 1 digits of a number are its last one, and before it the last k of the others
 mod_over : (n k : ℕ) → n % 10 ^ suc k ≡ n / 10 % 10 ^ k * 10 + n % 10
 mod_over n k = ap (λ p. n % p) (pow-suc 10 k) ∙ mod-mul n {m = 10 ^ k} {c = 10} (ten_pow_pos k) (lit< tt)
 
@@ -76,7 +76,7 @@ last_digits-split j (suc k) n =
     ∙ append_assoc (last_digits j (n / 10 ^ suc k)) (last_digits k (n % 10 ^ suc k / 10)) ((48 + n % 10) ∷ [])
     ∙ ap (λ d. last_digits j (n / 10 ^ suc k) ++ (last_digits k (n % 10 ^ suc k / 10) ++ (48 + d) ∷ [])) (sym (last_over n k))
 
--- the last k digits put in front, and then the others in front of them, are the last `count` digits
+-- the last k digits put in front, and then the others before them, are the last `count` digits
 pub two_runs : (old back out : List ℕ) (n count k : ℕ) → k ≤ count → back ≡ last_digits k (n - n / 10 ^ k * 10 ^ k) ++ old
     → out ≡ last_digits (count - k) (n / 10 ^ k) ++ back → out ≡ last_digits count n ++ old
 two_runs old back out n count k within e f =
@@ -103,7 +103,7 @@ div_more n k =
     let power : 10 ^ (k + 1) ≡ 10 ^ k * 10 = ap (λ e. 10 ^ e) (let e : k + 1 ≡ suc k = omega arith in e) ∙ pow-suc 10 k in
     div-div-eq-div-mul n (10 ^ k) 10 ∙ ap (λ x. n / x) (sym power)
 
--- a step of putting the last digits of n in front of `old`: where the last k stand there, the one before them is put in front
+-- a step of putting the last digits of n before `old`: where the last k are there, the one before them is put in front
 pub put_more : (old self new : List ℕ) (n k rest : ℕ) → self ≡ last_digits k n ++ old → rest ≡ n / 10 ^ k → new ≡ (48 + rest % 10) ∷ self → new ≡ last_digits (k + 1) n ++ old
 put_more old self new n k rest e r f =
     f ∙ ap (λ x. (48 + x % 10) ∷ self) r ∙ ap (λ xs. (48 + n / 10 ^ k % 10) ∷ xs) e ∙ ap (λ ds. ds ++ old) (sym (last_digits-front k n))
@@ -127,16 +127,16 @@ whole_room old self n rest e small some room =
       length-append (digits_text (rest / 10)) ((48 + rest % 10) ∷ []),
     )
 
--- for s above 0, the last s digits of m are what is written behind the point for m at s places
+-- for s above 0, the last s digits of m are what is written after the point for m at s places
 pub behind_short : (s m n : ℕ) (xs : List ℕ) → 0 < s → n ≡ m → xs ≡ last_digits s n ++ [] → xs ≡ behind_text s (m % 10 ^ s)
 behind_short s m n xs some e f =
     f ∙ append-nil (last_digits s n) ∙ ap (last_digits s) e ∙ sym (last_digits-below s m)
     ∙ ap (λ b. cond b (48 ∷ []) (last_digits s (m % 10 ^ s))) (sym (ne_eqb s 0 (λ h. omega (arith, h, some))))
 
--- at most 24 digits stand behind the point
+-- at most 24 digits follow the point
 pub length-behind_text : (s n : ℕ) → s ≤ 24 → length (behind_text s n) ≤ 24
 length-behind_text s n few = cond_both (eqb s 0) (48 ∷ []) (last_digits s n) (λ ds. length ds ≤ 24) (λ _. lit≤ tt) (λ _. omega (arith, length-last_digits s n))
 
--- k digits put in front of an empty text make a text of k bytes
+-- k digits put before an empty text make a text of k bytes
 pub length-put : (k n : ℕ) (old new : List ℕ) → new ≡ last_digits k n ++ old → old ≡ [] → length new ≡ k
 length-put k n old new e none = omega (arith, ap length e, length-append (last_digits k n) old, length-last_digits k n, ap length none)

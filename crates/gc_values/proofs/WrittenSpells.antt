@@ -38,7 +38,7 @@ number-last_digits (suc k) n h =
 digits_step : (n d p q v w x : ℕ) → v ≡ (n * 10 + d) * p + w → q ≡ p * 10 → x ≡ p → v ≡ n * q + (d * x + w)
 digits_step n d p q v w x e f g = omega (arith, e, ap (λ y. n * y) f, ap (λ y. d * y) g)
 
--- digits that are read behind a number n give n times ten to the count of the digits, plus the number that the digits write
+-- digits that are read after a number n give n times ten to the count of the digits, plus the number that the digits write
 digits_after : (n : ℕ) (ds : List ℕ) → number_from_digits_after 10 n ds ≡ n * 10 ^ length ds + number (map (λ d. 48 + d) ds)
 digits_after n [] = omega arith
 digits_after n (d ∷ ds) =
@@ -82,19 +82,18 @@ writes_whole n = elim (eqb_tells n 0) [
 writes_behind : (s n : ℕ) → n < 10 ^ s → 0 < s → Writes n (last_digits s n)
 writes_behind s n h some = record { digits = AreDigits-last_digits s n; some = omega (arith, length-last_digits s n); number_is = number-last_digits s n h }
 
--- the text is digits that may stand behind the point of a / 10^s: with the whole number in front of the point they write its
--- value
-pub record Behind (a s : ℕ) (text : List ℕ) : Type 0 where
+-- the text is digits that may follow the point of a / 10^s: with the whole number before the point they write its value
+pub record IsFractionText (a s : ℕ) (text : List ℕ) : Type 0 where
   pub digits : AreDigits text
   pub same : a * 10 ^ length text ≡ (a / 10 ^ s * 10 ^ length text + number text) * 10 ^ s
 
--- without places, a lone 0 stands behind the point
-behind_none : (a : ℕ) → Behind a 0 (48 ∷ [])
-behind_none a = record { digits = (a_digit 0 (lit< tt), tt); same = let e : a / 10 ^ 0 ≡ a = div-one a in let f : (a / 10 ^ 0 * 10 + 0) * 1 ≡ a * 10 = omega (arith, e) in sym f }
+-- without places, a lone 0 follows the point
+fraction_text_none : (a : ℕ) → IsFractionText a 0 (48 ∷ [])
+fraction_text_none a = record { digits = (a_digit 0 (lit< tt), tt); same = let e : a / 10 ^ 0 ≡ a = div-one a in let f : (a / 10 ^ 0 * 10 + 0) * 1 ≡ a * 10 = omega (arith, e) in sym f }
 
--- with places, the last s digits stand behind the point
-behind_some : (a s : ℕ) → 0 < s → Behind a s (last_digits s (a % 10 ^ s))
-behind_some a s some =
+-- with places, the last s digits follow the point
+fraction_text_some : (a s : ℕ) → 0 < s → IsFractionText a s (last_digits s (a % 10 ^ s))
+fraction_text_some a s some =
     let w = writes_behind s (a % 10 ^ s) (mod-lt a (ten_pow_pos s)) some in
     let size = length-last_digits s (a % 10 ^ s) in
     let whole : a / 10 ^ s * 10 ^ s + a % 10 ^ s ≡ a = div-add-mod' a (10 ^ s) in
@@ -104,14 +103,15 @@ behind_some a s some =
           ∙ ap (λ k. (a / 10 ^ s * 10 ^ k + number (last_digits s (a % 10 ^ s))) * 10 ^ s) (sym size);
     }
 
--- what is written behind the point of a / 10^s may stand there, as `Behind` has it
-pub behind : (a s : ℕ) → Behind a s (behind_text s (a % 10 ^ s))
+-- what is written after the point of a / 10^s is allowed there, as `IsFractionText` has it
+pub behind : (a s : ℕ) → IsFractionText a s (behind_text s (a % 10 ^ s))
 behind a s = elim (eqb_tells s 0) [
-  | inl none ↦ subst (λ xs. Behind a s xs) (ap (λ b. cond b (48 ∷ []) (last_digits s (a % 10 ^ s))) (sym none.0)) (subst (λ t. Behind a t (48 ∷ [])) (sym none.1) (behind_none a))
-  | inr some ↦ subst (λ xs. Behind a s xs) (ap (λ b. cond b (48 ∷ []) (last_digits s (a % 10 ^ s))) (sym some.0)) (behind_some a s (pos_of_ne-zero some.1))
+  | inl none ↦ subst (λ xs. IsFractionText a s xs) (ap (λ b. cond b (48 ∷ []) (last_digits s (a % 10 ^ s))) (sym none.0))
+      (subst (λ t. IsFractionText a t (48 ∷ [])) (sym none.1) (fraction_text_none a))
+  | inr some ↦ subst (λ xs. IsFractionText a s xs) (ap (λ b. cond b (48 ∷ []) (last_digits s (a % 10 ^ s))) (sym some.0)) (fraction_text_some a s (pos_of_ne-zero some.1))
 ]
 
--- a sign, the digits in front of the point, and those behind it spell the decimal
+-- a sign, the digits before the point, and those after it spell the decimal
 with_sign : (sign : Sign) (m : ℤ) (s : ℕ) (a : ℕ) → m ≡ signed (is_minus sign) a → IsCanonical m s → s ≤ 24 →
     Spells (sign_text sign ++ (whole_text (a / 10 ^ s) ++ (46 ∷ behind_text s (a % 10 ^ s)))) m s
 with_sign sign m s a m_is canonical places =

@@ -1,4 +1,4 @@
--- No part of a promise: where the slow reader of parameters stands while it is asked for them one by one.
+-- No part of a promise: how far the slow reader of parameters is while it is asked for them one by one.
 use Rattle.std.specs.Prelude.{◌≡◌, ◌≢◌, ◌+◌, ◌≤◌, ℕ, List, length, drop, Option, Some, None, Result, Ok, Err}
 use Rattle.gc_values.specs.Lists.{AreItems, FirstFault}
 use Rattle.gc_values.specs.declared.fault.ValueFault.{ValueFault}

@@ -1,4 +1,4 @@
--- No part of a promise: two decimals of one value are one decimal, which the comparison of decimals stands on.
+-- No part of a promise: two decimals of one value are one decimal, which the comparison of decimals rests on.
 use Rattle.std.proofs.Common.{◌≡◌, ℕ, suc, ◌+◌, ◌-◌, ◌*◌, ◌%◌, ◌^◌, ◌<◌, ◌≤◌, ◌==◌, ◌&&◌, Bool, ℤ, pos, negsuc, neg_ℤ, ◌*ℤ◌, unsigned_abs, refl, sym, ap, ◌∙◌, subst, inl, inr, arith}
 use Rattle.std.proofs.Math.IntN.{pos-*ℤ-pos, negsuc-*ℤ-pos}
 use Rattle.std.proofs.Math.Nat.{eq_of_mul-eq-mul_left, mul-mod_left, pow-suc}

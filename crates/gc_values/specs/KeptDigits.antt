@@ -1,8 +1,8 @@
--- No part of a promise: the digits that reading keeps, and how the one behind them is rounded in.
+-- No part of a promise: the digits that reading keeps, and how the one after them is rounded in.
 use Rattle.std.specs.Prelude.{ℕ, ◌+◌, ◌-◌, ◌*◌, ◌^◌, List, length, take, nat_le, slice_index_or, if◌then◌else◌}
 use Rattle.gc_values.specs.Digits.{number}
 
--- the digit at place i, and 0 behind the last one
+-- the digit at place i, and 0 after the last one
 abbrev pub digit_or_zero : List ℕ → ℕ → ℕ
 digit_or_zero ds i = slice_index_or ds i 48 - 48
 
@@ -10,10 +10,10 @@ digit_or_zero ds i = slice_index_or ds i 48 - 48
 unfoldable pub kept : List ℕ → ℕ → ℕ
 kept ds i = number (take i ds) * 10 ^ (i - length ds)
 
--- what a digit adds to the place in front of it by rounding: 1 from 5 on, else 0
+-- what a digit adds to the place before it by rounding: 1 from 5 on, else 0
 abbrev pub carry : ℕ → ℕ
 carry d = if nat_le 5 d then 1 else 0
 
--- the first i digits, with the one behind them rounded in
+-- the first i digits, with the one after them rounded in
 abbrev pub kept_and_rounded : List ℕ → ℕ → ℕ
 kept_and_rounded ds i = kept ds i + carry (digit_or_zero ds i)

@@ -3,7 +3,7 @@
 use Rattle.std.specs.Prelude.{◌≡◌, ℕ, ◌%◌, ◌==◌, List, [], ◌∷◌, ◌++◌, replicate, count_by}
 use Rattle.std.specs.List.{flat_map}
 
--- how many double quotes stand in the bytes
+-- how many double quotes are in the bytes
 abbrev pub quotes : List ℕ → ℕ
 quotes bytes = count_by (λ b. b == 34) bytes
 

@@ -11,11 +11,11 @@ abbrev pub CutsPiece : List ℕ → List ℕ → Option (List ℕ) → Type 0
 CutsPiece text piece None = (text ≡ piece) × KeepsCommas piece
 CutsPiece text piece (Some rest) = (text ≡ piece ++ 44 ∷ rest) × KeepsCommas piece × (quotes piece % 2 ≡ 0)
 
--- no space stands first
+-- no space comes first
 abbrev pub StartsNoSpace : List ℕ → Type 0
 StartsNoSpace item = (rest : List ℕ) → item ≡ 32 ∷ rest → ⊥
 
--- no space stands last
+-- no space comes last
 abbrev pub EndsNoSpace : List ℕ → Type 0
 EndsNoSpace item = (front : List ℕ) → item ≡ front ++ 32 ∷ [] → ⊥
 

@@ -50,7 +50,7 @@ pub record ArePlain (text : List ℕ) (vs : List Value) : Type 0 where
   pub some : AllByRecursion (λ item. 0 < length item) (first ∷ more)
   pub read : AreItems (first ∷ more) vs
 
--- the text that is left is read as the values; behind the end there are none
+-- the text that is left is read as the values; after the end there are none
 abbrev pub LeftPlain : Option (List ℕ) → List Value → Type 0
 LeftPlain None vs = vs ≡ []
 LeftPlain (Some text) vs = ArePlain text vs

@@ -1,4 +1,4 @@
--- No part of a promise: the facts that a rounded decimal keeps, which stand in the decimal itself.
+-- No part of a promise: the facts that a rounded decimal keeps, which are in the decimal itself.
 use Rattle.std.proofs.Common.{◌≡◌, ℕ, zero, suc, ◌+◌, ◌-◌, ◌*◌, ◌/◌, ◌%◌, ◌^◌, ◌<◌, ◌≤◌, Bool, true, false, cond, not, ◌&&◌, ◌||◌, ◌==◌, nat_le, min, ℤ, pos, unsigned_abs, refl, sym, ap, ◌∙◌, subst, inl, inr, arith, lit<, lit≤}
 use Rattle.std.proofs.Math.Nat.{pow-suc, one-le-pow, div-add-mod', mod-lt, mul-le-mul_right, le_of_mul-le-mul_right}
 use Rattle.std.proofs.lemmas.Nat.{pow-add}
@@ -132,7 +132,7 @@ second_holds false t h = absurd (cc)
 pub decimal_few : (m : ℤ) (s : ℕ) → is_decimal m s ≡ true → s ≤ 24
 decimal_few m s h = leb-true s 24 (first_holds (nat_le s 24) (nat_le (unsigned_abs m) (10 ^ 13 * 10 ^ s) && (s == 0 || not (unsigned_abs m % 10 == 0))) h)
 
--- where the test `is_decimal` holds, what it tests behind the number of places holds
+-- where the test `is_decimal` holds, what it tests after the number of places holds
 rest : (m : ℤ) (s : ℕ) → is_decimal m s ≡ true → (nat_le (unsigned_abs m) (10 ^ 13 * 10 ^ s) && (s == 0 || not (unsigned_abs m % 10 == 0))) ≡ true
 rest m s h = second_holds (nat_le s 24) (nat_le (unsigned_abs m) (10 ^ 13 * 10 ^ s) && (s == 0 || not (unsigned_abs m % 10 == 0))) h
 

@@ -5,7 +5,7 @@ use Rattle.std.specs.Prelude.{◌≡◌, ℕ, ◌+◌, ◌*◌, ◌^◌, ◌<◌
 use Rattle.gc_values.specs.Digits.{AreDigits, number}
 use Rattle.gc_values.specs.Fraction.{Fraction, signed, IsRounded}
 
--- a sign that may stand before digits
+-- a sign that is allowed before digits
 pub data Sign : Type 0 where
   Absent : Sign
   Plus : Sign
@@ -36,12 +36,12 @@ pub record Parts : Type 0 where
   pub fraction : Option (List ℕ)
   pub exponent : Option Exponent
 
--- a point and the digits behind it, where there is a fraction
+-- a point and the digits after it, where there is a fraction
 abbrev pub fraction_text : Option (List ℕ) → List ℕ
 fraction_text None = []
 fraction_text (Some ds) = 46 ∷ ds
 
--- the digits behind the point, none without a point
+-- the digits after the point, none without a point
 abbrev pub fraction_digits : Option (List ℕ) → List ℕ
 fraction_digits None = []
 fraction_digits (Some ds) = ds
@@ -76,7 +76,8 @@ abbrev pub IsExponent : Option Exponent → Type 0
 IsExponent None = Unit {0}
 IsExponent (Some e) = IsShort e.digits
 
--- the parts are those of a number's text: digits, at least one of them before or behind the point, and a short exponent, if any
+-- the parts are those of a number's text: digits, at least one of them before or after the point, and a short exponent, if
+-- any
 pub record IsNumeral (p : Parts) : Type 0 where
   pub whole : AreDigits p.whole
   pub fraction : AreDigits (fraction_digits p.fraction)
@@ -87,7 +88,7 @@ pub record IsNumeral (p : Parts) : Type 0 where
 abbrev pub spelling : Parts → List ℕ
 spelling p = sign_text p.sign ++ (p.whole ++ (fraction_text p.fraction ++ exponent_text p.exponent))
 
--- the value of the parts: all the digits as a whole number with the sign, divided by ten for each digit behind the point, and
+-- the value of the parts: all the digits as a whole number with the sign, divided by ten for each digit after the point, and
 -- multiplied or divided as the exponent says
 abbrev pub value : Parts → Fraction
 value p = record {

@@ -7,11 +7,11 @@ use Rattle.std.specs.List.{AllByRecursion}
 abbrev pub IsStringByte : ℕ → Type 0
 IsStringByte b = (b ≢ 34) × (b ≢ 13) × (b ≢ 10)
 
--- bytes that may all stand in a string
+-- bytes that are all allowed in a string
 abbrev pub AreStringBytes : List ℕ → Type 0
 AreStringBytes bytes = AllByRecursion IsStringByte bytes
 
--- the bytes may be those of a string parameter: at most 64, each of which may stand in a string
+-- the bytes may be those of a string parameter: at most 64, each of which is allowed in a string
 pub record IsText (bytes : List ℕ) : Type 0 where
   pub few : length bytes ≤ 64
   pub plain : AreStringBytes bytes

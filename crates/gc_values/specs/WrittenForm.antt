@@ -3,13 +3,13 @@
 use Rattle.std.specs.Prelude.{◌≡◌, ℕ, ◌<◌, ◌≤◌, Bool, true, List, [], ◌∷◌, ◌++◌, length, if◌then◌else◌}
 use Rattle.gc_values.specs.Digits.{AreDigits, number}
 
--- these are one or more digits, and no 0 stands in front of others
+-- these are one or more digits, and no 0 comes before others
 pub record IsWholePart (digits : List ℕ) : Type 0 where
   pub are_digits : AreDigits digits
   pub some : 0 < length digits
   pub no_zero_in_front : (rest : List ℕ) → digits ≡ 48 ∷ rest → rest ≡ []
 
--- these are 1 to 24 digits, and no 0 stands behind others
+-- these are 1 to 24 digits, and no 0 follows others
 pub record IsFractionPart (digits : List ℕ) : Type 0 where
   pub are_digits : AreDigits digits
   pub some : 0 < length digits
@@ -20,7 +20,7 @@ pub record IsFractionPart (digits : List ℕ) : Type 0 where
 abbrev pub minus_where : Bool → List ℕ
 minus_where negative = if negative then 45 ∷ [] else []
 
--- the text has a whole number's form: a minus or nothing, and digits; no minus stands before zero
+-- the text has a whole number's form: a minus or nothing, and digits; no minus is before zero
 pub record HasWholeForm (text : List ℕ) : Type 0 where
   pub negative : Bool
   pub digits : List ℕ
@@ -28,7 +28,7 @@ pub record HasWholeForm (text : List ℕ) : Type 0 where
   pub digits_are : IsWholePart digits
   pub no_minus_on_zero : negative ≡ true → 0 < number digits
 
--- the text has a decimal's form: a minus or nothing, digits, a point and digits, and no exponent; no minus stands before zero
+-- the text has a decimal's form: a minus or nothing, digits, a point and digits, and no exponent; no minus is before zero
 pub record HasDecimalForm (text : List ℕ) : Type 0 where
   pub negative : Bool
   pub whole : List ℕ

@@ -7,7 +7,7 @@ pub record WithoutZeros (m s n t : ℕ) : Type 0 where
   pub fewer : t ≤ s
   pub canonical : 0 < t → n % 10 ≢ 0
 
--- digits, and how many of them stand behind the point
+-- digits, and how many of them follow the point
 pub record Placed : Type 0 where
   pub digits : ℕ
   pub places : ℕ

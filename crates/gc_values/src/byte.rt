@@ -23,7 +23,7 @@ fn hex_byte(digits: &[u8]) -> Option<u8>
     }
 }
 
-/// The two bytes that stand between single quotes. `None`: the item isn't two bytes between two single quotes.
+/// The two bytes that are between single quotes. `None`: the item isn't two bytes between two single quotes.
 fn between_quotes(item: &[u8]) -> Option<(u8, u8)>
     ensures found { IfSome result (λ d. item.now ≡ 39 ∷ d.0 ∷ d.1 ∷ 39 ∷ []) }
     ensures none { IfNone result ((a b : ℕ) → item.now ≡ 39 ∷ a ∷ b ∷ 39 ∷ [] → ⊥) }

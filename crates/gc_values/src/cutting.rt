@@ -1,4 +1,4 @@
-//! What is cut off the front of a number's text: a sign, the longest run of digits, a point with digits behind it.
+//! What is cut off the front of a number's text: a sign, the longest run of digits, a point with digits after it.
 
 ghost use Rattle.std.specs.Prelude.{◌≡◌, ℕ, ◌+◌, ◌<◌, ◌≤◌, ◌++◌, ◌∷◌, Bool, List, length, Option, IfSome, IfNone};
 ghost use Rattle.gc_values.specs.Cut.{CutsDigits, CutsSign, StartsNoDigit, StartsNoPoint, ReadsExponent, StartsNoMark, CutsFraction};
@@ -17,7 +17,7 @@ pub fn cut_digits(text: &[u8]) -> (&[u8], &[u8])
     (text, &[])
 }
 
-/// Cuts off a sign, if one stands first. It returns whether that is a minus, and the rest.
+/// Cuts off a sign, if one comes first. It returns whether that is a minus, and the rest.
 pub fn cut_sign(text: &[u8]) -> (bool, &[u8])
     ensures { CutsSign text.now result.0 result.1.now }
 {
@@ -28,7 +28,7 @@ pub fn cut_sign(text: &[u8]) -> (bool, &[u8])
     }
 }
 
-/// Cuts off `E` or `e`, and returns the rest. `None`: neither stands first.
+/// Cuts off `E` or `e`, and returns the rest. `None`: neither comes first.
 fn cut_mark(text: &[u8]) -> Option<&[u8]>
     ensures found { IfSome result (λ rest. (capital : Bool) × (text.now ≡ mark capital ∷ rest.now)) }
     ensures none { IfNone result (StartsNoMark text.now) }
@@ -75,7 +75,7 @@ pub fn exponent(text: &[u8]) -> Option<(u16, u16)>
     Some(if negative { (0, value) } else { (value, 0) })
 }
 
-/// Cuts off a point, and returns the rest. `None`: no point stands first.
+/// Cuts off a point, and returns the rest. `None`: no point comes first.
 fn cut_point(text: &[u8]) -> Option<&[u8]>
     ensures found { IfSome result (λ rest. text.now ≡ 46 ∷ rest.now) }
     ensures none { IfNone result (StartsNoPoint text.now) }
@@ -86,7 +86,7 @@ fn cut_point(text: &[u8]) -> Option<&[u8]>
     }
 }
 
-/// Cuts off a point and the digits behind it, and returns these digits and the rest. Without a point no digit is cut off.
+/// Cuts off a point and the digits after it, and returns these digits and the rest. Without a point no digit is cut off.
 pub fn cut_fraction(text: &[u8]) -> (&[u8], &[u8])
     requires { StartsNoDigit text.now }
     ensures { CutsFraction text.now result.0.now result.1.now }

@@ -85,7 +85,7 @@ fn nearest(a: u128, b: u128) -> u128
     if rest >= b - rest { below + 1 } else { below }
 }
 
-/// Writes the digits behind the point of `magnitude / 10^scale` into `tail`, and returns the integer part.
+/// Writes the digits after the point of `magnitude / 10^scale` into `tail`, and returns the integer part.
 fn put_places(tail: &mut Tail, magnitude: u128, scale: u8) -> u64
     requires empty { tail.old ≡ [] }
     requires places { scale ≤ 24 }
@@ -193,9 +193,9 @@ impl Decimal {
 
     /// Reads a number's text, and rounds it to 24 places, half away from zero.
     ///
-    /// The text is an optional sign, digits with an optional point among, before or behind them, and
-    /// optionally `e` or `E` with an optional sign and one to three digits. Another text is refused as
-    /// `Spelling`, and a rounded value past the bound as `Range`.
+    /// The text is an optional sign, digits with an optional point among, before or after them, and optionally `e` or `E`
+    /// with an optional sign and one to three digits. Another text is refused as `Spelling`, and a rounded value past the
+    /// bound as `Range`.
     pub fn read(text: &[u8]) -> Result<Decimal, ValueFault>
         ensures value { IfOk result (λ d. Spells text.now d.digits d.scale) }
         ensures only { (d : Decimal) → Spells text.now d.digits d.scale → result ≡ Ok d }

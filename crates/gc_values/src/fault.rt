@@ -8,7 +8,7 @@ use std::fmt;
 
 /// Why a value or a list of parameters is refused. The kinds and their numbers are this project's own.
 ///
-/// A refusal changes nothing: the bytes that were read stand as they did.
+/// A refusal changes nothing: the bytes that were read are unchanged.
 #[derive(Clone, Copy, Debug, PartialEq, Eq)]
 pub enum ValueFault {
     /// The bytes haven't the form of their kind.

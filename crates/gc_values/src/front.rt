@@ -30,8 +30,8 @@ fn counted(front: u64, text: &[u8], most: usize) -> (u64, usize)
     (value, text.len())
 }
 
-/// What follows an item, where `text` is all of the list behind that item: `Some(None)` at the end of the list, and else the
-/// bytes behind a comma. `None`: neither the end nor a comma follows the item.
+/// What follows an item, where `text` is all of the list after that item: `Some(None)` at the end of the list, and else the
+/// bytes after a comma. `None`: neither the end nor a comma follows the item.
 #[inline]
 fn behind_item(text: &[u8]) -> Option<Option<&[u8]>>
     ensures { IfSome result (λ rest. Stands text.now [] (option_copied rest)) }
@@ -43,7 +43,8 @@ fn behind_item(text: &[u8]) -> Option<Option<&[u8]>>
     }
 }
 
-/// The decimal at the front, and what follows its comma, if there is one. `None`: no decimal in the common spelling stands there.
+/// The decimal at the front, and what follows its comma, if there is one. `None`: no decimal in the common spelling is
+/// there.
 pub fn front_decimal(text: &[u8]) -> Option<(Decimal, Option<&[u8]>)>
     ensures { IfSome result (λ r. CutsDecimal text.now r.0 (option_copied r.1)) }
 {
@@ -58,7 +59,7 @@ pub fn front_decimal(text: &[u8]) -> Option<(Decimal, Option<&[u8]>)>
     Some((decimal, rest))
 }
 
-/// The whole number at the front, and what follows its comma, if there is one. `None`: no number of 1 to 18 digits stands there.
+/// The whole number at the front, and what follows its comma, if there is one. `None`: no number of 1 to 18 digits is there.
 #[inline]
 pub fn front_number(text: &[u8]) -> Option<(u64, Option<&[u8]>)>
     ensures { IfSome result (λ r. CutsNumber text.now r.0 (option_copied r.1)) }

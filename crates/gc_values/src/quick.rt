@@ -22,7 +22,7 @@ use crate::whole::{read_bool, read_long, read_short};
 /// [`Listed`](crate::Listed) reads it again.
 #[derive(Drop)]
 pub struct Quick<'a> {
-    // The text that is left to read, behind a comma. `None`: the end of the list was reached.
+    // The text that is left to read, after a comma. `None`: the end of the list was reached.
     rest: Option<&'a [u8]>,
     // Whether all that was asked for so far was there and was read.
     good: bool,
@@ -227,7 +227,7 @@ impl<'a> Parameters for Quick<'a> {
     }
 }
 
-// The item at the front in the common spelling, and what follows its comma, if there is one. `None`: none stands there.
+// The item at the front in the common spelling, and what follows its comma, if there is one. `None`: none is there.
 #[inline]
 fn cut_plain(text: &[u8]) -> Option<(&[u8], Option<&[u8]>)>
     ensures { IfSome result (λ cut. CutsPlain text.now cut.0.now (option_copied cut.1)) }
@@ -240,7 +240,8 @@ fn cut_plain(text: &[u8]) -> Option<(&[u8], Option<&[u8]>)>
             let (item, rest) = text.split_at(i);
             return Some((item, Some(&rest[1..])));
         }
-        // Spaces, double quotes and pluses are below `-`. So are the single quotes of a byte parameter, which may stand here.
+        // Spaces, double quotes and pluses are below `-`. So are the single quotes of a byte parameter, which is allowed
+        // here.
         if *byte < b'-' && *byte != b'\'' {
             return None;
         }

@@ -9,7 +9,7 @@ use std::marker::Model;
 /// The most bytes that a written number has: a minus, 14 digits, a point and 24 digits.
 const ROOM: usize = 40;
 
-/// The end of a text of at most 40 bytes: it stands at the end of `bytes`, from `start` on.
+/// The end of a text of at most 40 bytes: it is at the end of `bytes`, from `start` on.
 #[derive(Drop)]
 pub struct Tail {
     bytes: [u8; ROOM],

@@ -1,6 +1,5 @@
-//! Strings of at most 64 bytes: what may stand between the double quotes, and how an item is read
-//! as one. The form is the GeoCOM manual's; the limit, and that a backslash is a plain byte, are
-//! this project's own.
+//! Strings of at most 64 bytes: what may come between the double quotes, and how an item is read as one. The form is the
+//! GeoCOM manual's; the limit, and that a backslash is a plain byte, are this project's own.
 
 ghost use Rattle.std.specs.Prelude.{◌≡◌, ◌↔◌, ◌⊎◌, ◌+◌, ◌<◌, ◌≤◌, ◌-◌, ◌++◌, ◌∷◌, length, take, replicate, List, [], ℕ, IsOk, IfOk, IfErr, IfSome, IfNone, IsTrue};
 ghost use Rattle.arrayvec.specs.ArrayVec.{array_vec_len};
@@ -37,14 +36,14 @@ impl Model for Text {
     ghost inverse_ok = { padded_back };
 }
 
-/// Whether a byte may stand in a string.
+/// Whether a byte is allowed in a string.
 fn is_string_byte(byte: u8) -> bool
     ensures { IsTrue result ↔ IsStringByte byte }
 {
     byte != b'"' && byte != b'\r' && byte != b'\n'
 }
 
-/// Whether all the bytes may stand in a string.
+/// Whether all the bytes are allowed in a string.
 fn are_string_bytes(bytes: &[u8]) -> bool
     ensures { IsTrue result ↔ AreStringBytes bytes.now }
 {
@@ -56,7 +55,7 @@ fn are_string_bytes(bytes: &[u8]) -> bool
     true
 }
 
-/// The bytes, and zeros behind them up to 64.
+/// The bytes, and zeros after them up to 64.
 fn filled_up(bytes: &[u8]) -> [u8; TEXT_BYTES]
     requires { length bytes.now ≤ 64 }
     ensures { result ≡ bytes.now ++ replicate (64 - length bytes.now) 0 }

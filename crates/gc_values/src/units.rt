@@ -1,5 +1,6 @@
-//! The digits of a number's text as a whole number of units of the last place: rounded there, and capped where no decimal is as
-//! large. `whole` and `fraction` are the two runs of digits, before and behind the point; "in a row" they are read as one run.
+//! The digits of a number's text as a whole number of units of the last place: rounded there, and capped where no decimal is
+//! as large. `whole` and `fraction` are the two runs of digits, before and after the point; "in a row" they are read as one
+//! run.
 
 ghost use Rattle.std.specs.Prelude.{◌≡◌, ℕ, ◌+◌, ◌*◌, ◌^◌, ◌<◌, ◌≤◌, ◌++◌, length, min};
 ghost use Rattle.gc_values.specs.Digits.{AreDigits, number};
@@ -14,7 +15,7 @@ const CAP: u128 = 10_000_000_000_000_000_000_000_000_000_000_000_001;
 /// Any number of this many digits fits in 64 bits.
 const SHORT: usize = 18;
 
-/// The digit at a place of both runs of digits in a row, and 0 behind the last one.
+/// The digit at a place of both runs of digits in a row, and 0 after the last one.
 #[tactic(auto, using(crate::proofs::Kept::at_first, crate::proofs::Kept::at_second, crate::proofs::Kept::at_neither, crate::proofs::Kept::is_digit))]
 fn digit_at(whole: &[u8], fraction: &[u8], place: usize) -> u8
     requires whole { AreDigits whole.now }
@@ -46,8 +47,8 @@ fn kept_digits(whole: &[u8], fraction: &[u8], count: usize) -> u128
     kept
 }
 
-/// The number of the first `count` digits, as `kept_digits` gives it, rounded by the digit behind them: 1 more where that is 5 or
-/// above. At most the cap.
+/// The number of the first `count` digits, as `kept_digits` gives it, rounded by the digit after them: 1 more where that is
+/// 5 or above. At most the cap.
 fn rounded(whole: &[u8], fraction: &[u8], count: usize) -> u128
     requires whole { AreDigits whole.now }
     requires fraction { AreDigits fraction.now }
@@ -61,7 +62,7 @@ fn rounded(whole: &[u8], fraction: &[u8], count: usize) -> u128
     }
 }
 
-/// The number `kept` with `zeros` zeros behind it, at most the cap.
+/// The number `kept` with `zeros` zeros after it, at most the cap.
 fn with_zeros(kept: u128, zeros: usize) -> u128
     ensures { result ≡ min CAP (kept * 10 ^ zeros) }
 {
@@ -112,7 +113,7 @@ pub fn units(whole: &[u8], fraction: &[u8], up: u16, down: u16) -> (u128, u8)
     }
     // How many digits there are up to the last of 24 places, with zeros for those that are missing.
     let last = whole.len() + usize::from(up) + usize::from(PLACES);
-    // The exponent moves every digit behind these places.
+    // The exponent moves every digit after these places.
     let Some(count) = last.checked_sub(usize::from(down)) else {
         return (0, PLACES);
     };
@@ -120,7 +121,7 @@ pub fn units(whole: &[u8], fraction: &[u8], up: u16, down: u16) -> (u128, u8)
     if count < length {
         return (rounded(whole, fraction, count), PLACES);
     }
-    // All digits count. Only zeros that stand before the point are appended.
+    // All digits count. Only zeros that are before the point are appended.
     let kept = kept_digits(whole, fraction, length);
     let zeros = count - length;
     if zeros <= usize::from(PLACES) {

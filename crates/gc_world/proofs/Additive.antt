@@ -13,36 +13,36 @@ use Rattle.gc_world.proofs.Directions.{gone_reached, reaches_again, passing, byt
 use Rattle.gc_world.proofs.Flow.{run_append}
 use Rattle.gc_world.proofs.Handed.{cut_long}
 
--- the cut c, with k more completed lines in front of it
-abbrev behind : ℕ → Cut → Cut
-behind k c = record { lines = k + c.lines; gone = c.gone }
+-- the cut c, with k more completed lines before it
+abbrev with_more_lines : ℕ → Cut → Cut
+with_more_lines k c = record { lines = k + c.lines; gone = c.gone }
 
--- a cut with no more lines in front of it is the same cut
-behind_none : (c : Cut) → behind 0 c ≡ c
-behind_none c = let e : 0 + c.lines ≡ c.lines = omega arith in ap (λ k. record { lines = k; gone = c.gone }) e
+-- a cut with no more lines before it is the same cut
+with_no_more_lines : (c : Cut) → with_more_lines 0 c ≡ c
+with_no_more_lines c = let e : 0 + c.lines ≡ c.lines = omega arith in ap (λ k. record { lines = k; gone = c.gone }) e
 
 -- a cut with k more lines in front, and then one more, is the cut with k + 1 more
-behind_one : (k : ℕ) (c : Cut) → one_more (behind k c) ≡ behind (suc k) c
-behind_one k c = let e : suc (k + c.lines) ≡ suc k + c.lines = omega arith in ap (λ n. record { lines = n; gone = c.gone }) e
+with_one_more_line : (k : ℕ) (c : Cut) → one_more (with_more_lines k c) ≡ with_more_lines (suc k) c
+with_one_more_line k c = let e : suc (k + c.lines) ≡ suc k + c.lines = omega arith in ap (λ n. record { lines = n; gone = c.gone }) e
 
 -- the cut c of these lines, continued by n further bytes
-abbrev again : List (List ℕ) → ℕ → Cut → Cut
-again lines n c = behind c.lines (cut (drop c.lines lines) (c.gone + n))
+abbrev continued_by : List (List ℕ) → ℕ → Cut → Cut
+continued_by lines n c = with_more_lines c.lines (cut (drop c.lines lines) (c.gone + n))
 
 -- the cut at m + n bytes is the cut at m bytes, continued by n further ones
-cut_add : (lines : List (List ℕ)) (m n : ℕ) → cut lines (m + n) ≡ again lines n (cut lines m)
-cut_add [] m n = sym (behind_none (record { lines = 0; gone = 0 }))
+cut_add : (lines : List (List ℕ)) (m n : ℕ) → cut lines (m + n) ≡ continued_by lines n (cut lines m)
+cut_add [] m n = sym (with_no_more_lines (record { lines = 0; gone = 0 }))
 cut_add (line ∷ lines) m n = by_size (ltb m (length line)) refl (cut_add lines (m - length line) n)
   where
-    by_size : (b : Bool) → ltb m (length line) ≡ b → cut lines (m - length line + n) ≡ again lines n (cut lines (m - length line))
-        → cut (line ∷ lines) (m + n) ≡ again (line ∷ lines) n (cond {A = Cut} b (record { lines = 0; gone = m }) (one_more (cut lines (m - length line))))
-    by_size true e more = sym (behind_none (cut (line ∷ lines) (m + n)))
+    by_size : (b : Bool) → ltb m (length line) ≡ b → cut lines (m - length line + n) ≡ continued_by lines n (cut lines (m - length line))
+        → cut (line ∷ lines) (m + n) ≡ continued_by (line ∷ lines) n (cond {A = Cut} b (record { lines = 0; gone = m }) (one_more (cut lines (m - length line))))
+    by_size true e more = sym (with_no_more_lines (cut (line ∷ lines) (m + n)))
     by_size false e more =
         let le : length line ≤ m = ltb-false m (length line) e in
         let rest : m + n - length line ≡ m - length line + n = omega (arith, le) in
         let c = cut lines (m - length line) in
         cut_long line lines (m + n) (omega (arith, le)) ∙ ap (λ k. one_more (cut lines k)) rest ∙ ap one_more more
-        ∙ behind_one c.lines (cut (drop c.lines lines) (c.gone + n))
+        ∙ with_one_more_line c.lines (cut (drop c.lines lines) (c.gone + n))
 
 -- where all lines are completed, nothing of a next one has gone
 cut_all : (lines : List (List ℕ)) (n : ℕ) → drop (cut lines n).lines lines ≡ [] → (cut lines n).gone ≡ 0
@@ -60,7 +60,7 @@ cut_end : (lines : List (List ℕ)) (m n : ℕ) → drop (cut lines m).lines lin
 cut_end lines m n e =
     let c = cut lines m in
     let same : c.lines + 0 ≡ c.lines = omega arith in
-    cut_add lines m n ∙ ap (λ q. behind c.lines (cut q (c.gone + n))) e ∙ ap₂ (λ k g. record { lines = k; gone = g }) same (sym (cut_all lines m e))
+    cut_add lines m n ∙ ap (λ q. with_more_lines c.lines (cut q (c.gone + n))) e ∙ ap₂ (λ k g. record { lines = k; gone = g }) same (sym (cut_all lines m e))
 
 -- a step k + l times is the step k times, and then l times
 replicate_add : (k l : ℕ) (step : Step) → replicate (k + l) step ≡ replicate k step ++ replicate l step
@@ -85,53 +85,53 @@ drop_map f (suc k) [] = refl
 drop_map f (suc k) (x ∷ xs) = drop_map f k xs
 
 module _ {Client State : Type 0} (ends : Ends State) (rule : Rule Client) (d : Direction) where
-  -- delivering k lines of a direction leaves the texts behind them
+  -- delivering k lines of a direction leaves the texts after them
   texts_left : (k : ℕ) (w : World Client State) → texts d (run ends rule (replicate k (deliver d)) w).wire ≡ drop k (texts d w.wire)
   texts_left zero w = refl
   texts_left (suc k) w = texts_left k (happens ends rule w (deliver d)) ∙ ap (drop k) (one_less ends rule d w) ∙ drop_one k (texts d w.wire)
 
-  -- delivering k lines of a direction leaves the lines behind them
-  left : (k : ℕ) (w : World Client State) → lines d (run ends rule (replicate k (deliver d)) w).wire ≡ drop k (lines d w.wire)
-  left k w = ap (map with_end) (texts_left k w) ∙ drop_map with_end k (texts d w.wire)
+  -- delivering k lines of a direction leaves the lines after them
+  lines_left : (k : ℕ) (w : World Client State) → lines d (run ends rule (replicate k (deliver d)) w).wire ≡ drop k (lines d w.wire)
+  lines_left k w = ap (map with_end) (texts_left k w) ∙ drop_map with_end k (texts d w.wire)
 
-  -- where a line is under way, n + 1 bytes lead to the cut of the lines at these bytes
+  -- where a line is in flight, n + 1 bytes lead to the cut of the lines at these bytes
   some_pass : (v : Streams Client State) (n : ℕ) (q : List (List ℕ)) → 0 < length q → passing ends rule d v q (n + 1) ≡ to ends rule d v (cut q (gone d v + (n + 1)))
   some_pass v n [] some = absurd (omega (arith, some))
   some_pass v n (line ∷ q) some =
       let next : n + 1 ≡ suc n = omega arith in
       ap (passing ends rule d v (line ∷ q)) next ∙ ap (λ k. to ends rule d v (cut (line ∷ q) (gone d v + k))) (sym next)
 
-  -- where a line is under way, an event of n + 1 bytes leads to the cut of the lines at these bytes
+  -- where a line is in flight, an event of n + 1 bytes leads to the cut of the lines at these bytes
   some_bytes : (v : Streams Client State) (n : ℕ) → 0 < length (lines d v.world.wire) → flows ends rule v (bytes d (n + 1)) ≡ to ends rule d v (cut (lines d v.world.wire) (gone d v + (n + 1)))
   some_bytes v n some = bytes_pass ends rule d v (n + 1) ∙ some_pass v n (lines d v.world.wire) some
 
   -- going to the cut b, and then on to the cut c, is going to one cut: the one with the lines of both, and with as many bytes of
   -- the next line as c
-  to_behind : (v : Streams Client State) (b : Cut) (c : Cut) → to ends rule d v (behind b.lines c) ≡ to ends rule d (to ends rule d v b) c
+  to_behind : (v : Streams Client State) (b : Cut) (c : Cut) → to ends rule d v (with_more_lines b.lines c) ≡ to ends rule d (to ends rule d v b) c
   to_behind v b c =
       let w = run ends rule (replicate b.lines (deliver d)) v.world in
       ap (λ x. reaches d v x c.gone) (ap (λ s. run ends rule s v.world) (replicate_add b.lines c.lines (deliver d))
       ∙ run_append ends rule (replicate b.lines (deliver d)) (replicate c.lines (deliver d)) v.world)
       ∙ sym (reaches_again d v w b.gone (run ends rule (replicate c.lines (deliver d)) w) c.gone)
 
-  -- where bytes leave lines under way, there were lines under way
+  -- where bytes leave lines in flight, there were lines in flight
   rest : (v : Streams Client State) (n : ℕ) (q : List (List ℕ)) → lines d v.world.wire ≡ q → 0 < length (lines d (passing ends rule d v q n).world.wire) → 0 < length q
   rest v n [] e some =
       let same : lines d (idle v.world.wire) ≡ [] = ap (map with_end) (idle_leaves d v.world.wire) ∙ e in
       absurd (omega (arith, some, ap length same))
   rest v n (line ∷ q) e some = omega arith
 
-  -- bytes in one event leave what they leave in two, where a line is under way between the two
-  pub adds : (v : Streams Client State) (m n : ℕ) → 0 < length (lines d (flows ends rule v (bytes d (m + 1))).world.wire)
+  -- bytes in one event leave what they leave in two, where a line is in flight between the two
+  pub bytes_add : (v : Streams Client State) (m n : ℕ) → 0 < length (lines d (flows ends rule v (bytes d (m + 1))).world.wire)
       → flows ends rule v (bytes d (m + 1 + (n + 1))) ≡ flows ends rule (flows ends rule v (bytes d (m + 1))) (bytes d (n + 1))
-  adds v m n some =
+  bytes_add v m n some =
       let all = lines d v.world.wire in
       let g = gone d v in
       let c = cut all (g + (m + 1)) in
       let under : 0 < length all = rest v (m + 1) all refl (subst (λ (x : Streams Client State). 0 < length (lines d x.world.wire)) (bytes_pass ends rule d v (m + 1)) some) in
       let first : flows ends rule v (bytes d (m + 1)) ≡ to ends rule d v c = some_bytes v m under in
       let u = to ends rule d v c in
-      let after : lines d u.world.wire ≡ drop c.lines all = left c.lines v.world in
+      let after : lines d u.world.wire ≡ drop c.lines all = lines_left c.lines v.world in
       let under_u : 0 < length (lines d u.world.wire) = subst (λ (x : Streams Client State). 0 < length (lines d x.world.wire)) first some in
       let sum : m + 1 + (n + 1) ≡ m + 1 + n + 1 = omega arith in
       let total : g + (m + 1 + n + 1) ≡ g + (m + 1) + (n + 1) = omega arith in
@@ -142,23 +142,23 @@ module _ {Client State : Type 0} (ends : Ends State) (rule : Rule Client) (d : D
       ∙ sym (some_bytes u n under_u)
       ∙ ap (λ x. flows ends rule x (bytes d (n + 1))) (sym first)
 
-  -- where the first m + 1 bytes of an event complete all lines `q` that are under way, n further bytes change nothing
-  stops : (v : Streams Client State) (m n : ℕ) (q : List (List ℕ)) → lines d v.world.wire ≡ q → lines d (flows ends rule v (bytes d (m + 1))).world.wire ≡ []
+  -- where the first m + 1 bytes of an event complete all lines `q` that are in flight, n further bytes change nothing
+  bytes_stop : (v : Streams Client State) (m n : ℕ) (q : List (List ℕ)) → lines d v.world.wire ≡ q → lines d (flows ends rule v (bytes d (m + 1))).world.wire ≡ []
       → flows ends rule v (bytes d (m + 1 + n)) ≡ flows ends rule v (bytes d (m + 1))
-  stops v m n [] e none =
+  bytes_stop v m n [] e none =
       bytes_pass ends rule d v (m + 1 + n) ∙ ap (λ q. passing ends rule d v q (m + 1 + n)) e
       ∙ ap (λ q. passing ends rule d v q (m + 1)) (sym e) ∙ sym (bytes_pass ends rule d v (m + 1))
-  stops v m n (line ∷ q) e none =
+  bytes_stop v m n (line ∷ q) e none =
       let all = lines d v.world.wire in
       let under : 0 < length all = subst (λ (l : List (List ℕ)). 0 < length l) (sym e) (omega arith) in
       let sum : m + 1 + n ≡ m + n + 1 = omega arith in
       let total : gone d v + (m + n + 1) ≡ gone d v + (m + 1) + n = omega arith in
       let c = cut all (gone d v + (m + 1)) in
       let first : flows ends rule v (bytes d (m + 1)) ≡ to ends rule d v c = some_bytes v m under in
-      let done : drop c.lines all ≡ [] = sym (left c.lines v.world) ∙ ap (λ (x : Streams Client State). lines d x.world.wire) (sym first) ∙ none in
+      let done : drop c.lines all ≡ [] = sym (lines_left c.lines v.world) ∙ ap (λ (x : Streams Client State). lines d x.world.wire) (sym first) ∙ none in
       ap (λ k. flows ends rule v (bytes d k)) sum ∙ some_bytes v (m + n) under ∙ ap (λ k. to ends rule d v (cut all k)) total
       ∙ ap (to ends rule d v) (cut_end all (gone d v + (m + 1)) n done) ∙ sym first
 
-  -- where bytes leave no line under way, further bytes in the same event change nothing
-  pub stays : (v : Streams Client State) (m n : ℕ) → lines d (flows ends rule v (bytes d (m + 1))).world.wire ≡ [] → flows ends rule v (bytes d (m + 1 + n)) ≡ flows ends rule v (bytes d (m + 1))
-  stays v m n none = stops v m n (lines d v.world.wire) refl none
+  -- where bytes leave no line in flight, further bytes in the same event change nothing
+  pub bytes_end : (v : Streams Client State) (m n : ℕ) → lines d (flows ends rule v (bytes d (m + 1))).world.wire ≡ [] → flows ends rule v (bytes d (m + 1 + n)) ≡ flows ends rule v (bytes d (m + 1))
+  bytes_end v m n none = bytes_stop v m n (lines d v.world.wire) refl none

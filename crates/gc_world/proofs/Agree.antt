@@ -1,5 +1,5 @@
--- The client that knows ids does what the client that is told the numbers does. `Sound` is the invariant of the run by numbers:
--- what always holds of its wire and its client.
+-- The client that knows ids does what the oracle client does. `Sound` is the invariant of the run by numbers: what always
+-- holds of its wire and its client.
 use Rattle.std.proofs.Common.{◌≡◌, ℕ, zero, suc, ◌+◌, ◌-◌, ◌%◌, ◌<◌, ◌≤◌, Bool, true, false, List, [], ◌∷◌, ◌++◌, length, map, take, drop, Option, Some, None, refl, sym, ◌∙◌, ap, subst, arith, length-drop, ltb, eqb}
 use mathlib.Core.Path.{ap₂}
 use Rattle.std.proofs.lemmas.List.{drop-drop, drop-append-le, length_push, drop_all}
@@ -17,14 +17,14 @@ use Rattle.gc_world.proofs.Ids.{place_within, place_before}
 use Rattle.gc_world.proofs.Sound.{IsComing, Sound, length_expired, all_sent, sound_step, sound_all, sound_open}
 
 -- the two clients are alike: they have the same next id, and the same requests wait
-pub record Alike {Q : Type 0} (a : ById Q) (b : ByNumber Q) : Type 0 where
+pub record AreAlike {Q : Type 0} (a : ById Q) (b : ByNumber Q) : Type 0 where
   pub window : a.waiting ≡ drop b.count b.requests
   pub next : a.next ≡ (length b.requests - b.since) % 8
 
 -- two sends gave one id, and left clients that are alike
 pub record SameSending {Q : Type 0} (a : Sending (ById Q)) (b : Sending (ByNumber Q)) : Type 0 where
   pub id : a.id ≡ b.id
-  pub client : Alike a.client b.client
+  pub client : AreAlike a.client b.client
 
 -- two sends were both refused, or both gave one id and clients that are alike
 abbrev SameSend : {Q : Type 0} → Option (Sending (ById Q)) → Option (Sending (ByNumber Q)) → Type 0
@@ -36,14 +36,14 @@ SameSend (Some x) None = ⊥
 -- both clients make the same settlements, and are alike afterwards
 pub record SameSettled {Q : Type 0} (a : Settled Q (ById Q)) (b : Settled Q (ByNumber Q)) : Type 0 where
   pub settlements : a.settlements ≡ b.settlements
-  pub client : Alike a.client b.client
+  pub client : AreAlike a.client b.client
 
 -- clients that are alike have equally many waiting requests
-waiting_count : {Q : Type 0} (a : ById Q) (b : ByNumber Q) → Alike a b → length a.waiting ≡ length b.requests - b.count
+waiting_count : {Q : Type 0} (a : ById Q) (b : ByNumber Q) → AreAlike a b → length a.waiting ≡ length b.requests - b.count
 waiting_count a b h = ap length h.window ∙ length-drop b.count b.requests
 
 -- clients that are alike both refuse a send, or both send it with the same id and are alike afterwards
-same_send : {Q : Type 0} (a : ById Q) (b : ByNumber Q) (target : ℕ) (call : Q) (deadline : ℕ) (full : Bool) → b.since ≤ b.count → b.count ≤ length b.requests → Alike a b
+same_send : {Q : Type 0} (a : ById Q) (b : ByNumber Q) (target : ℕ) (call : Q) (deadline : ℕ) (full : Bool) → b.since ≤ b.count → b.count ≤ length b.requests → AreAlike a b
     → SameSend (id_send a target call deadline full) (number_send b target call deadline full)
 same_send {Q} a b target call deadline true h1 h2 h = tt
 same_send {Q} a b target call deadline false h1 h2 h =
@@ -67,11 +67,11 @@ module _ {Q State : Type 0} (width : ℕ) (narrow : width ≤ 7) (ends : Ends Q 
   -- the two worlds have the same wire, and clients that are alike
   pub record Agree (a : World Q (ById Q) State) (b : World Q (ByNumber Q) State) : Type 0 where
     pub wire : a.wire ≡ b.wire
-    pub client : Alike a.client b.client
+    pub client : AreAlike a.client b.client
 
-  -- a reply under way settles the same for both clients, whether its request is settled already (`old`) or not
+  -- a reply in flight settles the same for both clients, whether its request is settled already (`old`) or not
   same_reply : (a : ById Q) (b : ByNumber Q) (x : Numbered (List ℕ)) (old : Bool) → ltb x.number b.count ≡ old → b.since ≤ b.count → b.count ≤ length b.requests
-      → length b.requests ≤ b.count + width → b.count ≤ x.number + 1 → IsComing width ends Good b.since (length b.requests) x → Alike a b
+      → length b.requests ≤ b.count + width → b.count ≤ x.number + 1 → IsComing width ends Good b.since (length b.requests) x → AreAlike a b
       → SameSettled (hears a x.line (Some ((x.number - b.since) % 8))) (number_reply b x old)
   same_reply a b x true t h1 h2 h3 h4 coming h =
       let lt : x.number < b.count = ltb-true _ _ t in
@@ -135,7 +135,7 @@ module _ {Q State : Type 0} (width : ℕ) (narrow : width ≤ 7) (ends : Ends Q 
       (same_reply a.client c x (ltb x.number c.count) refl s.begun s.within s.few order coming h.client))
 
   -- a moment keeps clients alike
-  agree_expire : (now : ℕ) (a : ById Q) (b : ByNumber Q) → Alike a b → Alike ((by_ids width ends).expire a now) ((by_numbers width).expire b now)
+  agree_expire : (now : ℕ) (a : ById Q) (b : ByNumber Q) → AreAlike a b → AreAlike ((by_ids width ends).expire a now) ((by_numbers width).expire b now)
   agree_expire now a b h =
       record {
         window = ap (λ ps. map (expired now) ps) h.window ∙ drop_expired now b.count b.requests;
@@ -143,7 +143,7 @@ module _ {Q State : Type 0} (width : ℕ) (narrow : width ≤ 7) (ends : Ends Q 
       }
 
   -- a restart settles the same for both clients
-  agree_lost : (a : ById Q) (b : ByNumber Q) → Alike a b → SameSettled ((by_ids width ends).restart a) ((by_numbers width).restart b)
+  agree_lost : (a : ById Q) (b : ByNumber Q) → AreAlike a b → SameSettled ((by_ids width ends).restart a) ((by_numbers width).restart b)
   agree_lost a b h =
       record {
         settlements = ap (λ ps. map lost ps) h.window;

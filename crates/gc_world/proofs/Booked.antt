@@ -1,4 +1,4 @@
--- An answer that is booked is a line that was made for that very request. Replies and answers are *backed* where each stands
+-- An answer that is booked is a line that was made for that very request. Replies and answers are *backed* where each is
 -- among the replies made, with the number of its request.
 use Rattle.std.proofs.Common.{◌≡◌, ℕ, zero, suc, ◌+◌, ◌-◌, ◌≤◌, inl, inr, Bool, true, false, List, [], ◌∷◌, ◌++◌, length, map, drop, Some, refl, sym, ap, subst, arith, ltb, ◌⊎◌}
 use Rattle.std.specs.Prelude.{slice_get}
@@ -19,7 +19,7 @@ abbrev pub Has : {A : Type 0} → A → List A → Type 0
 Has a [] = ⊥
 Has a (x ∷ xs) = (x ≡ a) ⊎ Has a xs
 
--- an element of a list is one of the list with others behind it, too
+-- an element of a list is one of the list with others after it, too
 pub has_more : {A : Type 0} (a : A) (xs ys : List A) → Has a xs → Has a (xs ++ ys)
 has_more a [] ys h = absurd h
 has_more a (x ∷ xs) ys (inl e) = inl e
@@ -30,7 +30,7 @@ pub has_push : {A : Type 0} (a : A) (xs : List A) → Has a (xs ++ a ∷ [])
 has_push a [] = inl refl
 has_push a (x ∷ xs) = inr (has_push a xs)
 
--- an element that a list has stands at some place
+-- an element that a list has is at some place
 pub has_at : {A : Type 0} (a : A) (xs : List A) → Has a xs → (j : ℕ) × (slice_get xs j ≡ Some a)
 has_at a [] h = absurd h
 has_at a (x ∷ xs) (inl e) = (0, ap Some e)
@@ -84,13 +84,13 @@ all_made_settle made n m zero line (p ∷ ps) e h =
     (made_met made n line p p.given_up refl (subst (λ i. Has (record { number = i; line = line }) made) e' h), tt)
 all_made_settle made n m (suc k) line (p ∷ ps) e h = (tt, all_made_settle made (n + 1) m k line ps (omega arith) h)
 
--- each reply under way and each answer that was booked was made for its request
+-- each reply in flight and each answer that was booked was made for its request
 pub record IsBacked {Q : Type 0} (made down : List (Numbered (List ℕ))) (settled : List (Settlement Q)) : Type 0 where
   pub under_way : Each (λ x. Has x made) down
   pub booked : AllMade made 0 settled
 
 module _ {Q State : Type 0} (width : ℕ) (ends : Ends Q State) (Good : State → Type 0) where
-  -- the line keeps its order, and each reply under way and each answer was made for its request
+  -- the line keeps its order, and each reply in flight and each answer was made for its request
   pub record Backed (w : World Q (ByNumber Q) State) : Type 0 where
     pub sound : Sound width ends Good w
     pub backed : IsBacked w.wire.made w.wire.down w.wire.settled

@@ -16,7 +16,7 @@ use Rattle.gc_world.specs.Streams.{Streams, Cut, one_more, cut, at_line, passed,
 use Rattle.gc_world.specs.World.{Request, Sent, Numbered, Ends, Rule, Step, Send, Up_deliver, Up_lose, Up_repeat, Down_deliver, Down_lose, Down_repeat, Expire, Restart_client, Restart_instrument, Nothing, Wire, World, without, doubled, idle, replied, up_delivered, with_up, with_down, started, instrument_restarted, requested, down_delivered, client_restarted, happens, run}
 use Rattle.gc_world.proofs.Directions.{one_less}
 
--- none of these lists and counts is above n; a request that is under way counts as an execution and as a reply
+-- none of these lists and counts is above n; a request that is in flight counts as an execution and as a reply
 pub record IsWithin {State : Type 0} (n : ℕ) (w : Wire State) : Type 0 where
   pub sent : length w.sent ≤ n
   pub executed : length w.executed + length w.up ≤ n
@@ -95,13 +95,13 @@ module _ {Client State : Type 0} (ends : Ends State) (rule : Rule Client) (n : �
         idle = omega (arith, h.idle);
       }
 
-  -- a request that is answered moves from those under way (1 + `more`) to the executions, if it was executed (b): executions and
-  -- requests under way together are still at most n
+  -- a request that is answered moves from those in flight (1 + `more`) to the executions, if it was executed (b): executions
+  -- and requests in flight together are still at most n
   executes : (executed : List ℕ) (k more : ℕ) (b : Bool) → length executed + suc more ≤ n → length (cond b (executed ++ k ∷ []) executed) + more ≤ n
   executes executed k more true h = omega (arith, h, length_push executed k)
   executes executed k more false h = omega (arith, h)
 
-  -- a request that is answered moves from those under way to the executions and replies, so the bound stays
+  -- a request that is answered moves from those in flight to the executions and replies, so the bound stays
   answers : (w : Wire State) (x : Numbered Request) (rest : List (Numbered Request)) (hd : Handed State) → w.up ≡ x ∷ rest → IsWithin n w → IsWithin n (replied w x.number rest hd)
   answers w x rest hd e h =
       let m : Numbered (List ℕ) = record { number = x.number; line = hd.reply } in
@@ -199,27 +199,27 @@ module _ {Client State : Type 0} (ends : Ends State) (rule : Rule Client) (n : �
   one_step w Restart_instrument h = restarts_instrument w.wire w.wire.up w.wire.down h
   one_step w Nothing h = idles w.wire h
 
-  -- a delivery of a request that is under way doesn't raise the bound
+  -- a delivery of a request that is in flight doesn't raise the bound
   up_once : (w : Wire State) (q : List (Numbered Request)) → w.up ≡ q → 0 < length (map (λ x. request_line (Some x.line.id) x.line.call) q) → IsWithin n w → IsWithin n (up_delivered ends w q)
   up_once w [] e some h = absurd (omega (arith, some))
   up_once w (x ∷ rest) e some h = answers w x rest (ends.handed w.state x.line.id x.line.call) e h
 
-  -- a delivery of a reply that is under way doesn't raise the bound
+  -- a delivery of a reply that is in flight doesn't raise the bound
   down_once : (w : World Client State) (q : List (Numbered (List ℕ))) → 0 < length (map (λ x. x.line) q) → IsWithin n w.wire → IsWithin n (down_delivered rule w q).wire
   down_once w [] some h = absurd (omega (arith, some))
   down_once w (x ∷ rest) some h = record { sent = h.sent; executed = h.executed; made = h.made; starts = h.starts; refused = h.refused; idle = h.idle }
 
-  -- a delivery of a line that is under way doesn't raise the bound
-  once : (d : Direction) (w : World Client State) → 0 < length (texts d w.wire) → IsWithin n w.wire → IsWithin n (happens ends rule w (deliver d)).wire
-  once Up w some h = up_once w.wire w.wire.up refl some h
-  once Down w some h = down_once w w.wire.down some h
+  -- a delivery of a line that is in flight doesn't raise the bound
+  one_delivery : (d : Direction) (w : World Client State) → 0 < length (texts d w.wire) → IsWithin n w.wire → IsWithin n (happens ends rule w (deliver d)).wire
+  one_delivery Up w some h = up_once w.wire w.wire.up refl some h
+  one_delivery Down w some h = down_once w w.wire.down some h
 
-  -- deliveries of lines that are under way don't raise the bound, however many they are
+  -- deliveries of lines that are in flight don't raise the bound, however many they are
   all : (d : Direction) (k : ℕ) (w : World Client State) → k ≤ length (texts d w.wire) → IsWithin n w.wire → IsWithin n (run ends rule (replicate k (deliver d)) w).wire
   all d zero w le h = h
   all d (suc k) w le h =
       let less : length (texts d (happens ends rule w (deliver d)).wire) ≡ length (texts d w.wire) - 1 = ap length (one_less ends rule d w) ∙ length-drop 1 (texts d w.wire) in
-      all d k (happens ends rule w (deliver d)) (omega (arith, le, less)) (once d w (omega (arith, le)) h)
+      all d k (happens ends rule w (deliver d)) (omega (arith, le, less)) (one_delivery d w (omega (arith, le)) h)
 
   -- the bytes of an event raise the bound by at most one
   passes : (d : Direction) (lines : List (List ℕ)) (gone k : ℕ) (w : World Client State) → length lines ≡ length (texts d w.wire) → IsWithin n w.wire

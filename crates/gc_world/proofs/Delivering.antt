@@ -24,8 +24,8 @@ cut_zero (text ∷ texts) =
 
 module _ (ends : Ends State) (rule : Rule (ById Call)) (v : Streams (ById Call) State) where
   -- an event of exactly the bytes that remain of the reply in front does what the delivery of that reply does
-  exactly : (n : ℕ) → remaining v.down_gone (down_lines v.world.wire) ≡ n + 1 → flows ends rule v (DownBytes (n + 1)) ≡ flows ends rule v DownDeliver
-  exactly n e =
+  exact_bytes : (n : ℕ) → remaining v.down_gone (down_lines v.world.wire) ≡ n + 1 → flows ends rule v (DownBytes (n + 1)) ≡ flows ends rule v DownDeliver
+  exact_bytes n e =
       let g = v.down_gone in
       let f = in_front g (down_texts v.world.wire) (omega (arith, e)) in
       let next : n + 1 ≡ suc n = omega arith in
@@ -38,4 +38,4 @@ module _ (ends : Ends State) (rule : Rule (ById Call)) (v : Streams (ById Call) 
   -- an event that hands over the last byte of the reply in front does what `DownDeliver` does
   pub delivery_is : (e : Event) → IsDelivery v e → flows ends rule v e ≡ flows ends rule v DownDeliver
   delivery_is e (inl is) = ap (flows ends rule v) is
-  delivery_is e (inr (n, is, last)) = ap (flows ends rule v) is ∙ exactly n last
+  delivery_is e (inr (n, is, last)) = ap (flows ends rule v) is ∙ exact_bytes n last

@@ -1,5 +1,5 @@
--- What holds in either direction of the line. The two directions are told apart here, so that other files state each lemma once
--- for both.
+-- What holds in either direction of the line. The two directions are distinguished here, so that other files state each
+-- lemma once for both.
 use Rattle.std.proofs.Common.{◌≡◌, ℕ, ◌<◌, List, [], ◌∷◌, length, map, drop, Some, refl, ap, arith}
 use Rattle.std.specs.Prelude.{replicate}
 use Rattle.gc_catalogue.specs.Texts.{request_line}
@@ -35,11 +35,11 @@ module _ {Client State : Type 0} where
     delivered Up v = refl
     delivered Down v = refl
 
-    -- the streams after n bytes of a direction, where these lines are under way
+    -- the streams after n bytes of a direction, where these lines are in flight
     abbrev pub passing : Direction → Streams Client State → List (List ℕ) → ℕ → Streams Client State
     passing d v q n = reaches d v (run ends rule (passed (deliver d) q (gone d v) n) v.world) (left_gone q (gone d v) n)
 
-    -- the event of n bytes leads to the streams that `passing` gives for the lines under way
+    -- the event of n bytes leads to the streams that `passing` gives for the lines in flight
     pub bytes_pass : (d : Direction) (v : Streams Client State) (n : ℕ) → flows ends rule v (bytes d n) ≡ passing d v (lines d v.world.wire) n
     bytes_pass Up v n = refl
     bytes_pass Down v n = refl
@@ -48,40 +48,40 @@ module _ {Client State : Type 0} where
     abbrev pub to : Direction → Streams Client State → Cut → Streams Client State
     to d v c = reaches d v (run ends rule (replicate c.lines (deliver d)) v.world) c.gone
 
-    -- What is under way after a step.
+    -- What is in flight after a step.
 
-    -- delivering a request takes its line out of those under way
+    -- delivering a request takes its line out of those in flight
     up_less : (w : Wire State) (q : List (Numbered Request)) → w.up ≡ q
         → map (λ x. request_line (Some x.line.id) x.line.call) (up_delivered ends w q).up ≡ drop 1 (map (λ x. request_line (Some x.line.id) x.line.call) q)
     up_less w [] e = ap (map (λ x. request_line (Some x.line.id) x.line.call)) e
     up_less w (x ∷ rest) e = refl
 
-    -- delivering a reply takes its line out of those under way
+    -- delivering a reply takes its line out of those in flight
     down_less : (w : World Client State) (q : List (Numbered (List ℕ))) → w.wire.down ≡ q → map (λ x. x.line) (down_delivered rule w q).wire.down ≡ drop 1 (map (λ x. x.line) q)
     down_less w [] e = ap (map (λ x. x.line)) e
     down_less w (x ∷ rest) e = refl
 
-    -- a delivery takes the front line out of those under way
+    -- a delivery takes the front line out of those in flight
     pub one_less : (d : Direction) (w : World Client State) → texts d (happens ends rule w (deliver d)).wire ≡ drop 1 (texts d w.wire)
     one_less Up w = up_less w.wire w.wire.up refl
     one_less Down w = down_less w w.wire.down refl
 
-    -- delivering a request that is under way is no idle event
+    -- delivering a request that is in flight is no idle event
     up_counts : (w : Wire State) (q : List (Numbered Request)) → 0 < length (map (λ x. request_line (Some x.line.id) x.line.call) q) → (up_delivered ends w q).idle ≡ w.idle
     up_counts w [] some = absurd (omega (arith, some))
     up_counts w (x ∷ rest) some = refl
 
-    -- delivering a reply that is under way is no idle event
+    -- delivering a reply that is in flight is no idle event
     down_counts : (w : World Client State) (q : List (Numbered (List ℕ))) → 0 < length (map (λ x. x.line) q) → (down_delivered rule w q).wire.idle ≡ w.wire.idle
     down_counts w [] some = absurd (omega (arith, some))
     down_counts w (x ∷ rest) some = refl
 
-    -- delivering a line that is under way is no idle event
+    -- delivering a line that is in flight is no idle event
     pub not_idle : (d : Direction) (w : World Client State) → 0 < length (texts d w.wire) → (happens ends rule w (deliver d)).wire.idle ≡ w.wire.idle
     not_idle Up w some = up_counts w.wire w.wire.up some
     not_idle Down w some = down_counts w w.wire.down some
 
--- an event that is not possible leaves what is under way
+-- an event that is not possible leaves what is in flight
 pub idle_leaves : {State : Type 0} (d : Direction) (w : Wire State) → texts d (idle w) ≡ texts d w
 idle_leaves Up w = refl
 idle_leaves Down w = refl

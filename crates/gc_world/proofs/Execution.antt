@@ -78,7 +78,7 @@ module _ {State : Type 0} (ends : Ends State) where
     made : entry ≡ Some (record { number = n; line = (ends.handed state id request.call).reply })
     next_is : next ≡ begun ends.restarted (has_number i starts) (ends.handed state id request.call).state
 
-  -- execution k of a replay is that of the request whose number stands at place k, and its reply is the one at place k
+  -- execution k of a replay is that of the request whose number is at place k, and its reply is the one at place k
   step_at : (sent : List Sent) (starts : List ℕ) (j : ℕ) (s : State) (ns : List ℕ) (ms : List (Numbered (List ℕ))) (t : State)
       (h : Replays ends sent starts j s ns ms t) (k n : ℕ) → slice_get ns k ≡ Some n
       → IsStep sent starts (j + k + 1) (before_in sent starts j s ns ms t h k) (before_in sent starts j s ns ms t h (suc k)) (slice_get ms k) n
@@ -189,8 +189,8 @@ module _ {Q State : Type 0} (ends : Worlds.Ends Q State) (Good : State → Type 
       let i : n + 1 + m ≡ n + suc m = omega arith in
       subst (λ k. IsMade made k s.outcome) i (made_get made (n + 1) ss m s h.1 e)
 
-  -- where settlements stand one for one, each answer was made for its request, and each reply made is one to its request's
-  -- call, an answer at place m is booked for request m
+  -- where settlements correspond one for one, each answer was made for its request, and each reply made is one to its
+  -- request's call, an answer at place m is booked for request m
   pub booked : (sent : List (Worlds.Sent Q)) (made : List (Numbered (List ℕ))) (settled : List (Settlement Q)) → IsOneForOne sent settled → AllMade made 0 settled
       → Each (IsAnswerAt sent) made → (m : ℕ) (s : Settlement Q) → slice_get settled m ≡ Some s → IsBooked ends Good made m s
   booked sent made settled one all at m s e bytes answered =

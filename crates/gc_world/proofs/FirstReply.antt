@@ -1,5 +1,5 @@
--- A reply to a request that isn't settled settles it: as answered, or as late where it was given up. Two runs are *level* where
--- they take the same steps, and as many bytes have gone of each front line.
+-- A reply to a request that isn't settled settles it: as answered, or as late where it had timed out. Two runs are *level*
+-- where they take the same steps, and as many bytes have gone of each front line.
 use Rattle.std.proofs.Common.{◌≡◌, ℕ, zero, suc, ◌+◌, ◌-◌, ◌<◌, ◌≤◌, Bool, true, false, cond, List, [], ◌∷◌, ◌++◌, length, map, take, drop, Some, refl, sym, ◌∙◌, ap, subst, arith, append_assoc, eqb}
 use mathlib.Core.Path.{ap₂}
 use Rattle.std.specs.Prelude.{slice_get}
@@ -34,7 +34,7 @@ use Rattle.gc_world.proofs.Sound.{Sound, sound_step}
 
 -- Lists.
 
--- element n - k of the list behind the first k is element n of the whole list
+-- element n - k of the list after the first k is element n of the whole list
 slice_drop : {A : Type 0} (k : ℕ) (xs : List A) (n : ℕ) → k ≤ n → slice_get (drop k xs) (n - k) ≡ slice_get xs n
 slice_drop zero xs n le = let e : n - 0 ≡ n = omega arith in ap (slice_get xs) e
 slice_drop (suc k) [] n le = refl
@@ -43,8 +43,8 @@ slice_drop (suc k) (x ∷ xs) (suc n) le = let e : suc n - suc k ≡ n - k = ome
 
 -- where f over xs and g over ys give the same list, the element x at place n of xs has a partner y at place n of ys: g gives of
 -- y what f gives of x
-matched : {A B C : Type 0} (f : A → C) (g : B → C) (xs : List A) (ys : List B) (n : ℕ) (x : A) → map f xs ≡ map g ys → slice_get xs n ≡ Some x → (y : B) × (slice_get ys n ≡ Some y) × (g y ≡ f x)
-matched f g xs ys n x e h = get_seen g ys n (f x) (ap (λ l. slice_get l n) (sym e) ∙ get_map f xs n x h)
+partner_at : {A B C : Type 0} (f : A → C) (g : B → C) (xs : List A) (ys : List B) (n : ℕ) (x : A) → map f xs ≡ map g ys → slice_get xs n ≡ Some x → (y : B) × (slice_get ys n ≡ Some y) × (g y ≡ f x)
+partner_at f g xs ys n x e h = get_seen g ys n (f x) (ap (λ l. slice_get l n) (sym e) ∙ get_map f xs n x h)
 
 -- settling through place k settles the first k requests as lost, and the one at place k by the line
 settle_at : (k : ℕ) (line : List ℕ) (ps : List (Pending Call)) (p : Pending Call) → slice_get ps k ≡ Some p → settle k line ps ≡ map lost (take k ps) ++ met p line ∷ []
@@ -74,7 +74,7 @@ waiting_alike settled waiting sent e =
     sym (drop-append_seam (map of_settled settled) (map of_pending waiting)) ∙ ap (drop (length (map of_settled settled))) e ∙ ap (λ k. drop k (map of_sent sent)) (length-map settled of_settled)
     ∙ drop-map of_sent (length settled) sent
 
--- the outcome that a reply line gives a request that waits: late where it was given up, else the answer
+-- the outcome that a reply line gives a request that waits: late where it had timed out, else the answer
 abbrev outcome_of : Pending Call → List ℕ → Outcome
 outcome_of p line = cond p.given_up Late (Answered line)
 
@@ -93,7 +93,7 @@ gained settled waiting sent n line p whole le h =
     let m = length settled in
     let k = n - m in
     let alike = waiting_alike settled waiting sent whole in
-    let some = matched of_pending of_sent waiting (drop m sent) k p alike h in
+    let some = partner_at of_pending of_sent waiting (drop m sent) k p alike h in
     let first : map of_pending (take k waiting) ≡ map of_sent (take k (drop m sent)) = sym (take-map of_pending k waiting) ∙ ap (take k) alike ∙ take-map of_sent k (drop m sent) in
     record {
       request = some.0;
@@ -159,12 +159,11 @@ module _ (width : ℕ) (narrow : width ≤ WINDOW) (opening : State) where
   abbrev behind : (earlier : List Event) (target : ℕ) (call : Call) (deadline : ℕ) → Streams (ByNumber Call) State
   behind earlier target call deadline = flows ends (by_numbers width) (counted_by earlier) (event.Send target call deadline)
 
-  -- the request that this send made, as the client that is told the numbers has it after these later events, while it isn't
-  -- settled
+  -- the request that this send made, as the oracle client has it after these later events, while it isn't settled
   abbrev mark_of : (earlier : List Event) (target : ℕ) (call : Call) (deadline : ℕ) (later : List Event) → Pending Call
   mark_of earlier target call deadline later = marked_all ends (by_numbers width) later (behind earlier target call deadline) (pending_of target call deadline)
 
-  -- while request n isn't settled, the client that is told the numbers has it at place n as `mark_of` says
+  -- while request n isn't settled, the oracle client has it at place n as `mark_of` says
   entry : (events : List Event) (n deadline : ℕ) (later : List Event) (s : IsSentBefore width opening events n deadline later)
       → length (left_by_ids width opening events).settled ≤ n → slice_get (counted_by events).world.client.requests n ≡ Some
       (mark_of s.earlier s.target s.call deadline later)
@@ -203,8 +202,8 @@ module _ (width : ℕ) (narrow : width ≤ WINDOW) (opening : State) where
       ∙ sym (flow_append ends (by_ids width ends) events (DownDeliver ∷ []) (untouched (ids_open (restarted opening))))) in
       ap (λ (u : Wire State). u.settled) (one ∙ wire_in (events ++ DownDeliver ∷ [])) ∙ ap (λ (u : Streams (ByNumber Call) State). u.world.wire.settled) (counted_more events DownDeliver)
 
-  -- where the client that is told the numbers has p as request n, the delivery of the reply settles the request: as late where
-  -- p was given up, else as answered
+  -- where the oracle client has p as request n, the delivery of the reply settles the request: as late where p had timed
+  -- out, else as answered
   settled_at : (events : List Event) (n : ℕ) (line : List ℕ) (p : Pending Call) → slice_get (counted_by events).world.client.requests n ≡ Some p
       → DeliverySettles width opening events n line (outcome_of p line)
   settled_at events n line p h delivery is next =

@@ -69,10 +69,10 @@ module _ {State : Type 0} (width : ℕ) (narrow : width ≤ 7) (ends : Ends Stat
       })
 
   -- events keep streams level
-  levels : (es : List Event) (a : Streams (ById Call) State) (b : Streams (ByNumber Call) State) → AreLevel a b → AreLevel (flow ends (by_ids width ends) es a) (flow ends (by_numbers width) es b)
-  levels [] a b h = h
-  levels (e ∷ es) a b h = levels es (flows ends (by_ids width ends) a e) (flows ends (by_numbers width) b e) (level a b e h)
+  all_level : (es : List Event) (a : Streams (ById Call) State) (b : Streams (ByNumber Call) State) → AreLevel a b → AreLevel (flow ends (by_ids width ends) es a) (flow ends (by_numbers width) es b)
+  all_level [] a b h = h
+  all_level (e ∷ es) a b h = all_level es (flows ends (by_ids width ends) a e) (flows ends (by_numbers width) b e) (level a b e h)
 
   -- the two runs of the same events are level
   pub level_at : (es : List Event) → AreLevel (streams_by_ids width ends es state) (streams_by_numbers width ends es state)
-  level_at es = levels es (untouched (ids_open state)) (untouched (numbers_open state)) (record { steps = []; ids = refl; numbers = refl; up_gone = refl; down_gone = refl })
+  level_at es = all_level es (untouched (ids_open state)) (untouched (numbers_open state)) (record { steps = []; ids = refl; numbers = refl; up_gone = refl; down_gone = refl })

@@ -21,17 +21,17 @@ use Rattle.gc_world.specs.World.{Numbered, Down_deliver, down_delivered, run}
 use Rattle.gc_world.proofs.Directions.{gone_reached, reaches_again, reaches_same, delivered, passing, bytes_pass, to, one_less, not_idle}
 use Rattle.gc_world.proofs.Shown.{part}
 
--- where n bytes complete the front line, the cut at n bytes is the cut of the lines behind that line at the bytes that are left,
--- with one more completed line
+-- where n bytes complete the front line, the cut at n bytes is the cut of the lines after that line at the bytes that are
+-- left, with one more completed line
 pub cut_long : (line : List ℕ) (lines : List (List ℕ)) (n : ℕ) → length line ≤ n → cut (line ∷ lines) n ≡ one_more (cut lines (n - length line))
 cut_long line lines n le = ap (λ b. cond {A = Cut} b (record { lines = 0; gone = n }) (one_more (cut lines (n - length line)))) (le-ltb n (length line) le)
 
--- a line is under way where bytes remain of it
+-- a line is in flight where bytes remain of it
 pub in_front : (gone : ℕ) (texts : List (List ℕ)) → 0 < remaining gone (map with_end texts) → (t : List ℕ) × (ts : List (List ℕ)) × (texts ≡ t ∷ ts)
 in_front gone [] some = absurd (omega (arith, some))
 in_front gone (t ∷ ts) some = (t, ts, refl)
 
--- where no byte of the front line remains, no line is under way
+-- where no byte of the front line remains, no line is in flight
 none_under_way : (gone : ℕ) (lines : List (List ℕ)) → IsPart gone lines → remaining gone lines ≡ 0 → (lines ≡ []) × (gone ≡ 0)
 none_under_way gone [] part e = (refl, part)
 none_under_way gone (line ∷ lines) part e = absurd (omega (arith, part, e))
@@ -43,8 +43,8 @@ stray_same c line (Some id) e = ap (λ b. (id_settled c line (place_in c id) b).
 
 -- One turn of that loop: n bytes of the direction d are to go over on the streams v, and `used` of them complete the front line.
 module _ (width : ℕ) (d : Direction) (v : Streams (ById Call) State) where
-  -- the front line takes `used` of the n bytes: the cut at all n bytes is the cut of the lines behind that line at the n - used
-  -- others, and one line more
+  -- the front line takes `used` of the n bytes: the cut at all n bytes is the cut of the lines after that line at the n -
+  -- used others, and one line more
   record IsNext (n used : ℕ) : Type 0 where
     text : List ℕ
     behind : List (List ℕ)
@@ -89,7 +89,7 @@ module _ (width : ℕ) (d : Direction) (v : Streams (ById Call) State) where
       let some : length (texts d v.world.wire) ≡ suc (length h.behind) = ap length h.front in
       ap (λ (x : Streams (ById Call) State). x.world.wire.idle) (delivered ends (by_ids width ends) d v) ∙ not_idle ends (by_ids width ends) d v.world (omega (arith, some))
 
-  -- where no byte is under way, handing over bytes changes nothing
+  -- where no byte is in flight, handing over bytes changes nothing
   ended : (n : ℕ) → IsPart (gone d v) (lines d v.world.wire) → remaining (gone d v) (lines d v.world.wire) ≡ 0 → handed width d v n ≡ v
   ended n part e =
       let none = none_under_way (gone d v) (lines d v.world.wire) part e in
@@ -161,7 +161,7 @@ module _ (width : ℕ) (d : Direction) (s : Seen) (v : Streams (ById Call) State
   pub reaches_end : (t : Seen) → AreStreamsOf width t (handed width d h.now left) → AreStreamsOf width t (handed width d v n)
   reaches_end t shows = subst (λ x. AreStreamsOf width t x) h.same shows
 
-  -- where no byte is under way any more, the streams are those that all n bytes lead to
+  -- where no byte is in flight any more, the streams are those that all n bytes lead to
   pub runs_dry : remaining (gone d h.now) (lines d h.now.world.wire) ≡ 0 → AreStreamsOf width s (handed width d v n)
   runs_dry e = subst (λ x. AreStreamsOf width s x) (sym (ended width d h.now left (part width s h.now h.shows d) e) ∙ h.same) h.shows
 
@@ -181,7 +181,7 @@ runs_out b (suc r) l iff e le = absurd (is_not b (iff.1 (omega arith, least (suc
         by_either (inl lt) = absurd (no_less lt)
         by_either (inr le1) = le1
 
--- an event of n bytes leads to the streams that `handed` gives, where n isn't 0 and bytes are under way
+-- an event of n bytes leads to the streams that `handed` gives, where n isn't 0 and bytes are in flight
 pub under_way : (width : ℕ) (d : Direction) (v : Streams (ById Call) State) (n r : ℕ) → r ≡ remaining (gone d v) (lines d v.world.wire) → (n ≡ 0 → ⊥) → (r ≡ 0 → ⊥)
     → goes_on width v (bytes d n) ≡ handed width d v n
 under_way width d v n r e not none = bytes_pass ends (by_ids width ends) d v n ∙ by_cases n (lines d v.world.wire) not (λ z. none (e ∙ z))

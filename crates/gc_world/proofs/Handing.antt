@@ -33,15 +33,15 @@ abbrev pub KeptFits : State → Type 0
 KeptFits s = IsFittingKept s.kept
 
 -- where `if b then Some l else None` is a line, b is true, and l is that line
-chosen : (b : Bool) (l line : List ℕ) → cond b (Some l) None ≡ Some line → (b ≡ true) × (l ≡ line)
-chosen true l line e = (refl, (cc))
-chosen false l line e = let never : ⊥ = cc in absurd never
+some_if : (b : Bool) (l line : List ℕ) → cond b (Some l) None ≡ Some line → (b ≡ true) × (l ≡ line)
+some_if true l line e = (refl, (cc))
+some_if false l line e = let never : ⊥ = cc in absurd never
 
 -- a kept line that is given for an id is heard with that id
 kept_heard : (k : Option KeptReply) (id : ℕ) (line : List ℕ) → kept_line k (Some id) ≡ Some line → IsFittingKept k → heard line ≡ Some id
 kept_heard None id line e h = let never : ⊥ = cc in absurd never
 kept_heard (Some k) id line e h =
-    let c = chosen (eqb k.id id) k.line line e in
+    let c = some_if (eqb k.id id) k.line line e in
     ap heard (sym c.1) ∙ ap id_in (reply_again k.line h.fields h.is_reply) ∙ h.same_id ∙ ap Some (eqb-true k.id id c.0)
 
 -- the reply line to a call that was carried out reads back as the reply with this id
@@ -111,23 +111,23 @@ new_id s id call e = elim (kept_or_not (kept_line s.kept (Some id))) [
 ]
 
 -- the state with nothing kept
-abbrev pub bare : State → State
-bare s = with_kept None s
+abbrev pub without_kept : State → State
+without_kept s = with_kept None s
 
 -- apart from the kept reply, the state after a request was executed is the one after carrying out its call
-pub bare_after : (s : State) (id : ℕ) (call : Call) → (handed s id call).executed ≡ true → bare (handed s id call).state ≡ (exec (bare s) call).state
+pub bare_after : (s : State) (id : ℕ) (call : Call) → (handed s id call).executed ≡ true → without_kept (handed s id call).state ≡ (exec (without_kept s) call).state
 bare_after s id call e =
-    ap (λ (x : Handed State). bare x.state) (handed_new s id call (new_id s id call e))
+    ap (λ (x : Handed State). without_kept x.state) (handed_new s id call (new_id s id call e))
     ∙ sym (ap (λ (x : Executed). x.state) (executes_apart s None call))
 
 -- the reply to a request that was executed is the reply line of carrying out its call in the state with nothing kept
-pub bare_line : (s : State) (id : ℕ) (call : Call) → (handed s id call).executed ≡ true → (handed s id call).reply ≡ executed_line id (exec (bare s) call)
+pub bare_line : (s : State) (id : ℕ) (call : Call) → (handed s id call).executed ≡ true → (handed s id call).reply ≡ executed_line id (exec (without_kept s) call)
 bare_line s id call e =
     ap (λ (x : Handed State). x.reply) (handed_new s id call (new_id s id call e))
     ∙ sym (ap (λ (x : Executed). executed_line id x) (executes_apart s None call))
 
 -- where s without its kept reply is t, the same holds after a restart of both (b true), and without one
-pub bare_begun : (b : Bool) (s t : State) → bare s ≡ t → bare (begun restarted b s) ≡ begun restarted b t
+pub bare_begun : (b : Bool) (s t : State) → without_kept s ≡ t → without_kept (begun restarted b s) ≡ begun restarted b t
 bare_begun false s t e = e
 bare_begun true s t e = ap restarted e
 

@@ -1,4 +1,4 @@
--- A request that waits is given up exactly by a moment at or past its deadline.
+-- A request that waits has timed out exactly by a moment at or past its deadline.
 use Rattle.std.proofs.Common.{◌≡◌, ℕ, zero, suc, ◌+◌, ◌<◌, ◌≤◌, ◌||◌, Bool, true, false, cond, List, [], ◌∷◌, ◌++◌, ◌⊎◌, inl, inr, Contains, refl, sym, ◌∙◌, ap, subst, arith, leb}
 use Rattle.std.specs.Prelude.{replicate}
 use Rattle.std.proofs.lemmas.Bool.{le-leb, lt-leb, leb-true, leb-false}
@@ -12,8 +12,8 @@ use Rattle.gc_world.specs.World.{Ends, Rule, Step, Up_deliver, Up_lose, Up_repea
 use Rattle.gc_world.proofs.Flow.{taken}
 use Rattle.gc_world.proofs.Marks.{touched, touched_all}
 
--- an event makes q of a request p that waits: the deadline stays; q is given up if p was, or if the event is a moment at or
--- past the deadline; and else it isn't
+-- an event makes q of a request p that waits: the deadline stays; q has timed out if p had, or if the event is a moment at
+-- or past the deadline; and else it hasn't
 pub record IsTouched (e : Event) (p q : Pending Call) : Type 0 where
   pub deadline : q.deadline ≡ p.deadline
   pub stays : p.given_up ≡ true → q.given_up ≡ true
@@ -64,8 +64,8 @@ touched_append [] ys p = refl
 touched_append (x ∷ xs) ys p = touched_append xs ys (touched x p)
 
 -- where q equals p, `IsTouched e p p` gives `IsTouched e p q`
-still : (e : Event) (p q : Pending Call) → q ≡ p → IsTouched e p p → IsTouched e p q
-still e p q is h = subst (λ x. IsTouched e p x) (sym is) h
+equal_touched : (e : Event) (p q : Pending Call) → q ≡ p → IsTouched e p p → IsTouched e p q
+equal_touched e p q is h = subst (λ x. IsTouched e p x) (sym is) h
 
 module _ {Client State : Type 0} (ends : Ends State) (rule : Rule Client) where
   -- what an event on these streams leaves of a request that waits
@@ -83,13 +83,13 @@ module _ {Client State : Type 0} (ends : Ends State) (rule : Rule Client) where
       }
   touch v (Send target call deadline) p = tells_none (Send target call deadline) p (λ now is. cc)
   touch v UpDeliver p = tells_none UpDeliver p (λ now is. cc)
-  touch v (UpBytes k) p = still (UpBytes k) p _ (quiet_passed Up_deliver _ v.up_gone k p (λ x. refl)) (tells_none (UpBytes k) p (λ now is. cc))
-  touch v (UpLose k) p = still (UpLose k) p _ (quiet_line k v.up_gone (Up_lose k) p (is_begun k v.up_gone) (λ x. refl)) (tells_none (UpLose k) p (λ now is. cc))
-  touch v (UpRepeat k) p = still (UpRepeat k) p _ (quiet_line k v.up_gone (Up_repeat k) p (is_begun k v.up_gone) (λ x. refl)) (tells_none (UpRepeat k) p (λ now is. cc))
+  touch v (UpBytes k) p = equal_touched (UpBytes k) p _ (quiet_passed Up_deliver _ v.up_gone k p (λ x. refl)) (tells_none (UpBytes k) p (λ now is. cc))
+  touch v (UpLose k) p = equal_touched (UpLose k) p _ (quiet_line k v.up_gone (Up_lose k) p (is_begun k v.up_gone) (λ x. refl)) (tells_none (UpLose k) p (λ now is. cc))
+  touch v (UpRepeat k) p = equal_touched (UpRepeat k) p _ (quiet_line k v.up_gone (Up_repeat k) p (is_begun k v.up_gone) (λ x. refl)) (tells_none (UpRepeat k) p (λ now is. cc))
   touch v DownDeliver p = tells_none DownDeliver p (λ now is. cc)
-  touch v (DownBytes k) p = still (DownBytes k) p _ (quiet_passed Down_deliver _ v.down_gone k p (λ x. refl)) (tells_none (DownBytes k) p (λ now is. cc))
-  touch v (DownLose k) p = still (DownLose k) p _ (quiet_line k v.down_gone (Down_lose k) p (is_begun k v.down_gone) (λ x. refl)) (tells_none (DownLose k) p (λ now is. cc))
-  touch v (DownRepeat k) p = still (DownRepeat k) p _ (quiet_line k v.down_gone (Down_repeat k) p (is_begun k v.down_gone) (λ x. refl)) (tells_none (DownRepeat k) p (λ now is. cc))
+  touch v (DownBytes k) p = equal_touched (DownBytes k) p _ (quiet_passed Down_deliver _ v.down_gone k p (λ x. refl)) (tells_none (DownBytes k) p (λ now is. cc))
+  touch v (DownLose k) p = equal_touched (DownLose k) p _ (quiet_line k v.down_gone (Down_lose k) p (is_begun k v.down_gone) (λ x. refl)) (tells_none (DownLose k) p (λ now is. cc))
+  touch v (DownRepeat k) p = equal_touched (DownRepeat k) p _ (quiet_line k v.down_gone (Down_repeat k) p (is_begun k v.down_gone) (λ x. refl)) (tells_none (DownRepeat k) p (λ now is. cc))
   touch v RestartClient p = tells_none RestartClient p (λ now is. cc)
   touch v RestartInstrument p = tells_none RestartInstrument p (λ now is. cc)
 
@@ -120,12 +120,12 @@ module _ {Client State : Type 0} (ends : Ends State) (rule : Rule Client) where
   marked_more : (e : Event) (es : List Event) (v : Streams Client State) (p : Pending Call) → marked_all (e ∷ es) v p ≡ marked_all es (flows ends rule v e) (marked ends rule v e p)
   marked_more e es v p = touched_append (course_on v e).steps (taken ends rule es (flows ends rule v e)) p
 
-  -- a request that was given up stays so
+  -- a request that had timed out stays so
   stays_marked : (es : List Event) (v : Streams Client State) (p : Pending Call) → p.given_up ≡ true → (marked_all es v p).given_up ≡ true
   stays_marked [] v p g = g
   stays_marked (e ∷ es) v p g = ap (λ (q : Pending Call). q.given_up) (marked_more e es v p) ∙ stays_marked es (flows ends rule v e) (marked ends rule v e p) ((touch ends rule v e p).stays g)
 
-  -- where no moment among the events reached its deadline, a request isn't given up
+  -- where no moment among the events reached its deadline, a request hasn't timed out
   pub in_time : (es : List Event) (v : Streams Client State) (p : Pending Call) → p.given_up ≡ false → ((now : ℕ) → Contains es (Expire now) → now < p.deadline) → (marked_all es v p).given_up ≡ false
   in_time [] v p g h = g
   in_time (e ∷ es) v p g h =
@@ -134,15 +134,15 @@ module _ {Client State : Type 0} (ends : Ends State) (rule : Rule Client) where
       ∙ in_time es (flows ends rule v e) (marked ends rule v e p) (t.early g (λ now is. h now (at_head e (Expire now) es is)))
       (λ now has. subst (λ d. now < d) (sym t.deadline) (h now (at_tail e (Expire now) es has)))
 
-  -- the step of the induction in `too_late`: where a moment at or past the request's deadline is the event e, or among the events
-  -- es, the request is given up; for es this is the premise
+  -- the step of the induction in `too_late`: where a moment at or past the request's deadline is the event e, or among the
+  -- events es, the request has timed out; for es this is the premise
   late_by : (e : Event) (es : List Event) (v : Streams Client State) (p : Pending Call) (now : ℕ) → p.deadline ≤ now
       → (Contains es (Expire now) → (marked_all es (flows ends rule v e) (marked ends rule v e p)).given_up ≡ true)
       → (e ≡ Expire now) ⊎ Contains es (Expire now) → (marked_all es (flows ends rule v e) (marked ends rule v e p)).given_up ≡ true
   late_by e es v p now le rest (inl is) = stays_marked es (flows ends rule v e) (marked ends rule v e p) ((touch ends rule v e p).reached now is le)
   late_by e es v p now le rest (inr has) = rest has
 
-  -- where a moment among the events reached its deadline, a request is given up
+  -- where a moment among the events reached its deadline, a request has timed out
   pub too_late : (es : List Event) (v : Streams Client State) (p : Pending Call) (now : ℕ) → Contains es (Expire now) → p.deadline ≤ now → (marked_all es v p).given_up ≡ true
   too_late [] v p now has le = absurd (none_in (Expire now) has)
   too_late (e ∷ es) v p now has le =
@@ -152,20 +152,20 @@ module _ {Client State : Type 0} (ends : Ends State) (rule : Rule Client) where
       (head_or_tail e (Expire now) es has)
 
 -- an event is no moment at or past the deadline
-abbrev Early : ℕ → Event → Type 0
-Early deadline e = (now : ℕ) → e ≡ Expire now → now < deadline
+abbrev IsEarly : ℕ → Event → Type 0
+IsEarly deadline e = (now : ℕ) → e ≡ Expire now → now < deadline
 
 -- an event is a moment at or past the deadline
 abbrev Reaches : ℕ → Event → Type 0
 Reaches deadline e = (now : ℕ) × (e ≡ Expire now) × (deadline ≤ now)
 
 -- a moment lies before a deadline, or reaches it
-moment_tells : (deadline now : ℕ) (b : Bool) → leb deadline now ≡ b → Early deadline (Expire now) ⊎ Reaches deadline (Expire now)
+moment_tells : (deadline now : ℕ) (b : Bool) → leb deadline now ≡ b → IsEarly deadline (Expire now) ⊎ Reaches deadline (Expire now)
 moment_tells deadline now true t = inr (now, refl, leb-true _ _ t)
 moment_tells deadline now false t = inl (λ m is. omega (arith, moment_is now m is, leb-false _ _ t))
 
 -- an event is early, or reaches the deadline
-event_tells : (deadline : ℕ) (e : Event) → Early deadline e ⊎ Reaches deadline e
+event_tells : (deadline : ℕ) (e : Event) → IsEarly deadline e ⊎ Reaches deadline e
 event_tells deadline (Expire now) = moment_tells deadline now (leb deadline now) refl
 event_tells deadline (Send target call d) = inl (λ now is. cc)
 event_tells deadline UpDeliver = inl (λ now is. cc)
@@ -188,19 +188,19 @@ abbrev pub OneReaches : ℕ → List Event → Type 0
 OneReaches deadline es = (now : ℕ) × Contains es (Expire now) × (deadline ≤ now)
 
 -- where the event e and all the events es are early, a moment that is e or among es lies before the deadline
-earlier_or : (deadline now : ℕ) (e : Event) (es : List Event) → Early deadline e → AllEarly deadline es → (e ≡ Expire now) ⊎ Contains es (Expire now) → now < deadline
+earlier_or : (deadline now : ℕ) (e : Event) (es : List Event) → IsEarly deadline e → AllEarly deadline es → (e ≡ Expire now) ⊎ Contains es (Expire now) → now < deadline
 earlier_or deadline now e es h hs (inl is) = h now is
 earlier_or deadline now e es h hs (inr has) = hs now has
 
 -- where e is early or reaches the deadline, and all events es are early or one of them reaches it, the same holds of e and es
 -- together
-either_tells : (deadline : ℕ) (e : Event) (es : List Event) → Early deadline e ⊎ Reaches deadline e → AllEarly deadline es ⊎ OneReaches deadline es
+early_or_reached_with : (deadline : ℕ) (e : Event) (es : List Event) → IsEarly deadline e ⊎ Reaches deadline e → AllEarly deadline es ⊎ OneReaches deadline es
     → AllEarly deadline (e ∷ es) ⊎ OneReaches deadline (e ∷ es)
-either_tells deadline e es (inr (now, is, le)) rest = inr (now, at_head e (Expire now) es is, le)
-either_tells deadline e es (inl h) (inr (now, has, le)) = inr (now, at_tail e (Expire now) es has, le)
-either_tells deadline e es (inl h) (inl hs) = inl (λ now has. earlier_or deadline now e es h hs (head_or_tail e (Expire now) es has))
+early_or_reached_with deadline e es (inr (now, is, le)) rest = inr (now, at_head e (Expire now) es is, le)
+early_or_reached_with deadline e es (inl h) (inr (now, has, le)) = inr (now, at_tail e (Expire now) es has, le)
+early_or_reached_with deadline e es (inl h) (inl hs) = inl (λ now has. earlier_or deadline now e es h hs (head_or_tail e (Expire now) es has))
 
 -- the moments among some events either all lie before a deadline, or one is at or past it
-pub tells : (deadline : ℕ) (es : List Event) → AllEarly deadline es ⊎ OneReaches deadline es
-tells deadline [] = inl (λ now has. absurd (none_in (Expire now) has))
-tells deadline (e ∷ es) = either_tells deadline e es (event_tells deadline e) (tells deadline es)
+pub early_or_reached : (deadline : ℕ) (es : List Event) → AllEarly deadline es ⊎ OneReaches deadline es
+early_or_reached deadline [] = inl (λ now has. absurd (none_in (Expire now) has))
+early_or_reached deadline (e ∷ es) = early_or_reached_with deadline e es (event_tells deadline e) (early_or_reached deadline es)

@@ -32,51 +32,52 @@ rising_each : (low : ℕ) (xs : List (Numbered Request)) → Rising low (numbers
 rising_each low [] h = tt
 rising_each low (x ∷ xs) h = (h.0, each_more (λ y. x.number + 1 ≤ y.number + 1) (λ y. low ≤ y.number + 1) (λ y k. omega (arith, k, h.0)) xs (rising_each (x.number + 1) xs h.1))
 
--- where numbers never fall from `low` on, n among them is at least low - 1, and those behind n never fall below n
+-- where numbers never fall from `low` on, n among them is at least low - 1, and those after n never fall below n
 rising_tail : (low n : ℕ) (xs ys : List ℕ) → Rising low (xs ++ n ∷ ys) → (low ≤ n + 1) × Rising (n + 1) ys
 rising_tail low n [] ys h = h
 rising_tail low n (x ∷ xs) ys h = let r = rising_tail (x + 1) n xs ys h.1 in (omega (arith, h.0, r.0), r.1)
 
--- how the requests under way upward stand to those executed. Where nothing is kept, none of them was executed. Where a reply is
--- kept, it has the id of request top - 1, and each of them is that request or a later one
-abbrev Above : Option KeptReply → ℕ → ℕ → ℕ → List (Numbered Request) → Type 0
-Above None since count top up = Each (λ x. top ≤ x.number) up
-Above (Some k) since count top up = (since < top) × (k.id ≡ (top - 1 - since) % 8) × (count ≤ top) × Each (λ x. top ≤ x.number + 1) up
+-- how the requests in flight upward relate to those executed. Where nothing is kept, none of them was executed. Where a
+-- reply is kept, it has the id of request top - 1, and each of them is that request or a later one
+abbrev IsAboveExecuted : Option KeptReply → ℕ → ℕ → ℕ → List (Numbered Request) → Type 0
+IsAboveExecuted None since count top up = Each (λ x. top ≤ x.number) up
+IsAboveExecuted (Some k) since count top up = (since < top) × (k.id ≡ (top - 1 - since) % 8) × (count ≤ top) × Each (λ x. top ≤ x.number + 1) up
 
--- `Above` holds where no request is under way and nothing is kept
-above_none : (since count top : ℕ) (up : List (Numbered Request)) (kept : Option KeptReply) → up ≡ [] → kept ≡ None → Above kept since count top up
-above_none since count top up kept e none = subst (λ k. Above k since count top up) (sym none) (subst (λ q. Each (λ x. top ≤ x.number) q) (sym e) tt)
+-- `IsAboveExecuted` holds where no request is in flight and nothing is kept
+above_none : (since count top : ℕ) (up : List (Numbered Request)) (kept : Option KeptReply) → up ≡ [] → kept ≡ None → IsAboveExecuted kept since count top up
+above_none since count top up kept e none = subst (λ k. IsAboveExecuted k since count top up) (sym none) (subst (λ q. Each (λ x. top ≤ x.number) q) (sym e) tt)
 
--- `Above` holds also with a request at the back whose number is the top or more
+-- `IsAboveExecuted` holds also with a request at the back whose number is the top or more
 above_push : (kept : Option KeptReply) (since count top : ℕ) (up : List (Numbered Request)) (x : Numbered Request) → top ≤ x.number
-    → Above kept since count top up → Above kept since count top (up ++ x ∷ [])
+    → IsAboveExecuted kept since count top up → IsAboveExecuted kept since count top (up ++ x ∷ [])
 above_push None since count top up x le h = each_append _ up (x ∷ []) h (le, tt)
 above_push (Some k) since count top up x le h = (h.0, h.1, h.2, each_append _ up (x ∷ []) h.3 (omega arith, tt))
 
--- `Above` holds also once a request is lost
-above_without : (kept : Option KeptReply) (since count top k : ℕ) (up : List (Numbered Request)) → Above kept since count top up → Above kept since count top (without k up)
+-- `IsAboveExecuted` holds also once a request is lost
+above_without : (kept : Option KeptReply) (since count top k : ℕ) (up : List (Numbered Request)) → IsAboveExecuted kept since count top up → IsAboveExecuted kept since count top (without k up)
 above_without None since count top k up h = each_without _ k up h
 above_without (Some q) since count top k up h = (h.0, h.1, h.2, each_without _ k up h.3)
 
--- `Above` holds also once a request is repeated
-above_doubled : (kept : Option KeptReply) (since count top k : ℕ) (up : List (Numbered Request)) → Above kept since count top up → Above kept since count top (doubled k up)
+-- `IsAboveExecuted` holds also once a request is repeated
+above_doubled : (kept : Option KeptReply) (since count top k : ℕ) (up : List (Numbered Request)) → IsAboveExecuted kept since count top up → IsAboveExecuted kept since count top (doubled k up)
 above_doubled None since count top k up h = each_doubled _ k up h
 above_doubled (Some q) since count top k up h = (h.0, h.1, h.2, each_doubled _ k up h.3)
 
--- `Above` holds also once the request in front is handed over
-above_tail : (kept : Option KeptReply) (since count top : ℕ) (x : Numbered Request) (up : List (Numbered Request)) → Above kept since count top (x ∷ up) → Above kept since count top up
+-- `IsAboveExecuted` holds also once the request in front is handed over
+above_tail : (kept : Option KeptReply) (since count top : ℕ) (x : Numbered Request) (up : List (Numbered Request)) → IsAboveExecuted kept since count top (x ∷ up)
+    → IsAboveExecuted kept since count top up
 above_tail None since count top x up h = h.1
 above_tail (Some q) since count top x up h = (h.0, h.1, h.2, h.3.1)
 
--- `Above` holds also with another count that is at most the top
-above_count : (kept : Option KeptReply) (since count count' top : ℕ) (up : List (Numbered Request)) → count' ≤ top → Above kept since count top up → Above kept since count' top up
+-- `IsAboveExecuted` holds also with another count that is at most the top
+above_count : (kept : Option KeptReply) (since count count' top : ℕ) (up : List (Numbered Request)) → count' ≤ top → IsAboveExecuted kept since count top up → IsAboveExecuted kept since count' top up
 above_count None since count count' top up le h = h
 above_count (Some q) since count count' top up le h = (h.0, h.1, le, h.3)
 
 -- where `if b then Some l else None` is a line, b is true
-chosen : (b : Bool) (l line : List ℕ) → (cond b (Some l) None ≡ Some line) → b ≡ true
-chosen true l line e = refl
-chosen false l line e = cc
+true_if_some : (b : Bool) (l line : List ℕ) → (cond b (Some l) None ≡ Some line) → b ≡ true
+true_if_some true l line e = refl
+true_if_some false l line e = cc
 
 -- where `if b then Some l else None` is none, b is false
 not_chosen : (b : Bool) (l : List ℕ) → (cond b (Some l) None ≡ None) → b ≡ false
@@ -85,7 +86,7 @@ not_chosen false l e = refl
 
 -- a request with another id than the kept one has a number above all that were executed
 is_new : (kept : Option KeptReply) (since count top : ℕ) (x : Numbered Request) (up : List (Numbered Request))
-    → kept_line kept (Some ((x.number - since) % 8)) ≡ None → Above kept since count top (x ∷ up) → top ≤ x.number
+    → kept_line kept (Some ((x.number - since) % 8)) ≡ None → IsAboveExecuted kept since count top (x ∷ up) → top ≤ x.number
 is_new None since count top x up e h = h.0
 is_new (Some k) since count top x up e h =
     let ne = eqb-false _ _ (not_chosen (eqb k.id ((x.number - since) % 8)) k.line e) in
@@ -97,27 +98,27 @@ is_new (Some k) since count top x up e h =
 -- a request with the kept id is the last that was executed
 is_last : (width : ℕ) (kept : Option KeptReply) (since count top total : ℕ) (x : Numbered Request) (up : List (Numbered Request)) (line : List ℕ) → width ≤ 7
     → kept_line kept (Some ((x.number - since) % 8)) ≡ Some line → since ≤ x.number → x.number < total → total ≤ count + width
-    → Above kept since count top (x ∷ up) → x.number + 1 ≡ top
+    → IsAboveExecuted kept since count top (x ∷ up) → x.number + 1 ≡ top
 is_last width None since count top total x up line narrow e h1 h2 h3 h = cc
 is_last width (Some k) since count top total x up line narrow e h1 h2 h3 h =
-    let same = eqb-true _ _ (chosen (eqb k.id ((x.number - since) % 8)) k.line line e) in
+    let same = eqb-true _ _ (true_if_some (eqb k.id ((x.number - since) % 8)) k.line line e) in
     omega (arith, same, h.0, h.1, h.2, h.3.0)
 
 -- if a reply is kept, it is among these replies, as the one to the last request that was executed, number top - 1
-abbrev Held : Option KeptReply → ℕ → List (Numbered (List ℕ)) → Type 0
-Held None top replies = Unit {0}
-Held (Some k) top replies = Has (record { number = top - 1; line = k.line }) replies
+abbrev IsKeptAmong : Option KeptReply → ℕ → List (Numbered (List ℕ)) → Type 0
+IsKeptAmong None top replies = Unit {0}
+IsKeptAmong (Some k) top replies = Has (record { number = top - 1; line = k.line }) replies
 
--- `Held` holds where nothing is kept
-held_none : (top : ℕ) (replies : List (Numbered (List ℕ))) (kept : Option KeptReply) → kept ≡ None → Held kept top replies
-held_none top replies kept none = subst (λ k. Held k top replies) (sym none) tt
+-- `IsKeptAmong` holds where nothing is kept
+held_none : (top : ℕ) (replies : List (Numbered (List ℕ))) (kept : Option KeptReply) → kept ≡ None → IsKeptAmong kept top replies
+held_none top replies kept none = subst (λ k. IsKeptAmong k top replies) (sym none) tt
 
 -- where n is the number executed last, the kept line is among the replies as the one to request n
 held_line : (kept : Option KeptReply) (id n top : ℕ) (line : List ℕ) (replies : List (Numbered (List ℕ))) → kept_line kept (Some id) ≡ Some line → n + 1 ≡ top
-    → Held kept top replies → Has (record { number = n; line = line }) replies
+    → IsKeptAmong kept top replies → Has (record { number = n; line = line }) replies
 held_line None id n top line replies e t h = cc
 held_line (Some k) id n top line replies e t h =
-    let b = chosen (eqb k.id id) k.line line e in
+    let b = true_if_some (eqb k.id id) k.line line e in
     let e' : Some k.line ≡ Some line = subst (λ v. cond v (Some k.line) None ≡ Some line) b e in
     let l : k.line ≡ line = some_is k.line line e' in
     let m : top - 1 ≡ n = omega arith in
@@ -132,7 +133,7 @@ IsLast (Some k) top executed = (earlier : List ℕ) × (executed ≡ earlier ++ 
 last_none : (top : ℕ) (executed : List ℕ) (kept : Option KeptReply) → kept ≡ None → IsLast kept top executed
 last_none top executed kept none = subst (λ k. IsLast k top executed) (sym none) tt
 
--- while a reply is kept, requests under way have the number executed last or one of the `width` above it
+-- while a reply is kept, requests in flight have the number executed last or one of the `width` above it
 recent_row : (width since count top total : ℕ) (k : KeptReply) (executed earlier : List ℕ) (up : List (Numbered Request))
     → executed ≡ earlier ++ (top - 1) ∷ [] → since < top → count ≤ top → total ≤ count + width
     → Each (λ x. top ≤ x.number + 1) up → Each (IsGoing since total) up → IsRecent width (Some k) executed (numbers up)
@@ -143,8 +144,8 @@ recent_row width since count top total k executed earlier up is some counted few
     both [] a g = tt
     both (x ∷ xs) a g = ((omega (arith, a.0), omega (arith, g.0.sent, some, counted, few)), both xs a.1 g.1)
 
--- `IsRecent` holds where `Above` and `IsLast` do, whether a reply is kept or not
-recent_of : (width since count top total : ℕ) (kept : Option KeptReply) (executed : List ℕ) (up : List (Numbered Request)) → Above kept since count top up
+-- `IsRecent` holds where `IsAboveExecuted` and `IsLast` do, whether a reply is kept or not
+recent_of : (width since count top total : ℕ) (kept : Option KeptReply) (executed : List ℕ) (up : List (Numbered Request)) → IsAboveExecuted kept since count top up
     → IsLast kept top executed → total ≤ count + width → Each (IsGoing since total) up → IsRecent width kept executed (numbers up)
 recent_of width since count top total None executed up above last few going = tt
 recent_of width since count top total (Some k) executed up above last few going = recent_row width since count top total k executed last.0 up last.1 above.0 above.2 few above.3 going
@@ -153,25 +154,25 @@ module _ {State : Type 0} (width : ℕ) (narrow : width ≤ 7) (ends : Ends Stat
     (kept : State → Option KeptReply) (keeper : IsKeeper ends kept) (opening : State) where
   -- the wire's executions are a replay (`Replays`) with these replies. The replies that were made are these and no others
   -- (`among`, `each`); no start counts more executions than there were; the kept reply is that of the request executed last
-  -- (`held`); and each request under way is the one that was sent with its number (`lines`)
+  -- (`held`); and each request in flight is the one that was sent with its number (`lines`)
   pub record IsTold (w : Wire State) (top : ℕ) : Type 0 where
     pub replies : List (Numbered (List ℕ))
     pub replays : Replays ends w.sent w.starts 0 (ends.restarted opening) w.executed replies w.state
     pub among : Each (λ m. Has m replies) w.made
     pub each : Each (λ m. Has m w.made) replies
     pub begins : Each (λ x. x < length w.executed + 1) w.starts
-    pub held : Held (kept w.state) top replies
+    pub held : IsKeptAmong (kept w.state) top replies
     pub lines : Each (IsOf call_line w.sent) w.up
 
-  -- each request was executed once: the executed numbers increase, they and those of the replies under way are below `top`, and
-  -- `Above`, `IsLast` and `IsTold` hold of the wire with this `top`
+  -- each request was executed once: the executed numbers increase, they and those of the replies in flight are below `top`,
+  -- and `IsAboveExecuted`, `IsLast` and `IsTold` hold of the wire with this `top`
   pub record IsOnce (c : ByNumber Call) (w : Wire State) : Type 0 where
     pub top : ℕ
     pub climbs : Increasing 0 w.executed
     pub below : Each (λ n. n < top) w.executed
     pub sent : top ≤ length c.requests
     pub made : Each (λ x. x.number < top) w.down
-    pub above : Above (kept w.state) c.since c.count top w.up
+    pub above : IsAboveExecuted (kept w.state) c.since c.count top w.up
     pub last : IsLast (kept w.state) top w.executed
     pub told : IsTold w top
 
@@ -211,7 +212,8 @@ module _ {State : Type 0} (width : ℕ) (narrow : width ≤ 7) (ends : Ends Stat
         among = each_append _ w.made _ (each_more (λ m. Has m h.replies) (λ m. Has m (h.replies ++ y ∷ [])) (λ m p. has_more m h.replies _ p) w.made h.among) (has_push y h.replies, tt);
         each = each_append _ h.replies _ (each_more (λ m. Has m w.made) (λ m. Has m (w.made ++ y ∷ [])) (λ m p. has_more m w.made _ p) h.replies h.each) (has_push y w.made, tt);
         begins = each_more (λ n. n < length w.executed + 1) (λ n. n < length (w.executed ++ x.number ∷ []) + 1) (λ n l. omega (arith, l, length_push w.executed x.number)) w.starts h.begins;
-        held = subst (λ k. Held k (x.number + 1) (h.replies ++ y ∷ [])) (sym keeps_it) (subst (λ i. Has (record { number = i; line = hd.reply }) (h.replies ++ y ∷ [])) m (has_push y h.replies));
+        held = subst (λ k. IsKeptAmong k (x.number + 1) (h.replies ++ y ∷ [])) (sym keeps_it) (subst (λ i. Has (record { number = i; line = hd.reply }) (h.replies
+            ++ y ∷ [])) m (has_push y h.replies));
         lines = of.1;
       }
 
@@ -222,7 +224,7 @@ module _ {State : Type 0} (width : ℕ) (narrow : width ≤ 7) (ends : Ends Stat
   once_new w x rest hd q is none exe s h =
       let c = w.client in
       let g = subst (λ l. Each (IsGoing c.since (length c.requests)) l) q s.going in
-      let a = subst (λ l. Above (kept w.wire.state) c.since c.count h.top l) q h.above in
+      let a = subst (λ l. IsAboveExecuted (kept w.wire.state) c.since c.count h.top l) q h.above in
       let new = is_new (kept w.wire.state) c.since c.count h.top x rest (subst (λ i. kept_line (kept w.wire.state) (Some i) ≡ None) g.0.id none) a in
       let order = rising_tail c.count x.number (numbers w.wire.down) (numbers rest) (subst (λ l. Rising c.count (numbers w.wire.down ++ numbers l)) q s.order) in
       let keeps_it : kept hd.state ≡ Some (record { id = x.line.id; line = hd.reply }) =
@@ -234,7 +236,7 @@ module _ {State : Type 0} (width : ℕ) (narrow : width ≤ 7) (ends : Ends Stat
         below = each_append _ w.wire.executed _ (each_more (λ n. n < h.top) (λ n. n < x.number + 1) (λ n l. omega (arith, l, new)) w.wire.executed h.below) (omega arith, tt);
         sent = omega (arith, g.0.sent);
         made = each_append _ w.wire.down _ (each_more (λ (y : Numbered (List ℕ)). y.number < h.top) (λ y. y.number < x.number + 1) (λ y l. omega (arith, l, new)) w.wire.down h.made) (omega arith, tt);
-        above = subst (λ k. Above k c.since c.count (x.number + 1) rest) (sym keeps_it)
+        above = subst (λ k. IsAboveExecuted k c.since c.count (x.number + 1) rest) (sym keeps_it)
             (omega (arith, g.0.recent), g.0.id ∙ ap (λ n. (n - c.since) % 8) m, order.0, rising_each (x.number + 1) rest order.1);
         last = subst (λ k. IsLast k (x.number + 1) (w.wire.executed ++ x.number ∷ [])) (sym keeps_it) (w.wire.executed, ap (λ n. w.wire.executed ++ n ∷ []) m);
         told = told_new w.wire x rest h.top q hd is none h.told exe;
@@ -248,7 +250,7 @@ module _ {State : Type 0} (width : ℕ) (narrow : width ≤ 7) (ends : Ends Stat
       let c = w.client in
       let r = h.told in
       let g = subst (λ l. Each (IsGoing c.since (length c.requests)) l) q s.going in
-      let a = subst (λ l. Above (kept w.wire.state) c.since c.count h.top l) q h.above in
+      let a = subst (λ l. IsAboveExecuted (kept w.wire.state) c.since c.count h.top l) q h.above in
       let last = is_last width (kept w.wire.state) c.since c.count h.top (length c.requests) x rest line narrow
       (subst (λ i. kept_line (kept w.wire.state) (Some i) ≡ Some line) g.0.id is) g.0.recent g.0.sent s.few a in
       let y : Numbered (List ℕ) = record { number = x.number; line = line } in
@@ -296,8 +298,8 @@ module _ {State : Type 0} (width : ℕ) (narrow : width ≤ 7) (ends : Ends Stat
         made = h.made;
         last = h.last;
         above =
-            subst (λ n. Above (kept w.wire.state) n x.client.count h.top (w.wire.up ++ record { number = length w.wire.sent; line = record { id = x.id; call = call } } ∷ [])) (sym since)
-            (subst (λ n. Above (kept w.wire.state) w.client.since n h.top (w.wire.up ++ record { number = length w.wire.sent; line = record { id = x.id; call = call } } ∷ [])) (sym count)
+            subst (λ n. IsAboveExecuted (kept w.wire.state) n x.client.count h.top (w.wire.up ++ record { number = length w.wire.sent; line = record { id = x.id; call = call } } ∷ [])) (sym since)
+            (subst (λ n. IsAboveExecuted (kept w.wire.state) w.client.since n h.top (w.wire.up ++ record { number = length w.wire.sent; line = record { id = x.id; call = call } } ∷ [])) (sym count)
             (above_push (kept w.wire.state) w.client.since w.client.count h.top w.wire.up _ (omega (arith, h.sent, s.counted)) h.above));
         told = record {
           replies = t.replies;
@@ -312,7 +314,7 @@ module _ {State : Type 0} (width : ℕ) (narrow : width ≤ 7) (ends : Ends Stat
         };
       }
 
-  -- `IsOnce` holds also once the client that is told the numbers sent a request
+  -- `IsOnce` holds also once the oracle client sent a request
   once_send : (w : World (ByNumber Call) State) (target : ℕ) (call : Call) (deadline : ℕ) (full : Bool) (x : Sending (ByNumber Call))
       → number_send w.client target call deadline full ≡ Some x → Sound width ends Good w → IsOnce w.client w.wire
       → IsOnce x.client (requested w target call (Some x)).wire
@@ -334,10 +336,10 @@ module _ {State : Type 0} (width : ℕ) (narrow : width ≤ 7) (ends : Ends Stat
 
   -- `IsOnce` holds also with other queues, of which its clauses hold
   once_queues : (c : ByNumber Call) (w : Wire State) (up : List (Numbered Request)) (down : List (Numbered (List ℕ))) (h : IsOnce c w)
-      → Each (λ x. x.number < h.top) down → Above (kept w.state) c.since c.count h.top up → Each (IsOf call_line w.sent) up → IsOnce c (record w { up = up; down = down })
+      → Each (λ x. x.number < h.top) down → IsAboveExecuted (kept w.state) c.since c.count h.top up → Each (IsOf call_line w.sent) up → IsOnce c (record w { up = up; down = down })
   once_queues c w up down h d u l = record { top = h.top; last = h.last; climbs = h.climbs; below = h.below; sent = h.sent; made = d; above = u; told = told_up w h.top up down l h.told }
 
-  -- `IsTold` holds also with other settlements, replies under way and counts
+  -- `IsTold` holds also with other settlements, replies in flight and counts
   told_else : (w : Wire State) (top : ℕ) (settled : _) (down : _) (refused idle : ℕ) → IsTold w top → IsTold (record w { settled = settled; down = down; refused = refused; idle = idle }) top
   told_else w top settled down refused idle t = record { replies = t.replies; replays = t.replays; among = t.among; each = t.each; begins = t.begins; held = t.held; lines = t.lines }
 
@@ -376,7 +378,7 @@ module _ {State : Type 0} (width : ℕ) (narrow : width ≤ 7) (ends : Ends Stat
             told_else w.wire h.top _ rest w.wire.refused w.wire.idle h.told;
       }
 
-  -- `IsOnce` holds also once the instrument restarted while no request was under way, which makes it forget what it kept
+  -- `IsOnce` holds also once the instrument restarted while no request was in flight, which makes it forget what it kept
   once_forgotten : (c : ByNumber Call) (w : Wire State) (count since : ℕ) → w.up ≡ [] → IsOnce c w → IsOnce (record c { count = count; since = since }) (started ends w true)
   once_forgotten c w count since e h =
       let t = h.told in
@@ -413,7 +415,7 @@ module _ {State : Type 0} (width : ℕ) (narrow : width ≤ 7) (ends : Ends Stat
     told = h.told;
   }
 
-  -- `IsOnce` holds also once the client was restarted, and the instrument with it, while no request was under way
+  -- `IsOnce` holds also once the client was restarted, and the instrument with it, while no request was in flight
   once_restarted : (w : World (ByNumber Call) State) → ends.joint ≡ true → w.wire.up ≡ [] → IsOnce w.client w.wire
       → IsOnce ((by_numbers width).restart w.client).client (with_settled (started ends w.wire ends.joint) ((by_numbers width).restart w.client)).wire
   once_restarted w joint e h =
@@ -484,6 +486,6 @@ module _ {State : Type 0} (width : ℕ) (narrow : width ≤ 7) (ends : Ends Stat
         };
       })
 
-  -- while a reply is kept, each request under way upward has the number executed last or one of the `width` above it
+  -- while a reply is kept, each request in flight upward has the number executed last or one of the `width` above it
   pub recent : (w : World (ByNumber Call) State) → Once w → IsRecent width (kept w.wire.state) w.wire.executed (numbers w.wire.up)
   recent w h = recent_of width w.client.since w.client.count h.once.top (length w.client.requests) (kept w.wire.state) w.wire.executed w.wire.up h.once.above h.once.last h.sound.few h.sound.going

@@ -16,22 +16,22 @@ use Rattle.gc_lines.specs.Lines.{IsPlain, with_end}
 use Rattle.gc_lines.proofs.Keeping.{line_frame, last-append}
 
 -- a byte is neither CR nor LF
-abbrev Plain : ℕ → Type 0
-Plain b = (b ≢ 10) × (b ≢ 13)
+abbrev IsPlainByte : ℕ → Type 0
+IsPlainByte b = (b ≢ 10) × (b ≢ 13)
 
 -- Plain bytes have no line feed.
 
--- the bytes in front of the first line feed are all of them, where they are plain
-goes_on : (bs : List ℕ) → AllByRecursion Plain bs → prefix_len (λ b. not (is_line_feed b)) bs ≡ length bs
-goes_on [] h = refl
-goes_on (b ∷ bs) h =
+-- the bytes before the first line feed are all of them, where they are plain
+plain_prefix : (bs : List ℕ) → AllByRecursion IsPlainByte bs → prefix_len (λ b. not (is_line_feed b)) bs ≡ length bs
+plain_prefix [] h = refl
+plain_prefix (b ∷ bs) h =
     ap (λ v. cond (Rattle.std.specs.Prelude.not v) (1 + prefix_len (λ c. not (is_line_feed c)) bs) 0) (ne_eqb b 10 h.0.0)
-    ∙ ap (λ n. 1 + n) (goes_on bs h.1) ∙ omega arith
+    ∙ ap (λ n. 1 + n) (plain_prefix bs h.1) ∙ omega arith
 
 -- plain bytes have no line feed
 pub no_feed : (bs : List ℕ) → IsPlain bs → position is_line_feed bs ≡ None
 no_feed bs h =
-    ap (λ n. cond (ltb n (length bs)) (Some n) None) (goes_on bs (recursion_from_All Plain bs h))
+    ap (λ n. cond (ltb n (length bs)) (Some n) None) (plain_prefix bs (recursion_from_All IsPlainByte bs h))
     ∙ ap (λ v. cond v (Some (length bs)) None) (le-ltb (length bs) (length bs) (omega arith))
 
 -- Pieces of a list.
@@ -80,7 +80,7 @@ module _ {P Q : Type 0} (old new : Kept) (line : List ℕ) (plain : IsPlain line
       → (position is_line_feed (take (m - g) (drop g line)) ≡ None → P × Q × ((rest : List ℕ) → StandsFor old rest → StandsFor new (rest ++ take (m - g) (drop g line))))
       → StandsFor old (take g (with_end line)) → StandsFor new (take m (with_end line))
   fed_within g m le within next stands =
-      let fed = (next (no_feed (take (m - g) (drop g line)) (All-take Plain (m - g) (drop g line) (All-drop Plain g line plain)))).2 (take g line)
+      let fed = (next (no_feed (take (m - g) (drop g line)) (All-take IsPlainByte (m - g) (drop g line) (All-drop IsPlainByte g line plain)))).2 (take g line)
       (subst (StandsFor old) (take_front g line (13 ∷ 10 ∷ []) (omega (arith, le, within))) stands) in
       subst (StandsFor new) (take_pieces g m line le ∙ sym (take_front m line (13 ∷ 10 ∷ []) within)) fed
 

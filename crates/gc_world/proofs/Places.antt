@@ -28,13 +28,13 @@ in_range [] k lt = absurd (omega arith)
 in_range (x ∷ xs) zero lt = (x, refl)
 in_range (x ∷ xs) (suc k) lt = in_range xs k (omega arith)
 
--- an element keeps its place in a list when others are put behind the list
+-- an element keeps its place in a list when others are put after the list
 pub get_more : {A : Type 0} (xs ys : List A) (n : ℕ) (x : A) → slice_get xs n ≡ Some x → slice_get (xs ++ ys) n ≡ Some x
 get_more [] ys n x e = cc
 get_more (y ∷ xs) ys zero x e = e
 get_more (y ∷ xs) ys (suc n) x e = get_more xs ys n x e
 
--- the element that was appended stands at the place of the old length
+-- the element that was appended is at the place of the old length
 pub get_push : {A : Type 0} (xs : List A) (x : A) → slice_get (xs ++ x ∷ []) (length xs) ≡ Some x
 get_push [] x = refl
 get_push (y ∷ xs) x = get_push xs x
@@ -45,7 +45,7 @@ each_get P [] n x h e = absurd (none_is_not x e)
 each_get P (y ∷ xs) zero x h e = subst P (some_is y x e) h.0
 each_get P (y ∷ xs) (suc n) x h e = each_get P xs n x h.1 e
 
--- an element that was read at a place below the length stands there
+-- an element that was read at a place below the length is there
 pub get_at : {A : Type 0} (xs : List A) (i : ℕ) (x : A) → i < length xs → x ≡ get_or xs i x → slice_get xs i ≡ Some x
 get_at [] i x lt e = absurd (omega arith)
 get_at (y ∷ ys) zero x lt e = ap Some (sym e)

@@ -120,7 +120,7 @@ module _ {State : Type 0} (ends : Ends State) where
   replays_started twice sent starts opening (n ∷ ns) ms t h = replays_start twice sent starts 0 (length (n ∷ ns)) (ends.restarted opening) n ns ms t (omega arith) h
   replays_started twice sent starts opening [] (m ∷ ms) t h = absurd h
 
--- a request under way is the one that was sent with its number
+-- a request in flight is the one that was sent with its number
 pub record IsOf {Q : Type 0} (written : ℕ → Q → List ℕ) (sent : List (Worlds.Sent Q)) (x : Numbered (Worlds.Request Q)) : Type 0 where
   pub request : Worlds.Sent Q
   pub found : slice_get sent x.number ≡ Some request
@@ -128,6 +128,6 @@ pub record IsOf {Q : Type 0} (written : ℕ → Q → List ℕ) (sent : List (Wo
   pub call : request.call ≡ x.line.call
   pub text : request.line ≡ written x.line.id x.line.call
 
--- a request under way stays the one that was sent with its number when more are sent
+-- a request in flight stays the one that was sent with its number when more are sent
 pub of_more : {Q : Type 0} (written : ℕ → Q → List ℕ) (sent more : List (Worlds.Sent Q)) (x : Numbered (Worlds.Request Q)) → IsOf written sent x → IsOf written (sent ++ more) x
 of_more written sent more x h = record { request = h.request; found = get_more sent more x.number h.request h.found; small = h.small; call = h.call; text = h.text }

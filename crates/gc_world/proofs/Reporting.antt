@@ -27,7 +27,7 @@ use Rattle.gc_instrument.specs.Replying.{executed_line}
 use Rattle.gc_world.specs.World
 use Rattle.gc_world.specs.World.{Numbered, Wire}
 use Rattle.gc_world.proofs.Counts.{IsWithin}
-use Rattle.gc_world.proofs.Handing.{bare, bare_after, bare_line, bare_begun}
+use Rattle.gc_world.proofs.Handing.{without_kept, bare_after, bare_line, bare_begun}
 use Rattle.gc_world.proofs.Options.{some_is, none_is_not}
 use Rattle.gc_world.proofs.Places.{get_map, get_seen, below, in_range, each_get}
 
@@ -108,7 +108,7 @@ module _ (r : Report) (w : Wire State) (h : IsReport r w) where
   module _ (opening : State) (x : IsExecution ends opening w) where
     -- the state before each execution, as the run has it
     abbrev before : ℕ → State
-    before j = bare (x.before j)
+    before j = without_kept (x.before j)
 
     -- the number at a place of the report's executions is the run's
     executed_is : (j n : ℕ) → slice_get r.executed j ≡ Some n → slice_get w.executed j ≡ Some n
@@ -122,12 +122,12 @@ module _ (r : Report) (w : Wire State) (h : IsReport r w) where
     states : AreBefore opening r before
     states =
         record {
-          first = ap bare x.first;
+          first = ap without_kept x.first;
           next = λ j n request e sent.
               let d = x.each j n (executed_is j n e) in
               let q = request_of j n d in
               let call : d.request.call ≡ request.call = sym (ap (λ (p : World.Sent). p.call) q.2) ∙ ap (λ (p : Sent). p.call) (some_is q.0 request (sym q.1 ∙ sent)) in
-              ap bare d.next
+              ap without_kept d.next
               ∙ bare_begun (has_number (j + 1) w.starts) _ _ (bare_after (x.before j) d.id d.request.call d.executed)
               ∙ ap (λ starts. begun restarted (has_number (j + 1) starts) (exec (before j) d.request.call).state) (sym h.starts)
               ∙ ap (λ c. begun restarted (has_number (j + 1) r.starts) (exec (before j) c).state) call;
@@ -185,7 +185,7 @@ module _ (r : Report) (w : Wire State) (h : IsReport r w) where
           climbs = climbs;
           before = before;
           states = states;
-          last = ap bare (h.instrument ∙ x.last) ∙ ap (λ l. before (length l)) (sym h.executed);
+          last = ap without_kept (h.instrument ∙ x.last) ∙ ap (λ l. before (length l)) (sym h.executed);
         }
 
   -- the report agrees with a wire that is the run's

@@ -51,22 +51,22 @@ module _ {Line : Type 0} where
   rising_doubled low zero (x ∷ xs) ns h = (h.0, (omega arith, h.1))
   rising_doubled low (suc k) (x ∷ xs) ns h = (h.0, rising_doubled (x.number + 1) k xs ns h.1)
 
-  -- numbers that never fall still never fall once a line of the queue behind them is lost
+  -- numbers that never fall still never fall once a line of the queue after them is lost
   pub rising_without_behind : (low k : ℕ) (ns : List ℕ) (xs : List (Numbered Line)) → Rising low (ns ++ numbers xs) → Rising low (ns ++ numbers (without k xs))
   rising_without_behind low k [] [] h = tt
   rising_without_behind low zero [] (x ∷ xs) h = rising_lower low (x.number + 1) (numbers xs) h.0 h.1
   rising_without_behind low (suc k) [] (x ∷ xs) h = (h.0, rising_without_behind (x.number + 1) k [] xs h.1)
   rising_without_behind low k (n ∷ ns) xs h = (h.0, rising_without_behind (n + 1) k ns xs h.1)
 
-  -- numbers that never fall still never fall once a line of the queue behind them is repeated
+  -- numbers that never fall still never fall once a line of the queue after them is repeated
   pub rising_doubled_behind : (low k : ℕ) (ns : List ℕ) (xs : List (Numbered Line)) → Rising low (ns ++ numbers xs) → Rising low (ns ++ numbers (doubled k xs))
   rising_doubled_behind low k [] [] h = tt
   rising_doubled_behind low zero [] (x ∷ xs) h = (h.0, (omega arith, h.1))
   rising_doubled_behind low (suc k) [] (x ∷ xs) h = (h.0, rising_doubled_behind (x.number + 1) k [] xs h.1)
   rising_doubled_behind low k (n ∷ ns) xs h = (h.0, rising_doubled_behind (n + 1) k ns xs h.1)
 
-  -- where the number n stands next behind a queue's, a line with that number may go to the queue's back: the numbers still
-  -- never fall
+  -- where the number n follows those of a queue, a line with that number may go to the queue's back: the numbers still never
+  -- fall
   pub rising_moved : (low n : ℕ) (line : Line) (xs : List (Numbered Line)) (ns : List ℕ) → Rising low (numbers xs ++ n ∷ ns)
       → Rising low (numbers (xs ++ record { number = n; line = line } ∷ []) ++ ns)
   rising_moved low n line [] ns h = h

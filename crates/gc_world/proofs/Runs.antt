@@ -48,7 +48,7 @@ module _ {State : Type 0} (width : ℕ) (narrow : width ≤ 7) (ends : Ends Stat
       let t = once.once.told in
       subst (IsExecution ends opening) (sym same) (execution ends opening by_number.wire t.replies t.replays t.each t.among once.once.climbs)
 
-  -- while a reply is kept, each request under way has the number executed last or one of the `width` above it
+  -- while a reply is kept, each request in flight has the number executed last or one of the `width` above it
   pub recent_at : IsRecent width (kept wire.state) wire.executed (numbers wire.up)
   recent_at =
       subst (λ (w : Wire State). IsRecent width (kept w.state) w.executed (numbers w.up)) (sym same) (recent width narrow ends Good ex kept keeper opening by_number once)

@@ -17,7 +17,7 @@ use Rattle.gc_world.specs.Laws.{left_by_ids}
 use Rattle.gc_world.specs.Clients.{ends}
 use Rattle.gc_world.specs.World.{Request, Numbered, Ends, Rule, Wire, World, Step, Up_deliver, Down_deliver, up_delivered, with_up, with_down, started, instrument_restarted, requested, down_delivered, client_restarted, happens, run}
 use Rattle.gc_world.proofs.Flow.{flow_append}
-use Rattle.gc_world.proofs.Moments.{AllEarly, OneReaches, tells}
+use Rattle.gc_world.proofs.Moments.{AllEarly, OneReaches, early_or_reached}
 
 -- the event is a send
 abbrev IsSend : Event → Type 0
@@ -185,9 +185,9 @@ told width opening events n deadline later s (inr (now, has, reached)) = inr (re
 pub one_or_other : (width : ℕ) (opening : State) (events : List Event) (n : ℕ) → n < length (left_by_ids width opening events).sent → IsInTime width opening events n ⊎ IsTooLate width opening events n
 one_or_other width opening events n lt =
     let s = is_sent width opening n events lt in
-    told width opening events n s.0 s.1 s.2 (tells s.0 s.1)
+    told width opening events n s.0 s.1 s.2 (early_or_reached s.0 s.1)
 
--- The send of a request stands once in the list.
+-- The send of a request is in the list once.
 
 module _ (rule : Rule (ById Call)) (n : ℕ) where
   -- the streams after these events, by ids
@@ -204,7 +204,7 @@ module _ (rule : Rule (ById Call)) (n : ℕ) where
   sent_grows [] w = omega arith
   sent_grows (e ∷ es) w = omega (arith, no_fewer w e (sends_one ends rule w e), sent_grows es (flows ends rule w e))
 
-  -- the send of request n stands at one place of a list of events: where two splits of the list, at the events a and b, each
+  -- the send of request n is at one place of a list of events: where two splits of the list, at the events a and b, each
   -- have n requests sent before that event and n + 1 after it, what follows is the same
   one_split : (xs ys : List Event) (a b : Event) (later rest : List Event) (w : Streams (ById Call) State) → xs ++ a ∷ later ≡ ys ++ b ∷ rest
       → length (runs xs w).world.wire.sent ≡ n → length (runs ys w).world.wire.sent ≡ n → length (runs (xs ++ a ∷ []) w).world.wire.sent ≡ n + 1
@@ -232,7 +232,7 @@ module _ (rule : Rule (ById Call)) (n : ℕ) where
 same_deadline : (t u : ℕ) (c d : Call) (k m : ℕ) (later rest : List Event) → Send t c k ∷ later ≡ Send u d m ∷ rest → k ≡ m
 same_deadline t u c d k m later rest e = cc
 
--- lists that are equal have equal rests behind their first elements
+-- lists that are equal have equal rests after their first elements
 same_later : (a b : Event) (later rest : List Event) → a ∷ later ≡ b ∷ rest → later ≡ rest
 same_later a b later rest e = cc
 

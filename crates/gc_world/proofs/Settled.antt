@@ -18,7 +18,7 @@ abbrev pub of_sent : {Q : Type 0} → Sent Q → Wanted Q
 of_sent r = record { target = r.target; call = r.call }
 
 module _ {Q State : Type 0} (width : ℕ) (ends : Ends Q State) where
-  -- a world is whole: the settled requests, and behind them those that wait, are those that were sent, in order
+  -- a world is whole: the settled requests, and after them those that wait, are those that were sent, in order
   abbrev pub Whole : World Q (ById Q) State → Type 0
   Whole w = map of_settled w.wire.settled ++ map of_pending w.client.waiting ≡ map of_sent w.wire.sent
 
@@ -33,7 +33,7 @@ module _ {Q State : Type 0} (width : ℕ) (ends : Ends Q State) where
       ∙ ap (λ l. l ++ record { target = target; call = call } ∷ []) h) in
       subst (λ z. Whole (requested written w target call (Some z))) (some_is y x e) done
 
-  -- a settling keeps a world whole, where the requests settled, and behind them those that then wait, are those that waited
+  -- a settling keeps a world whole, where the requests settled, and after them those that then wait, are those that waited
   -- before
   whole_booked : (w : World Q (ById Q) State) (wire : Wire Q State) (x : Settled Q (ById Q)) → wire.settled ≡ w.wire.settled → wire.sent ≡ w.wire.sent
       → map of_settled x.settlements ++ map of_pending x.client.waiting ≡ map of_pending w.client.waiting → Whole w → Whole (with_settled wire x)
@@ -70,7 +70,7 @@ module _ {Q State : Type 0} (width : ℕ) (ends : Ends Q State) where
   pub whole_at : (written : ℕ → Q → List ℕ) (es : List (Step Q)) (state : State) → Whole (run written ends (by_ids width ends) es (ids_open state))
   whole_at written es state = stable_all written ends (by_ids width ends) Whole (keeps_whole written) es (ids_open state) refl
 
--- where the settled requests, with `rest` behind them, are those that were sent, settlement m has the target and the call of
+-- where the settled requests, with `rest` after them, are those that were sent, settlement m has the target and the call of
 -- request m
 same_at : {Q : Type 0} (settled : List (Settlement Q)) (rest : List (Wanted Q)) (sent : List (Sent Q)) (m : ℕ) (s : Settlement Q) (r : Sent Q)
     → map of_settled settled ++ rest ≡ map of_sent sent → slice_get settled m ≡ Some s → slice_get sent m ≡ Some r → of_settled s ≡ of_sent r
@@ -83,7 +83,7 @@ same_at (x ∷ xs) rest (y ∷ ys) (suc m) s r e g h =
     let tail : map of_settled xs ++ rest ≡ map of_sent ys = cc in
     same_at xs rest ys m s r tail g h
 
--- where what is settled and what waits are the requests that were sent, settlements stand one for one
+-- where what is settled and what waits are the requests that were sent, settlements correspond one for one
 pub one_for_one : {Q : Type 0} (settled : List (Settlement Q)) (waiting : List (Pending Q)) (sent : List (Sent Q)) → map of_settled settled ++ map of_pending waiting ≡ map of_sent sent
     → IsOneForOne sent settled
 one_for_one {Q} settled waiting sent e =

@@ -125,7 +125,7 @@ sends_next width c target call deadline x e = by_room (eqb (length c.waiting) wi
 made_more : (made : List Made) (entry : Made) (p : ℕ) (x : Numbered (List ℕ)) → slice_get (map made_seen made) p ≡ Some x → slice_get (map made_seen (made ++ entry ∷ [])) p ≡ Some x
 made_more made entry p x e = ap (λ l. slice_get l p) (map-append made_seen made (entry ∷ [])) ∙ get_more (map made_seen made) (made_seen entry ∷ []) p x e
 
--- the reply that was made last stands at the place of the old length
+-- the reply that was made last is at the place of the old length
 made_last : (made : List Made) (entry : Made) → slice_get (map made_seen (made ++ entry ∷ [])) (length made) ≡ Some (made_seen entry)
 made_last made entry =
     ap (λ l. slice_get l (length made)) (map-append made_seen made (entry ∷ []))
@@ -141,7 +141,7 @@ named_more made entry (p ∷ ps) (x ∷ xs) h =
     let others : named made ps ≡ map Some xs = cc in
     ap₂ (λ (a : Option (Numbered (List ℕ))) b. a ∷ b) (made_more made entry p x one) (named_more made entry ps xs others)
 
--- a queue with the place of the reply made last at its back names that reply behind the others
+-- a queue with the place of the reply made last at its back names that reply after the others
 named_push : (made : List Made) (entry : Made) (places : List ℕ) (xs : List (Numbered (List ℕ))) → named made places ≡ map Some xs
     → named (made ++ entry ∷ []) (places ++ length made ∷ []) ≡ map Some (xs ++ made_seen entry ∷ [])
 named_push made entry places xs h =
@@ -232,7 +232,7 @@ module _ (width : ℕ) (r : Report) (up down : List ℕ) (c : Windowed Call) (w 
       down_changed k b (doubled k down) (doubled k w.wire.down) e (doubled_past k down)
       (sym (doubled_map (slice_get (map made_seen r.made)) k down) ∙ ap (doubled k) h.down_is ∙ doubled_map Some k w.wire.down)
 
-  -- the number in front of the upward queue is that of the world's front request
+  -- the number at the front of the upward queue is that of the world's front request
   pub up_front : (n : ℕ) (rest : List ℕ) → up ≡ n ∷ rest → (y : Numbered Request) × (ys : List (Numbered Request)) × (w.wire.up ≡ y ∷ ys) × (y.number ≡ n) × (rest ≡ numbers ys)
   up_front n rest e = front w.wire.up (sym h.up_is ∙ e)
     where
@@ -240,7 +240,7 @@ module _ (width : ℕ) (r : Report) (up down : List ℕ) (c : Windowed Call) (w 
       front [] g = cc
       front (y ∷ ys) g = let one : y.number ≡ n = cc in let others : numbers ys ≡ rest = cc in (y, ys, refl, one, sym others)
 
-  -- the place in front of the downward queue names the world's front reply
+  -- the place at the front of the downward queue names the world's front reply
   pub down_front : (p : ℕ) (rest : List ℕ) → down ≡ p ∷ rest → (x : Numbered (List ℕ)) × (xs : List (Numbered (List ℕ))) × (w.wire.down ≡ x ∷ xs)
       × (slice_get (map made_seen r.made) p ≡ Some x) × (named r.made rest ≡ map Some xs)
   down_front p rest e = front w.wire.down (ap (named r.made) (sym e) ∙ h.down_is)
@@ -379,7 +379,8 @@ module _ (width : ℕ) (r : Report) (up down : List ℕ) (c : Windowed Call) (w 
         calls = h.calls;
       })
 
-  -- once the client was restarted, and the instrument with it, while no line is under way, the world after that step is shown
+  -- once the client was restarted, and the instrument with it, while no line is in flight, the world after that step is
+  -- shown
   pub shows_restart_client : (more settled : List (Settlement Call)) (client : Windowed Call) (starts : List ℕ) (state : State) → up ≡ [] → down ≡ []
       → AreSettlements more (restarts c.ids).settlements → client ≡ record c { ids = (restarts c.ids).client } → settled ≡ r.settled ++ more
       → starts ≡ r.starts ++ length r.executed ∷ [] → state ≡ restarted r.instrument
@@ -407,7 +408,7 @@ module _ (width : ℕ) (r : Report) (up down : List ℕ) (c : Windowed Call) (w 
         calls = h.calls;
       }))
 
-  -- once the instrument was restarted, while no line is under way, the world after that step is shown
+  -- once the instrument was restarted, while no line is in flight, the world after that step is shown
   pub shows_restart_instrument : (starts : List ℕ) (state : State) → up ≡ [] → down ≡ [] → starts ≡ r.starts ++ length r.executed ∷ []
       → state ≡ restarted r.instrument → AreOf width (record r { starts = starts; instrument = state }) up down c (does width w Restart_instrument)
   shows_restart_instrument starts state eu ed starts_is state_is =
@@ -432,7 +433,7 @@ module _ (width : ℕ) (r : Report) (up down : List ℕ) (c : Windowed Call) (w 
         calls = h.calls;
       }))
 
-  -- while a line is under way, a restart of the client is only counted
+  -- while a line is in flight, a restart of the client is only counted
   pub busy_client : IsBusy up down → AreOf width (counted false r) up down c (does width w Restart_client)
   busy_client b = by_queues w.wire.up w.wire.down refl refl
     where
@@ -442,7 +443,7 @@ module _ (width : ℕ) (r : Report) (up down : List ℕ) (c : Windowed Call) (w 
       by_queues [] (y ∷ ds) eu ed = shows_idle
       by_queues (x ∷ us) ds eu ed = shows_idle
 
-  -- while a line is under way, a restart of the instrument is only counted
+  -- while a line is in flight, a restart of the instrument is only counted
   pub busy_instrument : IsBusy up down → AreOf width (counted false r) up down c (does width w Restart_instrument)
   busy_instrument b = by_queues w.wire.up w.wire.down refl refl
     where

@@ -76,15 +76,15 @@ of_start w [] [] = (refl, refl)
 of_start w [] (d ∷ ds) = (refl, refl)
 of_start w (u ∷ us) ds = (refl, refl)
 
--- The texts of what is under way, as the report has them.
+-- The texts of what is in flight, as the report has them.
 
--- the numbers of the upward queue name the texts of the requests under way
+-- the numbers of the upward queue name the texts of the requests in flight
 names_up : (r : Report) (q : List (Numbered Request)) → Each (IsSentIn r.sent) q → map (written Up r) (numbers q) ≡ map Some (map (λ x. bytes_of x.line) q)
 names_up r [] h = refl
 names_up r (x ∷ xs) h =
     ap₂ (λ (o : Option (List ℕ)) l. o ∷ l) (ap (option_map (λ (q : Sent). q.line.items)) h.0.found ∙ ap Some h.0.line) (names_up r xs h.1)
 
--- the places of the downward queue name the texts of the replies under way
+-- the places of the downward queue name the texts of the replies in flight
 names_down : (r : Report) (places : List ℕ) (q : List (Numbered (List ℕ))) → named r.made places ≡ map Some q → map (written Down r) places ≡ map Some (map (λ x. x.line) q)
 names_down r [] [] h = refl
 names_down r [] (x ∷ xs) h = cc
@@ -104,7 +104,7 @@ unmoved : (d : Direction) (v : Streams (ById Call) State) (w : World (ById Call)
 unmoved Up v w = refl
 unmoved Down v w = refl
 
--- an event of 0 bytes, or of bytes while none are under way, is only counted
+-- an event of 0 bytes, or of bytes while none are in flight, is only counted
 idle_bytes : (width : ℕ) (d : Direction) (v : Streams (ById Call) State) (q : List (List ℕ)) (n : ℕ) {r : ℕ} → r ≡ remaining (gone d v) q → (n ≡ 0) ⊎ (r ≡ 0)
     → IsPart (gone d v) q → passing ends (by_ids width ends) d v q n ≡ record
     { world = on_wire v.world (idle v.world.wire); up_gone = v.up_gone; down_gone = v.down_gone }
@@ -145,14 +145,14 @@ module _ (width : ℕ) (s : Seen) (v : Streams (ById Call) State) (h : AreStream
   pub more_left : (d : Direction) (n : ℕ) → n < remaining (gone d v) (lines d v.world.wire) → n < remaining (pick d s.up s.down).gone (map with_end (texts d v.world.wire))
   more_left d n lt = subst (λ g. n < remaining g (lines d v.world.wire)) (sym (gone_is d)) lt
 
-  -- the number in front of the upward queue is that of a request in the report
+  -- the number at the front of the upward queue is that of a request in the report
   pub front_request : (n : ℕ) (rest : List ℕ) → s.up.queue ≡ n ∷ rest → (request : Sent) × (slice_get s.report.sent n ≡ Some request)
   front_request n rest e =
       let f = up_front width s.report s.up.queue s.down.queue s.client v.world h.lines n rest e in
       let sound = subst (λ q. Each (IsSentIn s.report.sent) q) f.2 h.lines.requests in
       (sound.0.request, ap (slice_get s.report.sent) (sym f.3) ∙ sound.0.found)
 
-  -- the place in front of the downward queue is that of a reply in the report
+  -- the place at the front of the downward queue is that of a reply in the report
   pub front_reply : (p : ℕ) (rest : List ℕ) → s.down.queue ≡ p ∷ rest → (reply : Made) × (slice_get s.report.made p ≡ Some reply)
   front_reply p rest e =
       let f = down_front width s.report s.up.queue s.down.queue s.client v.world h.lines p rest e in
@@ -294,7 +294,7 @@ module _ (width : ℕ) (s : Seen) (v : Streams (ById Call) State) (h : AreStream
 
   -- Restarts.
 
-  -- once the client was restarted, and the instrument with it, while no line is under way, the streams after that event are
+  -- once the client was restarted, and the instrument with it, while no line is in flight, the streams after that event are
   -- shown
   pub streams_restart_client : (more settled : List (Settlement Call)) (client : Windowed Call) (starts : List ℕ) (state : State) → s.up.queue ≡ [] → s.down.queue ≡ []
       → AreSettlements more (restarts s.client.ids).settlements → client ≡ record s.client { ids = (restarts s.client.ids).client }
@@ -307,13 +307,13 @@ module _ (width : ℕ) (s : Seen) (v : Streams (ById Call) State) (h : AreStream
       settled_is starts_is state_is)
       (of_restart width v.world v.world.wire.up v.world.wire.down)
 
-  -- while a line is under way, a restart of the client is only counted
+  -- while a line is in flight, a restart of the client is only counted
   pub streams_busy_client : IsBusy s.up.queue s.down.queue → AreStreamsOf width (record s { report = counted false s.report }) (goes_on width v event.RestartClient)
   streams_busy_client b =
       kept (counted false s.report) s.client (does width v.world Restart_client) (busy_client width s.report s.up.queue s.down.queue s.client v.world h.lines b)
       (of_restart width v.world v.world.wire.up v.world.wire.down)
 
-  -- while a line is under way, a restart of the instrument is only counted
+  -- while a line is in flight, a restart of the instrument is only counted
   pub streams_busy_instrument : IsBusy s.up.queue s.down.queue → AreStreamsOf width (record s { report = counted false s.report }) (goes_on width v event.RestartInstrument)
   streams_busy_instrument b =
       kept (counted false s.report) s.client (does width v.world Restart_instrument) (busy_instrument width s.report s.up.queue s.down.queue s.client v.world h.lines b)
@@ -391,12 +391,12 @@ module _ (width : ℕ) (s : Seen) (v : Streams (ById Call) State) (h : AreStream
       by_direction Down flow gone queue =
           record { lines = subst (λ q. AreOf width s.report s.up.queue q s.client v.world) (sym queue) h.lines; up_is = h.up_is; down_is = gone; up_flow = h.up_flow; down_flow = flow }
 
-  -- an event of 0 bytes, or of bytes while none are under way, is only counted
+  -- an event of 0 bytes, or of bytes while none are in flight, is only counted
   pub streams_idle_bytes : (d : Direction) (n r : ℕ) → r ≡ remaining (gone d v) (lines d v.world.wire) → (n ≡ 0) ⊎ (r ≡ 0)
       → AreStreamsOf width (record s { report = counted false s.report }) (goes_on width v (bytes d n))
   streams_idle_bytes d n r e none = subst (λ x. AreStreamsOf width (record s { report = counted false s.report }) x)
       (sym (bytes_pass ends (by_ids width ends) d v n ∙ idle_bytes width d v (lines d v.world.wire) n e none (part d))) nothing
 
--- where P says that no line is under way, and the test for P gives false, P doesn't hold
+-- where P says that no line is in flight, and the test for P gives false, P doesn't hold
 pub is_busy : {P : Type 0} (quiet : Bool) → IsTrue quiet ↔ P → quiet ≡ false → P → ⊥
 is_busy quiet iff not p = let e : quiet ≡ true = iff.1 p in cc

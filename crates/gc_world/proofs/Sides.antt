@@ -30,7 +30,7 @@ pub taken : (d : Direction) (r : Report) (s : Side) (texts : List (List ℕ)) (p
 taken d r s texts place rest e h = record { names = ap (map (written d r)) (sym e) ∙ h.names; flow = h.flow }
 
 module _ (d : Direction) (r : Report) (s : Side) (texts : List (List ℕ)) (h : Carries d r s texts) where
-  -- the front line stands in the report
+  -- the front line is in the report
   pub front_written : (place : ℕ) (rest : List ℕ) → s.queue ≡ place ∷ rest → (text : List ℕ) × (written d r place ≡ Some text)
   front_written place rest e = let f = named_first (written d r) s.queue place rest texts e h.names in (f.text, f.found)
 
@@ -42,7 +42,7 @@ module _ (d : Direction) (r : Report) (s : Side) (texts : List (List ℕ)) (h : 
       subst (λ (t : List ℕ). IsFront t s.assembler s.gone (map with_end texts)) same
       (subst (λ ts. IsFront f.text s.assembler s.gone (map with_end ts)) (sym f.are) (front_of s.assembler s.gone f.text f.behind (subst (λ ts. IsFlow s.assembler s.gone ts) f.are h.flow)))
 
-  -- the assembler carries the front line and those behind it, as `IsFlow` has it
+  -- the assembler carries the front line and those after it, as `IsFlow` has it
   pub front_flow : (place : ℕ) (rest : List ℕ) (line : List ℕ) → s.queue ≡ place ∷ rest → written d r place ≡ Some line → (behind : List (List ℕ)) × IsFlow s.assembler s.gone (line ∷ behind)
   front_flow place rest line e found =
       let f = named_first (written d r) s.queue place rest texts e h.names in
@@ -52,7 +52,7 @@ module _ (d : Direction) (r : Report) (s : Side) (texts : List (List ℕ)) (h : 
   pub left_of : (place : ℕ) (rest : List ℕ) (line : List ℕ) → s.queue ≡ place ∷ rest → written d r place ≡ Some line → length line + 2 - s.gone ≡ remaining s.gone (map with_end texts)
   left_of place rest line e found = remaining_is line s.assembler s.gone (map with_end texts) (front_line place rest line e found)
 
-  -- where no line is under way, nothing is to go
+  -- where no line is in flight, nothing is to go
   pub none_left : s.queue ≡ [] → 0 ≡ remaining s.gone (map with_end texts)
   none_left e = by_texts texts (sym (ap (map (written d r)) e) ∙ h.names)
     where

@@ -20,14 +20,14 @@ length_expired now zero ps = length-map ps (expired now)
 length_expired now (suc k) [] = refl
 length_expired now (suc k) (p ∷ ps) = ap suc (length_expired now k ps)
 
--- a request under way: it was sent since the client's last start, and its id is that of its number
+-- a request in flight: it was sent since the client's last start, and its id is that of its number
 pub record IsGoing {Q : Type 0} (since total : ℕ) (x : Numbered (Request Q)) : Type 0 where
   pub recent : since ≤ x.number
   pub sent : x.number < total
   pub id : x.line.id ≡ (x.number - since) % 8
 
 module _ {Q State : Type 0} (width : ℕ) (ends : Ends Q State) (Good : State → Type 0) where
-  -- a reply under way: its request was sent since the client's last start, and it is heard with the id of its number
+  -- a reply in flight: its request was sent since the client's last start, and it is heard with the id of its number
   pub record IsComing (since total : ℕ) (x : Numbered (List ℕ)) : Type 0 where
     pub recent : since ≤ x.number
     pub sent : x.number < total
@@ -35,7 +35,7 @@ module _ {Q State : Type 0} (width : ℕ) (ends : Ends Q State) (Good : State �
 
   -- the invariant. The client has as many requests as were sent, and counts as settled as many as there are settlements. No
   -- more had been sent at its last start than are settled, no more are settled than were sent, and at most `width` aren't
-  -- settled. The numbers under way never fall, and each line under way belongs to a request sent since the last start
+  -- settled. The numbers in flight never fall, and each line in flight belongs to a request sent since the last start
   pub record IsSound (c : ByNumber Q) (sent settled : ℕ) (down : List (Numbered (List ℕ))) (up : List (Numbered (Request Q))) (state : State) : Type 0 where
     pub good : Good state
     pub counted : length c.requests ≡ sent
@@ -59,7 +59,7 @@ module _ {Q State : Type 0} (width : ℕ) (ends : Ends Q State) (Good : State �
   coming_more : (since total total' : ℕ) → total ≤ total' → (x : Numbered (List ℕ)) → IsComing since total x → IsComing since total' x
   coming_more since total total' le x h = record { recent = h.recent; sent = omega (arith, h.sent); id = h.id }
 
-  -- the numbers under way are those of requests that were sent
+  -- the numbers in flight are those of requests that were sent
   pub all_sent : (since total : ℕ) (down : List (Numbered (List ℕ))) (up : List (Numbered (Request Q))) → Each (IsComing since total) down
       → Each (IsGoing since total) up → Each (λ n. n < total) (numbers down ++ numbers up)
   all_sent since total down up cs gs =
@@ -123,7 +123,7 @@ module _ {Q State : Type 0} (width : ℕ) (ends : Ends Q State) (Good : State �
             (record { recent = g.0.recent; sent = g.0.sent; id = ex.reads w.wire.state x.line.id x.line.call h.good small ∙ ap Some g.0.id }, tt);
       }
 
-  -- other queues, whose numbers never fall and are of requests and replies under way, keep a world sound
+  -- other queues, whose numbers never fall and are of requests and replies in flight, keep a world sound
   sound_queues : (w : World Q (ByNumber Q) State) (down : List (Numbered (List ℕ))) (up : List (Numbered (Request Q)))
       → Rising w.client.count (numbers down ++ numbers up) → Each (IsGoing w.client.since (length w.client.requests)) up
       → Each (IsComing w.client.since (length w.client.requests)) down → Sound w → Sound (on_wire w (record w.wire { down = down; up = up }))
@@ -201,7 +201,7 @@ module _ {Q State : Type 0} (width : ℕ) (ends : Ends Q State) (Good : State �
         coming = h.coming;
       }
 
-  -- settling all that wait while no line is under way keeps a world sound
+  -- settling all that wait while no line is in flight keeps a world sound
   sound_lost : (w : World Q (ByNumber Q) State) → w.wire.up ≡ [] → w.wire.down ≡ [] → Sound w → Sound (with_settled w.wire ((by_numbers width).restart w.client))
   sound_lost w eu ed h =
       let c = w.client in
@@ -219,7 +219,7 @@ module _ {Q State : Type 0} (width : ℕ) (ends : Ends Q State) (Good : State �
         coming = subst (λ q. Each (IsComing total total) q) (sym ed) tt;
       }
 
-  -- a restart of the client while no line is under way keeps a world sound
+  -- a restart of the client while no line is in flight keeps a world sound
   sound_restarted : IsExchange ends Good → (w : World Q (ByNumber Q) State) (b : Bool) → w.wire.up ≡ [] → w.wire.down ≡ [] → Sound w
       → Sound (with_settled (started ends w.wire b) ((by_numbers width).restart w.client))
   sound_restarted ex w false eu ed h = sound_lost w eu ed h

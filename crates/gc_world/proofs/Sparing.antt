@@ -50,7 +50,7 @@ module _ (width : ℕ) (r : Report) (up down : List ℕ) (c : Windowed Call) (w 
     | inr past ↦ inr (past_down k past)
   ]
 
-  -- where the world has a line under way, the stage has
+  -- where the world has a line in flight, the stage has
   pub busy : IsBusy w.wire.up w.wire.down → IsBusy up down
   busy b = λ quiet. b (no_up width r up down c w h quiet.0, no_down width r up down c w h quiet.1)
 

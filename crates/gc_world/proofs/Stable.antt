@@ -4,9 +4,9 @@ use Rattle.gc_client.specs.Rule.{Sending}
 use Rattle.gc_world.specs.Worlds.{Request, Numbered, Ends, Rule, Step, Send, Up_deliver, Up_lose, Up_repeat, Down_deliver, Down_lose, Down_repeat, Expire, Restart_client, Restart_instrument, Nothing, World, without, doubled, idle, replied, up_delivered, with_up, with_down, started, instrument_restarted, on_wire, requested, with_settled, down_delivered, client_restarted, happens, run}
 
 module _ {Q Client State : Type 0} (written : ℕ → Q → List ℕ) (ends : Ends Q State) (rule : Rule Q Client) (P : World Q Client State → Type 0) where
-  -- each elementary change of a world keeps P: an idle event, a refused send, a send, a reply of the instrument, a loss and a
-  -- repeat in either queue, a reply that the client hears, a moment, and with no line under way a restart of the client and of
-  -- the instrument
+  -- each elementary change of a world keeps P: an idle event, a refused send, a send, a reply of the instrument, a loss and
+  -- a repeat in either queue, a reply that the client hears, a moment, and with no line in flight a restart of the client
+  -- and of the instrument
   pub record IsStable : Type 0 where
     pub idles : (w : World Q Client State) → P w → P (on_wire w (idle w.wire))
     pub refuses : (w : World Q Client State) → P w → P (on_wire w (record w.wire { refused = w.wire.refused + 1 }))

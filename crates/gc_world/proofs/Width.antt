@@ -34,7 +34,7 @@ module _ {State : Type 0} (ends : Ends State) (Good : State → Type 0) (ex : Is
   zero_heard : ends.heard line ≡ Some 0
   zero_heard = ex.reads s 0 NullProc good (lit< tt)
 
-  -- the world in which the first reply stands twice in the downward queue
+  -- the world in which the first reply is in the downward queue twice
   abbrev twice : World (ById Call) State
   twice = run ends (by_ids 8 ends) opening_steps (ids_open s)
 

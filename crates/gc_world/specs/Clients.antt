@@ -1,5 +1,5 @@
--- Two clients of the world, this project's own: one that knows requests by ids of one digit, and one that is told their
--- numbers; and the runs of a list of events with each, on the simulated instrument.
+-- Two clients of the world, this project's own: one that knows requests by ids of one digit, and one, the oracle client,
+-- that knows their numbers; and the runs of a list of events with each, on the simulated instrument.
 use Rattle.std.specs.Prelude.{ℕ, ◌+◌, ◌-◌, ◌%◌, Bool, true, false, List, [], ◌∷◌, ◌++◌, length, map, take, drop, Option, Some, None, nat_lt, nat_eq}
 use Rattle.gc_catalogue.specs.declared.call.Call.{Call}
 use Rattle.gc_client.specs.declared.window.TheConstants.{IDS}
@@ -26,8 +26,8 @@ by_ids width ends =
 
 -- By numbers.
 
--- the client that is told the numbers: `count` requests are settled, `requests` are all that were sent, settled or not, and
--- `since` of them had been sent at the client's last start
+-- the oracle client: `count` requests are settled, `requests` are all that were sent, settled or not, and `since` of them
+-- had been sent at the client's last start
 pub record ByNumber (Q : Type 0) : Type 0 where
   pub count : ℕ
   pub requests : List (Pending Q)
@@ -71,7 +71,7 @@ module _ {Q State : Type 0} where
   abbrev pub ids_open : State → Worlds.World Q (ById Q) State
   ids_open state = record { wire = opened state; client = fresh }
 
-  -- the world before the first event, with the client that is told the numbers
+  -- the world before the first event, with the oracle client
   abbrev pub numbers_open : State → Worlds.World Q (ByNumber Q) State
   numbers_open state = record { wire = opened state; client = record { count = 0; requests = []; since = 0 } }
 
@@ -80,7 +80,7 @@ module _ {State : Type 0} where
   abbrev pub run_by_ids : ℕ → Ends State → List Step → State → World (ById Call) State
   run_by_ids width ends steps state = run ends (by_ids width ends) steps (ids_open state)
 
-  -- the run by numbers: every step, in order, with the client that is told the numbers
+  -- the run by numbers: every step, in order, with the oracle client
   abbrev pub run_by_numbers : ℕ → Ends State → List Step → State → World (ByNumber Call) State
   run_by_numbers width ends steps state = run ends (by_numbers width) steps (numbers_open state)
 

@@ -26,11 +26,11 @@ abbrev pub bytes : Direction → ℕ → Event
 bytes d n = pick d (event.UpBytes n) (event.DownBytes n)
 
 module _ {State : Type 0} where
-  -- the text of each line under way in a direction, the front line first
+  -- the text of each line in flight in a direction, the front line first
   abbrev pub texts : Direction → Wire State → List (List ℕ)
   texts d w = pick d (up_texts w) (down_texts w)
 
-  -- the bytes of each line under way in a direction, with CR LF, the front line first
+  -- the bytes of each line in flight in a direction, with CR LF, the front line first
   abbrev pub lines : Direction → Wire State → List (List ℕ)
   lines d w = map with_end (texts d w)
 

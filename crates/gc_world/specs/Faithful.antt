@@ -1,5 +1,5 @@
--- When the report of a list of events is faithful. It has four parts; each stands here first in a sentence, then in symbols.
--- The report's lists are counted from 0, and request m is the one at place m of `sent`. This project's own.
+-- When the report of a list of events is faithful. It has four parts; each is here first in a sentence, then in symbols. The
+-- report's lists are counted from 0, and request m is the one at place m of `sent`. This project's own.
 use Rattle.std.specs.Prelude.{◌≡◌, ℕ, ◌+◌, ◌<◌, ◌≤◌, ◌||◌, Bool, true, false, List, [], ◌∷◌, length, Some, None, map, nat_eq, slice_get, ⊤}
 use Rattle.gc_catalogue.specs.declared.answer.Reading.{Reading}
 use Rattle.gc_catalogue.specs.declared.answer.Reading.TheVariants.{Value, Refused, ComFault, Unreadable}
@@ -90,7 +90,7 @@ pub record IsReplyOf (r : Report) (before : ℕ → State) (entry : Made) : Type
   pub request_is : request.line.items ≡ request_line (Some id) request.call
   pub line_is : entry.line.items ≡ executed_line id (exec (before j) request.call)
 
--- the record of execution: each entry of `made` is the reply of one execution, and each executed number stands in `made`
+-- the record of execution: each entry of `made` is the reply of one execution, and each executed number is in `made`
 pub record RecordsExecution (opening : State) (r : Report) : Type 0 where
   pub before : ℕ → State
   pub states : AreBefore opening r before

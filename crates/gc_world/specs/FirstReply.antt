@@ -45,7 +45,7 @@ pub record IsTooLate (width : ℕ) (opening : State) (events : List Event) (n : 
   pub told : Contains later (Expire now)
   pub reached : deadline ≤ now
 
--- the reply in front of the downward queue is this line, it belongs to request n, and request n isn't settled
+-- the reply at the front of the downward queue is this line, it belongs to request n, and request n isn't settled
 pub record IsNextFor (w : Wire State) (n : ℕ) (line : List ℕ) : Type 0 where
   pub behind : List (Numbered (List ℕ))
   pub front : w.down ≡ record { number = n; line = line } ∷ behind
@@ -59,19 +59,19 @@ ended outcome r = record { target = r.target; call = r.call; outcome = outcome }
 abbrev pub between : ℕ → ℕ → List Sent → List Sent
 between m n sent = take (n - m) (drop m sent)
 
--- between the two wires the requests before request n that weren't settled, given up or not, were settled as lost, in order, and
--- then request n with this outcome, and nothing else
+-- between the two wires the requests before request n that weren't settled, timed out or not, were settled as lost, in
+-- order, and then request n with this outcome, and nothing else
 pub record IsSettledAs (before after : Wire State) (n : ℕ) (outcome : Outcome) : Type 0 where
   pub request : Sent
   pub found : slice_get before.sent n ≡ Some request
   pub settled : after.settled ≡ before.settled ++ map (ended Lost) (between (length before.settled) n before.sent) ++ ended outcome request ∷ []
 
--- the event hands over the last byte of the line in front of the downward queue, and no byte behind it
+-- the event hands over the last byte of the line at the front of the downward queue, and no byte after it
 abbrev pub IsDelivery : Streams (ById Call) State → Event → Type 0
 IsDelivery v e = (e ≡ DownDeliver) ⊎ ((n : ℕ) × (e ≡ DownBytes (n + 1)) × (remaining v.down_gone (down_lines v.world.wire) ≡ n + 1))
 
--- after these events, if this line is the reply in front of the downward queue, and request n, to which it belongs, isn't
--- settled: its delivery settles request n with this outcome, and the unsettled requests before that one as lost
+-- after these events, if this line is the reply at the front of the downward queue, and request n, to which it belongs,
+-- isn't settled: its delivery settles request n with this outcome, and the unsettled requests before that one as lost
 abbrev pub DeliverySettles : ℕ → State → List Event → ℕ → List ℕ → Outcome → Type 0
 DeliverySettles width opening events n line outcome =
     (delivery : Event) → IsDelivery (streams_by_ids width ends events (restarted opening)) delivery → IsNextFor (left_by_ids width opening events) n line →

@@ -26,7 +26,7 @@ left_by_numbers width opening events = (streams_by_numbers width ends events (re
 abbrev pub KeepsOrder : Type 0
 KeepsOrder = (width : ℕ) → width ≤ WINDOW → (opening : State) (events : List Event) → IsOrderly width (left_by_ids width opening events)
 
--- while a reply is kept, each request under way has the number that was executed last, or one of the next `width` numbers:
+-- while a reply is kept, each request in flight has the number that was executed last, or one of the next `width` numbers:
 -- so a request with the kept id is the one executed last, repeated
 abbrev pub KeepsRecent : Type 0
 KeepsRecent = (width : ℕ) → width ≤ WINDOW → (opening : State) (events : List Event) → (let w = left_by_ids width opening events in IsRecent width w.state.kept w.executed (numbers w.up))

@@ -9,7 +9,7 @@ use Rattle.gc_world.specs.Clients.{streamed}
 use Rattle.gc_world.specs.Streams.{Streams, up_lines, down_lines, cut, is_begun}
 use Rattle.gc_world.specs.World.{Numbered}
 
--- a line is under way in one of the two queues
+-- a line is in flight in one of the two queues
 abbrev pub IsBusy : {A B : Type 0} → List A → List B → Type 0
 IsBusy up down = ¬ ((up ≡ []) × (down ≡ []))
 

@@ -1,5 +1,5 @@
--- What the laws of the runs say of the order of the line: which numbers can be under way. A request's number is its place among
--- those sent, counted from 0, and a reply has its request's number. This project's own.
+-- What the laws of the runs say of the order of the line: which numbers can be in flight. A request's number is its place
+-- among those sent, counted from 0, and a reply has its request's number. This project's own.
 use Rattle.std.specs.Prelude.{◌≡◌, ℕ, ◌+◌, ◌<◌, ◌≤◌, List, [], ◌∷◌, ◌++◌, length, map, Option, Some, None}
 use Rattle.gc_instrument.specs.State.{KeptReply}
 use Rattle.gc_world.specs.Worlds.{Numbered, Wire}
@@ -18,7 +18,7 @@ Rising low (n ∷ ns) = (low ≤ n + 1) × Rising (n + 1) ns
 abbrev pub numbers : {Line : Type 0} → List (Numbered Line) → List ℕ
 numbers xs = map (λ x. x.number) xs
 
--- the numbers under way, from the front of the downward queue to the back of the upward one
+-- the numbers in flight, from the front of the downward queue to the back of the upward one
 abbrev pub under_way : {Q State : Type 0} → Wire Q State → List ℕ
 under_way w = numbers w.down ++ numbers w.up
 

@@ -6,8 +6,8 @@ use Rattle.gc_world.specs.declared.event.Event.{Event}
 use Rattle.gc_world.specs.Clients.{ends, streams_by_ids}
 use Rattle.gc_world.specs.Directions.{bytes, lines}
 
--- some bytes of a direction and some more, at least one each, leave the same streams in one event as in two, if a byte is under
--- way in this direction between the two
+-- some bytes of a direction and some more, at least one each, leave the same streams in one event as in two, if a byte is in
+-- flight in this direction between the two
 abbrev pub BytesAdd : Direction → Type 0
 BytesAdd d =
     (width : ℕ) (opening : State) (events : List Event) (m n : ℕ) →
@@ -15,7 +15,8 @@ BytesAdd d =
     streams_by_ids width ends (events ++ bytes d (m + 1 + (n + 1)) ∷ []) (restarted opening)
     ≡ streams_by_ids width ends (events ++ bytes d (m + 1) ∷ bytes d (n + 1) ∷ []) (restarted opening)
 
--- if an event of some bytes leaves none under way in its direction, an event of more bytes in its place leaves the same streams
+-- if an event of some bytes leaves none in flight in its direction, an event of more bytes in its place leaves the same
+-- streams
 abbrev pub BytesEnd : Direction → Type 0
 BytesEnd d =
     (width : ℕ) (opening : State) (events : List Event) (m n : ℕ) →

@@ -1,5 +1,5 @@
--- No part of a promise: what a side carries. A side is what the code keeps of the lines under way in one direction: their places
--- in the report, how many bytes of the front line have gone, and the assembler of those bytes.
+-- No part of a promise: what a side carries. A side is what the code keeps of the lines in flight in one direction: their
+-- places in the report, how many bytes of the front line have gone, and the assembler of those bytes.
 use Rattle.std.specs.Prelude.{◌≡◌, ℕ, ◌+◌, ◌<◌, true, false, List, [], ◌∷◌, length, Option, Some, map, slice_get, if◌then◌else◌, nat_lt}
 use Rattle.std.specs.Option.{option_map}
 use Rattle.gc_lines.specs.Assembler.{Kept, StandsFor}
@@ -19,7 +19,7 @@ abbrev pub written : Direction → Report → ℕ → Option (List ℕ)
 written Up r place = option_map (λ (q : Sent). q.line.items) (slice_get r.sent place)
 written Down r place = option_map (λ (m : Made). m.line.items) (slice_get r.made place)
 
--- `gone` counts bytes of the front line, never all of them, and is 0 where no line is under way
+-- `gone` counts bytes of the front line, never all of them, and is 0 where no line is in flight
 abbrev pub IsPart : ℕ → List (List ℕ) → Type 0
 IsPart gone [] = gone ≡ 0
 IsPart gone (line ∷ lines) = gone < length line
@@ -36,7 +36,7 @@ pub record Carries (d : Direction) (r : Report) (s : Side) (texts : List (List �
   pub names : map (written d r) s.queue ≡ map Some texts
   pub flow : IsFlow s.assembler s.gone texts
 
--- what a loss or a repeat of line k does to a side: this queue takes the place of the old one, if line k is under way and no
+-- what a loss or a repeat of line k does to a side: this queue takes the place of the old one, if line k is in flight and no
 -- byte of it has gone. Else the count of idle events grows by one, from `before` to `after`
 pub record Changes (k : ℕ) (queue : List ℕ) (old new : Side) (before after : ℕ) : Type 0 where
   pub held : is_begun k old.gone ≡ true → (new ≡ old) × (after ≡ before + 1)

@@ -1,5 +1,5 @@
--- No part of a promise: what a stage shows of the streams of a run. A stage is what the code keeps while it plays events: the
--- report so far, the client, and for each direction a side, with the lines under way in it.
+-- No part of a promise: what a stage shows of the streams of a run. A stage is what the code keeps while it plays events:
+-- the report so far, the client, and for each direction a side, with the lines in flight in it.
 use Rattle.std.specs.Prelude.{◌≡◌, ℕ, ◌+◌, ◌<◌, List, Option, Some, map, replicate, slice_get}
 use Rattle.gc_catalogue.specs.Calls.{IsFitting}
 use Rattle.gc_catalogue.specs.Texts.{request_line}
@@ -22,7 +22,7 @@ use Rattle.gc_world.specs.Sides.{IsFlow}
 use Rattle.gc_world.specs.Streams.{Streams, up_texts, down_texts, untouched, cut, flows}
 use Rattle.gc_world.specs.World.{Request, Numbered, Step, World, happens, run}
 
--- the streams before the first event: the instrument is restarted from this state, and nothing is under way
+-- the streams before the first event: the instrument is restarted from this state, and nothing is in flight
 abbrev pub begins : State → Streams (ById Call) State
 begins opening = untouched (ids_open (restarted opening))
 
@@ -44,7 +44,7 @@ handed width d v n =
 abbrev pub bytes_of : Request → List ℕ
 bytes_of r = request_line (Some r.id) r.call
 
--- the request under way with this number is the one that was sent with it: its id is a digit below 8, and its call's numbers
+-- the request in flight with this number is the one that was sent with it: its id is a digit below 8, and its call's numbers
 -- lie in their types
 pub record IsSentIn (sent : List Sent) (x : Numbered Request) : Type 0 where
   pub request : Sent
@@ -58,7 +58,7 @@ abbrev pub named : List Made → List ℕ → List (Option (Numbered (List ℕ))
 named made places = map (slice_get (map made_seen made)) places
 
 -- the report, the queues and the client are those of this world, for a client with a window of this width: the queue upward
--- has the numbers of the requests under way, and the queue downward names the replies
+-- has the numbers of the requests in flight, and the queue downward names the replies
 pub record AreOf (width : ℕ) (report : Report) (up down : List ℕ) (client : Windowed Call) (w : World (ById Call) State) : Type 0 where
   pub reports : IsReport report w.wire
   pub up_is : up ≡ numbers w.wire.up

@@ -1,5 +1,6 @@
--- The line as two streams of bytes, this project's own. Each line under way is its bytes with CR LF; of the front line of each
--- direction some first bytes may have gone. It is under way until its last byte goes, and with that one it is handed over.
+-- The line as two streams of bytes, this project's own. Each line in flight is its bytes with CR LF; of the front line of
+-- each direction some first bytes may have gone. It is in flight until its last byte goes, and with that one it is handed
+-- over.
 use Rattle.std.specs.Prelude.{ℕ, zero, suc, ◌+◌, ◌-◌, ◌&&◌, Bool, List, [], ◌∷◌, length, map, take, replicate, Some, if◌then◌else◌, nat_lt, nat_eq}
 use Rattle.gc_lines.specs.Lines.{with_end}
 use Rattle.gc_catalogue.specs.Texts.{request_line}
@@ -7,22 +8,22 @@ use Rattle.gc_world.specs.declared.event.Event.{Event}
 use Rattle.gc_world.specs.declared.event.Event.TheVariants as event
 use Rattle.gc_world.specs.World.{Ends, Rule, Wire, World, Step, Send, Up_deliver, Up_lose, Up_repeat, Down_deliver, Down_lose, Down_repeat, Expire, Restart_client, Restart_instrument, Nothing, run}
 
--- What is under way.
+-- What is in flight.
 
 module _ {State : Type 0} where
-  -- the text of each line under way to the instrument, the front line first
+  -- the text of each line in flight to the instrument, the front line first
   abbrev pub up_texts : Wire State → List (List ℕ)
   up_texts w = map (λ x. request_line (Some x.line.id) x.line.call) w.up
 
-  -- the text of each line under way to the client, the front line first
+  -- the text of each line in flight to the client, the front line first
   abbrev pub down_texts : Wire State → List (List ℕ)
   down_texts w = map (λ x. x.line) w.down
 
-  -- the bytes of each line under way to the instrument
+  -- the bytes of each line in flight to the instrument
   abbrev pub up_lines : Wire State → List (List ℕ)
   up_lines w = map with_end (up_texts w)
 
-  -- the bytes of each line under way to the client
+  -- the bytes of each line in flight to the client
   abbrev pub down_lines : Wire State → List (List ℕ)
   down_lines w = map with_end (down_texts w)
 
@@ -32,7 +33,7 @@ pub record Streams (Client State : Type 0) : Type 0 where
   pub up_gone : ℕ
   pub down_gone : ℕ
 
--- a world of whose lines under way no byte has gone
+-- a world of whose lines in flight no byte has gone
 abbrev pub untouched : {Client State : Type 0} → World Client State → Streams Client State
 untouched w = record { world = w; up_gone = 0; down_gone = 0 }
 
@@ -81,8 +82,9 @@ is_begun k gone = nat_eq k 0 && nat_lt 0 gone
 abbrev pub at_line : ℕ → ℕ → Step → Step
 at_line k gone step = if is_begun k gone then Nothing else step
 
--- the steps that the next n bytes of a direction make, where `gone` bytes of the front line have gone: `step`, which hands over a
--- line, once for each line that they complete. Where n is 0, or no line is under way, it is the one step that isn't possible
+-- the steps that the next n bytes of a direction make, where `gone` bytes of the front line have gone: `step`, which hands
+-- over a line, once for each line that they complete. Where n is 0, or no line is in flight, it is the one step that isn't
+-- possible
 abbrev pub passed : Step → List (List ℕ) → ℕ → ℕ → List Step
 passed step [] gone n = Nothing ∷ []
 passed step (line ∷ lines) gone zero = Nothing ∷ []
@@ -94,7 +96,7 @@ left_gone [] gone n = gone
 left_gone (line ∷ lines) gone zero = gone
 left_gone (line ∷ lines) gone (suc n) = (cut (line ∷ lines) (gone + suc n)).gone
 
--- the course of an event, with these lines under way, of whose front lines `up` and `down` bytes have gone
+-- the course of an event, with these lines in flight, of whose front lines `up` and `down` bytes have gone
 abbrev pub course : (ups downs : List (List ℕ)) (up down : ℕ) → Event → Course
 course ups downs up down (event.Send target call deadline) = moved (Send target call deadline) up down
 course ups downs up down event.UpDeliver = moved Up_deliver 0 down

@@ -34,6 +34,6 @@ EightDiffers = (opening : State) → left_by_ids 8 opening boundary_of_eight ≢
 abbrev pub EightSettlesNine : Type 0
 EightSettlesNine = (opening : State) → length (left_by_ids 8 opening boundary_of_eight).settled ≡ 9
 
--- over `boundary_of_eight` the client that is told the numbers settles the first request alone
+-- over `boundary_of_eight` the oracle client settles the first request alone
 abbrev pub NumbersSettleOne : Type 0
 NumbersSettleOne = (opening : State) → length (left_by_numbers 8 opening boundary_of_eight).settled ≡ 1

@@ -13,7 +13,7 @@ pub record Sent (Q : Type 0) : Type 0 where
   pub call : Q
   pub line : List ℕ
 
--- a request under way: its line is the one that a client writes with this id for what it asks for
+-- a request in flight: its line is the one that a client writes with this id for what it asks for
 pub record Request (Q : Type 0) : Type 0 where
   pub id : ℕ
   pub call : Q
@@ -35,7 +35,7 @@ pub record Wire (Q State : Type 0) : Type 0 where
   pub settled : List (Settlement Q)
   -- how many had been executed at each start of the instrument
   pub starts : List ℕ
-  -- the requests under way to the instrument, and the replies under way to the client, the front of each queue first
+  -- the requests in flight to the instrument, and the replies in flight to the client, the front of each queue first
   pub up : List (Numbered (Request Q))
   pub down : List (Numbered (List ℕ))
   pub state : State
@@ -98,7 +98,7 @@ without k [] = []
 without zero (x ∷ xs) = xs
 without (suc k) (x ∷ xs) = x ∷ without k xs
 
--- the list with element k twice, the second directly behind the first
+-- the list with element k twice, the second directly after the first
 abbrev pub doubled : {A : Type 0} → ℕ → List A → List A
 doubled k [] = []
 doubled zero (x ∷ xs) = x ∷ x ∷ xs
@@ -109,8 +109,8 @@ module _ {Q State : Type 0} where
   abbrev pub idle : Wire Q State → Wire Q State
   idle w = record w { idle = w.idle + 1 }
 
-  -- the wire after the instrument got the front request, of number n, and did with it what `h` says; `rest` is the queue behind
-  -- it
+  -- the wire after the instrument got the front request, of number n, and did with it what `h` says; `rest` is the queue
+  -- after it
   abbrev pub replied : Wire Q State → ℕ → List (Numbered (Request Q)) → Handed State → Wire Q State
   replied w n rest h =
       record w {
@@ -141,7 +141,7 @@ module _ {Q State : Type 0} where
   started ends w false = w
   started ends w true = record w { starts = w.starts ++ length w.executed ∷ []; state = ends.restarted w.state }
 
-  -- the wire after a restart of the instrument, which is possible with no line under way; else the event is only counted
+  -- the wire after a restart of the instrument, which is possible with no line in flight; else the event is only counted
   abbrev pub instrument_restarted : Ends Q State → Wire Q State → List (Numbered (Request Q)) → List (Numbered (List ℕ)) → Wire Q State
   instrument_restarted ends w [] [] = started ends w true
   instrument_restarted ends w _ _ = idle w
@@ -161,8 +161,8 @@ module _ {Q Client State : Type 0} where
   down_delivered rule w [] = on_wire w (idle w.wire)
   down_delivered rule w (x ∷ rest) = with_settled (record w.wire { down = rest }) (rule.reply w.client x)
 
-  -- the world after a restart of the client, and of the instrument where `joint` says so, which is possible with no line under way; else
-  -- the event is only counted
+  -- the world after a restart of the client, and of the instrument where `joint` says so, which is possible with no line in
+  -- flight; else the event is only counted
   abbrev pub client_restarted : Ends Q State → Rule Q Client → World Q Client State → List (Numbered (Request Q)) → List (Numbered (List ℕ)) → World Q Client State
   client_restarted ends rule w [] [] = with_settled (started ends w.wire ends.joint) (rule.restart w.client)
   client_restarted ends rule w _ _ = on_wire w (idle w.wire)

@@ -1,5 +1,5 @@
-//! Feeding: the bytes of a line under way, and then its CR LF, are handed to the assembler at the far end of their direction,
-//! all at once or in parts, without a copy of the line.
+//! Feeding: the bytes of a line in flight, and then its CR LF, are handed to the assembler at the far end of their
+//! direction, all at once or in parts, without a copy of the line.
 
 ghost use Rattle.std.specs.Prelude.{◌≡◌, ◌+◌, ◌<◌, ◌≤◌, [], length, take};
 ghost use Rattle.gc_lines.specs.Assembler.{StandsFor};
@@ -45,7 +45,7 @@ pub fn feed_rest<'a>(
     ensures line { lent_seen result ≡ Frame.Line (record { items = line.now }) }
     ensures start { StandsFor assembler.new [] }
 {
-    // No byte of the line has gone: it is lent as it stands.
+    // No byte of the line has gone: it is lent as it is.
     if assembler.at_start() {
         return Lent::Line(line);
     }

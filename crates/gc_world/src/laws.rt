@@ -1,7 +1,7 @@
 //! What is proved of the runs themselves. Each function does nothing: its contract is the law.
 //!
-//! A request's number is its place among the requests sent, counted from 0. A reply under way has the number of its request. In
-//! the run by ids the client knows requests by ids of one digit; in the run by numbers it is told each reply's number.
+//! A request's number is its place among the requests sent, counted from 0. A reply in flight has the number of its request.
+//! In the run by ids the client knows requests by ids of one digit; in the run by numbers it is given each reply's number.
 
 ghost use Rattle.gc_world.specs.FirstReply.{BooksFirstReply, FirstReplyIsLate, IsNeverBoth, IsOneOrOther, NoSecondReply};
 ghost use Rattle.gc_world.specs.Laws.{KeepsOrder, KeepsRecent, RunsAgree, SettlesInOrder, BooksItsOwn, RepliesAreFine, RecordsExecutions};

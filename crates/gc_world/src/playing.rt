@@ -19,24 +19,24 @@ use std::alloc::{AllocError, Global};
 /// Plays the events in order, from a restarted instrument and a new client over this window that lets `width` requests
 /// wait, and hands back what they led to, and the client as the last event leaves it.
 ///
-/// The report is that of the world's run by ids, and it is faithful: the settlements stand one for one and in order for
-/// the requests sent; each answer that the client booked is a line that the instrument made on executing that very
-/// request, and reads as a value or a refusal; and requests, settlements and both counts are those of a client that is told
-/// which request each reply belongs to. So the first reply to a request is booked, if it comes while the request isn't settled,
+/// The report is that of the world's run by ids, and it is faithful: the settlements correspond one for one and in order to
+/// the requests sent; each answer that the client booked is a line that the instrument made on executing that very request,
+/// and reads as a value or a refusal; and requests, settlements and both counts are those of a client that is given which
+/// request each reply belongs to. So the first reply to a request is booked, if it comes while the request isn't settled,
 /// and in time. First: it is the first of the request's replies that is delivered. Not settled: the request's number isn't
 /// below the count of requests settled until then. In time: no `Expire` with a moment at or past the request's deadline came
 /// between its send and this delivery, which is that of the reply's last byte.
 ///
-/// By what the events are, the line keeps order; a line that has begun to arrive arrives whole; a repeat stands directly
-/// behind its original; and either end restarts only while no byte is under way. An event that isn't possible changes nothing
-/// and is counted.
+/// By what the events are, the line keeps order; a line that has begun to arrive arrives whole; a repeat directly follows
+/// its original; and either end restarts only while no byte is in flight. An event that isn't possible changes nothing and
+/// is counted.
 ///
 /// Each request acts once: the instrument executes each at most once, in order, whatever the line repeats. To a repeat it sends
 /// the reply that it keeps, which is made and not executed. A restart of the client restarts the instrument too. Every restart
 /// leaves the instrument's precision as it is, also the one before the first event.
 ///
-/// Either end stands behind an assembler and gets the lines that come out of it. Each of the two assemblers in the report holds
-/// those bytes of the front line of its direction that have gone over. Where none have, it is as a new one.
+/// Each end has an assembler before it and gets the lines that come out of it. Each of the two assemblers in the report
+/// holds those bytes of the front line of its direction that have gone over. Where none have, it is as a new one.
 ///
 /// It fails only where memory for a growth was refused; then nothing is handed back. Where none of the events takes memory,
 /// it doesn't fail.

@@ -1,4 +1,4 @@
-//! A queue of lines under way in one direction.
+//! A queue of lines in flight in one direction.
 
 ghost use Rattle.std.specs.Prelude.{◌≡◌, ℕ, List, ◌≤◌, ◌↔◌, [], ◌∷◌, ◌++◌, length, nat_lt, OnOk, IfOk, IsOk, IsTrue, MatchOption};
 ghost use Rattle.gc_world.specs.Worlds.{without, doubled};
@@ -7,9 +7,9 @@ use std::alloc::{AllocError, Global};
 use std::collections::VecDeque;
 use std::marker::Model;
 
-/// The lines under way in one direction, the one that was written first in front. Of each line the queue holds its place in a
-/// list of the report, where its bytes stand. Upward that list is `sent`, and the place is the request's number; downward it is
-/// `made`.
+/// The lines in flight in one direction, the one that was written first in front. Of each line the queue holds its place in
+/// a list of the report, where its bytes are. Upward that list is `sent`, and the place is the request's number; downward it
+/// is `made`.
 #[derive(Drop)]
 pub struct Queue {
     places: VecDeque<usize>,
@@ -33,14 +33,14 @@ impl Queue {
         }
     }
 
-    /// Whether no line is under way.
+    /// Whether no line is in flight.
     pub fn is_empty(&self) -> bool
         ensures { IsTrue result ↔ (self.now ≡ []) }
     {
         self.places.is_empty()
     }
 
-    /// The place of the line in front, if one is under way.
+    /// The place of the line in front, if one is in flight.
     pub fn front(&self) -> Option<usize>
         ensures { MatchOption result (self.now ≡ []) (λ front. (rest : List ℕ) × (self.now ≡ front ∷ rest)) }
     {
@@ -71,8 +71,8 @@ impl Queue {
         self.places.remove(k).is_some()
     }
 
-    /// Puts line k in once more, directly behind itself, and says whether there is one. Lines are counted from 0, at the front.
-    /// `Err`: memory for it was refused.
+    /// Puts line k in once more, directly after itself, and says whether there is one. Lines are counted from 0, at the
+    /// front. `Err`: memory for it was refused.
     pub fn repeat(&mut self, k: usize) -> Result<bool, AllocError>
         ensures spare { length self.old ≤ k → IsOk result }
         ensures found { IfOk result (λ found. found ≡ nat_lt k (length self.old)) }

@@ -37,7 +37,7 @@ pub struct Report {
     pub sent: Entries<Sent>,
     /// The numbers of the requests that the instrument executed, in the order of execution.
     pub executed: Entries<usize>,
-    /// The replies that the instrument made, in order. Where a request came again, the kept reply stands here once more.
+    /// The replies that the instrument made, in order. Where a request came again, the kept reply is here once more.
     pub made: Entries<Made>,
     /// The settlements, in order.
     pub settled: Entries<Settlement<Call>>,
@@ -45,9 +45,9 @@ pub struct Report {
     pub starts: Entries<usize>,
     /// The instrument, as the last event left it.
     pub instrument: Instrument,
-    /// The assembler in front of the instrument, as the last event left it.
+    /// The assembler before the instrument, as the last event left it.
     pub up: Assembler,
-    /// The assembler in front of the client, as the last event left it.
+    /// The assembler before the client, as the last event left it.
     pub down: Assembler,
     /// How many sends were refused.
     pub refused_sends: usize,

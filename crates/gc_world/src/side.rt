@@ -1,4 +1,4 @@
-//! A side of the stage: the lines under way in one direction, and the assembler that they go to.
+//! A side of the stage: the lines in flight in one direction, and the assembler that they go to.
 
 ghost use Rattle.std.specs.Prelude.{◌≡◌, ◌+◌, ◌<◌, ◌≤◌, ◌^◌, ◌∷◌, ℕ, List, [], Some, OnOk, IsOk, length, map};
 ghost use Rattle.gc_lines.specs.Assembler.{StandsFor};
@@ -17,7 +17,7 @@ use crate::report::Report;
 use gc_lines::{Assembler, Lent, Line};
 use std::alloc::{AllocError, Global};
 
-/// The lines under way in one direction. Their bytes stand in the report.
+/// The lines in flight in one direction. Their bytes are in the report.
 #[derive(Drop)]
 pub struct Side {
     pub queue: Queue,
@@ -30,7 +30,7 @@ pub struct Side {
 }
 
 impl Side {
-    /// A side with no line under way.
+    /// A side with no line in flight.
     pub fn new(alloc: Global) -> Side
         ensures queue { result.queue ≡ [] }
         ensures gone { result.gone ≡ 0 }
@@ -43,7 +43,7 @@ impl Side {
         }
     }
 
-    /// How many bytes of the front line are still to go: 0 where no line is under way.
+    /// How many bytes of the front line are still to go: 0 where no line is in flight.
     pub fn remaining(&self, direction: Direction, report: &Report) -> usize
         requires { (texts : List (List ℕ)) × Carries direction report.now self.now texts }
         ensures { (texts : List (List ℕ)) → Carries direction report.now self.now texts → result ≡ remaining self.now.gone (map with_end texts) }

@@ -133,7 +133,7 @@ impl<W: Window<Asked = Call>> Stage<W> {
     }
 
     // Hands the front request to the instrument, puts the reply at the back of the downward queue, and notes both in the
-    // report. Where no request is under way, the event is only counted.
+    // report. Where no request is in flight, the event is only counted.
     #[inline(always)]
     fn up_deliver(&mut self) -> Result<(), AllocError>
         requires idle { self.old.report.idle_events + 1 < 2 ^ 64 }
@@ -162,8 +162,8 @@ impl<W: Window<Asked = Call>> Stage<W> {
         Ok(())
     }
 
-    // Hands the front reply to the client, and puts what it settles into the report. Where no reply is under way, the event is
-    // only counted.
+    // Hands the front reply to the client, and puts what it settles into the report. Where no reply is in flight, the event
+    // is only counted.
     #[inline(always)]
     fn down_deliver(&mut self) -> Result<(), AllocError>
         requires idle { self.old.report.idle_events + 1 < 2 ^ 64 }
@@ -188,7 +188,7 @@ impl<W: Window<Asked = Call>> Stage<W> {
     }
 
     // Hands over the next `n` bytes of a direction: each line that they complete is delivered. Where `n` is 0 or no byte is
-    // under way, the event is only counted.
+    // in flight, the event is only counted.
     #[inline(never)]
     fn bytes(&mut self, direction: Direction, n: usize) -> Result<(), AllocError>
         requires idle { self.old.report.idle_events + 1 < 2 ^ 64 }
@@ -213,7 +213,7 @@ impl<W: Window<Asked = Call>> Stage<W> {
         Ok(())
     }
 
-    // Hands over what remains of the front line of a direction. Where no line is under way, the event is only counted.
+    // Hands over what remains of the front line of a direction. Where no line is in flight, the event is only counted.
     #[inline(always)]
     fn deliver(&mut self, direction: Direction) -> Result<(), AllocError>
         requires idle { self.old.report.idle_events + 1 < 2 ^ 64 }
@@ -227,7 +227,7 @@ impl<W: Window<Asked = Call>> Stage<W> {
         }
     }
 
-    // How many bytes of the front line of a direction are still to go: 0 where no line is under way.
+    // How many bytes of the front line of a direction are still to go: 0 where no line is in flight.
     fn remaining(&self, direction: Direction) -> usize
         requires { IsShown self.now }
         ensures { (width : ℕ) (v : Streams (ById Call) State) → Shows width self.now v → result ≡ remaining (gone direction v) (lines direction v.world.wire) }
@@ -238,8 +238,8 @@ impl<W: Window<Asked = Call>> Stage<W> {
         }
     }
 
-    // Hands over the next `n` bytes of the front line of a direction, behind those that have gone already. They don't complete
-    // it.
+    // Hands over the next `n` bytes of the front line of a direction, after those that have gone already. They don't
+    // complete it.
     fn begin(&mut self, direction: Direction, n: usize)
         requires shown { IsShown self.old }
         requires some { (width : ℕ) (v : Streams (ById Call) State) → Shows width self.old v → n < remaining (gone direction v) (lines direction v.world.wire) }
@@ -255,7 +255,7 @@ impl<W: Window<Asked = Call>> Stage<W> {
 
     // The ends.
 
-    // Hands this moment to the client, which gives up each request whose deadline the moment has reached.
+    // Hands this moment to the client, which times out each request whose deadline the moment has reached.
     fn expire(&mut self, now: u64)
         ensures { Follows self.old (Event.Expire now) self.new }
     {
@@ -263,7 +263,7 @@ impl<W: Window<Asked = Call>> Stage<W> {
     }
 
     // Restarts the client, which settles all requests that wait as lost. It restarts the instrument, too: the reply that the
-    // instrument keeps has an id that the new client uses again. Where a line is under way, the event is only counted.
+    // instrument keeps has an id that the new client uses again. Where a line is in flight, the event is only counted.
     fn restart_client(&mut self) -> Result<(), AllocError>
         requires { self.old.report.idle_events + 1 < 2 ^ 64 }
         ensures follows { OnOk result (Follows self.old Event.RestartClient self.new) }
@@ -281,7 +281,7 @@ impl<W: Window<Asked = Call>> Stage<W> {
         Ok(())
     }
 
-    // Restarts the instrument, and leaves the client as it is. Where a line is under way, the event is only counted.
+    // Restarts the instrument, and leaves the client as it is. Where a line is in flight, the event is only counted.
     fn restart_instrument(&mut self) -> Result<(), AllocError>
         requires { self.old.report.idle_events + 1 < 2 ^ 64 }
         ensures follows { OnOk result (Follows self.old Event.RestartInstrument self.new) }
@@ -296,7 +296,7 @@ impl<W: Window<Asked = Call>> Stage<W> {
         Ok(())
     }
 
-    // Whether no line is under way.
+    // Whether no line is in flight.
     fn is_quiet(&self) -> bool
         ensures { IsTrue result ↔ ((self.now.up.queue ≡ []) × (self.now.down.queue ≡ [])) }
     {

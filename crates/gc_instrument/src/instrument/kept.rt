@@ -9,8 +9,8 @@ use std::marker::Model;
 // The most bytes of a line.
 const ROOM: usize = 512;
 
-/// The id of a request and the line of its reply, or nothing. The line is written in place. Bytes of a longer earlier
-/// line stay behind it, because each request would pay for blanking them.
+/// The id of a request and the line of its reply, or nothing. The line is written in place. Bytes of a longer earlier line
+/// stay after it, because each request would pay for blanking them.
 #[derive(Debug, Drop)]
 pub struct Kept {
     id: Option<u8>,

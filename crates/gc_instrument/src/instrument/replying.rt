@@ -26,10 +26,9 @@ impl Instrument {
 
     /// The reply to a line, if it is a request.
     ///
-    /// The call is carried out, and its reply has the request's id, or 0, and doubles with the
-    /// precision that stands after the call. A procedure that isn't in the catalogue is answered
-    /// with the communication code 3081, and parameters that don't read with 3080; then nothing
-    /// changes, as with a line that is no request.
+    /// The call is carried out, and its reply has the request's id, or 0, and doubles with the precision that is in force
+    /// after the call. A procedure that isn't in the catalogue is answered with the communication code 3081, and parameters
+    /// that don't read with 3080; then nothing changes, as with a line that is no request.
     ///
     /// The id and the reply of the last request that carried an id and was carried out are kept. A
     /// request that names a call and carries that id is a repeat of it: it gets the kept line, and

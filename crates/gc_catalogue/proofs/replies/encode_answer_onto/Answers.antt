@@ -17,7 +17,7 @@ handed : (g : _) (c : goal.After-pop g) → (c.write_row.new.to.items ≡ c.push
     × AreValues (shown_values (Some c.args.places) (answer_fields c.args.answer.now).values)
 handed g c = c.write_row.ensures c.write_row.new.to (sym (append-nil _), tt)
 
--- behind the reply's return code stand the rounded answer's values, each behind a comma
+-- the rounded answer's values, each after a comma, follow the reply's return code
 listed : (g : _) (c : goal.After-pop g) → c.pop.new.self.items ≡ c.push_reply.new.to.items ++ behind_commas (answer_fields (rounded_answer c.args.places c.args.answer.now)).values
 listed g c =
     comma_list c.push_reply.new.to.items (shown_values (Some c.args.places) (answer_fields c.args.answer.now).values) c.push.new.self.items

@@ -2,6 +2,6 @@ use Rattle.gc_lines.specs.Replies.{reply_seen}
 use Rattle.gc_client.proofs.Ends.{answered_is}
 use Rattle.gc_client.proofs.ending.meet.Goals as goal
 
--- a request that wasn't given up is settled as answered by the line
+-- a request that hadn't timed out is settled as answered by the line
 pub returns-else-p : goal.returns-else-p
 returns-else-p g c = answered_is _ c.args.p.now c.args.line.now (reply_seen c.args.reply.now) c.answer.new.outcome c.if-p.false c.requires.reads c.answer.ensures

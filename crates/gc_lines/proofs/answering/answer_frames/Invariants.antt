@@ -1,10 +1,10 @@
 use Rattle.std.proofs.Common.{◌≡◌, ◌+◌, ◌*◌, ◌<◌, ◌≤◌, [], length, false}
-use Rattle.gc_lines.proofs.Given.{Given}
+use Rattle.gc_lines.proofs.Given.{AnsweredSoFar}
 use Rattle.gc_lines.proofs.answering.answer_frames.Given as goal
 
 abbrev pub invariant-loop : goal.invariant-loop
 invariant-loop g l = record {
-  so : Given g.A.Answers.answers (g.S.Source.remaining l.initial.source) (g.S.Source.remaining l.source) (g.K.Sink.taken l.initial.sink)
+  so : AnsweredSoFar g.A.Answers.answers (g.S.Source.remaining l.initial.source) (g.S.Source.remaining l.source) (g.K.Sink.taken l.initial.sink)
       (g.K.Sink.taken l.sink) l.session.assembler l.initial.answerer l.answerer l.counter l.session.replies;
   reads : g.S.Source.reads l.source ≡ g.S.Source.reads l.initial.source + l.counter;
   going : 0 < l.counter → g.S.Source.ended l.source ≡ false;

@@ -1,7 +1,7 @@
 use Rattle.std.proofs.Common.{◌≡◌, ◌+◌, false, arith, rules, subst, get_or}
 use Rattle.gc_values.specs.Nearest.{MadeOf}
 use Rattle.gc_values.proofs.FrontDecimals.{counts_room, front_found, front_range}
-use Rattle.gc_values.proofs.Trimming.{rest_of}
+use Rattle.gc_values.proofs.Trimming.{slice_to_end}
 use Rattle.gc_values.proofs.front.front_decimal.Goals as goal
 
 pub counted-value-requires : goal.counted-value-requires
@@ -21,4 +21,4 @@ returns c =
     let point : get_or text at 0 ≡ 46 = search rules in
     let made = subst (λ v. MadeOf false v places c.from_parts-decimal.result.digits c.from_parts-decimal.result.scale) c.from.ensures c.from_parts-decimal.ensures in
     front_found text _ _ at places _ _ _ c.from_parts-decimal.result c.counted-whole.ensures (omega arith) (omega arith) point
-    (rest_of text (at + 1)) c.counted-value.ensures (rest_of _ places) c.in_ok-rest.ensures made
+    (slice_to_end text (at + 1)) c.counted-value.ensures (slice_to_end _ places) c.in_ok-rest.ensures made

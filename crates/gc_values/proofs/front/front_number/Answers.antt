@@ -1,8 +1,9 @@
 use Rattle.std.proofs.Common.{arith}
 use Rattle.gc_values.proofs.FrontDecimals.{number_found}
-use Rattle.gc_values.proofs.Trimming.{rest_of}
+use Rattle.gc_values.proofs.Trimming.{slice_to_end}
 use Rattle.gc_values.proofs.front.front_number.Goals as goal
 
 pub returns : goal.returns
 returns c =
-    number_found c.args.text.now _ c.counted-number.result.1 c.counted-number.result.0 _ c.counted-number.ensures (omega arith) (rest_of c.args.text.now c.counted-number.result.1) c.in_ok-rest.ensures
+    number_found c.args.text.now _ c.counted-number.result.1 c.counted-number.result.0 _ c.counted-number.ensures (omega arith) (slice_to_end c.args.text.now c.counted-number.result.1)
+    c.in_ok-rest.ensures

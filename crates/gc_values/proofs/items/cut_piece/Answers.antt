@@ -1,8 +1,8 @@
 use Rattle.std.proofs.Common.{◌≡◌, ℕ, true, ◌+◌, ◌-◌, arith, ap, ◌∙◌, get_or, take, drop, length, refl}
 use Rattle.std.proofs.lemmas.Grind.{common_steps}
-use Rattle.gc_values.proofs.Scanning.{turned, scanned_none, scanned_more, scanned_cut, scanned_all}
+use Rattle.gc_values.proofs.Scanning.{parity_after, scanned_none, scanned_more, scanned_cut, scanned_all}
 use Rattle.std.proofs.lemmas.List.{drop-drop}
-use Rattle.gc_values.proofs.Trimming.{rest_of}
+use Rattle.gc_values.proofs.Trimming.{slice_to_end}
 use Rattle.gc_values.proofs.items.cut_piece.Goals as goal
 use Rattle.gc_values.proofs.items.cut_piece.Goals.{then-byte-eq34, else-byte-eq34, else-byte-eq44-via-then-byte-eq44+else-not-quoted, else-byte-eq44-via-else-byte-eq44}
 
@@ -16,7 +16,7 @@ loop-i-preserved c =
       | else-byte-eq44-via-then-byte-eq44+else-not-quoted w ↦ grind (arith, common_steps)
       | else-byte-eq44-via-else-byte-eq44 w ↦ absurd (w.if-byte-eq44.false h)
     ] in
-    let step : c.if-byte-eq34.quoted ≡ turned b c.loop-i.quoted = elim c.if-byte-eq34.branch [
+    let step : c.if-byte-eq34.quoted ≡ parity_after b c.loop-i.quoted = elim c.if-byte-eq34.branch [
       | then-byte-eq34 w ↦ grind (arith, common_steps)
       | else-byte-eq34 w ↦ grind (arith, common_steps)
     ] in
@@ -27,7 +27,7 @@ returns-then-not-quoted c =
     let text = c.args.text.now in
     let i = c.loop-i.i in
     let behind : take (length c.split_at.result.1.now - 1) (drop 1 c.split_at.result.1.now) ≡ drop (i + 1) text =
-    rest_of c.split_at.result.1.now 1 ∙ ap (λ xs. drop 1 xs) c.split_at.ensures.back ∙ drop-drop 1 i text in
+    slice_to_end c.split_at.result.1.now 1 ∙ ap (λ xs. drop 1 xs) c.split_at.ensures.back ∙ drop-drop 1 i text in
     rw (behind, c.split_at.ensures.front) (scanned_cut text i c.loop-i.quoted c.loop-i.invariant (omega arith) c.if-byte-eq44.true c.if-not-quoted.true)
 
 pub returns : goal.returns

@@ -1,6 +1,6 @@
 use Rattle.std.proofs.Common.{◌≡◌, ◌≤◌, length, take}
 use Rattle.gc_client.specs.Rule.{expiring}
-use Rattle.gc_client.proofs.Expiry.{partly}
+use Rattle.gc_client.proofs.Expiry.{expired_up_to}
 use Rattle.gc_client.proofs.client.Client.expire.Given as goal
 
 -- the first k have seen the moment, and the others have not
@@ -8,7 +8,7 @@ abbrev pub invariant-loop-k : goal.invariant-loop-k
 invariant-loop-k g l =
     let pendings = g.W.Window.pendings in
     record {
-      done : pendings l.self-inside.window ≡ partly l.now l.k l.fn.self.ids.waiting;
+      done : pendings l.self-inside.window ≡ expired_up_to l.now l.k l.fn.self.ids.waiting;
       told : l.targets.items ≡ expiring l.now (take l.k l.fn.self.ids.waiting);
       count : length l.targets.items ≤ l.k;
       next : l.self-inside.next ≡ l.fn.self.ids.next;

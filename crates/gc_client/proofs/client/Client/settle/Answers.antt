@@ -4,7 +4,7 @@ use Rattle.arrayvec.specs.ArrayVec.{ArrayVec}
 use Rattle.gc_client.specs.declared.settlement.Settlement.{Settlement}
 use Rattle.gc_client.specs.Rule.{Windowed, lost, met, settle, id_settled}
 use Rattle.gc_client.specs.Settlements.{AreSettledBy}
-use Rattle.gc_client.proofs.Ends.{settle_is, fewer}
+use Rattle.gc_client.proofs.Ends.{settle_is, fewer_left}
 use Rattle.gc_client.proofs.Lists.{left_turn, none_there}
 use Rattle.gc_client.proofs.Settling.{one_written}
 use Rattle.gc_client.proofs.client.Client.settle.Goals as goal
@@ -13,7 +13,7 @@ use Rattle.gc_client.proofs.client.Client.settle.Goals.{in-Some, in_default}
 pub invariant_of-self : goal.invariant_of-self
 invariant_of-self g c =
     let next = sym c.lose.ensures.left ∙ c.take_first-p.ensures in
-    (c.self.invariant.0, fewer _ _ _ _ _ next c.self.invariant.1, c.self.invariant.2)
+    (c.self.invariant.0, fewer_left _ _ _ _ _ next c.self.invariant.1, c.self.invariant.2)
 
 -- the first k are lost, and the one at place k is met
 pub returns-clause-settled : goal.returns-clause-settled
@@ -39,7 +39,7 @@ returns-clause-settled g c =
       | in_default w ↦ absurd (none_there c.get_mut.result w.in_default.is (c.get_mut.ensures.variant.1 lt))
     ]
 
--- those behind it are left
+-- those after it are left
 pub returns-clause-client : goal.returns-clause-client
 returns-clause-client g c =
     let ws = g.W.Window.pendings c.self.inside.window in

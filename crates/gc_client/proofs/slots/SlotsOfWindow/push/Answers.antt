@@ -2,7 +2,7 @@ use Rattle.std.proofs.Common.{[], ◌∷◌, ◌++◌, ap, ◌∙◌, arith}
 use Rattle.gc_client.proofs.Rounds.{waiting_after_push}
 use Rattle.gc_client.proofs.slots.SlotsOfWindow.push.Goals as goal
 
--- the write is behind the youngest
+-- the write is after the youngest
 pub returns : goal.returns
 returns g c =
     let s = c.self.inside in

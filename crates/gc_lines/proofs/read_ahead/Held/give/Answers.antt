@@ -3,7 +3,7 @@ use Rattle.std.proofs.lemmas.List.{take_at, drop-drop, length-take-le}
 use Rattle.gc_lines.proofs.Known.{take-plus}
 use Rattle.gc_lines.proofs.read_ahead.Held.give.Goals as goal
 
--- the first n of what is held stand at the front of buf, and the rest is held
+-- the first n of what is held are at the front of buf, and the rest is held
 moved : (bytes buf part : List ℕ) (start end n : ℕ) → start + n ≤ end → end ≤ length bytes → part ≡ take n (drop start bytes)
     → take (end - start) (drop start bytes) ≡ take n (part ++ drop n buf) ++ take (end - (start + n)) (drop (start + n) bytes)
 moved bytes buf part start end n within all is =

@@ -1,7 +1,7 @@
 use Rattle.std.proofs.Common.{◌≡◌, ◌+◌, ◌≤◌, List, ℕ, length}
 use Rattle.gc_lines.specs.Assembler.{StandsFor}
 use Rattle.gc_lines.specs.Passing.{HasRoom}
-use Rattle.gc_lines.proofs.Passing.{Going}
+use Rattle.gc_lines.proofs.Passing.{PieceAnswered}
 use Rattle.gc_lines.proofs.session.Session.answer_piece.Given as goal
 
 abbrev pub invariant-loop-left : goal.invariant-loop-left
@@ -10,7 +10,7 @@ invariant-loop-left g l = record {
   room : HasRoom l.self.text.items l.self.lengths l.self.gathers;
   gathers : l.self.gathers ≡ l.initial.self.gathers;
   failed : g.K.Sink.failed l.sink ≡ g.K.Sink.failed l.initial.sink;
-  going : (rest : List ℕ) → StandsFor l.initial.self.assembler rest → Going g.A.Answers.answers rest l.fn.piece l.left l.self.assembler
+  going : (rest : List ℕ) → StandsFor l.initial.self.assembler rest → PieceAnswered g.A.Answers.answers rest l.fn.piece l.left l.self.assembler
       (record { state = l.initial.answerer; taken = g.K.Sink.taken l.initial.sink; whole = l.initial.self.replies })
       (record { state = l.answerer; taken = g.K.Sink.taken l.sink; whole = l.self.replies }) l.self.text.items l.self.lengths;
 }

@@ -3,7 +3,7 @@ use mir.Syntax.{w128}
 use Rattle.std.proofs.lemmas.Int.{to_z-of_z, fits_signed_from_abs}
 use Rattle.gc_values.specs.Decimals.{units}
 use Rattle.gc_values.specs.declared.decimal.Decimal.{Decimal}
-use Rattle.gc_values.proofs.WithinLemmas.{compared, compared_exact, apart_fits}
+use Rattle.gc_values.proofs.WithinLemmas.{comparison_is_within, compared_exact, apart_fits}
 use Rattle.gc_values.proofs.decimal.Decimal.within.Goals as goal
 
 -- 128 bits hold the distance of two decimals' units
@@ -26,7 +26,7 @@ difference_is u v x a b e f hu hv is =
 
 pub returns-clause-fact : goal.returns-clause-fact
 returns-clause-fact c =
-    compared c.args.self.now c.args.other.now c.args.area.now _ _
+    comparison_is_within c.args.self.now c.args.other.now c.args.area.now _ _
     (difference_is c.units.result c.units-2.result c.abs.result c.args.self.now c.args.other.now c.units.ensures.value c.units-2.ensures.value
     c.units.ensures.bound c.units-2.ensures.bound c.abs.ensures.value)
     (passed c.units-3.result (omega (arith, c.units-3.ensures.bound)) ∙ c.units-3.ensures.value)

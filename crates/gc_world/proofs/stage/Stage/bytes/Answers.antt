@@ -84,7 +84,8 @@ returns-then-left-remaining-clause-follows g c =
     let first = c.remaining-remaining in
     λ width v h.
     let at = c.loop-left.invariant.follows width v h in
-    subst (λ (x : Streams (ById Call) State). AreStreamsOf width u x) (sym (under_way width c.args.direction v c.args.n first.result (first.ensures width v h) c.if-n-eq0.false c.if-remaining-eq0.false))
+    subst (λ (x : Streams (ById Call) State). AreStreamsOf width u x) (sym (under_way width c.args.direction v c.args.n first.result (first.ensures width v h) c.if-n-eq0.false
+    c.if-remaining-eq0.false))
     (reaches_end width c.args.direction t v c.args.n c.loop-left.left at u (c.begin.ensures width at.now at.shows))
 
 pub returns-else-left-remaining-clause-follows : goal.returns-else-left-remaining-clause-follows
@@ -93,7 +94,8 @@ returns-else-left-remaining-clause-follows g c =
     let first = c.remaining-remaining in
     λ width v h.
     let at = c.loop-left.invariant.follows width v h in
-    subst (λ (x : Streams (ById Call) State). AreStreamsOf width t x) (sym (under_way width c.args.direction v c.args.n first.result (first.ensures width v h) c.if-n-eq0.false c.if-remaining-eq0.false))
+    subst (λ (x : Streams (ById Call) State). AreStreamsOf width t x) (sym (under_way width c.args.direction v c.args.n first.result (first.ensures width v h) c.if-n-eq0.false
+    c.if-remaining-eq0.false))
     (runs_dry width c.args.direction t v c.args.n c.loop-left.left at
     (sym (c.loop-left.invariant.remaining width at.now at.shows) ∙ runs_out c.completes.result c.loop-left.remaining c.loop-left.left c.completes.ensures
     c.loop-left-test.false (λ lt. omega (arith, lt, c.if-left-remaining.false))))
