@@ -1,6 +1,6 @@
--- What a client has under way after a clean beginning is an `IsRow`: requests and replies whose numbers, from the eighth null
--- procedure's on, never fall in the order of the line, and whose ids are these numbers modulo 8. The *word* is the list of the
--- ids of a beginning's eight null procedures: 6 down to 0, and then 7.
+-- What a client has in flight after a clean synchronization is an `IsRow`: requests and replies whose numbers, from the eighth
+-- null procedure's on, never fall in the order of the line, and whose ids are these numbers modulo 8. The *word* is the list of
+-- the ids of a synchronization's eight null procedures: 6 down to 0, and then 7.
 use Rattle.std.proofs.Common.{◌≡◌, ℕ, ◌+◌, ◌-◌, ◌%◌, ◌<◌, ◌≤◌, Bool, true, false, List, [], ◌∷◌, ◌++◌, length, map, Option, Some, refl, sym, ◌∙◌, ap, subst, arith, ltb, eqb}
 use mathlib.Core.Path.{ap₂}
 use Rattle.std.specs.List.{filter_map, cons_option}
@@ -35,7 +35,7 @@ rows_have_not u h s = none_within h.low h.numbers h.some h.rising h.few (subst (
 pub rows_have_not_three : {State : Type 0} (u : UnderWay State) → IsRow u → IsSubsequence (6 ∷ 5 ∷ 4 ∷ []) (ids_under_way u) → ⊥
 rows_have_not_three u h s = three_within h.low h.numbers h.some h.rising h.few (subst (IsSubsequence (6 ∷ 5 ∷ 4 ∷ [])) h.ids s)
 
--- The client that is told the numbers never restarts, and what it settled doesn't become less.
+-- The client that is given the numbers never restarts, and what it settled doesn't become less.
 
 -- a client that is given the numbers, whose eight null procedures are settled, and which never restarted
 pub record IsBased (c : ByNumber Asked) : Type 0 where
@@ -96,7 +96,7 @@ module _ {State : Type 0} (width : ℕ) (ends : Ends State) where
 abbrev ids_at : List ℕ → List ℕ
 ids_at ns = map (λ n. n % 8) ns
 
--- the ids of the requests under way are their numbers modulo 8
+-- the ids of the requests in flight are their numbers modulo 8
 ids_up : (since total : ℕ) (xs : List (Numbered Request)) → since ≡ 0 → Each (IsGoing since total) xs → map (λ x. x.id) (map (λ x. x.line) xs) ≡ ids_at (numbers xs)
 ids_up since total [] e h = refl
 ids_up since total (x ∷ xs) e h =
@@ -104,14 +104,14 @@ ids_up since total (x ∷ xs) e h =
     ap₂ (λ i ids. i ∷ ids) (h.0.id ∙ ap (λ n. n % 8) plain) (ids_up since total xs e h.1)
 
 module _ {State : Type 0} (width : ℕ) (ends : Ends State) (Good : State → Type 0) (same_heard : (line : List ℕ) → ends.heard line ≡ rule.heard line) where
-  -- the ids of the replies under way are their numbers modulo 8
+  -- the ids of the replies in flight are their numbers modulo 8
   ids_down : (since total : ℕ) (xs : List (Numbered (List ℕ))) → since ≡ 0 → Each (IsComing width ends Good since total) xs → filter_map rule.heard (map (λ x. x.line) xs) ≡ ids_at (numbers xs)
   ids_down since total [] e h = refl
   ids_down since total (x ∷ xs) e h =
       let plain : x.number - since ≡ x.number = omega (arith, e) in
       ap₂ (λ o ids. cons_option o ids) (sym (same_heard x.line) ∙ h.0.id ∙ ap (λ n. Some (n % 8)) plain) (ids_down since total xs e h.1)
 
-  -- what is under way in a sound world whose client is `IsBased` is an `IsRow`
+  -- what is in flight in a sound world whose client is `IsBased` is an `IsRow`
   row : (c : ByNumber Asked) (w : Wire State) (narrow : width ≤ 7) → IsBased c → Sound width ends Good (record { wire = w; client = c }) → IsRow (on_line w)
   row c w narrow base s =
       let total = length c.requests in
@@ -128,7 +128,7 @@ module _ {State : Type 0} (width : ℕ) (ends : Ends State) (Good : State → Ty
       }
 
 module _ {State : Type 0} (ends : Ends State) (Good : State → Type 0) (kept : State → Option KeptReply) (is : IsAnInstrument ends Good kept) (width : ℕ) (narrow : width ≤ 7) where
-  -- what is under way after possible moves of a clean beginning is an `IsRow`
+  -- what is in flight after possible moves of a clean synchronization is an `IsRow`
   pub runs_leave_rows : (u : UnderWay State) → IsClean Good kept u → (ms : List (Move State))
       → ArePossible ends Good kept (by_ids width ends) ms (ids_begun u) → IsRow (on_line (behind width ends u ms).wire)
   runs_leave_rows u clean ms p =
@@ -146,7 +146,7 @@ module _ {State : Type 0} (ends : Ends State) (Good : State → Type 0) (kept : 
       subst (λ (w : Wire State). Good w.state × Each (λ x. x.id < 8) (map (λ x. x.line) w.up)) (sym both.agree.wire)
       (both.sound.good, small _ _ (moved ends (by_numbers width) ms (numbers_begun u)).wire.up both.sound.going)
     where
-      -- requests under way in a sound world have ids below 8
+      -- requests in flight in a sound world have ids below 8
       small : (since total : ℕ) (xs : List (Numbered Request)) → Each (IsGoing since total) xs → Each (λ x. x.id < 8) (map (λ x. x.line) xs)
       small since total [] h = tt
       small since total (x ∷ xs) h = ((let id = h.0.id in omega (arith, id)), small since total xs h.1)

@@ -48,7 +48,7 @@ module _ (raw : RawCall) where
   unfolding is_elsewhere header_at reply_at digits
   parts_are = refl
 
-  -- what the line does while the station begins shows these turns
+  -- what the line does while the station synchronizes shows these turns
   shown_are : shown drifting turns (begins (none_under_way 5)) ≡ part.Asks ∷ part.Asks ∷ asked_each begun
   unfolding is_elsewhere header_at reply_at digits
   shown_are = refl

@@ -53,7 +53,7 @@ alike_is e Good kept is alike =
 true_is_not : true ≡ false → ⊥
 true_is_not e = cc
 
--- where the kept line for an id is this one (`kept_line`), this line is kept, with that id
+-- if the kept line for an id is this one (`kept_line`), this line is kept, with that id
 kept_own : (k : Option KeptReply) (id : ℕ) (line : List ℕ) → kept_line k (Some id) ≡ Some line → k ≡ Some (record { id = id; line = line })
 kept_own None id line e = let never : ⊥ = cc in absurd never
 kept_own (Some k) id line e = chosen (eqb k.id id) refl e where
@@ -61,11 +61,11 @@ kept_own (Some k) id line e = chosen (eqb k.id id) refl e where
   chosen true t e = ap (λ i. Some (record { id = i; line = k.line })) (eqb-true k.id id t) ∙ ap (λ l. Some (record { id = id; line = l })) (some_is k.line line e)
   chosen false t e = let never : ⊥ = cc in absurd never
 
--- where this line is kept, with this id, it is the kept line for the id (`kept_line`)
+-- if this line is kept, with this id, it is the kept line for the id (`kept_line`)
 kept_for : (k : Option KeptReply) (id : ℕ) (line : List ℕ) → k ≡ Some (record { id = id; line = line }) → kept_line k (Some id) ≡ Some line
 kept_for k id line e = ap (λ k. kept_line k (Some id)) e ∙ ap (λ b. cond b (Some line) None) (eq-eqb id id refl)
 
--- where the simulator doesn't execute a request, its reply is the line that it keeps for the request's id
+-- if the simulator doesn't execute a request, its reply is the line that it keeps for the request's id
 repeated : (s : State) (id : ℕ) (call : Call) (o : Option (List ℕ)) → kept_line s.kept (Some id) ≡ o → (calls.handed s id call).executed ≡ false
     → s.kept ≡ Some (record { id = id; line = (calls.handed s id call).reply })
 repeated s id call None e not = absurd (true_is_not (sym (ap (λ (h : Handed State). h.executed) (handed_new s id call e)) ∙ not))
@@ -139,7 +139,7 @@ simulator =
       refuses = refused;
     }
 
--- An instrument that deals with each request anew and keeps no reply, whatever its replies say.
+-- An instrument that deals with each request again and keeps no reply, whatever its replies say.
 
 -- what keeps no reply is an instrument
 pub keeps_none : (State : Type 0) → KeepingNothingSuffices State

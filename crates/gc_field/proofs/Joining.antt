@@ -1,6 +1,6 @@
--- A run of a station and what happens on its line, joined: each part of the run, from one beginning to the next, goes with a
--- stretch of the line, and each answer that is written down was made in one of the stretches. The *marks* of a part say for which
--- command each of its requests is, in order.
+-- A run of a station and what happens on its line, joined: each part of the run, from one synchronization to the next, goes
+-- with a stretch of the line, and each answer that is recorded was made in one of the stretches. The *marks* of a part say for
+-- which command each of its requests is, in order.
 use Rattle.std.proofs.Common.{◌≡◌, inl, inr, ℕ, zero, suc, ◌<◌, ◌+◌, ◌≤◌, Bool, true, false, List, [], ◌∷◌, ◌++◌, map, length, Option, Some, refl, sym, ◌∙◌, ap, subst, arith, append_assoc, append-nil, drop}
 use Rattle.std.specs.Prelude.{slice_get}
 use Rattle.std.specs.List.{AllByRecursion}
@@ -177,7 +177,7 @@ module _ {State : Type 0} (ends : Ends State) (Good : State → Type 0) (kept : 
       ap (sent_by fresh) (sym f.steps) ∙ sym (course_sent (seen s.moves) begun) ∙ sym (ap (drop 8) (sent_is ends Good kept is 7 (omega arith) s.from s.moves f.sound.possible))
       ∙ sym (map_drop asked 8 (world ends s).wire.sent)
 
-  -- a part's steps, and a restart after them, settle what its stretch settled, and as lost what waits
+  -- a part's steps, and a restart after them, settle what its stretch settled, and as lost what is outstanding
   fit_ended : (p : Part) (s : Stretch State) → Fits p s → settled_by fresh (p.steps ++ Restart ∷ []) ≡ own_settled ends s ++ map lost (world ends s).client.waiting
   fit_ended p s f =
       let c = client_after fresh p.steps in
@@ -185,13 +185,13 @@ module _ {State : Type 0} (ends : Ends State) (Good : State → Type 0) (kept : 
       ∙ ap (λ l. settled_by fresh p.steps ++ l) (append-nil (map lost c.waiting) ∙ ap (λ (d : ById Asked). map lost d.waiting) (fit_client p s f))
       ∙ ap (λ l. l ++ map lost (world ends s).client.waiting) (fit_settled p s f)
 
-  -- the station's rule holds of a part: wherever a command goes out, it goes out near the table
+  -- the station's rule holds of a part: wherever a command is sent, it is sent near the table
   abbrev IsRuled : Part → Type 0
   IsRuled p =
       (front later : List (Step Asked)) (target : ℕ) (call : Asked) (deadline : ℕ) (mark : _) → p.steps ≡ front ++ Send target call deadline ∷ later
       → slice_get p.marks (length (course 7 begun front).sent) ≡ Some (Some mark) → IsNearTheTable (course 7 begun front)
 
-  -- where the station's rule holds of a part, each request of its stretch that is a command is safe
+  -- if the station's rule holds of a part, each request of its stretch that is a command is safe
   safe_part : (commands : List Task) (p : Part) (s : Stretch State) → IsRuled p → Fits p s → AreOf commands p.marks (map asked (own_sent ends s)) → IsSafePart p s
   safe_part commands p s rule f sent n mark at =
       let a = of_at commands p.marks (map asked (own_sent ends s)) n (Some mark) sent at in
@@ -200,7 +200,7 @@ module _ {State : Type 0} (ends : Ends State) (Good : State → Type 0) (kept : 
       inr (inr (goes_out ends Good kept is s f.sound p.steps f.steps n (omega (arith, size, low))
       (λ front later target call deadline e count. rule front later target call deadline mark e (subst (λ k. slice_get p.marks k ≡ Some (Some mark)) (sym count) at))))
 
-  -- where the station's rule holds of each part, each request of a stretch that is a command is safe
+  -- if the station's rule holds of each part, each request of a stretch that is a command is safe
   all_safe : (commands : List Task) (ps : List Part) (ss : List (Stretch State)) → ((i : ℕ) (p : Part) → slice_get ps i ≡ Some p → IsRuled p) → AllFit ps ss
       → AreSentAs ends commands ps ss → AllSafe ps ss
   all_safe commands [] [] rules fit sent = tt
@@ -243,7 +243,7 @@ module _ {State : Type 0} (ends : Ends State) (Good : State → Type 0) (kept : 
     sent_all (p ∷ q ∷ ps) (s ∷ []) rs end f h = absurd f.1
     sent_all (p ∷ q ∷ ps) (s ∷ t ∷ ss) rs end f h = (of_ended rs h.0 p s f.0 h.1, sent_all (q ∷ ps) (t ∷ ss) h.0 end f.1 h.2)
 
-    -- the records are those that the stretches write down
+    -- the records are those that the stretches record
     pub written_all : (ps : List Part) (ss : List (Stretch State)) (rs : List Record) (end : Model) → AllFit ps ss
         → BooksInParts reads commands fresh [] rs ps end → map timeless (sent_of end.records) ≡ map timeless rs ++ written_over ends reads ps ss
     written_all [] [] rs end f h = absurd h
@@ -258,7 +258,7 @@ module _ {State : Type 0} (ends : Ends State) (Good : State → Type 0) (kept : 
 
   -- Its own.
 
-  -- an answer that is its own in the later stretches is its own in these with one more in front
+  -- an answer that is its own in the later stretches is its own in these with one more before it
   own_later : (commands : List Task) (p : Part) (s : Stretch State) (ps : List Part) (ss : List (Stretch State)) (r : Record) (line : List ℕ)
       → IsItsOwn ends Good kept commands ps ss r line → IsItsOwn ends Good kept commands (p ∷ ps) (s ∷ ss) r line
   own_later commands p s ps ss r line h = record {
@@ -282,7 +282,7 @@ module _ {State : Type 0} (ends : Ends State) (Good : State → Type 0) (kept : 
     made_on = h.made_on;
   }
 
-  -- whether an answer is its own doesn't depend on the moment at which it was written down
+  -- whether an answer is its own doesn't depend on the moment at which it was recorded
   own_timeless : (commands : List Task) (ps : List Part) (ss : List (Stretch State)) (r : Record) (line : List ℕ)
       → IsItsOwn ends Good kept commands ps ss (timeless r) line → IsItsOwn ends Good kept commands ps ss r line
   own_timeless commands ps ss r line h = record {
@@ -306,13 +306,13 @@ module _ {State : Type 0} (ends : Ends State) (Good : State → Type 0) (kept : 
     made_on = h.made_on;
   }
 
-  -- whether answers are their own doesn't depend on the moments at which they were written down
+  -- whether answers are their own doesn't depend on the moments at which they were recorded
   all_timeless : (commands : List Task) (ps : List Part) (ss : List (Stretch State)) (rs : List Record)
       → AllByRecursion (IsOwnAnswer ends Good kept commands ps ss) (map timeless rs) → AllByRecursion (IsOwnAnswer ends Good kept commands ps ss) rs
   all_timeless commands ps ss [] h = tt
   all_timeless commands ps ss (r ∷ rs) h = (λ line answered. own_timeless commands ps ss r line (h.0 line answered), all_timeless commands ps ss rs h.1)
 
-  -- answers that are their own in the later stretches are their own in these with one more in front
+  -- answers that are their own in the later stretches are their own in these with one more before it
   all_later : (commands : List Task) (p : Part) (s : Stretch State) (ps : List Part) (ss : List (Stretch State)) (rs : List Record)
       → AllByRecursion (IsOwnAnswer ends Good kept commands ps ss) rs → AllByRecursion (IsOwnAnswer ends Good kept commands (p ∷ ps) (s ∷ ss)) rs
   all_later commands p s ps ss [] h = tt
@@ -355,7 +355,7 @@ module _ {State : Type 0} (ends : Ends State) (Good : State → Type 0) (kept : 
         made_on = subst (λ call. WasMadeOn 7 ends s.from s.moves (8 + n) call line) right (f.faithful.made_on (8 + n) x line beyond (safe n mark at) there answered);
       })
 
-  -- the answers that the stretches write down are their own
+  -- the answers that the stretches record are their own
   pub own_all : (reads : Asked → List ℕ → Reading) (commands : List Task) (ps : List Part) (ss : List (Stretch State)) → AllFit ps ss → AllSafe ps ss
       → AreSentAs ends commands ps ss → AllByRecursion (IsOwnAnswer ends Good kept commands ps ss) (written_over ends reads ps ss)
   own_all reads commands [] [] f g h = tt
@@ -372,10 +372,10 @@ module _ {State : Type 0} (ends : Ends State) (Good : State → Type 0) (kept : 
 
   -- A command that wasn't sent has no answer.
 
-  -- a record of a command that didn't go out is no answer
+  -- a record of a command that wasn't sent is no answer
   unsent_own : (commands : List Task) (ps : List Part) (ss : List (Stretch State)) (r : Record) → went_out r.end ≡ false → IsOwnAnswer ends Good kept commands ps ss r
   unsent_own commands ps ss r out line answered = absurd (none r.end out answered) where
-    -- the end of a command that didn't go out is no answer
+    -- the end of a command that wasn't sent is no answer
     none : (e : End) → went_out e ≡ false → answer_of e ≡ Some line → ⊥
     none (end.Answered quality said l) out answered = cc
     none (end.Unreadable l fault) out answered = cc
@@ -385,7 +385,7 @@ module _ {State : Type 0} (ends : Ends State) (Good : State → Type 0) (kept : 
     none end.Skipped out answered = cc
     none end.Missed out answered = cc
 
-  -- if the answers of commands that went out are their own, all are
+  -- if the answers of commands that were sent are their own, all are
   all_sent : (commands : List Task) (ps : List Part) (ss : List (Stretch State)) (rs : List Record)
       → AllByRecursion (IsOwnAnswer ends Good kept commands ps ss) (sent_of rs) → AllByRecursion (IsOwnAnswer ends Good kept commands ps ss) rs
   all_sent commands ps ss [] h = tt
@@ -397,7 +397,7 @@ module _ {State : Type 0} (ends : Ends State) (Good : State → Type 0) (kept : 
 
   -- Dealt with, though late.
 
-  -- if the instrument dealt with a late record in the later stretches, it did so in these stretches with one more in front
+  -- if the instrument dealt with a late record in the later stretches, it did so in these stretches with one more before it
   late_later : (commands : List Task) (p : Part) (s : Stretch State) (ps : List Part) (ss : List (Stretch State)) (r : Record)
       → IsDealtWith ends Good kept commands ps ss r → IsDealtWith ends Good kept commands (p ∷ ps) (s ∷ ss) r
   late_later commands p s ps ss r f = λ late.
@@ -418,13 +418,13 @@ module _ {State : Type 0} (ends : Ends State) (Good : State → Type 0) (kept : 
         made_on = h.made_on;
       }
 
-  -- if the instrument dealt with all late records in the later stretches, it did so in these stretches with one more in front
+  -- if the instrument dealt with all late records in the later stretches, it did so in these stretches with one more before it
   late_all_later : (commands : List Task) (p : Part) (s : Stretch State) (ps : List Part) (ss : List (Stretch State)) (rs : List Record)
       → AllByRecursion (IsDealtWith ends Good kept commands ps ss) rs → AllByRecursion (IsDealtWith ends Good kept commands (p ∷ ps) (s ∷ ss)) rs
   late_all_later commands p s ps ss [] h = tt
   late_all_later commands p s ps ss (r ∷ rs) h = (late_later commands p s ps ss r h.0, late_all_later commands p s ps ss rs h.1)
 
-  -- whether the instrument dealt with late records doesn't depend on the moments at which they were written down
+  -- whether the instrument dealt with late records doesn't depend on the moments at which they were recorded
   late_timeless : (commands : List Task) (ps : List Part) (ss : List (Stretch State)) (rs : List Record)
       → AllByRecursion (IsDealtWith ends Good kept commands ps ss) (map timeless rs) → AllByRecursion (IsDealtWith ends Good kept commands ps ss) rs
   late_timeless commands ps ss [] h = tt
@@ -448,7 +448,7 @@ module _ {State : Type 0} (ends : Ends State) (Good : State → Type 0) (kept : 
     late_timeless commands ps ss rs h.1,
   )
 
-  -- the instrument dealt with the late records among those that the first stretch writes down
+  -- the instrument dealt with the late records among those that the first stretch records
   late_first : (reads : Asked → List ℕ → Reading) (commands : List Task) (p : Part) (s : Stretch State) (ps : List Part) (ss : List (Stretch State))
       (waiting : List (Pending Asked)) (xs : List (Settlement Asked)) → xs ≡ own_settled ends s ++ map lost waiting → Fits p s → IsSafePart p s
       → AreOf commands p.marks (map asked (own_sent ends s))
@@ -479,7 +479,7 @@ module _ {State : Type 0} (ends : Ends State) (Good : State → Type 0) (kept : 
         made_on = subst (λ call. WasMadeOn 7 ends s.from s.moves (8 + n) call made.0) right made.1;
       })
 
-  -- the instrument dealt with all late records that the stretches write down
+  -- the instrument dealt with all late records that the stretches record
   pub late_all : (reads : Asked → List ℕ → Reading) (commands : List Task) (ps : List Part) (ss : List (Stretch State)) → AllFit ps ss → AllSafe ps ss
       → AreSentAs ends commands ps ss → AllByRecursion (IsDealtWith ends Good kept commands ps ss) (written_over ends reads ps ss)
   late_all reads commands [] [] f g h = tt
@@ -494,7 +494,7 @@ module _ {State : Type 0} (ends : Ends State) (Good : State → Type 0) (kept : 
       (late_first reads commands p s (q ∷ ps) (t ∷ ss) (world ends s).client.waiting xs refl f.0 g.0 h.0)
       (late_all_later commands p s (q ∷ ps) (t ∷ ss) (written_over ends reads (q ∷ ps) (t ∷ ss)) (late_all reads commands (q ∷ ps) (t ∷ ss) f.1 g.1 h.1))
 
-  -- if the instrument dealt with all late records of commands that went out, it dealt with all late records: no other command
+  -- if the instrument dealt with all late records of commands that were sent, it dealt with all late records: no other command
   -- is late
   late_sent : (commands : List Task) (ps : List Part) (ss : List (Stretch State)) (rs : List Record)
       → AllByRecursion (IsDealtWith ends Good kept commands ps ss) (sent_of rs) → AllByRecursion (IsDealtWith ends Good kept commands ps ss) rs

@@ -75,7 +75,7 @@ above n xs low h = omega (arith, each_get (λ m. m < n) xs h.0 n low h.1)
 ninth : WasExecuted (8 ∷ 9 ∷ 10 ∷ 11 ∷ 12 ∷ 13 ∷ 14 ∷ 15 ∷ []) 16 → ⊥
 ninth h = above 16 (8 ∷ 9 ∷ 10 ∷ 11 ∷ 12 ∷ 13 ∷ 14 ∷ 15 ∷ []) (lit< tt, (lit< tt, (lit< tt, (lit< tt, (lit< tt, (lit< tt, (lit< tt, (lit< tt, tt)))))))) h
 
--- where nothing was executed, request 9 wasn't
+-- if nothing was executed, request 9 wasn't
 none : WasExecuted [] 9 → ⊥
 none h = above 9 [] tt h
 
@@ -180,19 +180,19 @@ none_kept state k e = let never : ⊥ = cc in absurd never
 none_of : (k : KeptReply) → kept None ≡ Some k → k.id ≡ 7
 none_of k e = let never : ⊥ = cc in absurd never
 
--- with nothing under way and nothing kept, a beginning is clean
+-- with nothing in flight and nothing kept, a synchronization is clean
 clean_any : IsClean AnyState nothing (none_under_way false)
 clean_any = record { good = tt; up = tt; down = tt; keeps = none_kept false }
 
--- with nothing under way and nothing kept, a beginning is clean, over an instrument in order
+-- with nothing in flight and nothing kept, a synchronization is clean, over an instrument in order
 clean_order : IsClean InOrder nothing (none_under_way false)
 clean_order = record { good = refl; up = tt; down = tt; keeps = none_kept false }
 
--- with nothing under way, and a `Keeper` that has nothing, a beginning is clean
+-- with nothing in flight, and a `Keeper` that has nothing, a synchronization is clean
 clean_kept : IsClean AnyState kept (none_under_way None)
 clean_kept = record { good = tt; up = tt; down = tt; keeps = none_of }
 
--- with nothing under way, a beginning is clean over an instrument that has a `Keeper` but is taken to keep nothing
+-- with nothing in flight, a synchronization is clean over an instrument that has a `Keeper` but is taken to keep nothing
 clean_key : IsClean {State = Keeper} AnyState nothing (none_under_way None)
 clean_key = record { good = tt; up = tt; down = tt; keeps = none_kept {State = Keeper} None }
 

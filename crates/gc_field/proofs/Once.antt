@@ -186,8 +186,8 @@ climbing_handed knows id new top n sent executed starts k after r le why h =
       last = last_of knows new n sent executed starts after r why;
     }
 
--- where nothing was executed since the last start, that start is between an earlier execution, j, and the next one, k: so it
--- can't be that no start is between them
+-- if nothing was executed since the last start, that start is between an earlier execution, j, and the next one, k: so it can't
+-- be that no start is between them
 never_idle : (executed starts : List ℕ) (j k m : ℕ) → IsIdle executed starts → HasNoStart starts j k → slice_get executed j ≡ Some m → k ≡ length executed → ⊥
 never_idle executed starts j k m (inl none) run a e = none_is_not m (subst (λ l. slice_get l j ≡ Some m) none a)
 never_idle executed starts j k m (inr h) run a e =

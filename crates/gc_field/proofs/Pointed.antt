@@ -58,17 +58,17 @@ exec_bare s (Raw raw) = refl
 true_is_not : true ≡ false → ⊥
 true_is_not e = cc
 
--- where the simulator sends a line again, its state stays as it was
+-- if the simulator sends a line again, its state stays as it was
 handed_same : (s : State) (id : ℕ) (c : Call) (o : Option (List ℕ)) → kept_line s.kept (Some id) ≡ o → (calls.handed s id c).executed ≡ false → (calls.handed s id c).state ≡ s
 handed_same s id c (Some line) e not = ap (λ (x : Handed State). x.state) (handed_again s id c line e)
 handed_same s id c None e not = absurd (true_is_not (sym (ap (λ (x : Handed State). x.executed) (handed_new s id c e)) ∙ not))
 
--- where the simulator executes a request, that has the effect `behind_call`
+-- if the simulator executes a request, that has the effect `behind_call`
 executes : (s : State) (id : ℕ) (asked : Asked) → (handed s id asked).executed ≡ true → bare (handed s id asked).state ≡ bare (behind_call s asked)
 executes s id (Table c) e = bare_after s id c e ∙ exec_bare s (Table c)
 executes s id (Raw raw) e = refl
 
--- where it doesn't, nothing changes
+-- if it doesn't, nothing changes
 repeats : (s : State) (id : ℕ) (asked : Asked) → (handed s id asked).executed ≡ false → bare (handed s id asked).state ≡ bare s
 repeats s id (Table c) not = ap bare (handed_same s id c (kept_line s.kept (Some id)) refl not)
 repeats s id (Raw raw) not = refl
@@ -82,7 +82,7 @@ has_effect =
       alike = λ s t asked e. sym (exec_bare s asked) ∙ ap (λ x. behind_call x asked) e ∙ exec_bare t asked;
     }
 
--- where nothing disturbs the instrument, it doesn't start
+-- if nothing disturbs the instrument, it doesn't start
 no_start : (ms : List (Move State)) → IsUndisturbed ms → HasNoStartBetween ms
 no_start [] h = tt
 no_start (Sends target asked deadline ∷ ms) h = no_start ms h
@@ -110,7 +110,7 @@ told_same : (s : State) (answer_with : Decimal → Answer) (d : Option Decimal) 
 told_same s answer_with None = (refl, refl)
 told_same s answer_with (Some d) = (refl, refl)
 
--- what executing a command to measure does: nothing (a), a measurement (b), the last measurement is dropped (c), or a refusal
+-- what executing a command to measure does: nothing (a), a measurement (b), the last measurement is discarded (c), or a refusal
 abbrev rows : State → Bool → Bool → Bool → Executed
 rows t a b c = cond a (done t Nothing) (cond b (done (measured t) Nothing) (cond c (done (unmeasured t) Nothing) (refused t 2)))
 
@@ -143,7 +143,7 @@ asked_same : (s : State) (asked : Asked) → turns asked ≡ false → IsSame s 
 asked_same s (Table c) e = call_same s c e
 asked_same s (Raw raw) e = (refl, refl)
 
--- a request turns no telescope if it turns none where it is a call of the table
+-- a request turns no telescope if it turns none if it is a call of the table
 still_table : (asked : Asked) → (is_of_table asked ≡ true → turns asked ≡ false) → turns asked ≡ false
 still_table (Table c) f = f refl
 still_table (Raw raw) f = refl
@@ -223,12 +223,12 @@ module _ (plan : Plan) (commands : List Task) (scope : Scope) (acts : List Act) 
         let same : asked r ≡ y.0 = some_is (asked r) y.0 (sym (get_map asked (own_sent ends h.stretch) x r got) ∙ y.1) in
         still_by x r mark.0 above under mark.1 y.0 same y.2
 
-    -- the same by the request's number in the stretch, where the eight null procedures come first
+    -- the same by the request's number in the stretch, if the eight null procedures come first
     still_number : (k : ℕ) (r : Sent) → 8 + h.m < k → k < 8 + h.n → slice_get (world ends h.stretch).wire.sent k ≡ Some r → turns r.call ≡ false
     still_number k r above under got =
         still_at (k - 8) r (omega (arith, above)) (omega (arith, above, under)) (get_own 8 (k - 8) k (world ends h.stretch).wire.sent r (omega (arith, above)) got)
 
-    -- where nothing disturbs the simulator between the two executions, the telescope points as the earlier one left it
+    -- if nothing disturbs the simulator between the two executions, the telescope points as the earlier one left it
     pointed_there : IsUndisturbed h.executed.between → IsMeasuredWhereItPointed scope.reads commands (parts plan commands scope acts) ss (stood plan commands scope acts).records a b line h
     pointed_there quiet =
         let x = h.executed in
@@ -252,7 +252,7 @@ module _ (plan : Plan) (commands : List Task) (scope : Scope) (acts : List Act) 
   all_so P Q f [] h = tt
   all_so P Q f (x ∷ xs) h = (f x h.0, all_so P Q f xs h.1)
 
-  -- where the laws of stations `ChainsStay`, `MarksGoOn` and `RecordsStay` hold, each record of a run over the simulator is
+  -- if the laws of stations `ChainsStay`, `MarksGoOn` and `RecordsStay` hold, each record of a run over the simulator is
   -- `IsPointedInChain`
   pub pointed : ChainsStay → MarksGoOn → RecordsStay → AllByRecursion (IsPointedInChain plan commands scope acts u rs) (stood plan commands scope acts).records
   pointed stay go_on records_stay =

@@ -41,7 +41,7 @@ some_played a b e = cc
 never : true ≡ false → ⊥
 never e = cc
 
--- where the kept line for an id is this one, this line is kept, with that id
+-- if the kept line for an id is this one, this line is kept, with that id
 kept_own : (k : Option KeptReply) (id : ℕ) (line : List ℕ) → kept_line k (Some id) ≡ Some line → k ≡ Some (record { id = id; line = line })
 kept_own None id line e = let wrong : ⊥ = cc in absurd wrong
 kept_own (Some k) id line e = chosen (eqb k.id id) refl e where
@@ -65,13 +65,13 @@ record Does (s : SceneState) (id : ℕ) (known : Bool) (h : Handed SceneState) :
 line_heard : (id : ℕ) (p : Played) → id < 8 → p.rc < 65536 → heard (line_of id p) ≡ Some id
 line_heard id p small code = ap id_in (reply_back (record { rc_com = 0; id = Some id; rc = p.rc; params = p.params }) (record { rc_com = lit< tt; id = small; rc = code }))
 
--- what is kept behind a request: its own reply, or nothing
+-- what is kept after a request: its own reply, or nothing
 own_or_none : (b : Bool) (id : ℕ) (line : List ℕ) (k : Option KeptReply)
     → (cond b (kept_after k (Some id) line) None ≡ None) ⊎ (cond b (kept_after k (Some id) line) None ≡ Some (record { id = id; line = line }))
 own_or_none true id line k = inr refl
 own_or_none false id line k = inl refl
 
--- what is kept behind a request is heard
+-- what is kept after a request is heard
 kept_heard : (b : Bool) (id : ℕ) (line : List ℕ) (k : Option KeptReply) → heard line ≡ Some id → IsHeard (cond b (kept_after k (Some id) line) None)
 kept_heard true id line k h = h
 kept_heard false id line k h = tt

@@ -1,5 +1,5 @@
--- The turns of a beginning leave of the word the same ids as the lines that these turns show to the station. The *word* is the
--- list of the ids of a beginning's null procedures; a reply that answers one takes its id off.
+-- The turns of a synchronization leave of the word the same ids as the lines that these turns show to the station. The *word*
+-- is the list of the ids of a synchronization's null procedures; a reply that answers one takes its id off.
 use Rattle.std.proofs.Common.{◌≡◌, ℕ, List, [], ◌∷◌, refl, sym, ◌∙◌, ap}
 use Rattle.gc_station.specs.Beginnings.{left_behind}
 use Rattle.gc_station.specs.Begun.{heard_in}
@@ -10,7 +10,7 @@ use Rattle.gc_field.specs.Shown.{first_heard, shown, shows}
 
 -- turns leave of the word what the lines leave that they show
 module _ {State : Type 0} (ends : Ends State) where
-  -- a null procedure that goes out changes nothing in what is left of the word
+  -- a null procedure that is sent changes nothing in what is left of the word
   left_asks : (s : Model State) (word : List ℕ) → s.left ≡ word → (asks s word).left ≡ s.left
   left_asks s [] e = refl
   left_asks s (asked ∷ rest) e = refl

@@ -1,9 +1,10 @@
 -- Each line that comes was made for its request as its call was executed, whatever is repeated or lost, and however often the
--- instrument starts anew. Requests that `E` names are excepted. M n call line stands for any property that the reply to each request has that
--- is executed. The client is the one that is given the number of each reply's request: `count` of its requests are settled, and the id of
--- request n is n - `since`, modulo 8. After a request that `knows` names the instrument keeps its own reply to that, or nothing; after another
--- one it may keep what it kept: so what it keeps is a reply to `table`, the last such request that it was handed, or to a later request.
--- `True` is the invariant of a world: each reply under way, the kept reply and each answer was made so.
+-- instrument starts again. Requests that `E` names are excepted. M n call line stands for any property that the reply to each
+-- request has that is executed. The client is the one that is given the number of each reply's request: `count` of its requests
+-- are settled, and the id of request n is n - `since`, modulo 8. After a request that `knows` names the instrument keeps its
+-- own reply to that, or nothing; after another one it may keep what it kept: so what it keeps is a reply to `table`, the last
+-- such request that it was handed, or to a later request. `True` is the invariant of a world: each reply in flight, the kept
+-- reply and each answer was made so.
 use Rattle.std.proofs.Common.{◌≡◌, ℕ, ◌+◌, ◌-◌, ◌%◌, ◌<◌, ◌≤◌, ◌⊎◌, inl, inr, Bool, true, false, List, [], ◌∷◌, ◌++◌, length, drop, Option, Some, None, refl, sym, ◌∙◌, ap, subst, arith, ltb, eqb}
 use Rattle.std.specs.Prelude.{slice_get}
 use Rattle.std.proofs.lemmas.List.{length_push}
@@ -28,7 +29,7 @@ use Rattle.gc_field.specs.Instrument.{IsAnInstrumentFor, KeepsItsReply}
 use Rattle.gc_field.proofs.Answered.{AllSo, all_so_more, all_so_append, all_so_settle}
 use Rattle.gc_field.proofs.Once.{IsClimbing, IsIdle, IsOrdered, IsUnknown, climbing_started, climbing_acted, climbing_handed, climbing_sent, known_not, ordered_acted, ordered_handed, unknown_more, why_acted}
 
--- no request under way has a number below the one in front
+-- no request in flight has a number below that of the front one
 pub rising_each : (low : ℕ) (xs : List (Numbered Request)) → Rising low (numbers xs) → Each (λ x. low ≤ x.number + 1) xs
 rising_each low [] h = tt
 rising_each low (x ∷ xs) h = (h.0, each_more (λ y. x.number + 1 ≤ y.number + 1) (λ y. low ≤ y.number + 1) (λ y k. omega (arith, k, h.0)) xs (rising_each (x.number + 1) xs h.1))
@@ -64,11 +65,11 @@ kept_more : (P Q : ℕ → List ℕ → Type 0) → ((n : ℕ) (line : List ℕ)
 kept_more P Q f since top table None h = tt
 kept_more P Q f since top table (Some k) h = record { number = h.number; recent = h.recent; before = h.before; behind = h.behind; id = h.id; line = f h.number k.line h.line }
 
--- where nothing is kept, `KeptIs` holds
+-- if nothing is kept, `KeptIs` holds
 pub kept_none : (P : ℕ → List ℕ → Type 0) (since top table : ℕ) (k : Option KeptReply) → k ≡ None → KeptIs P since top table k
 kept_none P since top table k e = subst (λ k. KeptIs P since top table k) (sym e) tt
 
--- where nothing is kept, or this line with the id of request n, `KeptIs` holds
+-- if nothing is kept, or this line with the id of request n, `KeptIs` holds
 pub kept_one : (P : ℕ → List ℕ → Type 0) (since top table n id : ℕ) (line : List ℕ) (k : Option KeptReply) → since ≤ n → n < top → table ≤ n → id ≡ (n - since) % 8
     → P n line → (k ≡ None) ⊎ (k ≡ Some (record { id = id; line = line })) → KeptIs P since top table k
 kept_one P since top table n id line k recent before behind own p (inl none) = kept_none P since top table k none
@@ -111,7 +112,8 @@ newest_dealt : (knows : Asked → Bool) (sent : List Sent) (known : Bool) (n tab
 newest_dealt knows sent true n table f = inl (omega arith)
 newest_dealt knows sent false n table f = inr (f refl)
 
--- what is kept after request n was handed is its own line, or nothing; or, where it isn't known, what was kept: so `KeptIs` holds then
+-- what is kept after request n was handed is its own line, or nothing; or, if it isn't known, what was kept: so `KeptIs` holds
+-- then
 kept_handed : (P Q : ℕ → List ℕ → Type 0) → ((n : ℕ) (line : List ℕ) → P n line → Q n line) → (since top table n id : ℕ) (known : Bool) (line : List ℕ) (k after : Option KeptReply)
     → since ≤ n → top ≤ n + 1 → table ≤ n → id ≡ (n - since) % 8 → Q n line
     → ((after ≡ None) ⊎ (after ≡ Some (record { id = id; line = line }))) ⊎ ((known ≡ false) × (after ≡ k)) → KeptIs P since top table k
@@ -132,7 +134,7 @@ pub record IsVouched {State : Type 0} (ends : Ends State) (Good : State → Type
   pub reply : IsReplyTo ends Good request.call line
   pub on : M n request.call line
 
--- where the instrument executes the front request, x, when that is handed to it, its reply has the property M
+-- if the instrument executes the front request, x, when that is handed to it, its reply has the property M
 abbrev pub IsOn : {State : Type 0} → Ends State → (ℕ → Asked → List ℕ → Type 0) → World (ByNumber Asked) State → Numbered Request → Type 0
 IsOn ends M w x = (ends.handed w.wire.state x.line.id x.line.call).executed ≡ true → M x.number x.line.call (ends.handed w.wire.state x.line.id x.line.call).reply
 
@@ -166,12 +168,12 @@ module _ {State : Type 0} (width : ℕ) (narrow : width ≤ 7) (knows : Asked �
     own (inl e) = inl e
     own (inr v) = inr (record { among = has_more _ made more v.among; acted = lasts n v.acted; request = v.request; found = v.found; reply = v.reply; on = v.on })
 
-  -- all requests are known (`Plain`), and the one handed last is the newest known one; or each request that isn't excepted is at most seven behind
-  -- the newest known one
+  -- all requests are known (`Plain`), and the one handed last is the newest known one; or each request that isn't excepted is
+  -- at most seven after the newest known one
   abbrev pub IsNear : List Sent → ℕ → ℕ → Type 0
   IsNear sent top table = (Plain × (top ≤ table + 1) × Each (λ (r : Sent). knows r.call ≡ true) sent) ⊎ ((n : ℕ) → E n ⊎ (n ≤ table + 7))
 
-  -- the invariant, over the fields of a world: each reply under way, the kept reply `k`, and each answer is vouched for;
+  -- the invariant, over the fields of a world: each reply in flight, the kept reply `k`, and each answer is vouched for;
   -- executions are in order, and each request acts once to which the instrument keeps its reply
   pub record IsTrue (since count : ℕ) (sent : List Sent) (executed starts : List ℕ) (made : List (Numbered (List ℕ))) (settled : List (Settlement Asked))
       (up : List (Numbered Request)) (down : List (Numbered (List ℕ))) (k : Option KeptReply) : Type 0 where
@@ -197,7 +199,7 @@ module _ {State : Type 0} (width : ℕ) (narrow : width ≤ 7) (knows : Asked �
   abbrev pub True : World (ByNumber Asked) State → Type 0
   True w = IsTrue w.client.since w.client.count w.wire.sent w.wire.executed w.wire.starts w.wire.made w.wire.settled w.wire.up w.wire.down (kept w.wire.state)
 
-  -- `IsTrue` lasts where a request goes out, which is known where all have to be
+  -- `IsTrue` lasts if a request is sent, which is known if all have to be
   true_sent : (since count : ℕ) (sent : List Sent) (executed starts : List ℕ) (made : List (Numbered (List ℕ))) (settled : List (Settlement Asked))
       (up : List (Numbered Request)) (down : List (Numbered (List ℕ))) (k : Option KeptReply) (target id : ℕ) (call : Asked) → id < 8 → (Plain → knows call ≡ true)
       → IsTrue since count sent executed starts made settled up down k
@@ -230,7 +232,7 @@ module _ {State : Type 0} (width : ℕ) (narrow : width ≤ 7) (knows : Asked �
       near_sent r plain (inl n) = inl (n.0, n.1, each_append (λ (r : Sent). knows r.call ≡ true) sent (r ∷ []) n.2 (plain n.0, tt))
       near_sent r plain (inr n) = inr n
 
-  -- `True` lasts where the client sends a request
+  -- `True` lasts if the client sends a request
   true_send : (w : World (ByNumber Asked) State) (target : ℕ) (call : Asked) (deadline : ℕ) (full : Bool) (x : Sending (ByNumber Asked)) → (Plain → knows call ≡ true)
       → number_send w.client target call deadline full ≡ Some x → True w → True (requested w target call (Some x))
   true_send w target call deadline true x plain e h = cc
@@ -243,8 +245,8 @@ module _ {State : Type 0} (width : ℕ) (narrow : width ≤ 7) (knows : Asked �
 
   -- A request that reaches the instrument.
 
-  -- where request n is excepted, or at most seven behind the newest known one, and has the id of the request whose reply is kept, it is excepted or
-  -- it is that request
+  -- where request n is excepted, or at most seven after the newest known one, and has the id of the request whose reply is
+  -- kept, it is excepted or it is that request
   near_same : (since top table n : ℕ) (k : KeptReply) (P : ℕ → List ℕ → Type 0) → IsKept P since top table k → since ≤ n → top ≤ n + 1 → k.id ≡ (n - since) % 8
       → E n ⊎ (n ≤ table + 7) → E n ⊎ P n k.line
   near_same since top table n k P held recent le same (inl e) = inl e
@@ -252,7 +254,7 @@ module _ {State : Type 0} (width : ℕ) (narrow : width ≤ 7) (knows : Asked �
       let one : held.number ≡ n = omega (arith, held.recent, held.before, held.behind, held.id, recent, le, same, near) in
       inr (subst (λ i. P i k.line) one held.line)
 
-  -- what is near stays near where request n was handed, which is known where all are
+  -- what is near stays near where request n was handed, which is known if all are
   near_on : (sent : List Sent) (top table n : ℕ) (known : Bool) → table ≤ n → (Each (λ (r : Sent). knows r.call ≡ true) sent → known ≡ true) → IsNear sent top table
       → IsNear sent (n + 1) (newest known n table)
   near_on sent top table n known low all (inl h) =
@@ -263,7 +265,7 @@ module _ {State : Type 0} (width : ℕ) (narrow : width ≤ 7) (knows : Asked �
     | inr le ↦ inr (let up = newest_up known n table low in omega (arith, le, up))
   ])
 
-  -- request n is excepted, or at most seven behind the newest known one: at most seven wait
+  -- request n is excepted, or at most seven after the newest known one: at most seven are outstanding
   near_of : (sent : List Sent) (top table n : ℕ) → n < top + 7 → IsNear sent top table → E n ⊎ (n ≤ table + 7)
   near_of sent top table n few (inl h) = inr (omega (arith, few, h.1))
   near_of sent top table n few (inr f) = f n
@@ -302,8 +304,8 @@ module _ {State : Type 0} (width : ℕ) (narrow : width ≤ 7) (knows : Asked �
         all = λ every. sym is ∙ sym (ap knows o.call) ∙ each_get (λ (r : Sent). knows r.call ≡ true) w.wire.sent x.number o.request every o.found;
       }
 
-  -- `IsTrue` lasts where the front request, x, is handed to the instrument, if what it sends is vouched for, and the executions are in order and
-  -- act once
+  -- `IsTrue` lasts if the front request, x, is handed to the instrument, if what it sends is vouched for, and the executions
+  -- are in order and act once
   true_on : (w : World (ByNumber Asked) State) (x : Numbered Request) (rest : List (Numbered Request)) (known : Bool) (line executed : List ℕ) (after : Option KeptReply) → w.wire.up ≡ x ∷ rest
       → (h : True w) → IsFront w h x known → Sound width ends Good w → ((i : ℕ) → Has i w.wire.executed → Has i executed)
       → ((after ≡ None) ⊎ (after ≡ Some (record { id = x.line.id; line = line }))) ⊎ ((known ≡ false) × (after ≡ kept w.wire.state))
@@ -346,7 +348,7 @@ module _ {State : Type 0} (width : ℕ) (narrow : width ≤ 7) (knows : Asked �
         once = once;
       }
 
-  -- where the front request isn't executed, the line that is sent again is vouched for as its reply, or the request is excepted
+  -- if the front request isn't executed, the line that is sent again is vouched for as its reply, or the request is excepted
   again_own : (w : World (ByNumber Asked) State) (x : Numbered Request) (known : Bool) (line : List ℕ) (k : Option KeptReply) → (h : True w) → IsFront w h x known → kept w.wire.state ≡ k
       → k ≡ Some (record { id = x.line.id; line = line })
       → E x.number ⊎ IsVouched ends Good M w.wire.sent w.wire.executed (w.wire.made ++ record { number = x.number; line = line } ∷ []) x.number line
@@ -365,7 +367,7 @@ module _ {State : Type 0} (width : ℕ) (narrow : width ≤ 7) (knows : Asked �
   AfterIs w x hd known =
       ((kept hd.state ≡ None) ⊎ (kept hd.state ≡ Some (record { id = x.line.id; line = hd.reply }))) ⊎ ((known ≡ false) × (kept hd.state ≡ kept w.wire.state))
 
-  -- where the instrument keeps its reply to a request that it knows, it keeps that to the front request, or doesn't know that
+  -- if the instrument keeps its reply to a request that it knows, it keeps that to the front request, or doesn't know that
   held_by : (w : World (ByNumber Asked) State) (x : Numbered Request) (hd : Handed State) (keeps : Asked → Bool) (b : Bool) → keeps x.line.call ≡ b → KeepsItsReply ends Good kept keeps
       → ends.handed w.wire.state x.line.id x.line.call ≡ hd → Good w.wire.state → (since : ℕ) → x.line.id ≡ (x.number - since) % 8 → IsOf written w.wire.sent x
       → IsUnknown keeps w.wire.sent x.number ⊎ ((kept hd.state ≡ Some (record { id = x.line.id; line = hd.reply })) × (x.line.id ≡ (x.number + 1 - 1 - since) % 8))
@@ -377,7 +379,7 @@ module _ {State : Type 0} (width : ℕ) (narrow : width ≤ 7) (knows : Asked �
       )
   held_by w x hd keeps false e is handed good since own o = inl (o.request, o.found, ap keeps o.call ∙ e)
 
-  -- `True` lasts where the request in front isn't executed, and the kept line is sent again for it
+  -- `True` lasts if the front request isn't executed, and the kept line is sent again for it
   true_again : (w : World (ByNumber Asked) State) (x : Numbered Request) (rest : List (Numbered Request)) (hd : Handed State) (known : Bool) → w.wire.up ≡ x ∷ rest
       → ends.handed w.wire.state x.line.id x.line.call ≡ hd → knows x.line.call ≡ known → kept w.wire.state ≡ Some (record { id = x.line.id; line = hd.reply }) → AfterIs w x hd known
       → Sound width ends Good w → True w → True (on_wire w (replied w.wire x.number rest (record hd { executed = false })))
@@ -391,8 +393,8 @@ module _ {State : Type 0} (width : ℕ) (narrow : width ≤ 7) (knows : Asked �
       (record { id = x.line.id; line = hd.reply }) front.top
       (held_by w x hd keeps (keeps x.line.call) refl k is s.good c.since front.id front.of) (h.once keeps k))
 
-  -- where the front request is executed, it isn't one to which the instrument keeps its reply; or nothing was executed since the last start, or it is
-  -- later than all that were handed before, and its reply is kept
+  -- if the front request is executed, it isn't one to which the instrument keeps its reply; or nothing was executed since the
+  -- last start, or it is later than all that were handed before, and its reply is kept
   acted_by : (w : World (ByNumber Asked) State) (x : Numbered Request) (hd : Handed State) (known : Bool) (keeps : Asked → Bool) (b : Bool) → keeps x.line.call ≡ b
       → KeepsItsReply ends Good kept keeps → ends.handed w.wire.state x.line.id x.line.call ≡ hd → hd.executed ≡ true → Good w.wire.state → (h : True w) → IsFront w h x known
       → IsUnknown keeps w.wire.sent x.number
@@ -410,7 +412,7 @@ module _ {State : Type 0} (width : ℕ) (narrow : width ≤ 7) (knows : Asked �
       )
   acted_by w x hd known keeps false e k is exe good h front = inl (front.of.request, front.of.found, ap keeps front.of.call ∙ e)
 
-  -- `True` lasts where the request in front is executed
+  -- `True` lasts if the front request is executed
   true_new : (w : World (ByNumber Asked) State) (x : Numbered Request) (rest : List (Numbered Request)) (hd : Handed State) (known : Bool) → w.wire.up ≡ x ∷ rest
       → ends.handed w.wire.state x.line.id x.line.call ≡ hd → knows x.line.call ≡ known → hd.executed ≡ true → M x.number x.line.call hd.reply → AfterIs w x hd known
       → Sound width ends Good w → True w → True (on_wire w (replied w.wire x.number rest (record hd { executed = true })))
@@ -441,7 +443,7 @@ module _ {State : Type 0} (width : ℕ) (narrow : width ≤ 7) (knows : Asked �
       (λ keeps k. climbing_acted keeps ((h.top - 1 - c.since) % 8) ((n + 1 - 1 - c.since) % 8) h.top n v.sent v.executed v.starts (kept v.state) (kept hd.state)
       (record { id = x.line.id; line = hd.reply }) front.top (acted_by w x hd known keeps (keeps x.line.call) refl k is exe s.good h front) (h.once keeps k))
 
-  -- `True` lasts where the request in front is handed to the instrument, whether that executes the request (`b`) or not
+  -- `True` lasts if the front request is handed to the instrument, whether that executes the request (`b`) or not
   true_handed : (w : World (ByNumber Asked) State) (x : Numbered Request) (rest : List (Numbered Request)) (hd : Handed State) (b : Bool) → w.wire.up ≡ x ∷ rest
       → ends.handed w.wire.state x.line.id x.line.call ≡ hd → hd.executed ≡ b → (hd.executed ≡ true → M x.number x.line.call hd.reply)
       → Sound width ends Good w → True w → True (on_wire w (replied w.wire x.number rest (record hd { executed = b })))
@@ -464,7 +466,7 @@ module _ {State : Type 0} (width : ℕ) (narrow : width ≤ 7) (knows : Asked �
     chosen false not = true_again w x rest hd (knows x.line.call) q is refl (same not) now s h
     chosen true exe = true_new w x rest hd (knows x.line.call) q is refl exe (on exe) now s h
 
-  -- `True` lasts where the reply in front comes, be its request settled already (`old`) or not
+  -- `True` lasts if the front reply comes, be its request settled already (`old`) or not
   true_reply : (w : World (ByNumber Asked) State) (x : Numbered (List ℕ)) (rest : List (Numbered (List ℕ))) (old : Bool) → ltb x.number w.client.count ≡ old
       → w.wire.down ≡ x ∷ rest → length w.wire.settled ≡ w.client.count → True w
       → True (with_settled (record w.wire { down = rest }) (number_reply w.client x old))
@@ -516,7 +518,7 @@ module _ {State : Type 0} (width : ℕ) (narrow : width ≤ 7) (knows : Asked �
         once = h.once;
       }
 
-  -- `True` lasts where the instrument starts anew, whatever is under way
+  -- `True` lasts if the instrument starts again, whatever is in flight
   pub true_started : (w : World (ByNumber Asked) State) (b : Bool) → Good w.wire.state → True w → True (on_wire w (started ends w.wire b))
   true_started w false good h = h
   true_started w true good h =
@@ -541,7 +543,7 @@ module _ {State : Type 0} (width : ℕ) (narrow : width ≤ 7) (knows : Asked �
             climbing_started keeps ((h.top - 1 - w.client.since) % 8) h.top v.sent v.executed v.starts (kept v.state) (kept (ends.restarted v.state)) (keeper.starts v.state good) (h.once keeps k);
       }
 
-  -- `True` lasts where the instrument's state changes by itself
+  -- `True` lasts if the instrument's state changes by itself
   pub true_changed : (w : World (ByNumber Asked) State) (state : State) → kept state ≡ kept w.wire.state → True w → True (on_wire w (record w.wire { state = state }))
   true_changed w state same h =
       let v = w.wire in
@@ -563,7 +565,7 @@ module _ {State : Type 0} (width : ℕ) (narrow : width ≤ 7) (knows : Asked �
         once = λ keeps k. subst (λ o. IsClimbing keeps ((h.top - 1 - w.client.since) % 8) h.top v.sent v.executed v.starts o) (sym same) (h.once keeps k);
       }
 
-  -- `True` lasts where the lines under way change, if those that are under way now still have what the invariant says of each
+  -- `True` lasts if the lines in flight change, if those that are in flight now still have what the invariant says of each
   true_queues : (w : World (ByNumber Asked) State) (up : List (Numbered Request)) (down : List (Numbered (List ℕ))) (h : True w)
       → Each (λ x. h.top ≤ x.number + 1) up → Each (IsOf written w.wire.sent) up → Each (λ x. x.number < h.top) down
       → Each (λ x. Vouched w.wire.sent w.wire.executed w.wire.made h.table x.number x.line) down → True (on_wire w (record w.wire { up = up; down = down }))
@@ -591,7 +593,7 @@ module _ {State : Type 0} (width : ℕ) (narrow : width ≤ 7) (knows : Asked �
 
   -- A move of the line, and a reply that comes.
 
-  -- `True` lasts where the request in front reaches the instrument, if `IsOn` holds of it
+  -- `True` lasts if the front request reaches the instrument, if `IsOn` holds of it
   pub true_up : (w : World (ByNumber Asked) State) (q : List (Numbered Request)) → w.wire.up ≡ q
       → ((x : Numbered Request) (rest : List (Numbered Request)) → q ≡ x ∷ rest → IsOn ends M w x) → Sound width ends Good w → True w
       → True (on_wire w (up_delivered ends w.wire q))
@@ -599,19 +601,18 @@ module _ {State : Type 0} (width : ℕ) (narrow : width ≤ 7) (knows : Asked �
   true_up w (x ∷ rest) e on s h =
       true_handed w x rest (ends.handed w.wire.state x.line.id x.line.call) (ends.handed w.wire.state x.line.id x.line.call).executed e refl refl (on x rest refl) s h
 
-  -- `True` lasts where the reply in front comes
+  -- `True` lasts if the front reply comes
   pub true_down : (w : World (ByNumber Asked) State) (q : List (Numbered (List ℕ))) → w.wire.down ≡ q → Sound width ends Good w → True w → True (down_delivered (by_numbers width) w q)
   true_down w [] e s h = true_idle w h
   true_down w (x ∷ rest) e s h = true_reply w x rest (ltb x.number w.client.count) refl e s.booked h
 
-  -- `True` lasts over a loss or a repeat of a request under way; where there is none at that place (`b` is false), nothing
-  -- happens
+  -- `True` lasts over a loss or a repeat of a request in flight; if there is none at that place (`b` is false), nothing happens
   true_with_up : (w : World (ByNumber Asked) State) (up : List (Numbered Request)) (b : Bool) (h : True w)
       → Each (λ x. h.top ≤ x.number + 1) up → Each (IsOf written w.wire.sent) up → True (on_wire w (with_up w.wire up b))
   true_with_up w up false h a l = true_idle w h
   true_with_up w up true h a l = true_queues w up w.wire.down h a l h.below h.coming
 
-  -- `True` lasts over a loss or a repeat of a reply under way; where there is none at that place (`b` is false), nothing happens
+  -- `True` lasts over a loss or a repeat of a reply in flight; if there is none at that place (`b` is false), nothing happens
   true_with_down : (w : World (ByNumber Asked) State) (down : List (Numbered (List ℕ))) (b : Bool) (h : True w)
       → Each (λ x. x.number < h.top) down → Each (λ x. Vouched w.wire.sent w.wire.executed w.wire.made h.table x.number x.line) down
       → True (on_wire w (with_down w.wire down b))

@@ -1,4 +1,4 @@
--- Why the first request goes out alone, this project's own: an instrument that keeps an older reply takes a second request with
+-- Why the first request is sent alone, this project's own: an instrument that keeps an older reply takes a second request with
 -- that reply's id for a repeat of the older request.
 use Rattle.std.specs.Prelude.{◌≡◌, ℕ, List, [], ◌∷◌, Some}
 use Rattle.gc_catalogue.specs.declared.asked.Asked.TheVariants.{Table}
@@ -28,7 +28,7 @@ pub record IsBookedUnexecuted (state : State) (line : List ℕ) : Type 0 where
   pub executed : (left WINDOW ends state (two_at_once line)).wire.executed ≡ []
   pub unmade : WasMadeOn WINDOW ends state (two_at_once line) 1 (Table NullProc) line → ⊥
 
--- where the simulator keeps a reply with id 1, that reply is booked for the second of two requests that go out at once, which
+-- if the simulator keeps a reply with id 1, that reply is booked for the second of two requests that are sent at once, which
 -- isn't executed
 abbrev pub TwoAtOnceAreBookedWrong : Type 0
 TwoAtOnceAreBookedWrong = (state : State) (line : List ℕ) → IsFittingState state → kept_line state.kept (Some 1) ≡ Some line → IsBookedUnexecuted state line

@@ -14,8 +14,9 @@ use Rattle.gc_field.specs.Instrument.{IsAnInstrument, AnyState}
 use Rattle.gc_field.specs.Laws.{kept_of}
 use Rattle.gc_field.specs.Meaning.{Amount, client_after}
 
--- acts of a station, and the moves of the line and of an instrument that go with them. The beginning before these acts has
--- begun cleanly, and left `u` under way; `rest` are the bytes of an unfinished line that the last piece of the beginning left
+-- acts of a station, and the moves of the line and of an instrument that go with them. The synchronization before these acts
+-- has begun cleanly, and left `u` in flight; `rest` are the bytes of an unfinished line that the last piece of the
+-- synchronization left
 pub record IsCarried {State : Type 0} (ends : Ends State) (Good : State → Type 0) (kept : State → Option KeptReply) (u : UnderWay State) (rest : List ℕ)
     (acts : List Act) (ms : List (Move State)) : Type 0 where
   pub clean : IsClean Good kept u

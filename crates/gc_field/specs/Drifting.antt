@@ -1,6 +1,7 @@
--- A run over an instrument that isn't the simulator, this project's own: it keeps no reply, and what it measures changes by itself. Its second
--- command asks for a procedure that isn't in the table. The first null procedure goes out again, and the beginning goes on over another connection; a reply is lost, and its request given up; the
--- instrument starts anew, and its connection is made again.
+-- A run over an instrument that isn't the simulator, this project's own: it keeps no reply, and what it measures changes by
+-- itself. Its second command asks for a procedure that isn't in the table. The first null procedure is sent again, and the
+-- synchronization goes on over another connection; a reply is lost, and its request timed out; the instrument starts again, and
+-- its connection is made again.
 use Rattle.std.specs.Prelude.{◌≡◌, ℕ, true, false, List, [], ◌∷◌, codes, Some, None}
 use Rattle.std.specs.Fmt.{decimal}
 use Rattle.gc_lines.specs.Lines.{with_end}
@@ -67,8 +68,8 @@ begun =
 abbrev pub answer : List ℕ
 answer = codes "%R1P,0,1:0,31"
 
--- the acts of the run: the first null procedure goes out again at its deadline, and the dead line is closed and connected
--- again; the beginning goes on there. The first command is given up; the connection breaks, and the second command's reply
+-- the acts of the run: the first null procedure is sent again at its deadline, and the dead line is closed and connected again;
+-- the synchronization goes on there. The first command has timed out; the connection breaks, and the second command's reply
 -- comes over the next one
 abbrev pub acts : RawCall → List Act
 acts raw =
@@ -107,13 +108,13 @@ acts raw =
     ∷ []
     )
 
--- what the line does while the station begins: it loses the first reply to the first null procedure, and that procedure's
+-- what the line does while the station synchronizes: it loses the first reply to the first null procedure, and that procedure's
 -- second request
 abbrev pub turns : List (Turn ℕ)
 turns = Asks ∷ Reaches ∷ turn.Down_lose 0 ∷ Asks ∷ turn.Up_lose 0 ∷ turn.Changes 12 ∷ eight
 
--- what the line does once the station has begun: the first command is answered, and that reply is lost; the second command
--- reaches the instrument after a start, and is answered with what it measures by then, over another connection
+-- what the line does once the station has synchronized: the first command is answered, and that reply is lost; the second
+-- command reaches the instrument after a start, and is answered with what it measures by then, over another connection
 abbrev pub moves : RawCall → List (Move ℕ)
 moves raw =
     Tells 220

@@ -27,7 +27,7 @@ pub record Program (State : Type 0) : Type 0 where
   pub runs : List (Run State)
 
 module _ {State : Type 0} (ends : Ends State) where
-  -- what is under way after these runs
+  -- what is in flight after these runs
   abbrev pub left_over : UnderWay State → List (Run State) → UnderWay State
   left_over u [] = u
   left_over u (r ∷ rs) = left_over (left_by_run WINDOW ends u r) rs
@@ -50,7 +50,7 @@ module _ {State : Type 0} (ends : Ends State) where
   AreFew n u (r ∷ rs) = (killed_by n u r r.turns ≤ 5) × AreFew (killed_by n u r r.turns) (left_by_run WINDOW ends u r) rs
 
   module _ (Good : State → Type 0) (kept : State → Option KeptReply) where
-    -- a program is a run of its station over what is under way, where `n` runs in a row were killed before while they began
+    -- a program is a run of its station over what is in flight, where `n` runs in a row were killed before while they began
     pub record IsNext (n : ℕ) (u : UnderWay State) (x : Program State) : Type 0 where
       pub runs : Runs x.plan x.commands (opening x.plan x.scope) x.acts
       pub shown : AreShownAs ends u x.runs (parts_of x.plan x.commands (opening x.plan x.scope) x.acts)
@@ -67,8 +67,8 @@ module _ {State : Type 0} (ends : Ends State) where
     AreFaithful u [] = Unit {0}
     AreFaithful u (x ∷ xs) = IsRunFaithful ends Good kept x.plan x.commands x.scope x.acts u x.runs × AreFaithful (left_over u x.runs) xs
 
--- for any instrument, after a run that measured, or over a line with nothing under way: as long as fewer than six runs in a
--- row end while they begin, each program is a faithful run
+-- for any instrument, after a run that measured, or over a line with nothing in flight: as long as fewer than six runs in a row
+-- end while they begin, each program is a faithful run
 abbrev pub StationsInARowAreFaithful : Type 0 → Type 0
 StationsInARowAreFaithful State =
     (ends : Ends State) (kept : State → Option KeptReply) → IsAnInstrument ends AnyState kept →

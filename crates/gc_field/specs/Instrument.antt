@@ -1,9 +1,9 @@
--- What is asked of an instrument, this project's own: it answers in turn, one request at a time, each with its request's id, and what it
--- sends again is its reply to the request directly before, or to the last call of the table before that. By this and by when a client sends
--- (`IsBehindTheTable`) each answer is its own request's. Its states are of any kind. It may do with a request whatever it likes, and carry
--- it out or refuse it, with any codes and any parameters, also such as don't read.
--- `executed` means that the line was made now, for this request, be it an answer or a refusal; where it isn't so, the line is an older one
--- that is sent again.
+-- What is asked of an instrument, this project's own: it answers in turn, one request at a time, each with its request's id,
+-- and what it sends again is its reply to the request directly before, or to the last call of the table before that. By this
+-- and by when a client sends (`IsBehindTheTable`) each answer is its own request's. Its states are of any kind. It may do with
+-- a request whatever it likes, and carry it out or refuse it, with any codes and any parameters, also such as don't read.
+-- `executed` means that the line was made now, for this request, be it an answer or a refusal; if it isn't so, the line is an
+-- older one that is sent again.
 use Rattle.std.specs.Prelude.{◌≡◌, ℕ, ◌<◌, ◌⊎◌, Bool, true, false, List, Option, Some, None}
 use Rattle.gc_catalogue.specs.declared.asked.Asked.{Asked}
 use Rattle.gc_client.specs.declared.window.TheConstants.{IDS}
@@ -25,8 +25,8 @@ module _ {State : Type 0} (ends : Ends State) (Good : State → Type 0) (kept : 
     pub hears : (line : List ℕ) → ends.heard line ≡ heard line
     -- its line for a request is a reply with the request's id
     pub replies : (state : State) (id : ℕ) (call : Asked) → Good state → id < IDS → heard (ends.handed state id call).reply ≡ Some id
-    -- where it sends an older line again (`executed` is false), that line is the one that it keeps, and it keeps it for this
-    -- very id
+    -- if it sends an older line again (`executed` is false), that line is the one that it keeps, and it keeps it for this very
+    -- id
     pub repeats :
         (state : State) (id : ℕ) (call : Asked) → Good state → id < IDS → (ends.handed state id call).executed ≡ false →
         kept state ≡ Some (record { id = id; line = (ends.handed state id call).reply })
@@ -48,8 +48,8 @@ module _ {State : Type 0} (ends : Ends State) (Good : State → Type 0) (kept : 
   abbrev pub TreatsRawsAlike : Type 0
   TreatsRawsAlike = (state : State) (id : ℕ) (call : Asked) → Good state → id < IDS → KeepsItsOwn state id call
 
-  -- an instrument that keeps its reply to each request that it knows (`knows`), and sends that reply again where the next request has the same
-  -- id
+  -- an instrument that keeps its reply to each request that it knows (`knows`), and sends that reply again if the next request
+  -- has the same id
   pub record KeepsItsReply (knows : Asked → Bool) : Type 0 where
     -- it doesn't execute a request that it knows and that has the id of the line that it keeps
     pub again :

@@ -1,4 +1,4 @@
--- Some run in the field writes a late record down, this project's own: a command is given up, and its reply comes after that.
+-- Some run in the field writes a late record down, this project's own: a command has timed out, and its reply comes after that.
 use Rattle.std.specs.Prelude.{◌≡◌, ℕ, true, false, List, [], ◌∷◌, codes, pos, Some, None}
 use Rattle.gc_lines.specs.Lines.{with_end}
 use Rattle.gc_catalogue.specs.declared.answer.Answer.TheVariants.{Long}
@@ -38,7 +38,7 @@ late = codes "%R1P,0,0:0,123456"
 abbrev pub answer : List ℕ
 answer = codes "%R1P,0,1:0,123456"
 
--- the acts of the run: the station begins; then nothing comes until the first command's deadline; the second one goes out,
+-- the acts of the run: the station synchronizes; then nothing comes until the first command's deadline; the second one is sent,
 -- and then both replies come
 abbrev pub acts : List Act
 acts =

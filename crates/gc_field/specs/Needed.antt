@@ -48,8 +48,8 @@ pub record IsAllBut {State : Type 0} (x : Clause) (ends : Ends State) (Good : St
   pub stays_good : (x ≡ StaysGood) ⊎ ((state : State) (id : ℕ) (call : Asked) → Good state → id < IDS → Good (ends.handed state id call).state)
   pub starts_good : (x ≡ StartsGood) ⊎ ((state : State) → Good state → Good (ends.restarted state))
 
--- after a clean beginning, with nothing under way, these moves are possible, and the client's request m, with this call, is
--- answered with this line though it wasn't executed
+-- after a clean synchronization, with nothing in flight, these moves are possible, and the client's request m, with this call,
+-- is answered with this line though it wasn't executed
 pub record IsBookedUnexecuted {State : Type 0} (ends : Ends State) (Good : State → Type 0) (kept : State → Option KeptReply) (state : State)
     (ms : List (Move State)) (m : ℕ) (call : Asked) (line : List ℕ) : Type 0 where
   pub beyond : 8 ≤ m
@@ -73,11 +73,11 @@ value id n = reply_text (record { rc_com = 0; id = Some id; rc = 0; params = dec
 abbrev pub refusal : ℕ → List ℕ
 refusal id = reply_text (record { rc_com = 3081; id = Some id; rc = 0; params = [] })
 
--- the moves by which a request goes out, reaches the instrument, and is answered with this line; then these moves
+-- the moves by which a request is sent, reaches the instrument, and is answered with this line; then these moves
 abbrev pub asks : {State : Type 0} → Asked → List ℕ → List (Move State) → List (Move State)
 asks call line ms = Sends 7 call 9 ∷ OnLine Up_deliver ∷ Comes line ∷ ms
 
--- the moves by which two requests go out, and the first of them reaches the instrument and is answered with this line
+-- the moves by which two requests are sent, and the first of them reaches the instrument and is answered with this line
 abbrev pub asks_two : {State : Type 0} → List ℕ → List (Move State)
 asks_two line = Sends 7 (Table NullProc) 9 ∷ Sends 7 (Table InstrumentNo) 9 ∷ OnLine Up_deliver ∷ Comes line ∷ []
 
@@ -98,7 +98,7 @@ held None id = None
 held (Some x) id = if nat_eq x.0 id then Some x.1 else None
 
 -- what an instrument that keeps a reply does with a request: it sends the number again that it keeps for the request's id; or,
--- where it keeps none, it deals with the request and keeps its reply
+-- if it keeps none, it deals with the request and keeps its reply
 abbrev pub again_or : ℕ → Keeper → Option ℕ → Handed Keeper
 again_or id k (Some n) = record { state = k; reply = value id n; executed = false }
 again_or id k None = record { state = Some (id, 0); reply = value id 0; executed = true }
@@ -153,13 +153,13 @@ abbrev pub turned : ℕ → ℕ
 turned zero = 0
 turned (suc id) = id + 2
 
--- the id of a reply to a request with this id: another one where the instrument is out of order
+-- the id of a reply to a request with this id: another one if the instrument is out of order
 abbrev pub id_of : Bool → ℕ → ℕ
 id_of false id = id
 id_of true id = turned id
 
--- what an instrument that may be out of order does with a request: it executes the request, and its reply has another id where
--- it is out of order (`broken`). `behind` is its state afterwards
+-- what an instrument that may be out of order does with a request: it executes the request, and its reply has another id if it
+-- is out of order (`broken`). `behind` is its state afterwards
 abbrev pub answers_in : Bool → ℕ → Bool → Handed Bool
 answers_in broken id behind = record { state = behind; reply = value (id_of broken id) 0; executed = true }
 
@@ -197,7 +197,7 @@ sound = record mistaken { handed = λ b id call. answers_in b id b }
 abbrev pub comes_twice : {State : Type 0} → List (Move State)
 comes_twice = asks (Table NullProc) (value 0 0) (Sends 7 (Table InstrumentNo) 9 ∷ OnLine (Up_repeat 0) ∷ OnLine Up_deliver ∷ OnLine Up_deliver ∷ [])
 
--- an instrument that keeps its reply, and deals with each request anew
+-- an instrument that keeps its reply, and deals with each request again
 abbrev pub deals_anew : Ends Keeper
 deals_anew = record keeper { handed = λ k id call. again_or id k None }
 
@@ -205,7 +205,7 @@ deals_anew = record keeper { handed = λ k id call. again_or id k None }
 abbrev pub forgets : Ends Bool
 forgets = record mistaken { handed = λ b id call. answers_in false id b }
 
--- `ends` is an instrument that meets every clause, and yet, where one request reaches it twice without a start between (the moves
+-- `ends` is an instrument that meets every clause, and yet, if one request reaches it twice without a start between (the moves
 -- `comes_twice`), it executes that request both times
 pub record IsExecutedTwice {State : Type 0} (ends : Ends State) (Good : State → Type 0) (kept : State → Option KeptReply) (state : State) : Type 0 where
   pub is : IsAnInstrument ends Good kept
@@ -225,12 +225,12 @@ pub record IsAllNeeded : Type 0 where
   pub starts : IsNeeded Starts remembers AnyState kept None started 9 (Table InstrumentNo) (value 1 27)
   pub stays_good : IsNeeded StaysGood wears_out InOrder nothing false (asks (Table NullProc) (value 0 0) (asks_two (value 2 0))) 10 (Table InstrumentNo) (value 2 0)
   pub starts_good : IsNeeded StartsGood starts_broken InOrder nothing false (asks (Table NullProc) (value 0 0) (Anew ∷ asks_two (value 2 0))) 10 (Table InstrumentNo) (value 2 0)
-  -- when a client sends is needed, too: an instrument meets every clause, and the last request, which didn't go out behind the table
-  -- (`IsBehindTheTable`), has an answer booked though it was never executed
+  -- when a client sends is needed, too: an instrument meets every clause, and the last request, which wasn't sent after the
+  -- table (`IsBehindTheTable`), has an answer booked though it was never executed
   pub rule_is : IsAnInstrument refuses_raws AnyState kept
   pub rule : (raw : RawCall) → IsBookedUnexecuted refuses_raws AnyState kept None (nine_raw raw) 16 (Table NullProc) (value 0 0)
-  -- two limits of what may change by itself are needed: what is kept may not change, as it does where another client sends; and the
-  -- new state has to be a good one
+  -- two limits of what may change by itself are needed: what is kept may not change, as it does if another client sends; and
+  -- the new state has to be a good one
   pub shared_is : IsAnInstrument keeper AnyState kept
   pub changes_kept : IsBookedUnexecuted keeper AnyState nothing None shared 9 (Table InstrumentNo) (value 1 27)
   pub sound_is : IsAnInstrument sound InOrder nothing

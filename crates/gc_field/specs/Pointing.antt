@@ -1,6 +1,6 @@
--- Where the telescope pointed when a command of a chain was executed, of the simulated instrument: this project's own. A part
--- is what a station sees of its run from one beginning to the next, and a stretch what happens on the line meanwhile, once it
--- has begun.
+-- Where the telescope pointed when a command of a chain was executed, of the simulated instrument: this project's own. A part is
+-- what a station sees of its run from one synchronization to the next, and a stretch what happens on the line meanwhile, once
+-- it has begun.
 use Rattle.std.specs.Prelude.{◌≡◌, ℕ, ◌<◌, ◌≤◌, Bool, true, false, List, Some, None, slice_get}
 use Rattle.std.specs.List.{AllByRecursion}
 use Rattle.gc_values.specs.declared.decimal.Decimal.{Decimal}
@@ -54,9 +54,9 @@ pub record PointsAs (s t : State) : Type 0 where
   pub pointing : s.pointing ≡ t.pointing
   pub face : s.face ≡ t.face
 
--- when the command of record b was executed, after the command at place a, the telescope pointed where executing the latter
--- had left it; and where the latter was a positioning, in the direction that it commanded, in the face in which the telescope
--- was before
+-- when the command of record b was executed, after the command at place a, the telescope pointed where executing the latter had
+-- left it; and if the latter was a positioning, in the direction that it commanded, in the face in which the telescope was
+-- before
 pub record IsMeasuredWhereItPointed (reads : Asked → List ℕ → Reading) (commands : List Task) (ps : List Part) (ss : List (Stretch State)) (records : List Record) (a : ℕ) (b : Record) (line : List ℕ)
     (h : IsChainedTo ends IsFittingState kept_of reads commands ps ss records a b line) : Type 0 where
   pub as_left : PointsAs (behind ends h.stretch h.executed.second.front).state (behind_call (behind ends h.stretch h.executed.first.front).state h.record_a.command.call)
@@ -65,9 +65,9 @@ pub record IsMeasuredWhereItPointed (reads : Asked → List ℕ → Reading) (co
       → ((behind ends h.stretch h.executed.second.front).state.pointing ≡ record { hz = hz; v = v })
       × ((behind ends h.stretch h.executed.second.front).state.face ≡ (behind ends h.stretch h.executed.first.front).state.face)
 
--- if the command of record b, of a cycle, was answered, and is chained to the command of its cycle at place a, it was executed after the latter. Where
--- no command of the places between turns the telescope, and the instrument neither started anew nor changed by itself between
--- the two executions, it was executed with the telescope as the latter had left it
+-- if the command of record b, of a cycle, was answered, and is chained to the command of its cycle at place a, it was executed
+-- after the latter. If no command of the places between turns the telescope, and the instrument neither started again nor
+-- changed by itself between the two executions, it was executed with the telescope as the latter had left it
 abbrev pub IsPointedInChain : Plan → List Task → Scope → List Act → UnderWay State → List (Run State) → Record → Type 0
 IsPointedInChain plan commands scope acts u rs b =
     (line : List ℕ) (a : ℕ) → answer_of b.end ≡ Some line → 0 < b.cycle → plan.setup ≤ a → a < b.place → AreChained commands a b.place

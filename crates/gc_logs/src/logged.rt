@@ -12,8 +12,8 @@ use gc_links::{Came, Link, Moment};
 /// A link over another, of which a log is written into a sink: each line that went or came, and what became of the
 /// connection. Its acts are those of the link inside, whatever becomes of the log.
 ///
-/// A line of the log has the last moment that the link's clock gave before the line ended. Where the sink fails the log ends there,
-/// and the link goes on.
+/// A line of the log has the last moment that the link's clock gave before the line ended. If the sink fails the log ends
+/// there, and the link goes on.
 #[derive(Drop)]
 pub struct Logged<L, K> {
     /// The link inside.

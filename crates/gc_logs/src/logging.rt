@@ -61,7 +61,7 @@ impl Unwritten {
     }
 }
 
-/// A log over a sink. Where the sink has failed nothing more is written, and the link that is logged goes on.
+/// A log over a sink. If the sink has failed nothing more is written, and the link that is logged goes on.
 #[derive(Drop)]
 pub(crate) struct Log<K> {
     pub(crate) sink: K,
@@ -132,7 +132,7 @@ impl<K: Sink> Log<K> {
     }
 }
 
-// Takes bytes that went or came. Writes each line that they end, in parts where it has more than 513 bytes, and leaves the rest
+// Takes bytes that went or came. Writes each line that they end, in parts if it has more than 513 bytes, and leaves the rest
 // pending.
 fn log_bytes<K: Sink>(sink: &mut K, utc: u64, way: Way, pending: &mut Unwritten, bytes: &[u8])
     ensures took { Takes (K.taken sink.old) (K.taken sink.new) (K.failed sink.old) (K.failed sink.new) (log_text_of utc (entries way pending.old bytes.now)) }
@@ -143,8 +143,8 @@ fn log_bytes<K: Sink>(sink: &mut K, utc: u64, way: Way, pending: &mut Unwritten,
     }
 }
 
-// Takes one more byte. A line feed ends a line, which is written. Where 513 bytes are pending already, these are written as a
-// part of their line.
+// Takes one more byte. A line feed ends a line, which is written. If 513 bytes are pending already, these are written as a part
+// of their line.
 fn log_byte<K: Sink>(sink: &mut K, utc: u64, way: Way, pending: &mut Unwritten, b: u8)
     ensures took { Takes (K.taken sink.old) (K.taken sink.new) (K.failed sink.old) (K.failed sink.new) (log_text_of utc (entries_at way pending.old b)) }
     ensures pending { pending.new ≡ pending_at pending.old b }
@@ -194,7 +194,7 @@ fn log_pending<K: Sink>(sink: &mut K, utc: u64, way: Way, pending: &mut Unwritte
     pending.is_long = false;
 }
 
-// Writes a line of the log. Where the sink fails, the line is lost, and `failed` of the sink says so.
+// Writes a line of the log. If the sink fails, the line is lost, and `failed` of the sink says so.
 fn write_entry<K: Sink>(sink: &mut K, utc: u64, mark: LogMark, bytes: &[u8])
     requires { length bytes.now ≤ 514 }
     ensures { Takes (K.taken sink.old) (K.taken sink.new) (K.failed sink.old) (K.failed sink.new) (log_text_of utc (entry mark bytes.now ∷ [])) }

@@ -1,6 +1,6 @@
 -- What a station's status and messages report of its run, and what it measured then: this project's own. Throughout, `shown`
--- gives what was written on the messages, where that is known, and `lasts` says whether all that the sink took lasts. `turns`
--- is what was seen of link and sink at each act. An apostrophe (as in acts') marks what holds at the end, in place of at the
+-- gives what was written on the messages, if that is known, and `lasts` says whether all that the sink took lasts. `turns` is
+-- what was seen of link and sink at each act. An apostrophe (as in acts') marks what holds at the end, in place of at the
 -- start.
 use Rattle.std.specs.Prelude.{◌≡◌, ℕ, Bool, true, ◌⊎◌, List, [], Option, Some, None, Result, Err}
 use Rattle.std.specs.Io.KnownBytes.{Appends}
@@ -25,18 +25,18 @@ use Rattle.gc_texts.specs.WholeTexts.{input_of}
 use Rattle.gc_texts.specs.declared.fault.RunFault.{RunFault}
 use Rattle.gc_texts.specs.declared.fault.RunFault.TheVariants.{Log}
 
--- what is seen of a station's ports: of its streams by the ghost members of their traits, the acts that its link told, and what was seen at
--- each of them
+-- what is seen of a station's ports: of its streams by the ghost members of their traits, the acts that its link recorded, and
+-- what was seen at each of them
 abbrev pub places_of : {S K E : Type 0} → Source S → Sink K → (E → Option (List ℕ)) → Streams S K E → Option (List Act) → List Turn → Places
 places_of source sink shown streams acts turns =
     record { input = input_of source streams.input; acts = acts; taken = sink.taken streams.output; messages = shown streams.messages; turns = turns }
 
--- the acts that a link told, where there is one
+-- the acts that a link recorded, if there is one
 abbrev pub acts_of : {L : Type 0} → Option (Telling L) → Option (List Act)
 acts_of None = None
 acts_of (Some link) = Some link.history.acts
 
--- a text was refused, or its commands were measured, over a link that told these acts, with what was seen at each; and the
+-- a text was refused, or its commands were measured, over a link that recorded these acts, with what was seen at each; and the
 -- status and the messages report how that ended. `between` are the messages before this report
 pub record TellsMeasuring {S K E : Type 0} (source : Source S) (sink : Sink K) (lasts : K → Bool) (shown : E → Option (List ℕ)) (station : Settings)
     (acts acts' : Option (List Act)) (turns turns' : List Turn) (old new : Streams S K E) (status : ℕ) : Type 0 where
@@ -47,13 +47,14 @@ pub record TellsMeasuring {S K E : Type 0} (source : Source S) (sink : Sink K) (
   pub fails : FailsAtOutput (sink.failed old.output) (sink.failed new.output) (with_fault end)
   pub counts : TellsCounts end status (shown between) (shown new.messages)
 
--- a source gave a text to its end, and the run over its commands is done, or its end was asked for, over a link that told these acts
+-- a source gave a text to its end, and the run over its commands is done, or its end was asked for, over a link that recorded
+-- these acts
 pub record MeasuresAll {S K E : Type 0} (source : Source S) (sink : Sink K) (shown : E → Option (List ℕ)) (station : Settings)
     (acts acts' : Option (List Act)) (turns turns' : List Turn) (old new : Streams S K E) : Type 0 where
   pub between : E
   pub is : IsMeasured station (places_of source sink shown old acts turns) (places_of source sink shown (record new { messages = between }) acts' turns')
 
--- a run can't begin, for this fault: there is no link, or, where a log was asked for, the log can't be had
+-- a run can't begin, for this fault: there is no link, or, if a log was asked for, the log can't be had
 abbrev pub CannotBegin : Bool → RunFault → Type 0
 CannotBegin has_log fault = IsWithoutLink fault ⊎ ((has_log ≡ true) × (fault ≡ Log))
 
@@ -62,8 +63,8 @@ abbrev pub IsUnbegun : {S K E : Type 0} → Bool → Streams S K E → Streams S
 IsUnbegun has_log old new acts turns turns' end = (fault : RunFault) × (end ≡ Err (Run fault)) × CannotBegin has_log fault
     × (new.input ≡ old.input) × (new.output ≡ old.output) × (new.messages ≡ old.messages) × (acts ≡ None) × (turns' ≡ turns)
 
--- a text was refused, or its commands were measured, by these acts, which the link told from none on, with what was seen at each. All records
--- last; nothing is said of that where the text was refused or the sink failed
+-- a text was refused, or its commands were measured, by these acts, which the link recorded from none on, with what was seen at
+-- each. All records last; nothing is said of that if the text was refused or the sink failed
 pub record MeasuresFromNone {S K E : Type 0} (source : Source S) (sink : Sink K) (lasts : K → Bool) (shown : E → Option (List ℕ)) (station : Settings)
     (old new : Streams S K E) (acts : Option (List Act)) (turns turns' : List Turn) (end : Result Tally Stop) : Type 0 where
   pub told : List Act
@@ -87,7 +88,8 @@ pub record TellsRun {S K E : Type 0} (source : Source S) (sink : Sink K) (lasts 
   pub counts : TellsCounts end status (shown between) (shown behind)
   pub loss : TellsLoss is_lost (shown behind) (shown new.messages)
 
--- a source gave a text to its end, and the run over its commands is done, or its end was asked for, by these acts, which its link told from none on
+-- a source gave a text to its end, and the run over its commands is done, or its end was asked for, by these acts, which its
+-- link recorded from none on
 abbrev pub MeasuresAllFromNone : {S K E : Type 0} → Source S → Sink K → (E → Option (List ℕ)) → Settings → Streams S K E → Streams S K E → Option (List Act)
     → List Turn → List Turn → Type 0
 MeasuresAllFromNone source sink shown station old new acts turns turns' =

@@ -30,7 +30,7 @@ pub(crate) fn tell_counts<E: Write>(
     }
 }
 
-// Writes the line of the counts: of each command's last attempt, and how many times a chain went out again.
+// Writes the line of the counts: of each command's last attempt, and how many times a chain was sent again.
 fn write_counts<E: Write>(tally: Tally, messages: &mut E) -> io::Result<()>
     ensures { OnOk result (Appends (E.contents messages.old) (E.contents messages.new) (tally_line tally)) }
 {
@@ -69,7 +69,7 @@ fn write_others<E: Write>(tally: Tally, messages: &mut E) -> io::Result<()>
     )
 }
 
-// Writes the end of the line of the counts: how many times a chain went out again.
+// Writes the end of the line of the counts: how many times a chain was sent again.
 fn write_again<E: Write>(tally: Tally, messages: &mut E) -> io::Result<()>
     ensures { OnOk result (Appends (E.contents messages.old) (E.contents messages.new) (again_text tally)) }
 {

@@ -30,7 +30,7 @@ use std::process::ExitCode;
 use std::rt::Files;
 use std::time::Clock;
 
-// The fault that is told where a path can't be used as a file of records.
+// The fault that is reported if a path can't be used as a file of records.
 fn fault_of_unfit(why: Unfit) -> RunFault
     ensures { result ≡ fault_of_unfit why }
 {
@@ -136,7 +136,7 @@ fn open_records<R: Files<File = File>, E: Write>(
     }
 }
 
-/// What is left of a run that appended to a file: the file, and the link, where there was one.
+/// What is left of a run that appended to a file: the file, and the link, if there was one.
 #[derive(Drop)]
 pub struct Appended<'a, R> {
     pub file: Followed<'a, R>,
@@ -144,8 +144,8 @@ pub struct Appended<'a, R> {
 }
 
 impl<'a, R: Files<File = File>> Appended<'a, R> {
-    /// Closes the link, and then ends the appending. Where the path still leads to the file, and all that it holds is on the
-    /// disk, this takes away the mark by which the next start would copy the file.
+    /// Closes the link, and then ends the appending. If the path still leads to the file, and all that it holds is on the disk,
+    /// this takes away the mark by which the next start would copy the file.
     pub fn end(self) {
         let Appended { file, link } = self;
         drop(link);
@@ -153,12 +153,12 @@ impl<'a, R: Files<File = File>> Appended<'a, R> {
     }
 }
 
-/// Measures at a site, and appends the records as rows to a file, which is opened before anything else is done. Where the file
-/// can't be had, nothing is read or sent, and the fault is `RecordsUnopened`, `RecordsHeld`, `RecordsForeign`, or `Output` where
-/// a call of the system failed. For `RecordsForeign` the messages also say how to rotate the file. What stood in the file stays,
-/// but for half a row at its end, which is cut off. Where an earlier run was killed, or a sync failed, the rows are copied to a
-/// new file. Both are reported. Where the path no longer leads to the file, rows go on in a new one there, if it can be had. The
-/// streams are handed back, and the file and the link, where there was a file; [`Appended::end`] is left to the caller. What was
+/// Measures at a site, and appends the records as rows to a file, which is opened before anything else is done. If the file
+/// can't be had, nothing is read or sent, and the fault is `RecordsUnopened`, `RecordsHeld`, `RecordsForeign`, or `Output` if a
+/// call of the system failed. For `RecordsForeign` the messages also say how to rotate the file. What was in the file stays,
+/// but for half a row at its end, which is cut off. If an earlier run was killed, or a sync failed, the rows are copied to a
+/// new file. Both are reported. If the path no longer leads to the file, rows go on in a new one there, if it can be had. The
+/// streams are handed back, and the file and the link, if there was a file; [`Appended::end`] is left to the caller. What was
 /// seen of link and file at each act is noted in `kept`.
 pub fn append_at<
     'a,
@@ -181,14 +181,14 @@ pub fn append_at<
     io::Result<ExitCode>,
     Option<Appended<'a, R>>,
 )
-    // Either the file can't be had, which is reported with status 1, and nothing was read. Or the messages tell of the file's
+    // Either the file can't be had, which is reported with status 1, and nothing was read. Or the messages report the file's
     // opening and then, with the status, how the run ended; and the file that is handed back has the run's rows: those of the
-    // acts that the link told. At each act the file had all rows that the acts before it settled, and they lasted.
+    // acts that the link recorded. At each act the file had all rows that the acts before it settled, and they lasted.
     ensures told { IfOk result.1 (λ status. RefusesFile E.contents streams result.0 (exit_status status)
         ⊎ TellsAppended S.Source ⟦<Followed<'a, R> as Sink>⟧ ⟦<Followed<'a, R> as Durable>⟧.is_durable E.contents (is_some log.entry) station
         streams result.0 (file_of result.2) (acts_in result.2) kept.old.turns kept.new.turns (exit_status status)) }
 
-    // Status 0 only where the source gave a text to its end, and the run over its commands is done, or its end was asked for.
+    // Status 0 only if the source gave a text to its end, and the run over its commands is done, or its end was asked for.
     ensures done { IfOk result.1 (λ status. exit_status status ≡ 0
         → AppendsAll S.Source ⟦<Followed<'a, R> as Sink>⟧ E.contents station streams result.0 (file_of result.2) (acts_in result.2) kept.old.turns kept.new.turns) }
 
@@ -197,7 +197,7 @@ pub fn append_at<
     ensures bound { IfOk result.1 (λ status. exit_status status ≤ 1) }
 {
     match open_records(rt, alloc, recording, station, &mut streams.messages) {
-        // Where the messages on the opening can't be written, the station measures all the same.
+        // If the messages on the opening can't be written, the station measures all the same.
         Ok((rows, _)) => {
             let followed = Followed::new(rt, alloc, recording.path, rows, spot.noticed);
             let (filed, output) = streams.with_output(followed);

@@ -70,8 +70,8 @@ pub(crate) struct Signs {
     skipped: u64,
     skipped_before: u64,
     skipped_since: u64,
-    // Since when the set-up isn't done, in milliseconds since 1970: a command of it wasn't answered well, and no record of a cycle came
-    // since.
+    // Since when the setup isn't done, in milliseconds since 1970: a command of it wasn't answered well, and no record of a
+    // cycle came since.
     unprepared_since: Option<u64>,
     // The cycle of the last record of one, how many commands ended in each way, and when the last answer came, in milliseconds of the
     // clock for deadlines.
@@ -136,7 +136,7 @@ impl Signs {
         self.counts.count(ending);
     }
 
-    // Notes the cycle of a record, whether a command was answered or skipped, and whether the set-up isn't done.
+    // Notes the cycle of a record, whether a command was answered or skipped, and whether the setup isn't done.
     fn note(&mut self, stamp: Stamp, ending: Ending<'_>)
         ensures { self.new.counts ≡ self.old.counts }
     {
@@ -208,8 +208,8 @@ impl Signs {
         self.elapsed = moment.elapsed;
     }
 
-    // Writes the lines that are due: on a missing connection, on a set-up that isn't done, on a line that isn't quiet, on an answer that
-    // doesn't come, and on the end of such a trouble.
+    // Writes the lines that are due: on a missing connection, on a setup that isn't done, on a line that isn't quiet, on an
+    // answer that doesn't come, and on the end of such a trouble.
     fn tell_troubles<E: Write>(
         &mut self,
         before: LinkHealth,
@@ -258,8 +258,8 @@ impl Signs {
         Ok(())
     }
 
-    // Reports that there is no connection, where the last one was lost or couldn't be made. Not where a cycle just began: then
-    // the station makes a connection at once.
+    // Reports that there is no connection, if the last one was lost or couldn't be made. Not if a cycle just began: then the
+    // station makes a connection at once.
     fn tell_connection<E: Write>(
         &mut self,
         before: LinkHealth,
@@ -279,7 +279,7 @@ impl Signs {
         self.tell_since(self.since.utc, "no connection", messages)
     }
 
-    // Reports that the set-up isn't done, where a command of it wasn't answered well.
+    // Reports that the setup isn't done, if a command of it wasn't answered well.
     fn tell_unprepared<E: Write>(&mut self, messages: &mut E) -> io::Result<()> {
         match self.unprepared_since {
             Some(since) if self.unprepared.allows(self.elapsed, MINUTE) => {
@@ -377,7 +377,7 @@ impl Signs {
         show_others(self.counts, row)
     }
 
-    // Writes how long ago the last answer was, where there was one.
+    // Writes how long ago the last answer was, if there was one.
     fn show_age<E: Write>(&self, row: &mut E) -> io::Result<()> {
         match self.answered {
             Some(moment) => {
@@ -388,7 +388,7 @@ impl Signs {
         }
     }
 
-    /// Writes at the end of a run how many commands were skipped that no line reported yet, where that may be written, and clears
+    /// Writes at the end of a run how many commands were skipped that no line reported yet, if that may be written, and clears
     /// the status line of a terminal.
     pub(crate) fn end<E: Write>(&mut self, messages: &mut E) -> io::Result<()> {
         if self.watch != Watch::Nobody {

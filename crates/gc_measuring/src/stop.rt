@@ -16,8 +16,8 @@ pub enum Stop {
     Empty,
     /// The line of the text with this number, counted from 1, is the first faulty one, with this trouble. Nothing was done.
     Line(u32, Trouble),
-    /// The run over the text's commands ended for this fault or couldn't begin, or what stands in front of the records couldn't
-    /// be written.
+    /// The run over the text's commands ended for this fault or couldn't begin, or what comes before the records couldn't be
+    /// written.
     Run(RunFault),
 }
 

@@ -62,7 +62,7 @@ impl<E: Write> Teller<E> {
         self.tell_files(files, moment);
     }
 
-    // Writes what became of the files, also where no signs of life are written.
+    // Writes what became of the files, also if no signs of life are written.
     fn tell_files(&mut self, files: FilesSeen, moment: Moment) {
         if let Some(news) = self.files.news(files, moment) {
             let _ = self.signs.clear(&mut self.messages);
@@ -70,7 +70,7 @@ impl<E: Write> Teller<E> {
         }
     }
 
-    /// Writes that a cycle was not done when the next was due, where a line of this kind may be written.
+    /// Writes that a cycle was not done when the next was due, if a line of this kind may be written.
     pub(crate) fn overran(&mut self, cycle: u64) {
         if self.signs.may_tell_late() {
             let _ = self.signs.clear(&mut self.messages);
@@ -78,8 +78,8 @@ impl<E: Write> Teller<E> {
         }
     }
 
-    /// Writes why a run ended that is stale, also where no signs of life are written: since when no answer of a good quality came, in
-    /// milliseconds since 1970.
+    /// Writes why a run ended that is stale, also if no signs of life are written: since when no answer of a good quality came,
+    /// in milliseconds since 1970.
     pub(crate) fn stale(&mut self, since: u64) {
         let _ = self.signs.tell_stale(since, &mut self.messages);
     }

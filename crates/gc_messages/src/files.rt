@@ -1,5 +1,5 @@
 //! What becomes of the files that a station writes while it runs, and how that is reported. No record and no request depends on
-//! it. The path of the rows leads astray where it doesn't lead to the file of rows, and no new file can be had there.
+//! it. The path of the rows leads astray if it doesn't lead to the file of rows, and no new file can be had there.
 
 use gc_links::Moment;
 use std::io::{self, Write};
@@ -67,8 +67,8 @@ impl FilesTold {
     }
 
     /// What is to be reported now: what is new, and once a minute that the rows' path leads astray. All of it then counts as
-    /// reported. `None`: nothing is new, and the path doesn't lead astray. Where the path leads astray, but the line on that
-    /// isn't due and nothing else is new, the result is `Some` with nothing to write.
+    /// reported. `None`: nothing is new, and the path doesn't lead astray. If the path leads astray, but the line on that isn't
+    /// due and nothing else is new, the result is `Some` with nothing to write.
     pub fn news(&mut self, seen: FilesSeen, moment: Moment) -> Option<FilesNews> {
         let is_due = match self.astray {
             Some(last) => moment.elapsed.saturating_sub(last) >= MINUTE,
@@ -110,7 +110,7 @@ impl FilesNews {
         self.tell_astray(messages)
     }
 
-    // Writes, where that is due, that the path of the rows leads astray.
+    // Writes, if that is due, that the path of the rows leads astray.
     fn tell_astray<E: Write>(self, messages: &mut E) -> io::Result<()> {
         if !self.is_astray {
             return Ok(());
@@ -121,7 +121,7 @@ impl FilesNews {
         )
     }
 
-    // Writes what became of the log, where that is new.
+    // Writes what became of the log, if that is new.
     fn tell_log<E: Write>(self, messages: &mut E) -> io::Result<()> {
         self.tell_torn_log(messages)?;
         if self.now.log == self.before.log {
@@ -140,7 +140,7 @@ impl FilesNews {
         }
     }
 
-    // Writes that bytes of a torn line of the log were cut off, where that is new.
+    // Writes that bytes of a torn line of the log were cut off, if that is new.
     fn tell_torn_log<E: Write>(self, messages: &mut E) -> io::Result<()> {
         let torn = self.now.log_torn;
         if torn == self.before.log_torn {
@@ -152,7 +152,7 @@ impl FilesNews {
         )
     }
 
-    // Writes that the rows go on in a new file, where that is new.
+    // Writes that the rows go on in a new file, if that is new.
     fn tell_moves<E: Write>(self, messages: &mut E) -> io::Result<()> {
         if self.now.moves == self.before.moves {
             return Ok(());

@@ -39,7 +39,7 @@ pub fn tell_turns<E: Write>(text: &[u8], all: &Tasks, messages: &mut E) -> io::R
             at_start = is_at_start(rest, at_start);
         }
         // A command's line begins with a digit of its target, and no other line does. So the tasks of a section are those of its
-        // lines that begin so, in order; a cycle's stand once more for each further attempt.
+        // lines that begin so, in order; those of a cycle once more for each further attempt.
         if begins && byte.is_ascii_digit() {
             let task = if at_start {
                 setup.next()
@@ -58,7 +58,7 @@ pub fn tell_turns<E: Write>(text: &[u8], all: &Tasks, messages: &mut E) -> io::R
     Ok(())
 }
 
-// Whether the commands behind the line at the front of `rest` are the set-up, where those in front of it are if `before` says so.
+// Whether the commands after the line at the front of `rest` are the setup, where those before it are if `before` says so.
 fn is_at_start(rest: &[u8], before: bool) -> bool {
     if before {
         !rest.starts_with(b"each cycle")
@@ -67,7 +67,7 @@ fn is_at_start(rest: &[u8], before: bool) -> bool {
     }
 }
 
-// Writes a line for each angle outside one turn, where the task of this line is a positioning.
+// Writes a line for each angle outside one turn, if the task of this line is a positioning.
 fn tell_turn<E: Write>(line: u32, task: &Task, messages: &mut E) -> io::Result<()> {
     let Asked::Table(Call::Position { hz, v, .. }) = task.command.call else {
         return Ok(());

@@ -1,10 +1,11 @@
-//! Targets of which a text says something that no command needs: where they stand, though none of its commands asks for a direction,
-//! which a station reports at its start, because no answer is compared with these places; or a name, though no command asks them.
+//! Targets of which a text says something that no command needs: if they are, though none of its commands asks for a direction,
+//! which a station reports at its start, because no answer is compared with these places; or a name, though no command asks
+//! them.
 
 use gc_texts::Tasks;
 use std::io::{self, Write};
 
-/// Writes a line for each target of which a text says where it stands, and which no command of the text asks for its direction.
+/// Writes a line for each target of which a text says where it is, and which no command of the text asks for its direction.
 pub fn tell_unasked<E: Write>(tasks: &Tasks, messages: &mut E) -> io::Result<()> {
     for near in tasks.nears.as_slice() {
         if !tasks.asks_direction_of(near.target) {

@@ -1,5 +1,5 @@
 -- The eventful run, computed. Which function says what replies say (`reads`) is left open here. `patched` is that function with
--- the readings of the five replies that answer commands put in front; no other reply of the run is looked at.
+-- the readings of the five replies that answer commands put before it; no other reply of the run is looked at.
 use Rattle.std.proofs.Common.{◌≡◌, inl, inr, ℕ, zero, suc, List, [], ◌∷◌, ◌++◌, Option, Some, None, true, false, refl, sym, subst, ap, arith, lit<}
 use Rattle.std.specs.Prelude.{codes, map, option_map, take, drop}
 use Rattle.std.specs.Fmt.{digits}
@@ -59,11 +59,11 @@ is =
 
 -- What the station sees of the line.
 
--- what the turns of the first beginning show to the station
+-- what the turns of the first synchronization show to the station
 abbrev begins_shown : List part.Turn
 begins_shown = part.Asks ∷ part.Hears (codes "%R1Q,0,6:") ∷ part.Hears (codes "%R1P,0,0:0,4") ∷ asked_each replies
 
--- what the turns of the second beginning show to the station
+-- what the turns of the second synchronization show to the station
 abbrev anew_shown : List part.Turn
 anew_shown =
     part.Asks
@@ -76,13 +76,13 @@ anew_shown =
     ∷ part.Asks
     ∷ asked_each (drop 2 replies)
 
--- a part with requests of this cycle: for each request that goes out, in order, the place of its command and the moment at
--- which it went out; `None` for a null procedure
+-- a part with requests of this cycle: for each request that is sent, in order, the place of its command and the moment at which
+-- it was sent; `None` for a null procedure
 abbrev part_of_cycle : ℕ → List part.Turn → List (Step Asked) → List (Option (ℕ × ℕ)) → Part
 part_of_cycle cycle turns steps sent =
     record { turns = turns; steps = steps; marks = map (option_map (λ x. record { cycle = cycle; place = x.0; sent = x.1; expected = expected_first (drop x.0 commands) })) sent }
 
--- the parts of the run: until it begins anew, from there on, and after its end
+-- the parts of the run: until it resynchronizes, from there on, and after its end
 abbrev all_parts : List Part
 all_parts =
     part_of_cycle 1 begins_shown (seen breaks_moves) (Some (0, 40) ∷ None ∷ (map (λ place. Some (place, 95)) (2 ∷ 3 ∷ 4 ∷ 5 ∷ 6 ∷ []) ++ None ∷ None ∷ []))
@@ -90,24 +90,24 @@ all_parts =
     ∷ nothing
     ∷ []
 
--- what the line does in the first beginning shows these turns
+-- what the line does in the first synchronization shows these turns
 begins_are : shown reporting begins_turns (begins before) ≡ begins_shown
 unfolding is_elsewhere is_near header_at reply_at digits rounded
 begins_are = refl
 
--- what the line does in the second beginning shows these turns
+-- what the line does in the second synchronization shows these turns
 anew_are : shown reporting anew_turns (begins left) ≡ anew_shown
 unfolding is_elsewhere is_near header_at reply_at digits rounded
 anew_are = refl
 
 -- What happens on the line is possible.
 
--- the turns of the first beginning are possible
+-- the turns of the first synchronization are possible
 begins_possible : AreTurns reporting AnyState instrument.nothing begins_turns (begins before)
 unfolding is_elsewhere is_near header_at reply_at digits rounded
 begins_possible = (tt, (refl, (tt, (tt, (tt, (tt, (tt, (tt, (tt, (tt, (tt, (tt, ((tt, refl), units 24)))))))))))))
 
--- the turns of the second beginning are possible
+-- the turns of the second synchronization are possible
 anew_possible : AreTurns reporting AnyState instrument.nothing anew_turns (begins left)
 unfolding is_elsewhere is_near header_at reply_at digits rounded
 anew_possible = (tt, (tt, (tt, (tt, (tt, ((tt, refl), units 26))))))
@@ -137,7 +137,7 @@ chain_possible =
     ((tt, refl), (tt, ((tt, refl), (tt, ((tt, refl), (tt, (tt, (tt, (tt, (tt, (tt, (tt, (tt, (tt, (refl, ((8, _, refl), tt))))))))))))))))
     ((9, _, refl), ((10, _, refl), ((11, _, refl), ((11, _, refl), ((12, _, refl), (tt, (tt, (tt, ((tt, refl), (tt, (tt, (tt, (tt, ((13, _, refl), ((15, _, refl), tt))))))))))))))))
 
--- The word isn't a subsequence of the ids under way at the start, which are two zeros.
+-- The word isn't a subsequence of the ids in flight at the start, which are two zeros.
 
 -- two equal numbers aren't 6 and 0
 six : (n m : ℕ) → n ≡ m → n ≡ 6 → m ≡ 0 → ⊥
@@ -184,18 +184,18 @@ module _ (reads : Asked → List ℕ → Reading) where
   answers_eight =
       (refl, (tt, (tt, (refl, (tt, (tt, (refl, (tt, (tt, (refl, (tt, (tt, (refl, (tt, (tt, (refl, (tt, (tt, (refl, (tt, (tt, (refl, (tt, (tt, tt))))))))))))))))))))))))
 
-  -- after the beginning, the acts until command 1 is skipped are a run
+  -- after the synchronization, the acts until command 1 is skipped are a run
   breaks_runs : RunsBehind begins_acts (take 8 breaks_acts)
   unfolding is_elsewhere is_near header_at reply_at digits rounded
   breaks_runs = (tt, (refl, (tt, (tt, (refl, (tt, (tt, (tt, tt))))))))
 
-  -- after the acts until command 1 is skipped, those until seven requests are given up are a run
+  -- after the acts until command 1 is skipped, those until seven requests have timed out are a run
   gives_up_runs : RunsBehind (begins_acts ++ take 8 breaks_acts) (drop 8 breaks_acts)
   unfolding is_elsewhere is_near header_at reply_at digits rounded
   gives_up_runs =
       (refl, (tt, (refl, (tt, (refl, (tt, (refl, (tt, (refl, (tt, (tt, (refl, (tt, (tt, (refl, (tt, (tt, (refl, (tt, (tt, (tt, (refl, (tt, (tt, (tt, tt)))))))))))))))))))))))))
 
-  -- after the acts until seven requests are given up, those until the fourth connection is made are a run
+  -- after the acts until seven requests have timed out, those until the fourth connection is made are a run
   anew_runs : RunsBehind front (take 16 anew_acts)
   unfolding is_elsewhere is_near header_at reply_at digits rounded
   anew_runs = (tt, (refl, (tt, (tt, (refl, (tt, (tt, (refl, (tt, (tt, (refl, (tt, (tt, (tt, (refl, (tt, tt))))))))))))))))
@@ -205,7 +205,7 @@ module _ (reads : Asked → List ℕ → Reading) where
   unfolding is_elsewhere is_near header_at reply_at digits rounded
   answers_six = (refl, (tt, (tt, (refl, (tt, (tt, (refl, (tt, (tt, (refl, (tt, (tt, (refl, (tt, (tt, (refl, (tt, (tt, tt))))))))))))))))))
 
-  -- after the new beginning, the acts by which the second cycle is missed and the third begins are a run
+  -- after the new synchronization, the acts by which the second cycle is missed and the third begins are a run
   misses_runs : RunsBehind (front ++ anew_acts) (take 9 chain_acts)
   unfolding is_elsewhere is_near header_at reply_at digits rounded
   misses_runs = (tt, (tt, (tt, (tt, (tt, (tt, (tt, (tt, (tt, tt)))))))))
@@ -244,7 +244,7 @@ module _ (reads : Asked → List ℕ → Reading) where
   unfolding is_elsewhere is_near header_at reply_at digits rounded
   written = refl
 
-  -- the station begins anew where seven requests are given up
+  -- the station resynchronizes where seven requests have timed out
   begins_anew : IsAnew plan commands told front (Told (at 345))
   unfolding is_elsewhere is_near header_at reply_at digits rounded
   begins_anew = record { renews = refl; moment = at 345; told = refl; seven = refl; given_up = refl; word = refl; client = refl }

@@ -1,4 +1,4 @@
--- What stands under each name in the object of JSON that was written of a record. A member is a name with its value. Members
+-- What is under each name in the object of JSON that was written of a record. A member is a name with its value. Members
 -- are in the order of the text, and of two with one name the later one counts.
 use Rattle.std.proofs.Common.{◌≡◌, ℕ, ℤ, ◌==◌, Bool, true, false, cond, List, [], ◌∷◌, ◌++◌, Option, Some, None, refl, sym, ap, ◌∙◌, subst, arith}
 use Rattle.std.specs.Prelude.{codes, nat_eq, slice_get}
@@ -62,8 +62,8 @@ later_three : (a b c : Option json.Json) → later_or (later_or a b) c ≡ later
 later_three None b c = refl
 later_three (Some j) b c = refl
 
--- what is found under a name among two lists of members, joined, is what is found among the second, `ys`, if it stands there,
--- and else what is found among the first
+-- what is found under a name among two lists of members, joined, is what is found among the second, `ys`, if it is there, and
+-- else what is found among the first
 find_both : (key : List ℕ) (xs ys : List Member) → find key (xs ++ ys) ≡ later_or (find key ys) (find key xs)
 find_both key [] ys = later_none (find key ys)
 find_both key (Text name bytes ∷ xs) ys =
@@ -272,7 +272,7 @@ moments_found : (o : Option json.Json) → later_or (later_or (later_or (later_o
 moments_found None = refl
 moments_found (Some j) = refl
 
--- when a request went out is found among the members on when and where
+-- when a request was sent is found among the members on when and where
 sent_found : (sent : Option ℕ) (time cycle place : List ℕ)
     → text_of (find (codes "sent") (sent_members sent ++ (Text (codes "time") time ∷ Number (codes "cycle") cycle ∷ Number (codes "place") place ∷ []))) ≡ moment_text sent
 sent_found None time cycle place = refl
@@ -324,19 +324,19 @@ zeros_gone (b ∷ []) n is = is
 zeros_gone (b ∷ c ∷ rest) n is =
     cond_both (b == 48) (without_zeros (c ∷ rest)) (b ∷ c ∷ rest) (λ (l : List ℕ). IsNumber l n)
     (λ zero_first. zeros_gone (c ∷ rest) n (behind_zero (eqb-true b 48 zero_first) is)) (λ other. is) where
-      -- a number without a zero in front is the same number
+      -- a number without a zero before it is the same number
       behind_zero : b ≡ 48 → IsNumber (b ∷ c ∷ rest) n → IsNumber (c ∷ rest) n
       behind_zero e h =
           let at_zero : IsNumber (48 ∷ c ∷ rest) n = subst (λ (x : ℕ). IsNumber (x ∷ c ∷ rest) n) e h in
           record { some = omega arith; few = let few = at_zero.few in omega (arith, few); digits = at_zero.digits.1; value = at_zero.value; bound = at_zero.bound }
 
--- Numbers stand as they are.
+-- Numbers are unchanged.
 
 -- where escaping changes nothing in either of two texts, it changes nothing in the two joined
 plain_both : (xs ys : List ℕ) → escaped xs ≡ xs → escaped ys ≡ ys → escaped (xs ++ ys) ≡ xs ++ ys
 plain_both xs ys a b = flat_map-append escape xs ys ∙ ap (λ (l : List ℕ). l ++ escaped ys) a ∙ ap (λ (l : List ℕ). xs ++ l) b
 
--- escaping changes nothing in a minus sign, where there is one
+-- escaping changes nothing in a minus sign, if there is one
 minus_plain : (negative : Bool) → escaped (minus_where negative) ≡ minus_where negative
 minus_plain true = refl
 minus_plain false = refl
@@ -379,7 +379,7 @@ under_plain name (n ∷ names) (t ∷ texts) are =
 
 -- The quantities of an answer.
 
--- what stands under a name in an answer's members is what stands under that name among the answer's texts. `came` are the
+-- what is under a name in an answer's members is what is under that name among the answer's texts. `came` are the
 -- parameters of the reply, as its line has them
 abbrev AreUnder : Call → Answer → List ℕ → List ℕ → Type 0
 AreUnder call answer came name =
@@ -472,7 +472,7 @@ module _ (call : Call) (name : List ℕ) (k : ℕ) (is : slice_get quantity_name
   is_under (Measured hz v distance) came = number_under (Measured hz v distance) came (λ bytes e. cc)
   is_under (MeasuredMode hz v distance mode) came = number_under (MeasuredMode hz v distance mode) came (λ bytes e. cc)
 
--- under the name of a quantity stands the answer's quantity of that name; the items of a reply stand under no such name
+-- under the name of a quantity is the answer's quantity of that name; the items of a reply are under no such name
 pub member_stands : (asked : Asked) (name : List ℕ) (k : ℕ) → slice_get quantity_names k ≡ Some name → (quality : Quality) (answer : Answer) (line : List ℕ) → IsAnswerTo asked answer
     → text_of (find name (quantity_members asked (Answered quality (Some answer) line))) ≡ escaped (quantity_in asked (Answers answer) name)
 member_stands (Table call) name k is quality answer line of =
@@ -488,7 +488,7 @@ module _ (when : When) (text : List ℕ) (command : Wish) (end : End) where
   abbrev quantities : List Member
   quantities = quantity_members command.call end
 
-  -- the member for the quality, if it was answered, and behind it the one for the attempt
+  -- the member for the quality, if it was answered, and after it the one for the attempt
   abbrev worded : List Member
   worded = worded_members (quality_text (quality_of end))
 
@@ -539,7 +539,7 @@ module _ (when : When) (text : List ℕ) (command : Wish) (end : End) where
   apart = lacks_both quantities last firsts (quantities_apart command.call end)
       (lacks_both worded (attempt_members when) firsts (worded_apart (quality_text (quality_of end))) (attempt_apart when))
 
-  -- under `sent` the object has when the record's request went out
+  -- under `sent` the object has when the record's request was sent
   pub member_sent : at_member (codes "sent") ≡ moment_text when.stamp.sent
   member_sent =
       found_at (codes "sent") None None None (find (codes "sent") moments) apart.1.1.1.1.1.1.1.1.0 (ending_apart end).1.1.1.1.0 (what_apart command text).1.1.0 refl
@@ -612,7 +612,7 @@ module _ (when : When) (text : List ℕ) (command : Wish) (end : End) where
       ∙ ap text_of (find_both (codes "quality") worded (attempt_members when))
       ∙ worded_found (quality_of end)
 
-  -- the attempt is found among what stands behind how the command ended
+  -- the attempt is found among what comes after how the command ended
   attempt_found : find (codes "attempt") more ≡ Some (json.number (decimal when.stamp.turn.attempt))
   attempt_found =
       find_both (codes "attempt") quantities last
@@ -641,7 +641,7 @@ module _ (when : When) (text : List ℕ) (command : Wish) (end : End) where
         ∙ ap (λ (o : Option json.Json). later_or o (find name quantities)) (all_at (λ (n : List ℕ). find n last ≡ None) quantity_names
         (lacks_both worded (attempt_members when) quantity_names (worded_without (quality_text (quality_of end))) (attempt_without when)) k name is)
 
-    -- what stands under the name of a quantity stands among the quantities
+    -- what is under the name of a quantity is among the quantities
     pub member_quantity : at_member name ≡ text_of (find name quantities)
     member_quantity =
         found_at name (find name quantities) None None None in_quantities

@@ -22,7 +22,7 @@ pub texts_two : (text : Record → List ℕ) (xs ys : List Record) → texts_of 
 texts_two text [] ys = refl
 texts_two text (r ∷ xs) ys = ap (λ (l : List ℕ). text r ++ l) (texts_two text xs ys) ∙ sym (append_assoc (text r) (texts_of text xs) (texts_of text ys))
 
--- where the text of each record ends in a line feed, so do the texts of all of them, unless they are none
+-- if the text of each record ends in a line feed, so do the texts of all of them, unless they are none
 pub texts_whole : (text : Record → List ℕ) → ((r : Record) → whole (text r) ≡ text r) → (rs : List Record) → whole (texts_of text rs) ≡ texts_of text rs
 texts_whole text each [] = refl
 texts_whole text each (r ∷ rs) = whole_more (text r) (texts_of text rs) (each r) ∙ ap (λ (l : List ℕ). text r ++ l) (texts_whole text each rs)

@@ -35,19 +35,19 @@ but_last xs x =
 -- The bytes.
 
 module _ (text : Record → List ℕ) where
-  -- a sink that had the bytes `start` has these records' texts after them now, all or, where the output failed, the first ones
-  -- and a part of the next
+  -- a sink that had the bytes `start` has these records' texts after them now, all or, if the output failed, the first ones and
+  -- a part of the next
   pub record Took (records : List Record) (result : Result Tally Stop) (start : List ℕ) (has : Option (List ℕ)) : Type 0 where
     pub torn : List ℕ
     pub are : AreWritten text records result torn
     pub is : has ≡ Some (start ++ (texts_of text are.written ++ torn))
 
-  -- what is appended to known bytes stands after them
+  -- what is appended to known bytes comes after them
   appended : (start bytes : List ℕ) (has : Option (List ℕ)) → Appends (Some start) has bytes → has ≡ Some (start ++ bytes)
   appended start bytes None e = absurd e
   appended start bytes (Some ys) e = ap Some e
 
-  -- where all texts were written, `Took` holds
+  -- if all texts were written, `Took` holds
   took_all : (records : List Record) (result : Result Tally Stop) (start : List ℕ) (has : Option (List ℕ)) → Appends (Some start) has (texts_of text records) → Took records result start has
   took_all records result start has took = record {
     torn = [];
@@ -61,7 +61,7 @@ module _ (text : Record → List ℕ) where
   parted (suc n) [] = refl
   parted (suc n) (x ∷ xs) = ap (λ (l : List ℕ). x ∷ l) (parted n xs)
 
-  -- where a part was written and the output failed, `Took` holds
+  -- if a part was written and the output failed, `Took` holds
   took_part : (before records : List Record) (start : List ℕ) (has : Option (List ℕ)) → WritesPart text before records (Some start) has → Took records (Err (Run Output)) start has
   took_part before records start has w = record {
     torn = take w.part (text w.next);
@@ -76,7 +76,7 @@ module _ (text : Record → List ℕ) where
   }
 
   module _ (plan : Plan) (commands : List Task) (scope : Scope) (told : List Act) (start : List ℕ) (has : Option (List ℕ)) where
-    -- where the texts of all records of these acts were written, `Took` holds
+    -- if the texts of all records of these acts were written, `Took` holds
     took_of : (acts measured : List Act) (result : Result Tally Stop) → measured ≡ acts → Appends (Some start) has (texts_of text (stood plan commands scope acts).records)
         → Took (stood plan commands scope measured).records result start has
     took_of acts measured result e took =
@@ -95,7 +95,7 @@ module _ (text : Record → List ℕ) where
         took_of r.acts (acts_measured (Err (Run Output)) told) (Err (Run Output)) (ap (acts_measured (Err (Run Output))) r.tells ∙ but_last r.acts Closed) r.took
     ran_took (Err fault) r = took_of r.2.acts told (Err (Run fault)) r.2.tells r.2.took
 
--- what a sink took of a run is what was written of its records, after what the sink had and what stands in front of the records
+-- what a sink took of a run is what was written of its records, after what the sink had and what comes before the records
 pub behind_took : (course : Course) (old new : Places) (result : Result Tally Stop) → RunsBehind course old new result →
     (told : List Act) (had : List ℕ) → old.acts ≡ Some [] → new.acts ≡ Some told → old.taken ≡ Some had → (reads : Asked → List ℕ → Reading) → AreReadings reads →
     Took (text_in course.layout course.names) (records_in course reads (acts_measured result told)) result (had ++ front_text course.layout) new.taken

@@ -26,7 +26,7 @@ use Rattle.gc_measuring.specs.declared.stop.Stop.{Stop}
 use Rattle.gc_words.specs.declared.settings.Settings.{Settings}
 
 -- a run that appends to a file: what it measures, what was seen at its start and at its end, how it ended, the acts that its
--- link told, and the file that it left
+-- link recorded, and the file that it left
 pub record RunOfFile (R : Type 0) : Type 0 where
   pub course : Course
   pub old : Places
@@ -35,8 +35,8 @@ pub record RunOfFile (R : Type 0) : Type 0 where
   pub told : List Act
   pub file : Followed R
 
--- the link had told nothing before the run, and `told` are the acts that it has told since; and the file has what was appended
--- to it since it was opened: as clause `told` of `append_at` says it of the file that it hands back
+-- the link had recorded nothing before the run, and `told` are the acts that it has recorded since; and the file has what was
+-- appended to it since it was opened: as clause `told` of `append_at` says it of the file that it hands back
 pub record IsRunOfFile {R : Type 0} (run : RunOfFile R) : Type 0 where
   pub headed : run.course.layout.headed ≡ true
   pub none : run.old.acts ≡ Some []
@@ -109,7 +109,8 @@ pub record AreLeft {R : Type 0} (m : Moment R) (reads : Asked → List ℕ → R
   pub all : m.run.told ≡ acts ++ others
   pub own : IsFront (bytes_in m.was ++ more) (rows_by m.run.course reads acts)
 
--- the calls of an opening of a file that held these bytes: a torn row was cut off, and a head was written where no whole row was left
+-- the calls of an opening of a file that held these bytes: a torn row was cut off, and a head was written if no whole row was
+-- left
 abbrev pub Opens : List ℕ → List ℕ → List Step → Type 0
 Opens head held steps = opening.Ran held steps (start_of head held)
 
@@ -147,13 +148,13 @@ pub data Ending : Type 0 where
   Stopped : Ending
   Unsynced : (read disk : List ℕ) → Ending
 
--- a run may end in this way after these calls. Where a sync failed, `read` is what such a sync may leave of what a read
--- returned before, and `disk` what it may leave of what the disk held
+-- a run may end in this way after these calls. If a sync failed, `read` is what such a sync may leave of what a read returned
+-- before, and `disk` what it may leave of what the disk held
 abbrev pub Ends : Sides → List Step → Ending → Type 0
 Ends sides steps Stopped = Unit {0}
 Ends sides steps (Unsynced read disk) = Loses (later_by steps sides.read) read × Loses (later_by steps sides.disk) disk
 
--- how a file stands after these calls and this ending: what a read returns, and what the disk holds
+-- the state of a file after these calls and this ending: what a read returns, and what the disk holds
 abbrev pub sides_ended : Sides → List Step → Ending → Sides
 sides_ended sides steps Stopped = done_by steps sides
 sides_ended sides steps (Unsynced read disk) = record { read = settled read; disk = settled disk }
@@ -163,7 +164,7 @@ abbrev pub doubt_of : Ending → Bool
 doubt_of Stopped = false
 doubt_of (Unsynced read disk) = true
 
--- how a file that held `first`, all of it on the disk, stands after these events
+-- the state of a file that held `first`, all of it on the disk, after these events
 abbrev pub sides_from : List ℕ → List Event → Sides
 sides_from first events = sides_after (one (settled first)) events
 

@@ -1,6 +1,6 @@
--- Each act keeps the weaker record `Mid` (see `Midway`), which holds in the midst of an act, before what waits is lost: the
--- counts, the client, the marks and the records belong together (`Sound`), and the phase fits them (`Placed`). An act is one
--- call of the link, with what came of it. A mark says which command a waiting request is of, or `None` of a null procedure; a
+-- Each act keeps the weaker record `Mid` (see `Midway`), which holds in the midst of an act, before what is outstanding is
+-- lost: the counts, the client, the marks and the records belong together (`Sound`), and the phase fits them (`Placed`). An act
+-- is one call on the link, with its result. A mark says which command a waiting request is of, or `None` of a null procedure; a
 -- piece is the bytes that one read gave.
 use Rattle.std.proofs.Common.{◌≡◌, ℕ, ◌<◌, inl, ◌&&◌, ◌||◌, Bool, true, false, not, List, [], ◌∷◌, length, if◌then◌else◌, nat_eq, nat_lt, Option, Some, None, refl, sym, ap, subst}
 use Rattle.std.proofs.lemmas.Bool.{eqb-true}
@@ -28,8 +28,8 @@ use Rattle.gc_station.proofs.Invariant.{is_bare, is_done, says_done}
 use Rattle.gc_station.proofs.Midway.{Placed, SoundAt, PlacedAt, Mid, clash, sound_moment, sound_settles}
 use Rattle.gc_station.proofs.Walk.{asked_along, closed_along}
 
--- the phase after a failure for `why`, closing where there is a connection (`up`) and over where there is none, is `Placed`,
--- unless `why` is `Done`
+-- the phase after a failure for `why`, closing if there is a connection (`up`) and over if there is none, is `Placed`, unless
+-- `why` is `Done`
 fail_placed : (p : Progress) (rest : List ℕ) (marks : List (Option Mark)) (why : Cause) (up : Bool) → is_done why ≡ false → Placed (if up then Closing why else Over why) p.left p.unsent rest marks
 fail_placed p rest marks why true other = record { empty = λ e. cc; finished = λ e. absurd (clash (is_done why) e other) }
 fail_placed p rest marks why false other = record { empty = λ e. cc; finished = λ e. absurd (clash (is_done why) e other) }
@@ -38,7 +38,7 @@ fail_placed p rest marks why false other = record { empty = λ e. cc; finished =
 pub mid_fail : (plan : Plan) (commands : List Task) (s : Model) (why : Cause) → is_done why ≡ false → Mid plan commands s → Mid plan commands (with_progress (failing why) s)
 mid_fail plan commands s why other mid = (mid.0, fail_placed s.progress s.rest s.marks why (is_up s.progress.phase) other)
 
--- a moment that gives requests up keeps the weaker record
+-- a moment that times requests out keeps the weaker record
 pub mid_moment : (plan : Plan) (commands : List Task) (s : Model) (m : Moment) → Mid plan commands s → Mid plan commands (with_moment m s)
 mid_moment plan commands s m mid = (sound_moment plan commands s.progress.left s.progress.unsent s.client s.marks s.records s.passes m.elapsed mid.0, mid.1)
 
@@ -61,7 +61,7 @@ again_placed why left unsent rest marks true some other none finished = record {
 again_placed why left unsent rest marks false true other none finished = record { empty = λ e. none; finished = λ e. cc }
 again_placed why left unsent rest marks false false other none finished = record { empty = λ e. cc; finished = λ e. absurd (clash (is_done why) e other) }
 
--- where a run is finished no cycle and no command is left
+-- if a run is finished no cycle and no command is left
 all_sent : (n : ℕ) (p : Progress) → is_finished n p ≡ true → (p.left ≡ 0) × (p.unsent ≡ 0)
 all_sent n p e = three (nat_eq p.left 0) (nat_eq p.unsent 0) (nat_eq n 0) e refl refl where
   -- the lemma above, by the three tests of `is_finished`
@@ -70,7 +70,7 @@ all_sent n p e = three (nat_eq p.left 0) (nat_eq p.unsent 0) (nat_eq n 0) e refl
   three true false c e x y = cc
   three false b c e x y = cc
 
--- where no bytes of a line are kept, the progress after a lost connection or a failed attempt, not for `Done`, is `PlacedAt`
+-- if no bytes of a line are kept, the progress after a lost connection or a failed attempt, not for `Done`, is `PlacedAt`
 placed_again : (plan : Plan) (n : ℕ) (why : Cause) (p : Progress) (rest : List ℕ) (marks : List (Option Mark)) → is_done why ≡ false → rest ≡ [] → PlacedAt (again plan n why p) rest marks
 placed_again plan n why p rest marks other none = again_placed why p.left p.unsent rest marks (is_finished n p) (is_spared plan why p || nat_lt 0 p.tries) other none (all_sent n p)
 
@@ -102,7 +102,7 @@ pub mid_close : (plan : Plan) (commands : List Task) (s : Model) (why : Cause) �
     → Mid plan commands s → Mid plan commands (after_close plan why s)
 mid_close plan commands s why done mid = let w : Waiting = waiting_of (with_rest [] s) in (close_sound plan commands s w why mid.0, close_placed plan w why s.progress s.marks done)
 
--- the weaker record, in a phase in which lines are heard: requests go out then
+-- the weaker record, in a phase in which lines are heard: requests are sent then
 pub record Listening (plan : Plan) (commands : List Task) (s : Model) : Type 0 where
   pub sound : SoundAt plan commands s.progress s.client s.marks s.records s.passes
   pub is_ready : s.progress.phase ≡ Ready
@@ -138,7 +138,7 @@ pub heard_ready : (phase : Phase) → is_heard phase ≡ true → phase ≡ Read
 heard_ready Ready e = refl
 heard_ready phase e = cc
 
--- lines that are heard while the station begins keep `Listening`: they change neither the counts nor the phase
+-- lines that are heard while the station synchronizes keep `Listening`: they change neither the counts nor the phase
 listen_asked : (plan : Plan) (commands : List Task) (s : Model) (lines : List (List ℕ)) → Listening plan commands s → Listening plan commands (with_progress (λ p. lines_asked p lines) s)
 listen_asked plan commands s lines l =
     let it = asked_along (λ (q : Progress). SoundAt plan commands q s.client s.marks s.records s.passes × (q.phase ≡ Ready)) (λ q line h. h) s.progress lines (l.sound, l.is_ready) in
@@ -162,7 +162,7 @@ reckoned_came plan commands s until before true word piece is mid =
     reckoned_ready plan commands (came true word piece s) until before (listen_came plan commands s word piece (record { sound = mid.0; is_ready = heard_ready s.progress.phase is }))
 reckoned_came plan commands s until before false word piece is mid = (mid.0, record { empty = mid.1.empty; finished = mid.1.finished })
 
--- a piece keeps the weaker record, whether it is heard or dropped
+-- a piece keeps the weaker record, whether it is heard or discarded
 pub mid_piece : (plan : Plan) (commands : List Task) (s : Model) (until : Until) (piece : List ℕ) (m : Moment) → Mid plan commands s → Mid plan commands (piece_at plan until piece m s)
 mid_piece plan commands s until piece m mid =
     reckoned_came plan commands (with_moment m (with_progress (told m) s)) until (commands_in s.marks) (is_heard s.progress.phase) s.progress.word piece refl

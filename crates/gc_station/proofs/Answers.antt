@@ -1,6 +1,6 @@
 -- Each record is of its very request: an answer came after it, with its id, and in time; a late reply came too late; and a lost
--- one is lost for a cause. Each act keeps `IsHonest` (of `Waiting`): the requests that wait were put among the acts, and the
--- records are true. An act is one call of the link, with what came of it.
+-- one is lost for a cause. Each act keeps `IsHonest` (of `Waiting`): the outstanding requests were put among the acts, and the
+-- records are true. An act is one call on the link, with its result.
 use Rattle.std.proofs.Common.{◌≡◌, inl, inr, ℕ, ◌+◌, ◌%◌, ◌<◌, ◌≤◌, Bool, true, false, List, [], ◌∷◌, ◌++◌, length, drop, if◌then◌else◌, Option, Some, None, nat_eq, refl, sym, ap, ◌∙◌, subst, arith, append_assoc, append-nil, length-append}
 use Rattle.std.specs.List.{AllByRecursion}
 use Rattle.std.proofs.lemmas.Bool.Decides.{nat_tests}
@@ -44,27 +44,27 @@ use Rattle.gc_station.proofs.Waiting.{Stayed, Waits, IsTrue, Honest, IsHonest, M
 use Rattle.gc_station.proofs.Pieces.{piece_honest}
 use Rattle.gc_station.specs.Scopes.{Scope}
 
--- A request goes out.
+-- A request is sent.
 
--- an act that puts bytes tells no moment
+-- an act that puts bytes reads no moment
 puts_still : (bytes : List ℕ) (act : Act) → Puts bytes act → (d : ℕ) → IsBefore d act
 puts_still bytes (Put out) o d = tt
 puts_still bytes (Cut out n) o d = tt
 puts_still bytes act o d = absurd o
 
--- the client (the first argument) once a request with this target, call and deadline was sent, where the window has room: the
--- next id is counted on, and one more request waits
+-- the client (the first argument) once a request with this target, call and deadline was sent, if the window has room: the next
+-- id is counted on, and one more request waits
 abbrev pub with_sent : ById Asked → ℕ → Asked → ℕ → ById Asked
 with_sent c target call deadline = record { next = (c.next + 1) % 8; waiting = c.waiting ++ pending_of target call deadline ∷ [] }
 
--- where the window has room, a send isn't refused, and leaves the client `with_sent`
+-- if the window has room, a send isn't refused, and leaves the client `with_sent`
 pub client_is : (c : ById Asked) (target : ℕ) (call : Asked) (deadline : ℕ) → length c.waiting < 7 → client_sent c (sends WINDOW c target call deadline) ≡ with_sent c target call deadline
 client_is c target call deadline room = ap (λ (b : Bool). client_sent c (id_send c target call deadline b)) (not_full (length c.waiting) 7 room) where
   -- a number below 7 isn't 7
   not_full : (n w : ℕ) → n < w → nat_eq n w ≡ false
   not_full n w low = grind (arith, nat_tests, low)
 
--- an act that sends a request keeps `Honest`: one more request waits, behind the others
+-- an act that sends a request keeps `Honest`: one more request waits, after the others
 sent_honest : (plan : Plan) (commands : List Task) (scope : Scope) (acts : List Act) (act : Act) (c : ById Asked) (marks : List (Option Mark))
     (records : List Record) (target : ℕ) (call : Asked) (deadline : ℕ) (mark : Option Mark)
     → ((d : ℕ) → IsBefore d act) → c.next < 8 → length c.waiting < 7 → length marks ≡ length c.waiting
@@ -92,7 +92,7 @@ sent_honest plan commands scope acts act c marks records target call deadline ma
       written = h.written;
     }
 
--- the request that goes out waits as `Waits` says, put as the last of the acts
+-- the request that is sent waits as `Waits` says, put as the last of the acts
 asked_here : (plan : Plan) (commands : List Task) (scope : Scope) (acts : List Act) (act : Act) (target : ℕ) (call : Asked) (deadline : ℕ) (mark : Option Mark)
     → Invariant plan commands (stood plan commands scope acts)
     → length (stood plan commands scope acts).client.waiting < 7 → (0 < length (stood plan commands scope acts).client.waiting → IsAsking (action_at plan (stood plan commands scope acts)))
@@ -167,7 +167,7 @@ null_honest plan commands scope acts act f fine h room asks puts =
       never : (m : Mark) → None ≡ Some m → ⊥
       never m e = cc
 
--- the act that sends the first of these commands of the set-up, with this mark, keeps `IsHonest`
+-- the act that sends the first of these commands of the setup, with this mark, keeps `IsHonest`
 setup_honest : (plan : Plan) (commands : List Task) (scope : Scope) (acts : List Act) (act : Act) (left : List Task) (mark : Mark)
     → Invariant plan commands (stood plan commands scope acts) → IsHonest plan commands scope acts (acts ++ act ∷ []) (stood plan commands scope acts)
     → Marked plan commands scope acts mark → length (stood plan commands scope acts).client.waiting < 7
@@ -204,7 +204,7 @@ skips_first_true : (plan : Plan) (commands : List Task) (scope : Scope) (all : L
 skips_first_true plan commands scope all p m mark [] = tt
 skips_first_true plan commands scope all p m mark (task ∷ others) = (unsent_true plan commands scope all p.missed (skipped_at m p) mark task.command, tt)
 
--- the record of the next command, where it isn't sent, is true
+-- the record of the next command, if it isn't sent, is true
 skips_true : (plan : Plan) (commands : List Task) (scope : Scope) (all : List Act) (p : Progress) (act : Act) → AllByRecursion (IsTrue plan commands scope all) (skips plan commands p act)
 skips_true plan commands scope all p (Told m) = skips_first_true plan commands scope all p m (mark_next plan commands p) (drop (place_next commands p) commands)
 skips_true plan commands scope all p act = tt
@@ -253,11 +253,11 @@ read_honest plan commands scope acts until Ended tail fine h o ends = still plan
 read_honest plan commands scope acts until Broke tail fine h o ends = still plan commands scope acts Broke _ _ _ (λ d. tt) h
 read_honest plan commands scope acts until act tail fine h o ends = absurd o
 
--- a close tells no moment
+-- a close reads no moment
 close_still : (act : Act) → act ≡ Closed → (d : ℕ) → IsBefore d act
 close_still act is d = subst (λ (x : Act). IsBefore d x) (sym is) tt
 
--- each act keeps `IsHonest`, before what waits is lost
+-- each act keeps `IsHonest`, before what is outstanding is lost
 moved_honest : (plan : Plan) (commands : List Task) (scope : Scope) (acts : List Act) (action : Action) (act : Act) (tail : List Record)
     → Invariant plan commands (stood plan commands scope acts) → IsHonest plan commands scope acts (acts ++ act ∷ []) (stood plan commands scope acts)
     → action_at plan (stood plan commands scope acts) ≡ action → IsFor plan (stood plan commands scope acts).progress (waiting_of (stood plan commands scope acts)) action

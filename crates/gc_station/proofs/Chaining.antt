@@ -1,7 +1,7 @@
--- A command of a chain goes out only after the answer of the one before it. The two fields on chains of a progress are
--- `next_is_chained`, whether the next command waits for that answer, and `chain_unbroken`. An act is one call of the link, with
--- what came of it. `Chain` says that both fields are true to the acts so far, and `Whole` that the command before the next one
--- went out, with no connection closed and no new beginning since.
+-- A command of a chain is sent only after the answer of the one before it. The two fields on chains of a progress are
+-- `next_is_chained`, whether the next command waits for that answer, and `chain_unbroken`. An act is one call on the link, with
+-- its result. `Chain` says that both fields are true to the acts so far, and `Whole` that the command before the next one was
+-- sent, with no connection closed and no new synchronization since.
 use Rattle.std.proofs.Common.{◌≡◌, ◌⊎◌, inl, inr, ℕ, ◌+◌, ◌-◌, ◌<◌, ◌≤◌, ◌||◌, Bool, true, false, List, [], ◌∷◌, ◌++◌, length, drop, map, Option, Some, None, refl, sym, ap, ◌∙◌, subst, arith, append_assoc}
 use Rattle.std.specs.List.{AllByRecursion}
 use Rattle.std.proofs.lemmas.List.{length-drop, map-append}
@@ -69,8 +69,8 @@ record Anew (count : ℕ) (q : Progress) : Type 0 where
   unsent : q.unsent ≡ count
   chain_unbroken : q.chain_unbroken ≡ false
 
--- q has the further attempts of a chain passed over that the next command of p begins; the next one of q waits as `is_chained_behind`
--- says
+-- q has the further attempts of a chain left out that the next command of p begins; the next one of q waits as
+-- `is_chained_behind` says
 record Past (commands : List Task) (p q : Progress) : Type 0 where
   left : q.left ≡ p.left
   unsent : q.unsent ≡ p.unsent - p.next_others
@@ -79,7 +79,7 @@ record Past (commands : List Task) (p q : Progress) : Type 0 where
   chain_unbroken : q.chain_unbroken ≡ false
 
 -- what an act of an action does to the fields on chains, from p to q: it leaves them, breaks the chain, goes on to the next
--- command, passes over attempts, or begins a cycle. Where an action has two cases, the first is that the clock couldn't be read
+-- command, leaves out attempts, or begins a cycle. If an action has two cases, the first is that the clock couldn't be read
 abbrev Steps : Plan → List Task → Action → Progress → Progress → Type 0
 Steps plan commands Begin p q = Still p q ⊎ Anew (cycle_length plan commands) q
 Steps plan commands Renew p q = Still p q ⊎ (Still p q × (q.chain_unbroken ≡ false))
@@ -90,11 +90,11 @@ Steps plan commands Prepare p q = Still p q × (q.chain_unbroken ≡ false)
 Steps plan commands (Close why) p q = Still p q × (q.chain_unbroken ≡ false)
 Steps plan commands _ p q = Still p q
 
--- where these fields are the same, `Still` holds
+-- if these fields are the same, `Still` holds
 still : (p q : Progress) → q.left ≡ p.left → q.unsent ≡ p.unsent → q.missed ≡ p.missed → q.next_is_chained ≡ p.next_is_chained → q.chain_unbroken ≡ p.chain_unbroken → Still p q
 still p q left unsent missed next_is_chained chain_unbroken = record { left = left; unsent = unsent; missed = missed; next_is_chained = next_is_chained; chain_unbroken = λ e. sym chain_unbroken ∙ e }
 
--- where these fields are the same, but for a chain that is broken in q, `Still` holds, and q's chain is broken
+-- if these fields are the same, but for a chain that is broken in q, `Still` holds, and q's chain is broken
 broken : (p q : Progress) → q.left ≡ p.left → q.unsent ≡ p.unsent → q.missed ≡ p.missed → q.next_is_chained ≡ p.next_is_chained → q.chain_unbroken ≡ false → Still p q × (q.chain_unbroken ≡ false)
 broken p q left unsent missed next_is_chained chain_unbroken = (
   record {
@@ -147,32 +147,32 @@ stays_open plan commands (Close why) s act o other = absurd (other why refl)
 stays_open plan commands (Stop why) s act o other = absurd o
 stays_open plan commands next s act o other = walk plan commands (λ a (t : Model). KeepsOpen a) next s act o (λ m. tt, λ n. tt)
 
--- What every run keeps of the chain where it stands.
+-- What every run keeps of the chain where it is.
 
--- the station has begun after each of these acts
+-- the station has synchronized after each of these acts
 abbrev pub StaysBegun : Plan → List Task → Model → List Act → Type 0
 StaysBegun plan commands s [] = Unit {0}
 StaysBegun plan commands s (act ∷ acts) = (has_begun (after plan commands s act).progress ≡ true) × StaysBegun plan commands (after plan commands s act) acts
 
--- `StaysBegun` holds with one act more, if the station has begun after it
+-- `StaysBegun` holds with one act more, if the station has synchronized after it
 stays_more : (plan : Plan) (commands : List Task) (s : Model) (acts : List Act) (act : Act) → StaysBegun plan commands s acts
     → has_begun (after_all plan commands s (acts ++ act ∷ [])).progress ≡ true → StaysBegun plan commands s (acts ++ act ∷ [])
 stays_more plan commands s [] act h e = (e, tt)
 stays_more plan commands s (x ∷ acts) act h e = (h.0, stays_more plan commands (after plan commands s x) acts act h.1 e)
 
--- none of these acts sends a command of the set-up
+-- none of these acts sends a command of the setup
 abbrev pub PreparesNothing : Plan → List Task → Model → List Act → Type 0
 PreparesNothing plan commands s [] = Unit {0}
 PreparesNothing plan commands s (act ∷ acts) = (action_at plan s ≡ Prepare → ⊥) × PreparesNothing plan commands (after plan commands s act) acts
 
--- `PreparesNothing` holds of two lists of acts, the second behind the first, if it holds of each
+-- `PreparesNothing` holds of two lists of acts, the second after the first, if it holds of each
 pub prepares_none : (plan : Plan) (commands : List Task) (s : Model) (xs ys : List Act) → PreparesNothing plan commands s xs
     → PreparesNothing plan commands (after_all plan commands s xs) ys → PreparesNothing plan commands s (xs ++ ys)
 prepares_none plan commands s [] ys h k = k
 prepares_none plan commands s (x ∷ xs) ys h k = (h.0, prepares_none plan commands (after plan commands s x) xs ys h.1 k)
 
--- where a station has the progress p: the command before the next one, of the same cycle, went out among these acts, and since
--- then no connection was closed, the station didn't begin anew, and no command of the set-up went out
+-- if a station has the progress p: the command before the next one, of the same cycle, was sent among these acts, and since
+-- then no connection was closed, the station didn't resynchronize, and no command of the setup was sent
 record Whole (plan : Plan) (commands : List Task) (scope : Scope) (acts : List Act) (p : Progress) : Type 0 where
   before : List Act
   request : Act
@@ -187,7 +187,7 @@ record Whole (plan : Plan) (commands : List Task) (scope : Scope) (acts : List A
   keeps : StaysBegun plan commands (stood plan commands scope before) (request ∷ between)
   cycles : PreparesNothing plan commands (stood plan commands scope before) (request ∷ between)
 
--- where all acts (`all`) are `before` and then `behind`, and the station has begun after all of them, it has begun after
+-- if all acts (`all`) are `before` and then `behind`, and the station has synchronized after all of them, it has begun after
 -- `behind`, counted from the model after `before`
 begun_there : (plan : Plan) (commands : List Task) (scope : Scope) (before behind all : List Act) (q : Progress) → all ≡ before ++ behind
     → (stood plan commands scope all).progress ≡ q → has_begun q ≡ true
@@ -201,7 +201,7 @@ record Chain (plan : Plan) (commands : List Task) (scope : Scope) (acts : List A
   next_is_chained : plan.setup < place_next commands p → p.next_is_chained ≡ (p.missed || is_chained (drop (place_next commands p) commands))
   chain_unbroken : p.chain_unbroken ≡ true → Whole plan commands scope acts p
 
--- from one model to another nothing is passed over, or no chain goes on there
+-- from one model to another nothing is left out, or no chain goes on there
 abbrev Keeps : Model → Model → Type 0
 Keeps s t = (t.passes ≡ s.passes) ⊎ (t.progress.chain_unbroken ≡ false)
 
@@ -211,7 +211,7 @@ moved_keeps plan commands Pass s (Told m) = inr refl
 moved_keeps plan commands Pass s act = inl refl
 moved_keeps plan commands action s act = inl (ap (λ (x : Model). x.passes) (moved_changed plan commands action s act))
 
--- nothing that is passed over since: where the chain goes on, no act passes commands over
+-- nothing that is left out since: if the chain goes on, no act passes commands over
 still_passes : (s t : Model) (before : List Request) → Keeps s t → t.progress.chain_unbroken ≡ true → s.passes ≡ before → t.passes ≡ before
 still_passes s t before (inl same) e is = same ∙ is
 still_passes s t before (inr none) e is = absurd (clash t.progress.chain_unbroken e none)
@@ -253,7 +253,7 @@ chain_still plan commands scope acts act p q there k begins keeps stays other h 
           };
     }
 
--- `Chain` lasts over an act that breaks the chain, as a close or a new beginning does
+-- `Chain` lasts over an act that breaks the chain, as a close or a new synchronization does
 chain_closed : (plan : Plan) (commands : List Task) (scope : Scope) (acts all : List Act) (p q : Progress) → Still p q → q.chain_unbroken ≡ false
     → Chain plan commands scope acts p → Chain plan commands scope all q
 chain_closed plan commands scope acts all p q k broken h =
@@ -271,11 +271,11 @@ chain_anew plan commands scope acts q a =
     let none : place_next commands q ≤ plan.setup = omega (arith, a.unsent) in
     record { next_is_chained = λ above. absurd (omega (arith, none, above)); chain_unbroken = λ e. absurd (clash q.chain_unbroken e a.chain_unbroken) }
 
--- where one command less is left, the next one stands one place further
+-- if one command less is left, the next one is one place further on
 next_place : (commands : List Task) (p q : Progress) → q.unsent ≡ p.unsent - 1 → 0 < p.unsent → p.unsent ≤ length commands → place_next commands q ≡ place_next commands p + 1
 next_place commands p q less some within = omega (arith, less, some, within)
 
--- after a command that was sent or passed over, `next_is_chained` is what the text says of the next command, or true in a missed
+-- after a command that was sent or left out, `next_is_chained` is what the text says of the next command, or true in a missed
 -- cycle
 next_bound : (commands : List Task) (p q : Progress) → Next (is_chained_behind_next commands p) p q → place_next commands q ≡ place_next commands p + 1
     → q.next_is_chained ≡ (q.missed || is_chained (drop (place_next commands q) commands))
@@ -289,7 +289,7 @@ chain_skipped plan commands scope acts p q n broken some within =
     let at = next_place commands p q n.unsent some within in
     record { next_is_chained = λ above. next_bound commands p q n at; chain_unbroken = λ e. absurd (clash q.chain_unbroken e broken) }
 
--- `Chain` holds after the further attempts of a chain are passed over
+-- `Chain` holds after the further attempts of a chain are left out
 chain_past : (plan : Plan) (commands : List Task) (scope : Scope) (acts : List Act) (p q : Progress) → Past commands p q → p.unsent ≤ length commands → Chain plan commands scope acts q
 chain_past plan commands scope acts p q k within =
     record {
@@ -407,7 +407,7 @@ chain_along plan commands scope done (act ∷ acts) runs h =
     subst (λ (xs : List Act). Chain plan commands scope xs (stood plan commands scope xs).progress) (append_assoc done (act ∷ []) acts)
     (chain_along plan commands scope (done ++ act ∷ []) acts goes_on here)
 
--- where none is unsent, no command is left
+-- if none is unsent, no command is left
 pub none_behind : (commands : List Task) → drop (length commands - 0) commands ≡ []
 none_behind commands = let at : length commands - 0 ≡ length commands = omega arith in ap (λ (n : ℕ). drop n commands) at ∙ all_dropped commands where
   -- a list without as many elements as it has is empty
@@ -420,7 +420,8 @@ chain_stood : (plan : Plan) (commands : List Task) (scope : Scope) (acts : List 
     → Chain plan commands scope acts (stood plan commands scope acts).progress
 chain_stood plan commands scope acts runs = chain_along plan commands scope [] acts runs (record { next_is_chained = λ above. sym (ap is_chained (none_behind commands)); chain_unbroken = λ e. cc })
 
--- after every run, where the next command isn't the first of its cycle, it counts as chained as the text says, or in a missed cycle
+-- after every run, if the next command isn't the first of its cycle, it counts as chained as the text says, or in a missed
+-- cycle
 pub bound_stood : (plan : Plan) (commands : List Task) (scope : Scope) (acts : List Act) → Runs plan commands (opening plan scope) acts
     → plan.setup < place_next commands (stood plan commands scope acts).progress
     → (stood plan commands scope acts).progress.next_is_chained
@@ -445,14 +446,14 @@ well_end : (end : End) → is_well end ≡ true → (quality : Quality) × (said
 well_end (Answered quality said line) e = (quality, said, line, refl, e)
 well_end end e = cc
 
--- where the last of `r` and the records behind it was answered well, `Last` holds of all of them
+-- if the last of `r` and the records after it was answered well, `Last` holds of all of them
 last_one : (r : Record) (rs : List Record) → last_well (is_well r.end) rs ≡ true → Last (r ∷ rs)
 last_one r [] e = let it = well_end r.end e in record { earlier = []; answer = r; last = refl; quality = it.0; said = it.1; line = it.2; answered = it.3; well = it.4 }
 last_one r (x ∷ rs) e =
     let l = last_one x rs e in
     record { earlier = r ∷ l.earlier; answer = l.answer; last = ap (λ xs. r ∷ xs) l.last; quality = l.quality; said = l.said; line = l.line; answered = l.answered; well = l.well }
 
--- where the last of some records was answered well, `Last` holds of them
+-- if the last of some records was answered well, `Last` holds of them
 last_of : (rs : List Record) → last_well false rs ≡ true → Last rs
 last_of [] e = cc
 last_of (r ∷ rs) e = last_one r rs e
@@ -475,26 +476,26 @@ all_last : {A : Type 0} (P : A → Type 0) (xs : List A) (x : A) → AllByRecurs
 all_last P [] x all = all.0
 all_last P (y ∷ xs) x all = all_last P xs x all.1
 
--- the commands that had their turn, with the next one behind them, are those that had their turn one place later
+-- the commands that had their turn, with the next one after them, are those that had their turn one place later
 last_sent : (plan : Plan) (commands : List Task) (begun place : ℕ) (left : List Task) → drop place commands ≡ left → 0 < length left → 0 < begun
     → plan.setup ≤ place
     → (task : Task) × (sent_by plan.setup commands begun place ++ requests begun place (of_task task ∷ []) ≡ sent_by plan.setup commands begun (place + 1))
 last_sent plan commands begun place [] at some many within = absurd (omega (arith, some))
 last_sent plan commands begun place (task ∷ others) at some many within = (task, sent_next plan.setup commands begun place task others at within many)
 
--- a request of this very place isn't in front of it
+-- a request of this very place isn't before it
 not_in_front : (cycle place : ℕ) (r : Request) → r.cycle ≡ cycle → r.place ≡ place → IsInFront cycle place r → ⊥
 not_in_front cycle place r at is (inl less) = omega (arith, less, at)
 not_in_front cycle place r at is (inr same) = omega (arith, same.1, is)
 
--- where a chained command is to go out, `IsLinked` holds: the command before it went out and was answered well, and the station
--- has begun after each act since, none of which sends a command of the set-up
+-- if a chained command is to be sent, `IsLinked` holds: the command before it was sent and was answered well, and the station
+-- has synchronized after each act since, none of which sends a command of the setup
 pub chain_whole : (plan : Plan) (commands : List Task) (scope : Scope) (acts : List Act) → Runs plan commands (opening plan scope) acts
     → action_at plan (stood plan commands scope acts) ≡ Send → IsChained plan commands (stood plan commands scope acts)
     → (l : IsLinked plan commands scope acts) × StaysBegun plan commands (stood plan commands scope l.before) (l.request ∷ l.between)
     × PreparesNothing plan commands (stood plan commands scope l.before) (l.request ∷ l.between)
 chain_whole plan commands scope acts runs is chained = of_may needs.4 where
-  -- the station as it stands
+  -- the station as it is
   s : Model
   s = stood plan commands scope acts
 
@@ -514,7 +515,7 @@ chain_whole plan commands scope acts runs is chained = of_may needs.4 where
   next_is_chained : s.progress.next_is_chained ≡ true
   next_is_chained = h.next_is_chained chained.0 ∙ ap (λ (b : Bool). s.progress.missed || b) chained.1 ∙ or_true s.progress.missed
 
-  -- the command before the next one, where no command waits: `Whole` says that it went out, and `Last` that the last record was
+  -- the command before the next one, if no command waits: `Whole` says that it was sent, and `Last` that the last record was
   -- answered well; that record is its own, so `IsLinked` holds of it
   of_last : commands_in s.marks ≡ 0 → s.progress.chain_unbroken ≡ true → Last s.records → Whole plan commands scope acts s.progress
       → (l : IsLinked plan commands scope acts) × StaysBegun plan commands (stood plan commands scope l.before) (l.request ∷ l.between)
@@ -578,14 +579,14 @@ chain_whole plan commands scope acts runs is chained = of_may needs.4 where
       } in
       (linked, w.keeps, w.cycles)
 
-  -- the lemma above, where the next command may go out (`MayGo`): as it is chained, that is because the one before it was
+  -- the lemma above, if the next command may be sent (`MayGo`): as it is chained, that is because the one before it was
   -- answered well
   of_may : MayGo s.progress (waiting_of s) → (l : IsLinked plan commands scope acts) × StaysBegun plan commands (stood plan commands scope l.before) (l.request ∷ l.between)
       × PreparesNothing plan commands (stood plan commands scope l.before) (l.request ∷ l.between)
   of_may (inl free) = absurd (clash s.progress.next_is_chained next_is_chained free)
   of_may (inr it) = of_last it.0 it.2 (last_of s.records it.1) (h.chain_unbroken it.2)
 
--- a chained command goes out only after the answer of the one before it
+-- a chained command is sent only after the answer of the one before it
 pub chain_kept : (plan : Plan) (commands : List Task) (scope : Scope) (acts : List Act) → Runs plan commands (opening plan scope) acts
     → action_at plan (stood plan commands scope acts) ≡ Send → IsChained plan commands (stood plan commands scope acts) → IsLinked plan commands scope acts
 chain_kept plan commands scope acts runs is chained = (chain_whole plan commands scope acts runs is chained).0

@@ -1,5 +1,5 @@
 -- A connection is closed, and a run stops, only for a cause; and the act that decided the end shows that cause. The end is
--- decided once the phase is `Closing` or `Over`, which name the cause. An act is one call of the link, with what came of it.
+-- decided once the phase is `Closing` or `Over`, which name the cause. An act is one call on the link, with its result.
 -- `Decides` says why an act decided the end, or that it left the phase as it was; `Decided` says why it did.
 use Rattle.std.proofs.Common.{◌≡◌, ℕ, ◌⊎◌, inl, inr, ◌&&◌, ◌||◌, Bool, true, false, not, List, [], ◌∷◌, ◌++◌, length, drop, Option, Some, None, if◌then◌else◌, nat_lt, nat_eq, refl, sym, ap, ◌∙◌, subst, arith}
 use Rattle.std.proofs.lemmas.Bool.Decides.{nat_tests}
@@ -41,8 +41,8 @@ end_of (Closing why) = Some why
 end_of (Over why) = Some why
 end_of _ = None
 
--- an act shows that a call failed for this cause. The two phases are those before and after it: where there is no connection
--- after it, there was none before
+-- an act shows that a call failed for this cause. The two phases are those before and after it: if there is no connection after
+-- it, there was none before
 abbrev pub Failed : Phase → Phase → Cause → Act → Type 0
 Failed before behind why act = (is_up behind ≡ false → is_up before ≡ false) × Shows why act
 
@@ -51,15 +51,15 @@ Failed before behind why act = (is_up behind ≡ false → is_up before ≡ fals
 abbrev Decides : Type 0 → Phase → Phase → Cause → Act → Type 0
 Decides Other before behind why act = Failed before behind why act ⊎ (Other ⊎ (behind ≡ before))
 
--- a failure for `why`, which the act shows, sets the phase to closing where there is a connection (`up`) and to over where
--- there is none. If that decides the end for the cause c, the act decides it: c is `why`
+-- a failure for `why`, which the act shows, sets the phase to closing if there is a connection (`up`) and to over if there is
+-- none. If that decides the end for the cause c, the act decides it: c is `why`
 fail_decides : {Other : Type 0} (before at : Phase) (up : Bool) (why c : Cause) (act : Act) → is_up at ≡ up → Shows why act
     → (is_up at ≡ false → is_up before ≡ false) → end_of (if up then Closing why else Over why) ≡ Some c
     → Decides Other before (if up then Closing why else Over why) c act
 fail_decides before at true why c act is shows down e = let same : why ≡ c = cc in inl (λ d. cc, subst (λ (x : Cause). Shows x act) same shows)
 fail_decides before at false why c act is shows down e = let same : why ≡ c = cc in inl (λ d. down is, subst (λ (x : Cause). Shows x act) same shows)
 
--- where a failure is noted that the act shows, and the end is decided then, the act decides it
+-- if a failure is noted that the act shows, and the end is decided then, the act decides it
 failed : {Other : Type 0} (s : Model) (why c : Cause) (act : Act) → Shows why act → end_of (with_progress (failing why) s).progress.phase ≡ Some c
     → Decides Other s.progress.phase (with_progress (failing why) s).progress.phase c act
 failed s why c act shows e = fail_decides s.progress.phase s.progress.phase (is_up s.progress.phase) why c act refl shows (λ d. d) e
@@ -90,23 +90,24 @@ no_try : (spared : Bool) (tries : ℕ) → spared || nat_lt 0 tries ≡ false �
 no_try true tries e = cc
 no_try false tries e = (refl, grind (arith, nat_tests, e))
 
--- how a run ends whose connection is gone for the cause `other`, while n commands wait. It ends for the cause c (the last
--- argument): as done, where nothing is left to be sent and none waits; else for `other`, where a try is needed and none is left
+-- how a run ends whose connection is gone for the cause `other`, while n commands are outstanding. It ends for the cause c (the
+-- last argument): as done, if nothing is left to be sent and none is outstanding; otherwise for `other`, if a try is needed and
+-- none is left
 abbrev EndsAgain : Plan → Progress → ℕ → Cause → Cause → Type 0
 EndsAgain plan p n other c = EndsDone p n c ⊎ ((c ≡ other) × (is_finished n p ≡ false) × (is_spared plan other p ≡ false) × (p.tries ≡ 0))
 
--- where the phase after a lost connection or a failed attempt ends the run, the cause is as `EndsAgain` says
+-- if the phase after a lost connection or a failed attempt ends the run, the cause is as `EndsAgain` says
 again_ends : (plan : Plan) (other c : Cause) (n : ℕ) (p : Progress) (done some : Bool) → is_finished n p ≡ done → (is_spared plan other p || nat_lt 0 p.tries) ≡ some
     → end_of (if done then Over cause.Done else if some then Pausing else Over other) ≡ Some c → EndsAgain plan p n other c
 again_ends plan other c n p true some finished tries e = let none = none_left p.left p.unsent n finished in inl (cc, none.0, none.1, none.2)
 again_ends plan other c n p false true finished tries e = cc
 again_ends plan other c n p false false finished tries e = let none = no_try (is_spared plan other p) p.tries tries in inr (cc, finished, none.0, none.1)
 
--- no command is left to be sent, and none waits
+-- no command is left to be sent, and none is outstanding
 abbrev NoneLeft : Progress → ℕ → Type 0
 NoneLeft p n = (p.left ≡ 0) × (p.unsent ≡ 0) × (n ≡ 0)
 
--- where a close ends the run, the cause is as `EndsBehind` says
+-- if a close ends the run, the cause is as `EndsBehind` says
 closed_ends : (plan : Plan) (w : Waiting) (other c : Cause) (p : Progress) → (other ≡ cause.Done → NoneLeft p w.commands)
     → end_of (closed plan w other (turned p)).phase ≡ Some c → EndsBehind plan p w.commands other c
 closed_ends plan w cause.Done c p done e = let none = done refl in (cc, none.0, none.1, none.2)
@@ -127,12 +128,12 @@ Gone plan s next behind c act = (is_up behind ≡ false) × EndsGone plan s.prog
 abbrev DecidesSo : Plan → Model → Action → Cause → Act → Model → Type 0
 DecidesSo plan s next c act t = end_of t.progress.phase ≡ Some c → Decides (Gone plan s next t.progress.phase c act) s.progress.phase t.progress.phase c act
 
--- a line feed that went out decides no end
+-- a line feed that was sent decides no end
 cleared_none : (begun : Bool) (c : Cause) → end_of (if begun then Draining else Ready) ≡ Some c → ⊥
 cleared_none true c e = cc
 cleared_none false c e = cc
 
--- after a line feed that went out there is a connection
+-- after a line feed that was sent there is a connection
 cleared_up : (begun : Bool) → is_up (if begun then Draining else Ready) ≡ false → ⊥
 cleared_up true e = cc
 cleared_up false e = cc
@@ -190,7 +191,7 @@ moved_decides plan commands (action.Stop why) s act c o done e = absurd o
 moved_decides plan commands next s act c o done e =
     walk plan commands (DecidesSo plan s next c) next (with_progress turned s) act o (λ m g. inr (inr refl), λ n g. failed (with_progress turned s) cause.Clock c Untold refl g) e
 
--- where the end is decided, no act leaves the phase as it is: the connection is closed, and without a connection no act is made
+-- if the end is decided, no act leaves the phase as it is: the connection is closed, and without a connection no act is made
 not_twice : (plan : Plan) (commands : List Task) (s : Model) (act : Act) (c : Cause) (phase : Phase) → s.progress.phase ≡ phase → end_of phase ≡ Some c
     → Performs commands s (action_in phase plan s.progress (waiting_of s)) act
     → (moved plan commands (action_in phase plan s.progress (waiting_of s)) (with_progress turned s) act).progress.phase ≡ phase → ⊥
@@ -203,7 +204,7 @@ not_twice plan commands s act c phase is e o same = cc
 abbrev pub Decided : Plan → Model → Phase → Cause → Act → Type 0
 Decided plan s behind c act = Failed s.progress.phase behind c act ⊎ Gone plan s (action_at plan s) behind c act
 
--- where the end is decided after an act, before what waits is lost, the act decided it
+-- if the end is decided after an act, before what is outstanding is lost, the act decided it
 moved_decided : (plan : Plan) (commands : List Task) (s : Model) (act : Act) (c : Cause) → Performs commands s (action_at plan s) act
     → (action_at plan s ≡ action.Close cause.Done → NoneLeft s.progress (commands_in s.marks))
     → end_of (moved plan commands (action_at plan s) (with_progress turned s) act).progress.phase ≡ Some c
@@ -217,7 +218,7 @@ moved_decided plan commands s act c o done e = pick (moved_decides plan commands
   pick (inr (inl gone)) = inr gone
   pick (inr (inr same)) = absurd (not_twice plan commands s act c s.progress.phase refl (ap end_of (sym same) ∙ e) o same)
 
--- where the end is decided after a whole act, the act decided it
+-- if the end is decided after a whole act, the act decided it
 pub after_decided : (plan : Plan) (commands : List Task) (s : Model) (act : Act) (c : Cause) → Performs commands s (action_at plan s) act
     → (action_at plan s ≡ action.Close cause.Done → NoneLeft s.progress (commands_in s.marks))
     → end_of (after plan commands s act).progress.phase ≡ Some c → Decided plan s (after plan commands s act).progress.phase c act
@@ -232,7 +233,7 @@ pub runs_split : (plan : Plan) (commands : List Task) (s : Model) (earlier later
 runs_split plan commands s [] later act runs = (tt, runs.0)
 runs_split plan commands s (x ∷ xs) later act runs = let r = runs_split plan commands (after plan commands s x) xs later act runs.1 in ((runs.0, r.0), r.1)
 
--- where a null procedure of a beginning is next, nothing waits and the client is new
+-- if a null procedure of a synchronization is next, nothing is outstanding and the client is new
 goes_alone : (plan : Plan) (commands : List Task) (s : Model) (next : Action) → Invariant plan commands s → IsFor plan s.progress (waiting_of s) next → IsAlone next s
 goes_alone plan commands s action.Ask fine needs = let new = fine.begins needs.1 in (new, nil_from_length s.marks (fine.paired ∙ ap (λ (c : ById Asked). length c.waiting) new))
 goes_alone plan commands s next fine needs = tt
@@ -253,7 +254,7 @@ act_reasoned plan commands scope earlier later act runs =
 last_of : (acts : List Act) → (acts ≡ []) ⊎ ((earlier : List Act) × (last : Act) × (acts ≡ earlier ++ last ∷ []))
 last_of [] = inl refl
 last_of (x ∷ xs) = on (last_of xs) where
-  -- the lemma above for one act more in front
+  -- the lemma above for one act more before it
   on : ((xs ≡ []) ⊎ ((earlier : List Act) × (last : Act) × (xs ≡ earlier ++ last ∷ []))) → (x ∷ xs ≡ []) ⊎ ((earlier : List Act) × (last : Act) × (x ∷ xs ≡ earlier ++ last ∷ []))
   on (inl none) = inr ([], x, ap (λ ys. x ∷ ys) none)
   on (inr some) = inr (x ∷ some.0, some.1, ap (λ ys. x ∷ ys) some.2)
@@ -267,7 +268,7 @@ closes_only commands s next o = absurd o
 pub needs_of : (plan : Plan) (s : Model) (next : Action) → action_at plan s ≡ next → IsFor plan s.progress (waiting_of s) next
 needs_of plan s next is = subst (λ (o : Action). IsFor plan s.progress (waiting_of s) o) is (action_for plan s.progress (waiting_of s))
 
--- a connection is closed for being done only where no command is left to be sent, and none waits
+-- a connection is closed for being done only if no command is left to be sent, and none is outstanding
 pub done_sent : (plan : Plan) (commands : List Task) (scope : Scope) (acts : List Act) → action_at plan (stood plan commands scope acts) ≡ action.Close cause.Done
     → NoneLeft (stood plan commands scope acts).progress (commands_in (stood plan commands scope acts).marks)
 done_sent plan commands scope acts is = by_needs (needs_of plan (stood plan commands scope acts) (action.Close cause.Done) is).1 where
@@ -283,7 +284,7 @@ decided_last : (plan : Plan) (commands : List Task) (scope : Scope) (acts : List
     → end_of (stood plan commands scope acts).progress.phase ≡ Some c
     → (earlier : List Act) × (last : Act) × (acts ≡ earlier ++ last ∷ []) × Decided plan (stood plan commands scope earlier) (stood plan commands scope acts).progress.phase c last
 decided_last plan commands scope acts c runs e = by_last (last_of acts) where
-  -- the lemma above, where there is a last act; at the start of a run no end is decided
+  -- the lemma above, if there is a last act; at the start of a run no end is decided
   by_last : ((acts ≡ []) ⊎ ((earlier : List Act) × (last : Act) × (acts ≡ earlier ++ last ∷ [])))
       → (earlier : List Act) × (last : Act) × (acts ≡ earlier ++ last ∷ [])
       × Decided plan (stood plan commands scope earlier) (stood plan commands scope acts).progress.phase c last
@@ -302,7 +303,7 @@ decided_last plan commands scope acts c runs e = by_last (last_of acts) where
             (after_decided plan commands s last c split.1 (done_sent plan commands scope earlier) (ap end_of (sym behind) ∙ e)),
       )
 
--- where the phase is that the connection is to be closed for `why`, the last act shows the call that failed
+-- if the phase is that the connection is to be closed for `why`, the last act shows the call that failed
 pub closing_shown : (plan : Plan) (commands : List Task) (scope : Scope) (acts : List Act) (why : Cause) → Runs plan commands (opening plan scope) acts
     → (stood plan commands scope acts).progress.phase ≡ Closing why
     → (earlier : List Act) × (last : Act) × (acts ≡ earlier ++ last ∷ []) × Shows why last
@@ -313,7 +314,7 @@ closing_shown plan commands scope acts why runs phase =
       shows before last (inl failed) = failed.1
       shows before last (inr gone) = let up : true ≡ false = sym (ap is_up phase) ∙ gone.0 in cc
 
--- where a connection is closed, it is closed for a cause
+-- if a connection is closed, it is closed for a cause
 pub closed_for : (plan : Plan) (commands : List Task) (scope : Scope) (acts : List Act) → Runs plan commands (opening plan scope) acts
     → Performs commands (stood plan commands scope acts) (action_at plan (stood plan commands scope acts)) Closed
     → ClosesForACause plan commands scope acts
@@ -333,7 +334,7 @@ closed_for plan commands scope acts runs o =
       by_needs why (inl phase) = inr (closing_shown plan commands scope acts why runs phase)
       by_needs why (inr end) = inl end
 
--- where a run stops, it stops for a cause
+-- if a run stops, it stops for a cause
 pub stopped_for : (plan : Plan) (commands : List Task) (scope : Scope) (acts : List Act) (why : Cause) → Runs plan commands (opening plan scope) acts
     → action_at plan (stood plan commands scope acts) ≡ action.Stop why → StopsForACause plan commands scope acts why
 stopped_for plan commands scope acts why runs stop =
@@ -342,7 +343,7 @@ stopped_for plan commands scope acts why runs stop =
       down = needs.0;
       shown = by_needs needs.1;
     } where
-      -- where the run is over, what decided the end ends the run
+      -- if the run is over, what decided the end ends the run
       ends : (before : Model) (last : Act) → (stood plan commands scope acts).progress.phase ≡ Over why
           → Decided plan before (stood plan commands scope acts).progress.phase why last → Ends plan before why last
       ends before last phase (inl failed) = inl (failed.0 (ap is_up phase), failed.1)

@@ -1,6 +1,6 @@
 -- A command is answered well where both codes of its reply are 0 and the values read, or where its return code is accepted,
--- unless it was measured elsewhere than where its target stands. `line` is the reply line of a command with this call, and `r`
--- its fields; `reads` gives what each line says for a call (`AreReadings`), and `expected` what the command expects: the return
+-- unless it was measured elsewhere than where its target is. `line` is the reply line of a command with this call, and `r` its
+-- fields; `reads` gives what each line says for a call (`AreReadings`), and `expected` what the command expects: the return
 -- codes that it accepts, and the place of its target.
 use Rattle.std.proofs.Common.{◌≡◌, ◌==◌, ◌&&◌, ◌||◌, ◌⊎◌, inl, inr, ℕ, zero, suc, replicate, Bool, true, false, not, List, refl, sym, ap, ◌∙◌}
 use Rattle.std.specs.List.{list_any}
@@ -62,11 +62,11 @@ none_accepted code e = elim (eqb_tells code 0) as (λ _. ⊥) [
 ]
 
 module _ (reads : Asked → List ℕ → Reading) (expected : Expected) (call : Asked) (line : List ℕ) (r : ReplyFields) (are : AreReadings reads) (is : IsReply line r) where
-  -- where a reply's fields r mean `said` for the call (`IsAskedReading`), `reads` reads its line as `said`
+  -- if a reply's fields r mean `said` for the call (`IsAskedReading`), `reads` reads its line as `said`
   says : (said : Reading) → IsAskedReading call r said → reads call line ≡ said
   says said reading = are call line said (record { reply = r; is_reply = is; is_reading = reading })
 
-  -- where the same fields with return code 0 mean `said`, `reads` reads the line with return code 0 (`as_zero`) as `said`
+  -- if the same fields with return code 0 mean `said`, `reads` reads the line with return code 0 (`as_zero`) as `said`
   says_zeroed : (said : Reading) → IsAskedReading call (record r { rc = 0 }) said → reads call (as_zero line) ≡ said
   says_zeroed said reading = are call (as_zero line) said (zero_reads call line r said is reading)
 
@@ -103,7 +103,7 @@ module _ (reads : Asked → List ℕ → Reading) (expected : Expected) (call : 
     | inr other ↦ inr (accepted_one (are_accepted expected.accepted r.rc) refl (says (reading.Refused r.rc) (refused_is call r none other.1)) well)
   ]
 
-  -- where no code is accepted, the return code is 0
+  -- if no code is accepted, the return code is 0
   without_codes : expected.accepted ≡ no_codes → (r.rc ≡ 0) ⊎ (are_accepted expected.accepted r.rc ≡ true) → r.rc ≡ 0
   without_codes none (inl same) = same
   without_codes none (inr some) = absurd (none_accepted r.rc (ap (λ (cs : Codes). are_accepted cs r.rc) (sym none) ∙ some))
@@ -129,7 +129,7 @@ module _ (reads : Asked → List ℕ → Reading) (expected : Expected) (call : 
   warned_ends said none some accepted read =
       ended_refused r.rc true (says (reading.Refused r.rc) (refused_is call r none some)) accepted ∙ ap (λ x. warned_as expected.near x line) (says_zeroed said read)
 
--- where no code is accepted, an answer of a good quality has both codes 0
+-- if no code is accepted, an answer of a good quality has both codes 0
 pub without_accept : GoodIsAnAnswer
 without_accept reads call quality.Fine said line is good = is
 without_accept reads call quality.Warning said line (code, refusal, listed, has) good = absurd (none_accepted code listed)

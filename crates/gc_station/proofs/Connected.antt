@@ -1,6 +1,6 @@
--- Facts F of a progress and the acts so far that concern a connection in use alone: they hold trivially where there is no
--- connection, and where it is to be closed. So a call that fails keeps them, and so does a close. What each other act has to
--- keep is `OnLine`. An act is one call of the link, with what came of it.
+-- Facts F of a progress and the acts so far that concern a connection in use alone: they hold trivially if there is no
+-- connection, and if it is to be closed. So a call that fails keeps them, and so does a close. What each other act has to keep
+-- is `OnLine`. An act is one call on the link, with its result.
 use Rattle.std.proofs.Common.{◌≡◌, ℕ, ◌&&◌, Bool, true, false, not, List, [], ◌∷◌, ◌++◌, drop, if◌then◌else◌, refl, ap}
 use Rattle.gc_catalogue.specs.declared.asked.Asked.TheVariants.{Table}
 use Rattle.gc_catalogue.specs.declared.call.Call.TheVariants.{NullProc}
@@ -47,11 +47,11 @@ paused_unused : (b : Bool) (at : Phase) → at ≡ phase.Pausing → is_in_use (
 paused_unused true at is = refl
 paused_unused false at is = ap is_in_use is
 
--- What has to hold after an act of an action where no call fails. After a read that gave nothing it is shown for a drain that
--- goes on, and for one that was long enough and ends. All rows take a moment, though not each action reads the clock.
+-- What has to hold after an act of an action if no call fails. After a read that gave nothing it is shown for a drain that goes
+-- on, and for one that was long enough and ends. All rows take a moment, though not each action reads the clock.
 
--- the fact F holds after these acts and a read that gave nothing at this moment: of the progress at that moment and, where a
--- drain was long enough, of the progress once the drain ended
+-- the fact F holds after these acts and a read that gave nothing at this moment: of the progress at that moment and, if a drain
+-- was long enough, of the progress once the drain ended
 abbrev pub Silenced : Plan → (Progress → List Act → Type 0) → Until → Moment → Progress → List Act → Type 0
 Silenced plan F until m p acts =
     F (time_passed until m p) (acts ++ Silent m ∷ [])
@@ -96,7 +96,7 @@ module _ (plan : Plan) (commands : List Task) (F : Progress → List Act → Typ
     by_test false past = h.0
   silent_on until m p at acts is h = h.0
 
-  -- `OnLine` of an action gives the fact after an act of it: where the act leaves no connection in use, the fact holds anyway
+  -- `OnLine` of an action gives the fact after an act of it: if the act leaves no connection in use, the fact holds anyway
   -- (`unused`)
   pub on_line : (next : Action) (s : Model) (act : Act) (acts : List Act) → Performs commands s next act → OnLine plan commands F next (with_progress turned s) acts
       → F (moved plan commands next (with_progress turned s) act).progress (acts ++ act ∷ [])

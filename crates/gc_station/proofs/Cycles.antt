@@ -1,6 +1,6 @@
--- Cycles begin on a grid of due moments, and nothing of a missed cycle goes out, where the clock doesn't go back (`Rises`). An
--- act is one call of the link, with what came of it. A cycle is missed where it began so late that the next one was due. The
--- chain's fields of a progress are `next_is_chained`, whether the next command waits for the answer of the one before it, and
+-- Cycles begin on a grid of due moments, and nothing of a missed cycle is sent, if the clock doesn't go back (`Rises`). An act
+-- is one call on the link, with its result. A cycle is missed if it began so late that the next one was due. The chain's fields
+-- of a progress are `next_is_chained`, whether the next command waits for the answer of the one before it, and
 -- `chain_unbroken`. `Cycling` says which cycle the station is in, and when it began; `Begun` says that it is in one, or that
 -- none has begun yet.
 use Rattle.std.proofs.Common.{◌≡◌, ◌⊎◌, inl, inr, ℕ, suc, ◌+◌, ◌-◌, ◌<◌, ◌≤◌, ◌||◌, Bool, true, false, List, [], ◌∷◌, ◌++◌, length, drop, min, nat_lt, nat_le, nat_eq, refl, sym, ap, ◌∙◌, subst, arith, append_assoc}
@@ -90,13 +90,12 @@ module _ (plan : Plan) (commands : List Task) (scope : Scope) (some : 0 < plan.e
   stays p q left unsent missed due next_is_chained chain_unbroken = record
       { left = left; unsent = unsent; missed = missed; due = due; next_is_chained = next_is_chained; chain_unbroken = chain_unbroken }
 
-  -- a chain that was broken still is, where it is as it was or broken
+  -- a chain that was broken still is, if it is as it was or broken
   pub broken : (a b : Bool) → (b ≡ a) ⊎ (b ≡ false) → a ≡ false → b ≡ false
   broken a b (inl same) e = same ∙ e
   broken a b (inr none) e = none
 
-  -- `Begun` lasts over an act that stays in its cycle (`Stays`) and tells moments as `Ticks` says, where the clock doesn't go
-  -- back
+  -- `Begun` lasts over an act that stays in its cycle (`Stays`) and reads moments as `Ticks` says, if the clock doesn't go back
   pub begun_stays : (acts : List Act) (act : Act) (p q : Progress) → Stays p q → Ticks p act q → Rises p.moment.elapsed (act ∷ []) → Begun acts p → Begun (acts ++ act ∷ []) q
   begun_stays acts act p q k t rises (inl none) = inl (k.left ∙ none.0, k.unsent ∙ none.1)
   begun_stays acts act p q k t rises (inr c) =
@@ -120,14 +119,14 @@ module _ (plan : Plan) (commands : List Task) (scope : Scope) (some : 0 < plan.e
         held = λ e. let h = c.held (sym k.missed ∙ e) in (k.next_is_chained ∙ h.0, broken p.chain_unbroken q.chain_unbroken k.chain_unbroken h.1);
         chained = λ e. by_chain (c.chained (sym k.next_is_chained ∙ e)) place_is k.missed;
       }) where
-        -- what makes the next command wait still does: its cycle is missed, or the text chains it
+        -- what makes the next command wait, still does: its cycle is missed, or the text chains it
         by_chain : ((p.missed ≡ true) ⊎ ((plan.setup < place_next commands p) × (is_chained (drop (place_next commands p) commands) ≡ true)))
             → place_next commands q ≡ place_next commands p → q.missed ≡ p.missed
             → (q.missed ≡ true) ⊎ ((plan.setup < place_next commands q) × (is_chained (drop (place_next commands q) commands) ≡ true))
         by_chain (inl missed) at same = inl (same ∙ missed)
         by_chain (inr (above, is)) at same = inr (subst (λ (x : ℕ). plan.setup < x) (sym at) above, ap (λ (x : ℕ). is_chained (drop x commands)) at ∙ is)
 
-  -- `Begun` lasts over an act that sends or passes over the next command, if the command behind that waits for its answer as
+  -- `Begun` lasts over an act that sends or leaves out the next command, if the command after that waits for its answer as
   -- `is_chained_behind_next` says
   pub begun_next : (acts : List Act) (act : Act) (p q : Progress) → q.left ≡ p.left → q.unsent ≡ p.unsent - 1 → q.missed ≡ p.missed → q.due ≡ p.due
       → q.next_is_chained ≡ is_chained_behind_next commands p
@@ -160,7 +159,7 @@ module _ (plan : Plan) (commands : List Task) (scope : Scope) (some : 0 < plan.e
         by_missed false is e at low =
             inr (omega (arith, at, low), ap (λ (x : ℕ). is_chained (drop x commands)) at ∙ or_second p.missed (is_chained (drop (place_next commands p + 1) commands)) e is)
 
-  -- `Begun` lasts over an act that passes over the further attempts of a chain
+  -- `Begun` lasts over an act that leaves out the further attempts of a chain
   pub begun_past : (acts : List Act) (act : Act) (p q : Progress) → q.left ≡ p.left → q.unsent ≡ p.unsent - p.next_others → q.missed ≡ p.missed → q.due ≡ p.due
       → q.next_is_chained ≡ is_chained_behind p.next_others commands p
       → 0 < p.next_others → (p.missed ≡ true → q.chain_unbroken ≡ false) → Ticks p act q → Rises p.moment.elapsed (act ∷ []) → 0 < p.unsent → p.unsent ≤ length commands - plan.setup → Begun acts p → Begun (acts ++ act ∷ []) q
@@ -217,7 +216,7 @@ module _ (plan : Plan) (commands : List Task) (scope : Scope) (some : 0 < plan.e
       → cycles_begun plan (stood plan commands scope acts).progress ≡ n → BeginsAt plan commands scope (acts ++ Told m ∷ []) n m
   begins_here acts m n is number = record { before = acts; behind = []; order = refl; begins = is; number = number }
 
-  -- what is known of a cycle that is begun at the moment m: the moment b that counts as its beginning, which is its due moment
+  -- what is known of a cycle that is begun at the moment m: the moment b that counts as its start, which is its due moment
   pub record Start (acts : List Act) (m : Moment) (p : Progress) : Type 0 where
     pub n : ℕ
     pub b : ℕ
@@ -285,7 +284,7 @@ module _ (plan : Plan) (commands : List Task) (scope : Scope) (some : 0 < plan.e
 
   -- Acts.
 
-  -- from p to q, over an act after these acts: the moment told last is the act's if it tells one, else p's; and `Begun` holds
+  -- from p to q, over an act after these acts: the moment read last is the act's if it reads one, else p's; and `Begun` holds
   -- of q if the clock doesn't go back at the act
   abbrev pub OnTo : List Act → Progress → Act → Progress → Type 0
   OnTo acts p act q = (q.moment.elapsed ≡ last_of p.moment.elapsed (act ∷ [])) × (Rises p.moment.elapsed (act ∷ []) → Begun (acts ++ act ∷ []) q)
@@ -294,7 +293,7 @@ module _ (plan : Plan) (commands : List Task) (scope : Scope) (some : 0 < plan.e
   abbrev pub On : List Act → Progress → Act → Model → Type 0
   On acts p act t = OnTo acts p act t.progress
 
-  -- from p to q an act stays in the cycle, and tells moments as `Ticks` says
+  -- from p to q an act stays in the cycle, and reads moments as `Ticks` says
   abbrev pub Same : Progress → Act → Progress → Type 0
   Same p act q = Stays p q × Ticks p act q
 
@@ -308,7 +307,7 @@ module _ (plan : Plan) (commands : List Task) (scope : Scope) (some : 0 < plan.e
     last_ticks s.progress (failing why s.progress) act (ticks_failing act t),
     λ rises. begun_stays acts act s.progress (failing why s.progress) (stays s.progress (failing why s.progress) refl refl refl refl refl (inl refl)) (ticks_failing act t) rises h,
   ) where
-    -- a failure tells no other moment
+    -- a failure reads no other moment
     ticks_failing : (a : Act) → Ticks s.progress a s.progress → Ticks s.progress a (failing why s.progress)
     ticks_failing (Told m) e = e
     ticks_failing (Gave bytes m) e = e
@@ -339,7 +338,7 @@ module _ (plan : Plan) (commands : List Task) (scope : Scope) (some : 0 < plan.e
       closed_along (λ (q : Progress). Same s.progress Closed q) plan (waiting_of s) why s.progress
       (stays s.progress _ refl refl refl refl refl (inr refl), (refl, refl)) (stays s.progress _ refl refl refl refl refl (inr refl), (refl, refl))
 
-  -- where a command may go out, its cycle isn't missed
+  -- if a command may be sent, its cycle isn't missed
   pub not_missed : (acts : List Act) (p : Progress) (w : Waiting) → 0 < p.unsent → MayGo p w → Begun acts p → p.missed ≡ false
   not_missed acts p w here may (inl none) = let nothing = none.1 in absurd (omega (arith, nothing, here))
   not_missed acts p w here may (inr c) = by_test p.missed refl may where
@@ -349,7 +348,7 @@ module _ (plan : Plan) (commands : List Task) (scope : Scope) (some : 0 < plan.e
     by_test true e (inl free) = absurd (clash p.next_is_chained (c.held e).0 free)
     by_test true e (inr going) = absurd (clash p.chain_unbroken going.2 (c.held e).1)
 
-  -- an act of each action does to the moment told last, and to `Begun`, what `On` says
+  -- an act of each action does to the moment read last, and to `Begun`, what `On` says
   pub on_moved : (acts : List Act) (next : Action) (act : Act) → action_at plan (stood plan commands scope acts) ≡ next
       → Performs commands (stood plan commands scope acts) next act → Invariant plan commands (stood plan commands scope acts)
       → IsFor plan (stood plan commands scope acts).progress (waiting_of (stood plan commands scope acts)) next → Begun acts (turned (stood plan commands scope acts).progress)
@@ -441,11 +440,11 @@ module _ (plan : Plan) (commands : List Task) (scope : Scope) (some : 0 < plan.e
     chained = c.chained;
   })
 
-  -- where the clock doesn't go back in these acts, the moment told last is the last that they tell, and `Begun` holds after them
+  -- if the clock doesn't go back in these acts, the moment read last is the last that they read, and `Begun` holds after them
   abbrev pub Kept : List Act → Type 0
   Kept acts = Rises 0 acts → ((stood plan commands scope acts).progress.moment.elapsed ≡ last_of 0 acts) × Begun acts (stood plan commands scope acts).progress
 
-  -- where the clock doesn't go back in acts and one more, it doesn't at the last act, counted from the moment told before it
+  -- if the clock doesn't go back in acts and one more, it doesn't at the last act, counted from the moment read before it
   pub rises_here : (acts : List Act) (act : Act) → Rises 0 (acts ++ act ∷ []) → (stood plan commands scope acts).progress.moment.elapsed ≡ last_of 0 acts
       → Rises (stood plan commands scope acts).progress.moment.elapsed (act ∷ [])
   rises_here acts act rises at = subst (λ (n : ℕ). Rises n (act ∷ [])) (sym at) (rises_last 0 acts act rises)
@@ -473,7 +472,7 @@ module _ (plan : Plan) (commands : List Task) (scope : Scope) (some : 0 < plan.e
   last_began acts p is c free =
       (record { n = c.n; moment = c.m; late = c.late; begins = c.begins; number = sym (ap (λ (q : Progress). cycles_begun plan q) is) ∙ c.count }, lt_of plan.every c.late (sym c.missed ∙ free))
 
-  -- where a command goes out, its cycle began before the next one was due
+  -- if a command is sent, its cycle began before the next one was due
   pub sent_in_time : (acts : List Act) → Runs plan commands (opening plan scope) acts → Rises 0 acts
       → action_at plan (stood plan commands scope acts) ≡ actions.Send → (last : LastBegan plan commands scope acts) × (last.late < plan.every)
   sent_in_time acts runs rises is =
@@ -488,7 +487,7 @@ module _ (plan : Plan) (commands : List Task) (scope : Scope) (some : 0 < plan.e
         by_begun here (inl none) free = let nothing = none.1 in absurd (omega (arith, nothing, here))
         by_begun here (inr c) free = last_began acts (stood plan commands scope acts).progress refl c free
 
-  -- where the clock doesn't go back, a cycle that begins does so at its due moment, or `late` milliseconds after it
+  -- if the clock doesn't go back, a cycle that begins does so at its due moment, or `late` milliseconds after it
   pub begins_due : (acts later : List Act) (m : Moment) → Runs plan commands (opening plan scope) (acts ++ Told m ∷ later) → Rises 0 (acts ++ Told m ∷ [])
       → action_at plan (stood plan commands scope acts) ≡ actions.Begin
       → (late : ℕ) × BeginsLate plan commands scope (acts ++ Told m ∷ []) (cycles_begun plan (stood plan commands scope acts).progress) m late
@@ -503,6 +502,6 @@ module _ (plan : Plan) (commands : List Task) (scope : Scope) (some : 0 < plan.e
 pub begin_when_due : CyclesBeginWhenDue
 begin_when_due plan commands scope acts later m some runs rises is = begins_due plan commands scope some acts later m runs rises is
 
--- a command goes out only in a cycle that isn't missed
+-- a command is sent only in a cycle that isn't missed
 pub sent_only_in_time : SentOnlyInTime
 sent_only_in_time plan commands scope acts some runs rises is = sent_in_time plan commands scope some acts runs rises is

@@ -1,6 +1,6 @@
 -- Each act, and so each run, keeps what every run keeps (`Invariant`). Most lemmas say that an action keeps the weaker record
--- `Mid` of `Midway`: the counts, the client, the marks and the records belong together, and the phase fits them, before what
--- waits is lost. An act is one call of the link, with what came of it. A mark says which command a waiting request is of, or
+-- `Mid` of `Midway`: the counts, the client, the marks and the records belong together, and the phase fits them, before what is
+-- outstanding is lost. An act is one call on the link, with its result. A mark says which command a waiting request is of, or
 -- `None` of a null procedure.
 use Rattle.std.proofs.Common.{◌≡◌, ℕ, ◌++◌, ◌-◌, ◌<◌, ◌⊎◌, inl, inr, ◌||◌, ◌&&◌, Bool, true, false, not, List, [], ◌∷◌, length, drop, map, nat_eq, Option, refl, sym, ap, ◌∙◌, subst, arith, append-nil, if◌then◌else◌}
 use Rattle.std.proofs.lemmas.List.{length-drop}
@@ -37,7 +37,7 @@ use Rattle.gc_station.proofs.Midway.{Placed, Mid, mid_of, clash, sound_null, sou
 use Rattle.gc_station.proofs.Tasked.{at_place, unsent_end}
 use Rattle.gc_station.specs.Scopes.{Scope}
 
--- no records behind the others keep the weaker record
+-- no records after the others keep the weaker record
 mid_nothing : (plan : Plan) (commands : List Task) (s : Model) → Mid plan commands s → Mid plan commands (with_records [] s)
 mid_nothing plan commands s mid = subst (λ (rs : List Record). Mid plan commands (record s { records = rs })) (sym (append-nil s.records)) mid
 
@@ -54,10 +54,10 @@ mid_begun plan commands s m is none settled some mid =
       going_placed p.phase (p.left - 1) (cycle_length plan commands) s.rest s.marks is,
     )
 
--- a line feed that went out keeps the weaker record
+-- a line feed that was sent keeps the weaker record
 mid_cleared : (plan : Plan) (commands : List Task) (s : Model) → s.progress.phase ≡ Clearing → Mid plan commands s → Mid plan commands (with_progress cleared s)
 mid_cleared plan commands s is mid = (mid.0, by_word (has_begun s.progress)) where
-  -- the lemma above, whether the station has begun (`true`) or begins
+  -- the lemma above, whether the station has synchronized (`true`) or begins
   by_word : (begun : Bool) → Placed (if begun then Draining else Ready) s.progress.left s.progress.unsent s.rest s.marks
   by_word true = record { empty = λ e. mid.1.empty (ap is_bare is); finished = λ e. cc }
   by_word false = record { empty = λ e. cc; finished = λ e. cc }
@@ -71,7 +71,7 @@ mid_flushed plan commands s is room mid =
       going_placed p.phase p.left p.unsent s.rest (asks_null plan s).marks is,
     )
 
--- the first of these commands, where it is sent as the next one, keeps the weaker record
+-- the first of these commands, if it is sent as the next one, keeps the weaker record
 mid_first : (plan : Plan) (commands : List Task) (next_is_chained : Bool) (behind : ℕ) (s : Model) (left : List Task) → drop (place_next commands s.progress) commands ≡ left
     → s.progress.phase ≡ Ready → 0 < s.progress.unsent → length s.client.waiting < 7 → Mid plan commands s
     → Mid plan commands (with_progress (sent next_is_chained behind) (asks_first (mark_next plan commands s.progress) left s))
@@ -86,12 +86,12 @@ mid_first plan commands next_is_chained behind s (task ∷ others) at is some ro
       going_placed p.phase p.left (p.unsent - 1) s.rest t.marks is,
     )
 
--- the next command, where it is sent, keeps the weaker record
+-- the next command, if it is sent, keeps the weaker record
 mid_sent : (plan : Plan) (commands : List Task) (next_is_chained : Bool) (behind : ℕ) (s : Model) → s.progress.phase ≡ Ready → 0 < s.progress.unsent
     → length s.client.waiting < 7 → Mid plan commands s → Mid plan commands (with_progress (sent next_is_chained behind) (asks_next plan commands s))
 mid_sent plan commands next_is_chained behind s is some room mid = mid_first plan commands next_is_chained behind s (drop (place_next commands s.progress) commands) refl is some room mid
 
--- the first of these commands, where it is sent as the next one of the set-up, keeps the weaker record
+-- the first of these commands, if it is sent as the next one of the setup, keeps the weaker record
 mid_prepares : (plan : Plan) (commands : List Task) (s : Model) (left : List Task) → drop s.progress.prepared commands ≡ left → s.progress.phase ≡ Ready → length s.client.waiting < 7 → Mid plan commands s
     → Mid plan commands (with_progress (setup_sent plan) (asks_or_null plan (mark_setup commands s.progress) left s))
 mid_prepares plan commands s [] at is room mid =
@@ -106,7 +106,7 @@ mid_prepares plan commands s (task ∷ others) at is room mid =
       going_placed p.phase p.left p.unsent s.rest t.marks is,
     )
 
--- the first of these commands, where it is passed over as the next one, keeps the weaker record
+-- the first of these commands, if it is left out as the next one, keeps the weaker record
 mid_skips : (plan : Plan) (commands : List Task) (next_is_chained : Bool) (behind : ℕ) (s : Model) (m : Moment) (left : List Task) → drop (place_next commands s.progress) commands ≡ left
     → s.progress.phase ≡ Ready → 0 < s.progress.unsent → commands_in s.marks ≡ 0 → Mid plan commands s
     → Mid plan commands (with_progress (λ p. reckoned_early plan (commands_in s.marks) (skipped next_is_chained behind m p))
@@ -121,7 +121,7 @@ mid_skips plan commands next_is_chained behind s m (task ∷ others) at is some 
       going_placed p.phase p.left (p.unsent - 1) s.rest s.marks is,
     )
 
--- the next command, where it isn't sent, keeps the weaker record
+-- the next command, if it isn't sent, keeps the weaker record
 mid_skip : (plan : Plan) (commands : List Task) (next_is_chained : Bool) (behind : ℕ) (s : Model) (act : Act) → s.progress.phase ≡ Ready → 0 < s.progress.unsent → commands_in s.marks ≡ 0 → Mid plan commands s
     → Mid plan commands (after_clock (λ m p. reckoned_early plan (commands_in s.marks) (skipped next_is_chained behind m p)) (with_listed (skip_listed plan commands s act) (with_records (skips plan commands s.progress act) s)) act)
 mid_skip plan commands next_is_chained behind s (Told m) is some none mid =
@@ -129,7 +129,7 @@ mid_skip plan commands next_is_chained behind s (Told m) is some none mid =
     (mid_skips plan commands next_is_chained behind s m (drop (place_next commands s.progress) commands) refl is some none mid)
 mid_skip plan commands next_is_chained behind s act is some none mid = mid_fail plan commands (with_records [] s) cause.Clock refl (mid_nothing plan commands s mid)
 
--- the attempts of a chain that are passed over keep the weaker record
+-- the attempts of a chain that are left out keep the weaker record
 mid_pass : (plan : Plan) (commands : List Task) (s : Model) (act : Act) → s.progress.phase ≡ Ready → 0 < s.progress.unsent → Mid plan commands s → Mid plan commands (after_pass plan commands s act)
 mid_pass plan commands s (Told m) is some mid =
     let p = s.progress in
@@ -141,14 +141,14 @@ mid_pass plan commands s (Told m) is some mid =
     )
 mid_pass plan commands s act is some mid = mid_fail plan commands s cause.Clock refl mid
 
--- where a connection is closed for being done, no cycle and no command is left
+-- if a connection is closed for being done, no cycle and no command is left
 close_done : (plan : Plan) (commands : List Task) (s : Model) (w : Waiting) (why : Cause) → Invariant plan commands s
     → IsFor plan s.progress w (action.Close why) → why ≡ cause.Done → (s.progress.left ≡ 0) × (s.progress.unsent ≡ 0)
 close_done plan commands s w cause.Done fine (up, inl phase) is = let it = fine.finished (ap says_done phase) in (it.0, it.1)
 close_done plan commands s w cause.Done fine (up, inr end) is = (end.0, end.1)
 close_done plan commands s w why fine for_it is = cc
 
--- each act keeps the weaker record, before what waits is lost
+-- each act keeps the weaker record, before what is outstanding is lost
 pub mid_moved : (plan : Plan) (commands : List Task) (s : Model) (action : Action) (act : Act) → Invariant plan commands s → IsFor plan s.progress (waiting_of s) action
     → Mid plan commands (moved plan commands action (with_progress turned s) act)
 mid_moved plan commands s action.ReadClock act fine is =
@@ -218,19 +218,19 @@ fine_opening plan commands scope =
 pub fine_stood : (plan : Plan) (commands : List Task) (scope : Scope) (acts : List Act) → Invariant plan commands (stood plan commands scope acts)
 fine_stood plan commands scope acts = fine_all plan commands (opening plan scope) acts (fine_opening plan commands scope)
 
--- where a run stops no act follows
+-- if a run stops no act follows
 pub stop_over : (plan : Plan) (p : Progress) (w : Waiting) (why : Cause) → IsFor plan p w (action.Stop why) → is_over p ≡ true
 stop_over plan p w why (down, inl over) = ap (λ (phase : Phase). is_over_in phase || (not (is_up phase) && nat_eq p.turns 0)) over
 stop_over plan p w why (down, inr turns) = either_way (is_over_in p.phase) (is_up p.phase) (nat_eq p.turns 0) down (ap (λ (n : ℕ). nat_eq n 0) turns.1) where
-  -- the lemma above, where the phase says so (`o`), or there is no connection and no turn is left
+  -- the lemma above, if the phase says so (`o`), or there is no connection and no turn is left
   either_way : (o up none : Bool) → up ≡ false → none ≡ true → (o || (not up && none)) ≡ true
   either_way true up none d n = refl
   either_way false false true d n = refl
   either_way false false false d n = cc
   either_way false true none d n = cc
 
--- where a run stops nothing waits, and the records are of the commands that had their turn, in order; where it stops as done,
--- no cycle and no command is left
+-- if a run stops nothing is outstanding, and the records are of the commands that had their turn, in order; if it stops as
+-- done, no cycle and no command is left
 pub stopped : (plan : Plan) (commands : List Task) (s : Model) (why : Cause) → Invariant plan commands s → action_at plan s ≡ action.Stop why
     → (s.client.waiting ≡ []) × Parted (of_text commands (map of_record s.records)) s.passes (sent_by plan.setup commands (plan.cycles - s.progress.left) (place_next commands s.progress))
     × (why ≡ cause.Done → (s.progress.left ≡ 0) × (s.progress.unsent ≡ 0))
@@ -244,12 +244,12 @@ stopped plan commands s why fine stop =
           (sym (each_empty commands s.marks s.client.waiting s.records (of_text commands (map of_record s.records ++ still_waiting s.marks s.client.waiting)) nothing refl)) fine.each,
       by_reason is.1,
     ) where
-      -- where the run stops as done nothing is left: its phase says that it is done, as it isn't for its turns
+      -- if the run stops as done nothing is left: its phase says that it is done, as it isn't for its turns
       by_reason : ((s.progress.phase ≡ Over why) ⊎ ((why ≡ cause.Turns) × (s.progress.turns ≡ 0))) → why ≡ cause.Done → (s.progress.left ≡ 0) × (s.progress.unsent ≡ 0)
       by_reason (inl over) e = let it = fine.finished (ap says_done (over ∙ ap Over e)) in (it.0, it.1)
       by_reason (inr turns) e = let other : cause.Turns ≡ cause.Done = sym turns.0 ∙ e in cc
 
--- the records and the commands that wait are the commands that had their turn, after any acts
+-- the records and the outstanding commands are the commands that had their turn, after any acts
 pub each_once : (plan : Plan) (commands : List Task) (scope : Scope) (acts : List Act) → EachOnce plan commands scope acts
 each_once plan commands scope acts =
     let s = stood plan commands scope acts in

@@ -1,5 +1,5 @@
--- A run never goes back: after a send the station is at a later place of the cycle, or in a later cycle. An act is one call of
--- the link, with what came of it. `NotBack p q`: the progress q isn't at an earlier cycle or place than p.
+-- A run never goes back: after a send the station is at a later place of the cycle, or in a later cycle. An act is one call on
+-- the link, with its result. `NotBack p q`: the progress q isn't at an earlier cycle or place than p.
 use Rattle.std.proofs.Common.{◌≡◌, ◌⊎◌, inl, inr, ℕ, ◌-◌, ◌<◌, ◌≤◌, List, [], ◌∷◌, ◌++◌, refl, sym, ap, ◌∙◌, subst, arith}
 use Rattle.gc_texts.specs.declared.tasks.Task.{Task}
 use Rattle.gc_station.specs.declared.plan.Plan.{Plan}
@@ -24,7 +24,7 @@ use Rattle.gc_station.specs.Scopes.{Scope}
 abbrev NotBack : Progress → Progress → Type 0
 NotBack p q = (q.left < p.left) ⊎ ((q.left ≡ p.left) × (q.unsent ≤ p.unsent))
 
--- where the counts are kept, the progress doesn't go back
+-- if the counts are kept, the progress doesn't go back
 kept_there : (p t q : Progress) → t.left ≡ p.left → t.unsent ≡ p.unsent → Kept t q → NotBack p q
 kept_there p t q left unsent k = inr (k.left ∙ left, omega (arith, k.unsent, unsent))
 

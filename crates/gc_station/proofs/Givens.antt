@@ -1,5 +1,5 @@
--- The bytes of a line that a station keeps are those that came on this connection behind the last line feed (`rest_of`). An act
--- is one call of the link, with what came of it. A piece is the bytes that one read gave.
+-- The bytes of a line that a station keeps are those that came on this connection after the last line feed (`rest_of`). An act
+-- is one call on the link, with its result. A piece is the bytes that one read gave.
 use Rattle.std.proofs.Common.{◌≡◌, ℕ, Bool, true, false, List, [], ◌∷◌, if◌then◌else◌, refl, sym, ap, ◌∙◌}
 use Rattle.gc_lines.specs.Frames.{rest_behind, rest_of}
 use Rattle.gc_lines.proofs.Cutting.{rest-append}
@@ -41,7 +41,7 @@ moved_rest plan commands (actions.Close why) s act o = walk plan commands (Leave
 moved_rest plan commands (actions.Stop why) s act o = absurd o
 moved_rest plan commands next s act o = walk plan commands (LeavesSo s) next (with_progress turned s) act o (λ m. refl, λ n. refl)
 
--- the loss of what waits leaves the bytes of a line
+-- the loss of what is outstanding leaves the bytes of a line
 losing_rest : (all : Bool) (s : Model) → (losing all s).rest ≡ s.rest
 losing_rest true s = refl
 losing_rest false s = refl

@@ -1,5 +1,5 @@
--- The records of a model only grow: what comes is written down behind them (`Grew`), and none goes. An act is one call of the
--- link, with what came of it. A piece is the bytes that one read gave.
+-- The records of a model only grow: what comes is recorded after them (`Grew`), and none goes. An act is one call on the link,
+-- with its result. A piece is the bytes that one read gave.
 use Rattle.std.proofs.Common.{ℕ, Bool, true, false, List, [], ◌∷◌, ◌++◌, map, refl, sym, ◌∙◌, subst, append_assoc}
 use Rattle.gc_lines.specs.Frames.{rest_behind}
 use Rattle.gc_client.specs.Rule.{heard, hears, lost}
@@ -22,7 +22,7 @@ lines_records s (line ∷ others) =
     let added = records_of s.reads s.progress.moment.utc s.marks (hears s.client line (heard line)).settlements in
     (added ++ more.0, more.1 ∙ append_assoc s.records added more.0)
 
--- the loss of what waits only adds records
+-- the loss of what is outstanding only adds records
 pub losing_records : (b : Bool) (s : Model) → Grew s.records (losing b s).records
 losing_records true s = (records_of s.reads s.progress.moment.utc s.marks (map lost s.client.waiting), refl)
 losing_records false s = grew_none s.records

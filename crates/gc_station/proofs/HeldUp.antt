@@ -1,6 +1,6 @@
--- A text without procedures of one's own is never held up: where each command is a call of the table, as many requests are behind
--- the last call of the table that a reply ended as wait. An act is one call of the link, with what came of it; steps of the client
--- are to send, to hear a line, to be told a moment and to restart.
+-- A text without procedures of one's own is never held up: if each command is a call of the table, as many requests are after
+-- the last call of the table that a reply ended as wait. An act is one call on the link, with its result; steps of the client
+-- are to send, to hear a line, to read the clock and to restart.
 use Rattle.std.proofs.Common.{◌≡◌, ℕ, zero, suc, ◌+◌, ◌-◌, ◌<◌, ◌≤◌, ◌&&◌, ◌||◌, Bool, true, false, List, [], ◌∷◌, ◌++◌, length, map, drop, Option, Some, None, refl, sym, ap, ◌∙◌, subst, arith, if◌then◌else◌, nat_lt, nat_eq, length-drop}
 use Rattle.std.specs.Prelude.{slice_get, not}
 use Rattle.std.specs.List.{AllByRecursion}
@@ -50,7 +50,7 @@ use Rattle.gc_station.proofs.Words.{renews_only}
 
 -- Lists.
 
--- what holds of each element of a list holds of each behind the first n
+-- what holds of each element of a list holds of each after the first n
 all_drop : {A : Type 0} (P : A → Type 0) (n : ℕ) (xs : List A) → AllByRecursion P xs → AllByRecursion P (drop n xs)
 all_drop P zero xs all = all
 all_drop P (suc n) [] all = tt
@@ -63,7 +63,7 @@ all_more P (y ∷ xs) x all here = (all.0, all_more P xs x all.1 here)
 
 -- Steps of the client.
 
--- a request that waits is a call of the table
+-- an outstanding request is a call of the table
 abbrev IsTables : Pending Asked → Type 0
 IsTables p = is_of_table p.call ≡ true
 
@@ -80,12 +80,12 @@ record Level (c : ById Asked) (b : ℕ) : Type 0 where
   few : length c.waiting ≤ 7
   same : b ≡ length c.waiting
 
--- a request that is given up is for what it was for before
+-- a request that has timed out is for what it was for before
 expired_tables : (now : ℕ) (ps : List (Pending Asked)) → AllByRecursion IsTables ps → AllByRecursion IsTables (map (expired now) ps)
 expired_tables now [] all = tt
 expired_tables now (p ∷ ps) all = (all.0, expired_tables now ps all.1)
 
--- the last request that a reply settles is a call of the table, where all are
+-- the last request that a reply settles is a call of the table, if all are
 settle_tables : (k : ℕ) (line : List ℕ) (ps : List (Pending Asked)) → k < length ps → AllByRecursion IsTables ps → is_tables (slice_get (settle k line ps) k) ≡ true
 settle_tables k line [] low all = absurd (omega (arith, low))
 settle_tables zero line (p ∷ ps) low all = all.0
@@ -123,7 +123,7 @@ level_heard : (c : ById Asked) (b : ℕ) (line : List ℕ) (o : Option ℕ) → 
     → Level (hears c line o).client (if ends_with_table (hears c line o).settlements then length (hears c line o).client.waiting else b)
 level_heard c b line None h = h
 level_heard c b line (Some id) h = by_test _ _ refl where
-  -- the lemma above, by whether the id is of a request that waits (`true`)
+  -- the lemma above, by whether the id is of an outstanding request (`true`)
   by_test : (k : ℕ) (fits : Bool) → nat_lt k (length c.waiting) ≡ fits
       → Level (id_settled c line k fits).client (if ends_with_table (id_settled c line k fits).settlements then length (id_settled c line k fits).client.waiting else b)
   by_test k false e = h
@@ -161,12 +161,12 @@ hears_tables : (lines : List (List ℕ)) → AllByRecursion SendsTables (map Hea
 hears_tables [] = tt
 hears_tables (line ∷ others) = (tt, hears_tables others)
 
--- a piece that is heard, or dropped, sends nothing
+-- a piece that is heard, or discarded, sends nothing
 hearing_tables : (h : Bool) (rest piece : List ℕ) → AllByRecursion SendsTables (hearing h rest piece)
 hearing_tables true rest piece = hears_tables (lines_behind rest piece)
 hearing_tables false rest piece = tt
 
--- where a task asks for a call of the table, it does so at any moment
+-- if a task asks for a call of the table, it does so at any moment
 table_at : (task : Task) (utc : ℕ) → is_of_table task.command.call ≡ true → is_of_table (call_at task utc) ≡ true
 table_at task utc is = by_clock task.now where
   -- the lemma above, whether the task sets the clock (`true`)
@@ -179,7 +179,7 @@ first_tables : (now : ℕ) (mark : Mark) (left : List Task) → AreOfTable left 
 first_tables now mark [] all = tt
 first_tables now mark (task ∷ others) all = (table_at task mark.sent all.0, tt)
 
--- the first of some calls of the table, as a command of the set-up, is one, and so is the null procedure in its place
+-- the first of some calls of the table, as a command of the setup, is one, and so is the null procedure in its place
 setup_tables : (plan : Plan) (now : ℕ) (mark : Mark) (left : List Task) → AreOfTable left → AllByRecursion SendsTables (asking_or_null plan now mark left).steps
 setup_tables plan now mark [] all = (refl, tt)
 setup_tables plan now mark (task ∷ others) all = (table_at task mark.sent all.0, tt)
@@ -205,23 +205,23 @@ module _ (plan : Plan) (commands : List Task) (all : AreOfTable commands) where
   do_tables s o (Cut bytes count) = put_tables s o
   do_tables s o act = tt
 
-  -- what every run of calls of the table keeps: while it begins nothing is behind; and once it has begun, and isn't over, as many
-  -- are behind as wait
+  -- what every run of calls of the table keeps: while it begins nothing is after; and once it has begun, and isn't over, as
+  -- many are after as wait
   record Free (s : Model) : Type 0 where
     begins : has_begun s.progress ≡ false → s.progress.behind ≡ 0
     level : has_begun s.progress ≡ true → is_over s.progress ≡ false → Level s.client s.progress.behind
 
-  -- while the station begins, nothing is behind after an act
+  -- while the station synchronizes, nothing is after after an act
   abbrev NoneBehind : Act → Model → Type 0
   NoneBehind act t = t.progress.behind ≡ 0
 
-  -- a piece that is heard while the station begins, or dropped, leaves nothing behind
+  -- a piece that is heard while the station synchronizes, or discarded, leaves nothing after
   came_none : (h : Bool) (word piece : List ℕ) (s : Model) → is_none_left word ≡ false → s.progress.behind ≡ 0 → (came h word piece s).progress.behind ≡ 0
   came_none true [] piece s begins e = cc
   came_none true (asked ∷ others) piece s begins e = asked_along (λ (q : Progress). q.behind ≡ 0) (λ q line e. e) s.progress (lines_behind s.rest piece) e
   came_none false word piece s begins e = e
 
-  -- while the station begins, an act leaves nothing behind
+  -- while the station synchronizes, an act leaves nothing after
   none_behind : (s : Model) (o : Action) (act : Act) → IsFor plan s.progress (waiting_of s) o → Performs commands s o act → has_begun s.progress ≡ false → s.progress.behind ≡ 0
       → NoneBehind act (moved plan commands o (with_progress turned s) act)
   none_behind s action.Renew act is obeys begins e = absurd (clash (has_begun s.progress) is.1 begins)
@@ -245,16 +245,16 @@ module _ (plan : Plan) (commands : List Task) (all : AreOfTable commands) where
   none_behind s (action.Stop why) act is obeys begins e = absurd obeys
   none_behind s o act is obeys begins e = walk plan commands NoneBehind o (with_progress turned s) act obeys (λ m. e, λ n. e)
 
-  -- where the station begins anew, nothing is behind
+  -- if the station resynchronizes, nothing is after
   renewed_none : (s : Model) (o : Action) (act : Act) (m : Moment) → o ≡ action.Renew → act ≡ Told m → (moved plan commands o (with_progress turned s) act).progress.behind ≡ 0
   renewed_none s o act m is told =
       ap (λ (x : Action). (moved plan commands x (with_progress turned s) act).progress.behind) is
       ∙ ap (λ (x : Act). (moved plan commands action.Renew (with_progress turned s) x).progress.behind) told
 
-  -- where what waits isn't lost, the client is as before
+  -- where what is outstanding isn't lost, the client is as before
   kept_client : (t : Model) → has_begun t.progress ≡ true → is_over t.progress ≡ false → (losing (loses_all t.progress) t).client ≡ t.client
   kept_client t begun going = ap (λ (b : Bool). (losing b t).client) (neither (has_begun t.progress) (is_over t.progress) begun going) where
-    -- where the station has begun and the run isn't over, nothing is lost
+    -- if the station has synchronized and the run isn't over, nothing is lost
     neither : (b over : Bool) → b ≡ true → over ≡ false → (not b || over) ≡ false
     neither true over e f = f
     neither false over e f = cc
@@ -268,15 +268,15 @@ module _ (plan : Plan) (commands : List Task) (all : AreOfTable commands) where
     its : IsFor plan s.progress (waiting_of s) o
     its = action_for plan s.progress (waiting_of s)
 
-    -- the model behind the act, before what waits is lost
+    -- the model after the act, before what is outstanding is lost
     abbrev t : Model
     t = moved plan commands o (with_progress turned s) act
 
-    -- the model behind the act
+    -- the model after the act
     abbrev u : Model
     u = losing (loses_all t.progress) t
 
-    -- the loss of what waits changes no progress
+    -- the loss of what is outstanding changes no progress
     far : u.progress ≡ t.progress
     far = losing_progress (loses_all t.progress) t
 
@@ -296,7 +296,7 @@ module _ (plan : Plan) (commands : List Task) (all : AreOfTable commands) where
     wasnt_over true e = absurd (over_stays plan commands s act e obeys)
     wasnt_over false e = e
 
-    -- `Free` holds behind the act, by whether the station had begun before
+    -- `Free` holds after the act, by whether the station had synchronized before
     free_so : (b : Bool) → has_begun s.progress ≡ b → Free u
     free_so true begun = record {
       begins = λ anew.
@@ -325,26 +325,26 @@ module _ (plan : Plan) (commands : List Task) (all : AreOfTable commands) where
   free_after : (s : Model) (act : Act) → Invariant plan commands s → Performs commands s (action_at plan s) act → Free s → Free (after plan commands s act)
   free_after s act fine obeys h = free_so s act fine obeys h (has_begun s.progress) refl
 
--- where the window is full, no request goes out
+-- if the window is full, no request is sent
 full_waits : (plan : Plan) (p : Progress) (w : Waiting) (o : Action) → nat_lt w.all WINDOW ≡ false → action_room plan p w o ≡ action_waiting plan p w
 full_waits plan p w o full = ap (λ (b : Bool). if b then o else action_waiting plan p w) (both_false (nat_lt w.current (width_of plan)) (nat_lt w.all WINDOW) full) where
-  -- where one of two tests fails, not both hold
+  -- if one of two tests fails, not both hold
   both_false : (a b : Bool) → b ≡ false → (a && b) ≡ false
   both_false true b e = e
   both_false false b e = refl
 
--- where as many are behind as wait, a command goes out as soon as there is room
+-- where as many are after as wait, a command is sent as soon as there is room
 sends_on : (plan : Plan) (p : Progress) (w : Waiting) (o : Action) → p.behind ≡ w.all
     → (if nat_lt p.behind WINDOW then action_room plan p w o else (if nat_eq w.current 0 then action_room plan p w action.Flush else action_waiting plan p w)) ≡ action_room plan p w o
 sends_on plan p w o e = by_test (nat_lt p.behind WINDOW) refl where
-  -- the lemma above, by whether fewer than seven are behind
+  -- the lemma above, by whether fewer than seven are after
   by_test : (b : Bool) → nat_lt p.behind WINDOW ≡ b
       → (if b then action_room plan p w o else (if nat_eq w.current 0 then action_room plan p w action.Flush else action_waiting plan p w)) ≡ action_room plan p w o
   by_test true is = refl
   by_test false is =
       let full : nat_lt w.all WINDOW ≡ false = ap (λ n. nat_lt n WINDOW) (sym e) ∙ is in
       either_way (nat_eq w.current 0) (full_waits plan p w action.Flush full) ∙ sym (full_waits plan p w o full) where
-        -- a null procedure doesn't go out either
+        -- a null procedure isn't sent either
         either_way : (b : Bool) → action_room plan p w action.Flush ≡ action_waiting plan p w → (if b then action_room plan p w action.Flush else action_waiting plan p w) ≡ action_waiting plan p w
         either_way true f = f
         either_way false f = refl

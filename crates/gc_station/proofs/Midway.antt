@@ -1,5 +1,5 @@
--- What holds in the midst of an act, before what waits is lost: `Mid`, the weaker record, which has the counts and the records,
--- and what the phase says. At the end of an act it gives what every run keeps (`Invariant`).
+-- What holds in the midst of an act, before what is outstanding is lost: `Mid`, the weaker record, which has the counts and the
+-- records, and what the phase says. At the end of an act it gives what every run keeps (`Invariant`).
 use Rattle.std.proofs.Common.{◌≡◌, ℕ, nat_lt, ltb-true, ltb-false, take, ◌+◌, ◌-◌, ◌%◌, ◌<◌, ◌≤◌, ◌⊎◌, inl, inr, ◌&&◌, ◌||◌, Bool, true, false, not, List, [], ◌∷◌, ◌++◌, length, drop, map, nat_eq, Option, Some, None, refl, sym, ap, ◌∙◌, subst, arith, length-append}
 use Rattle.std.specs.Prelude.{slice_get}
 use Rattle.std.specs.List.{AllByRecursion}
@@ -37,7 +37,7 @@ use Rattle.gc_station.proofs.Lists.{all_append}
 use Rattle.gc_station.proofs.Tasked.{at_place, own_more, own_settled, settled_told, unsent_told}
 
 -- where `left` cycles haven't begun, and `unsent` commands of the present one haven't had their turn: the records, and after
--- them the commands that wait, are the commands that had their turn, sent or not, in order. Each request that waits has its
+-- them the outstanding commands, are the commands that had their turn, sent or not, in order. Each request that waits has its
 -- mark, at most 7 wait, and the next id is below 8. Each asks what its mark says, and each record is of its task
 pub record Sound (plan : Plan) (commands : List Task) (left unsent : ℕ) (client : ById Asked) (marks : List (Option Mark)) (records : List Record) (passes : List Request) : Type 0 where
   pub unsents : unsent ≤ length commands - plan.setup
@@ -97,7 +97,7 @@ clash b e g = cc
 as_kept : (xs xs' ys zs : List Request) → xs' ≡ xs → Parted xs ys zs → Parted xs' ys zs
 as_kept xs xs' ys zs e h = subst (λ (l : List Request). Parted l ys zs) (sym e) h
 
--- a moment that gives requests up keeps `Sound`
+-- a moment that times requests out keeps `Sound`
 pub sound_moment : (plan : Plan) (commands : List Task) (left unsent : ℕ) (client : ById Asked) (marks : List (Option Mark)) (records : List Record) (passes : List Request) (m : ℕ)
     → Sound plan commands left unsent client marks records passes
     → Sound plan commands left unsent (expires client m) marks records passes
@@ -140,7 +140,7 @@ sound_settles reads plan commands left unsent client next marks records passes u
       told = all_append (IsOfItsTask commands) records _ sound.told (settled_told reads commands utc marks ss waits all);
     }
 
--- where there is room, the client after a send has the next id, and one request more that waits
+-- if there is room, the client after a send has the next id, and one request more that waits
 pub client_behind : (client : ById Asked) (target : ℕ) (call : Asked) (deadline : ℕ) → length client.waiting < 7
     → client_sent client (sends WINDOW client target call deadline) ≡ record { next = (client.next + 1) % IDS; waiting = client.waiting ++ pending_of target call deadline ∷ [] }
 client_behind client target call deadline room =
@@ -204,7 +204,7 @@ sound_sent plan commands left unsent client marks records passes utc deadline ex
       told = sound.told;
     })
 
--- a command of the set-up that is sent keeps `Sound`
+-- a command of the setup that is sent keeps `Sound`
 pub sound_prepared : (plan : Plan) (commands : List Task) (left unsent : ℕ) (client : ById Asked) (marks : List (Option Mark)) (records : List Record) (passes : List Request) (deadline : ℕ) (mark : Mark) (task : Task)
     → length client.waiting < 7 → mark.cycle ≡ 0 → slice_get commands mark.place ≡ Some task → Sound plan commands left unsent client marks records passes
     → Sound plan commands left unsent (client_sent client (sends WINDOW client task.command.target (call_at task mark.sent) deadline)) (marks ++ Some mark ∷ []) records passes
@@ -252,7 +252,7 @@ sound_skipped plan commands left unsent client marks records passes utc end turn
       told = all_append (IsOfItsTask commands) records _ sound.told (unsent_told commands utc begun place turn end task (at_place place commands task others at) out, tt);
     }
 
--- the attempts of a chain that are passed over keep `Sound`, with so many commands less unsent
+-- the attempts of a chain that are left out keep `Sound`, with so many commands less unsent
 pub sound_passed : (plan : Plan) (commands : List Task) (left unsent count : ℕ) (client : ById Asked) (marks : List (Option Mark)) (records : List Record) (passes : List Request)
     → 0 < unsent → Sound plan commands left unsent client marks records passes
     → Sound plan commands left (unsent - count) client marks records
@@ -276,7 +276,7 @@ sound_passed plan commands left unsent count client marks records passes some so
       own = sound.own;
       told = sound.told;
     } where
-      -- the new place is so many places behind, or at the end, where fewer are unsent
+      -- the new place is so many places after, or at the end, where fewer are unsent
       by_count : (b : Bool) → nat_lt unsent count ≡ b → (length commands - (unsent - count) ≡ (length commands - unsent) + count)
           ⊎ ((length commands - (unsent - count) ≡ length commands) × (length commands ≤ (length commands - unsent) + count))
       by_count true e = let more = ltb-true unsent count e in inr (omega (arith, more), omega (arith, more, sound.unsents))
@@ -301,20 +301,20 @@ sound_begun plan commands left unsent client marks records passes none some soun
       told = sound.told;
     }
 
--- The end of what waits.
+-- The end of what is outstanding.
 
--- where nothing is lost, the station has begun (a), and the run isn't over (o)
+-- if nothing is lost, the station has synchronized (a), and the run isn't over (o)
 kept_for : (a o : Bool) → (not a || o) ≡ false → (a ≡ true) × (o ≡ false)
 kept_for true o e = (refl, e)
 kept_for false o e = cc
 
--- where the counts are those of a run that is done, as `Placed` has them, and the run isn't over, no command waits
+-- if the counts are those of a run that is done, as `Placed` has them, and the run isn't over, no command waits
 still_finished : (p : Progress) (marks : List (Option Mark)) → is_over p ≡ false
     → (p.left ≡ 0) × (p.unsent ≡ 0) × ((is_over_in p.phase ≡ true) ⊎ (commands_in marks ≡ 0)) → (p.left ≡ 0) × (p.unsent ≡ 0) × (commands_in marks ≡ 0)
 still_finished p marks not_over (left, unsent, inl over) = absurd (clash (is_over p) (ap (λ b. b || (not (is_up p.phase) && nat_eq p.turns 0)) over) not_over)
 still_finished p marks not_over (left, unsent, inr none) = (left, unsent, none)
 
--- once all that waits is lost where `loses_all` says so, the weaker record gives what every run keeps
+-- once all that is outstanding is lost where `loses_all` says so, the weaker record gives what every run keeps
 fine_losing : (plan : Plan) (commands : List Task) (s : Model) (b : Bool) → loses_all s.progress ≡ b → Mid plan commands s → Invariant plan commands (losing b s)
 fine_losing plan commands s true is (sound, placed) =
     let p = s.progress in
@@ -336,7 +336,7 @@ fine_losing plan commands s true is (sound, placed) =
       own = x.own;
       told = x.told;
     } where
-      -- an empty list behind a list adds nothing
+      -- an empty list after a list adds nothing
       append_none : {A : Type 0} (xs : List A) → xs ++ [] ≡ xs
       append_none [] = refl
       append_none (x ∷ xs) = ap (λ ys. x ∷ ys) (append_none xs)

@@ -1,8 +1,8 @@
--- Each request's mark has what its text expects of the answer: where the target stands, and which return codes are accepted.
--- Each record keeps to that: an answer that ends as answered is near the place or has no direction, one that ends as elsewhere
--- isn't near it, and its quality is as listed. An act is one call of the link, with what came of it. A mark says which command
--- a waiting request is of, and what is expected of its answer. `IsPlaced` says that a mark expects what its command's text
--- says, and `IsSo` that a record keeps to the place, the codes and the quality; `Keeps` says both of a model.
+-- Each request's mark has what its text expects of the answer: where the target is, and which return codes are accepted. Each
+-- record keeps to that: an answer that ends as answered is near the place or has no direction, one that ends as elsewhere isn't
+-- near it, and its quality is as listed. An act is one call on the link, with its result. A mark says which command a waiting
+-- request is of, and what is expected of its answer. `IsPlaced` says that a mark expects what its command's text says, and
+-- `IsSo` that a record keeps to the place, the codes and the quality; `Keeps` says both of a model.
 use Rattle.std.proofs.Common.{◌≡◌, ℕ, zero, suc, Bool, true, false, List, [], ◌∷◌, ◌++◌, drop, Option, Some, None, if◌then◌else◌, refl, sym, ap, ◌∙◌, subst}
 use Rattle.std.specs.Prelude.{slice_get}
 use Rattle.std.specs.List.{AllByRecursion}
@@ -52,13 +52,13 @@ expected_there (t ∷ commands) zero task e = let same : t ≡ task = cc in ap e
 expected_there (t ∷ commands) (suc k) task e = expected_there commands k task e
 
 module _ (plan : Plan) (commands : List Task) (scope : Scope) where
-  -- a mark has where its command's target stands, and which codes are accepted
+  -- a mark has where its command's target is, and which codes are accepted
   abbrev IsPlaced : Option Mark → Type 0
   IsPlaced None = Unit {0}
   IsPlaced (Some mark) =
       (mark.expected.near ≡ (expected_first (drop mark.place commands)).near) × (mark.expected.accepted ≡ (expected_first (drop mark.place commands)).accepted)
 
-  -- a record keeps to where its target stands: an answer is near it, and one that is elsewhere isn't
+  -- a record keeps to where its target is: an answer is near it, and one that is elsewhere isn't
   abbrev IsSo : Record → Type 0
   IsSo r = IsAtItsTarget commands r × IsTrulyElsewhere scope.reads commands r × IsAsListed scope.reads commands r
 
@@ -106,7 +106,7 @@ module _ (plan : Plan) (commands : List Task) (scope : Scope) where
     marks : AllByRecursion IsPlaced s.marks
     records : AllByRecursion IsSo s.records
 
-  -- settlements that are written down keep all records `IsSo`
+  -- settlements that are recorded keep all records `IsSo`
   settles_so : (s : Model) (x : List (Rule.Settlement Asked)) → Keeps s → AllByRecursion IsSo (s.records ++ records_of s.reads s.progress.moment.utc s.marks x)
   settles_so s x k =
       all_append IsSo s.records _ k.records
@@ -125,7 +125,7 @@ module _ (plan : Plan) (commands : List Task) (scope : Scope) where
       lines_along Keeps line_so (with_rest (rest_behind s.rest piece) s) (lines_behind s.rest piece) (record { reads = k.reads; marks = k.marks; records = k.records })
   came_so false word piece s k = k
 
-  -- `Keeps` lasts over the loss of what waits
+  -- `Keeps` lasts over the loss of what is outstanding
   losing_so : (b : Bool) (s : Model) → Keeps s → Keeps (losing b s)
   losing_so true s k = let x = restarts s.client in record { reads = k.reads; marks = all_drop _ s.marks k.marks; records = settles_so s x.settlements k }
   losing_so false s k = k
@@ -143,7 +143,7 @@ module _ (plan : Plan) (commands : List Task) (scope : Scope) where
   next_so : (s : Model) → Keeps s → Keeps (asks_first (mark_next plan commands s.progress) (drop (place_next commands s.progress) commands) s)
   next_so s k = first_so (mark_next plan commands s.progress) (drop (place_next commands s.progress) commands) s (refl, refl) k
 
-  -- `Keeps` lasts over the send of the next command of the set-up
+  -- `Keeps` lasts over the send of the next command of the setup
   setup_so : (s : Model) → Keeps s → Keeps (asks_setup plan commands s)
   setup_so s k = by_list (drop s.progress.prepared commands) where
     -- the lemma above, whether there is one or not
@@ -173,7 +173,7 @@ module _ (plan : Plan) (commands : List Task) (scope : Scope) where
     tt,
   )
 
-  -- `Keeps` lasts over an act of each action, before what waits is lost
+  -- `Keeps` lasts over an act of each action, before what is outstanding is lost
   moved_so : (next : Action) (s : Model) (act : Act) → Keeps s → Keeps (moved plan commands next s act)
   moved_so actions.Prepare s (Cut bytes count) k = let n = setup_so s k in record { reads = n.reads; marks = n.marks; records = n.records }
   moved_so actions.Prepare s act k = let n = setup_so s k in record { reads = n.reads; marks = n.marks; records = n.records }
@@ -213,7 +213,7 @@ all_to : (P Q : Record → Type 0) (rs : List Record) → ((r : Record) → P r 
 all_to P Q [] f all = tt
 all_to P Q (r ∷ rs) f all = (f r all.0, all_to P Q rs f all.1)
 
--- the law: each record after any acts keeps to where its target stands
+-- the law: each record after any acts keeps to where its target is
 pub at_their_targets : AnswersAreAtTheirTargets
 at_their_targets plan commands scope acts =
     all_to (IsSo plan commands scope) (λ r. IsAtItsTarget commands r × IsTrulyElsewhere scope.reads commands r) (stood plan commands scope acts).records

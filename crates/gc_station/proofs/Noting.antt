@@ -1,5 +1,5 @@
 -- A run on the way, with what was seen at each act (a `Turn`): what the acts before it settled is in the book then, and lasts.
--- An act is one call of the link, with what came of it. At the start the link had told `told`, the book had taken `taken`, and
+-- An act is one call on the link, with its result. At the start the link had recorded `told`, the book had taken `taken`, and
 -- `saw` were the turns seen; by now they are those with primes. `text` is how a record is written. `Noted` says what was done
 -- and seen so far.
 use Rattle.std.proofs.Common.{◌≡◌, ℕ, Bool, true, List, [], ◌∷◌, ◌++◌, Option, Some, Err, sym, ap, ◌∙◌, subst, append-nil, append_assoc}
@@ -45,27 +45,27 @@ module _ (plan : Plan) (commands : List Task) (scope : Scope) (text : Record →
         (subst (λ (xs : List Act). IsKept plan commands scope text told taken xs turn) (sym (append_assoc done (a ∷ []) acts)) is),
   )
 
-  -- `Noted` holds where nothing was done
+  -- `Noted` holds if nothing was done
   pub noted_nothing : (station : Station) (saw : List Turn) → Refines station (opening plan scope) → Noted told taken station saw saw
   noted_nothing station saw stands = record { went = went_nothing plan commands scope text told taken station stands; turns = []; all = sym (append-nil saw); kept = tt }
 
-  -- `Noted` lasts where a book took nothing more, as `Keeps` says: if what it took was known, it is known still, and the same
+  -- `Noted` lasts if a book took nothing more, as `Keeps` says: if what it took was known, it is known still, and the same
   pub noted_kept : (told' : Option (List Act)) (taken' taken'' : Option (List ℕ)) (station : Station) (saw saw' : List Turn) → Keeps taken' taken''
       → Noted told' taken' station saw saw' → Noted told' taken'' station saw saw'
   noted_kept told' taken' taken'' station saw saw' keeps n =
       record { went = went_kept plan commands scope text told told' taken taken' taken'' station keeps n.went; turns = n.turns; all = n.all; kept = n.kept }
 
-  -- `Noted` lasts where a book took the same
+  -- `Noted` lasts if a book took the same
   pub noted_same : (told' : Option (List Act)) (taken' taken'' : Option (List ℕ)) (station : Station) (saw saw' : List Turn) → taken'' ≡ taken'
       → Noted told' taken' station saw saw' → Noted told' taken'' station saw saw'
   noted_same told' taken' taken'' station saw saw' same n =
       noted_kept told' taken' taken'' station saw saw' (subst (λ (t : Option (List ℕ)). Keeps taken' t) (sym same) (Keeps-refl taken')) n
 
-  -- what is seen now: what the link has told, what the book has taken, and whether that lasts
+  -- what is seen now: what the link has recorded, what the book has taken, and whether that lasts
   abbrev now : Option (List Act) → Option (List ℕ) → Bool → Turn
   now told' taken' lasts = record { acts = told'; taken = taken'; lasts = lasts }
 
-  -- the turns seen so far, and one more behind them
+  -- the turns seen so far, and one more after them
   saw_more : (saw saw' saw'' turns : List Turn) (turn : Turn) → saw' ≡ saw ++ turns → saw'' ≡ saw' ++ turn ∷ [] → saw'' ≡ saw ++ (turns ++ turn ∷ [])
   saw_more saw saw' saw'' turns turn all one = one ∙ ap (λ (xs : List Turn). xs ++ turn ∷ []) all ∙ append_assoc saw turns (turn ∷ [])
 
@@ -132,7 +132,7 @@ module _ (plan : Plan) (commands : List Task) (scope : Scope) (text : Record →
   abbrev Up : Option (List Act) → List Turn → List Turn → List Act → Type 0
   Up told' saw saw' others = KeepsUp plan commands scope text told told' taken saw saw' others
 
-  -- a run that stopped for a cause has kept up to its end, and no close follows: a close follows only where the book failed
+  -- a run that stopped for a cause has kept up to its end, and no close follows: a close follows only if the book failed
   -- (`Output`), which is the fault of no cause
   pub faulty_keeps : (told' : Option (List Act)) (saw saw' : List Turn) (cause : Cause) (why : RunFault) → fault_of cause ≡ Some why
       → Up told' saw saw' [] → Up told' saw saw' (closing_at {X = Tally} (Err why))

@@ -1,6 +1,6 @@
--- How failures in a row take tries and lengthen the pause. A failure is spared where no connection is wanted: it takes no try.
--- An act is one call of the link, with what came of it. `again` is the progress after a connection ended or couldn't be made,
--- and `pause_behind plan n` the pause after n such failures in a row. Times are in milliseconds.
+-- How failures in a row take tries and lengthen the pause. A failure is spared if no connection is wanted: it takes no try. An
+-- act is one call on the link, with its result. `again` is the progress after a connection ended or couldn't be made, and
+-- `pause_behind plan n` the pause after n such failures in a row. Times are in milliseconds.
 use Rattle.std.proofs.Common.{◌≡◌, ◌⊎◌, inl, inr, ℕ, zero, suc, ◌+◌, ◌-◌, ◌*◌, ◌<◌, ◌≤◌, ◌||◌, Bool, true, false, List, if◌then◌else◌, nat_lt, min, max, refl, ap, ◌∙◌, arith, ◌&&◌, not}
 use Rattle.std.proofs.lemmas.Bool.{lt-ltb, le-ltb}
 use Rattle.gc_texts.specs.declared.tasks.Task.{Task}
@@ -20,11 +20,11 @@ use Rattle.gc_station.specs.declared.progress.Until.{Until}
 use Rattle.gc_station.specs.declared.progress.Waiting.{Waiting}
 use Rattle.gc_station.proofs.Walk.{moved_changed}
 
--- where the test b holds, the first of two values is chosen
+-- if the test b holds, the first of two values is chosen
 takes_first : {A : Type 0} (b : Bool) (x y : A) → b ≡ true → (if b then x else y) ≡ x
 takes_first b x y e = ap (λ (c : Bool). if c then x else y) e
 
--- where the test b doesn't hold, the second of two values is chosen
+-- if the test b doesn't hold, the second of two values is chosen
 takes_second : {A : Type 0} (b : Bool) (x y : A) → b ≡ false → (if b then x else y) ≡ y
 takes_second b x y e = ap (λ (c : Bool). if c then x else y) e
 
@@ -56,7 +56,7 @@ failed plan commands n why p e is =
 takes : (plan : Plan) (commands : ℕ) (why : Cause) (p : Progress) → is_spared plan why p ≡ false → 0 < p.tries → (again plan commands why p).tries + 1 ≡ p.tries
 takes plan commands why p e some = let less = takes_second (is_spared plan why p) p.tries (p.tries - 1) e in omega (arith, less, some)
 
--- a failure that isn't spared, without a try left (`some`), ends the run: as done, where all is done, or for its cause
+-- a failure that isn't spared, without a try left (`some`), ends the run: as done, if all is done, or for its cause
 over_by : (done spared some : Bool) (why : Cause) → spared ≡ false → some ≡ false
     → ((if done then phase.Over cause.Done else if spared || some then phase.Pausing else phase.Over why) ≡ phase.Over cause.Done)
     ⊎ ((if done then phase.Over cause.Done else if spared || some then phase.Pausing else phase.Over why) ≡ phase.Over why)
@@ -83,7 +83,7 @@ spared plan commands n why p e is = (
   takes_first (is_spared plan why p) p.tries (p.tries - 1) e,
 )
 
--- where there was no pause, the pause after a spared close is the quiet time
+-- if there was no pause, the pause after a spared close is the quiet time
 spared_none : (quiet : ℕ) → max 0 quiet ≡ max (min quiet 60000) quiet
 spared_none quiet = omega arith
 
@@ -96,7 +96,7 @@ spared_first plan commands why p e is = (
   takes_first (is_spared plan why p) p.tries (p.tries - 1) e,
 )
 
--- a read that settled a command gives all tries back, and makes the pause 0, once the set-up is done
+-- a read that settled a command gives all tries back, and makes the pause 0, once the setup is done
 settled : (plan : Plan) (until : Until) (before : ℕ) (after : Waiting) (p : Progress) → after.commands < before → p.preparing ≡ false
     → ((gave plan until before after p).tries ≡ plan.retries) × ((gave plan until before after p).pause ≡ pause_behind plan 0)
 settled plan until before after p fewer done =
@@ -108,7 +108,7 @@ settled plan until before after p fewer done =
       both_hold true true x y = cc
       both_hold false b x y = cc
 
--- a read that settled no command, or while the set-up isn't done, leaves the tries and the pause
+-- a read that settled no command, or while the setup isn't done, leaves the tries and the pause
 unsettled : (plan : Plan) (until : Until) (before : ℕ) (after : Waiting) (p : Progress) → (before ≤ after.commands) ⊎ (p.preparing ≡ true)
     → ((gave plan until before after p).tries ≡ p.tries) × ((gave plan until before after p).pause ≡ p.pause)
 unsettled plan until before after p why =

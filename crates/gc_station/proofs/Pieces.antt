@@ -1,6 +1,6 @@
--- The lines of the piece that an act brings, heard one by one: the requests that wait were put among the acts before (`WaitsAt`
--- of `Waiting`), and each record that is written is true (`IsTrue`). An act is one call of the link, with what came of it.
--- `Hears` says both of the model after some of the lines.
+-- The lines of the piece that an act brings, heard one by one: the outstanding requests were put among the acts before
+-- (`WaitsAt` of `Waiting`), and each record that is written is true (`IsTrue`). An act is one call on the link, with its
+-- result. `Hears` says both of the model after some of the lines.
 use Rattle.std.proofs.Common.{◌≡◌, inl, inr, ℕ, ◌<◌, ◌≤◌, Bool, true, false, List, [], ◌∷◌, ◌++◌, length, Option, Some, IfSome, refl, sym, ap, ◌∙◌, subst, arith, append_assoc, append-nil}
 use Rattle.std.specs.List.{AllByRecursion}
 use Rattle.gc_lines.specs.Frames.{rest_behind}
@@ -30,8 +30,8 @@ use Rattle.gc_station.proofs.Meets.{HasPlace, EndedBy, heard_ended, heard_left, 
 use Rattle.gc_station.proofs.Waiting.{WasAsked, StayedAt, WaitsAt, IsTrue, IsHonest, past_more, past_here, expired_waits, expired_window, behind_moment, moment_told}
 use Rattle.gc_station.specs.Scopes.{Scope}
 
--- ids count from 0 to 7 and then from 0 again: the id at the place of the id `id`, among the `count` requests that wait before
--- the id `next`, is `id` again
+-- ids count from 0 to 7 and then from 0 again: the id at the place of the id `id`, among the `count` outstanding requests
+-- before the id `next`, is `id` again
 pub id_back : (next count id : ℕ) → next < 8 → count ≤ 7 → id < 8 → id_at next count (place_behind next count id) ≡ id
 id_back next count id digit few below = omega arith
 
@@ -45,8 +45,8 @@ regroup start news front r back more =
     append_assoc (start ++ news) (front ++ r ∷ back) more ∙ ap (λ xs. (start ++ news) ++ xs) (append_assoc front (r ∷ back) more)
     ∙ append_assoc start news (front ++ r ∷ (back ++ more)) ∙ ap (λ xs. start ++ xs) (sym (append_assoc news front (r ∷ (back ++ more))))
 
--- after some lines of the piece that an act brings, at the moment m, the model is x: the requests that wait were put among the
--- acts before that act, and the records so far are true by the acts up to it
+-- after some lines of the piece that an act brings, at the moment m, the model is x: the outstanding requests were put among
+-- the acts before that act, and the records so far are true by the acts up to it
 pub record Hears (plan : Plan) (commands : List Task) (scope : Scope) (acts : List Act) (piece : List ℕ) (m : Moment) (x : Model) : Type 0 where
   pub window : IsWindow x.client
   pub waiting : Rows (WaitsAt plan commands scope acts (stood plan commands scope acts).client m.elapsed x.client.next (length x.client.waiting)) 0 0 x.client.waiting x.marks
@@ -110,15 +110,15 @@ brings plan commands scope acts piece c front others line at next before request
   has = id_heard c line at next w has is;
 }
 
--- where a request isn't given up at the moment `now` (b), its deadline d is later than `now`, and than each moment that these
--- acts tell
+-- if a request hasn't timed out at the moment `now` (b), its deadline d is later than `now`, and than each moment that these
+-- acts read
 in_time : (now d : ℕ) (b : Bool) (acts : List Act) → b ≡ false → StayedAt now b d acts → AllByRecursion (IsBefore d) acts × (now < d)
 in_time now d true acts is both = cc
 in_time now d false acts is both = both
 
--- `acts` are those since a request with the deadline d was sent, and `act`, the next one, tells the moment `now`. If the request is given
--- up by then (b is true), one of them, `act` included, tells a moment at or past d. (`StayedAt`: whether it is given up is what the moments
--- told so far make it.)
+-- `acts` are those since a request with the deadline d was sent, and `act`, the next one, reads the moment `now`. If the
+-- request has timed out by then (b is true), one of them, `act` included, reads a moment at or past d. (`StayedAt`: whether it
+-- has timed out is what the moments read so far make it.)
 too_late : (now d : ℕ) (b : Bool) (acts : List Act) (act : Act) → b ≡ true → (d ≤ now → IsPast d act) → StayedAt now b d acts → TellsPast d (acts ++ act ∷ [])
 too_late now d true acts act is past (inl told) = past_more d acts (act ∷ []) told
 too_late now d true acts act is past (inr reached) = past_here d acts act (past reached)
@@ -299,7 +299,7 @@ behind_piece plan commands scope acts piece m x h = record {
   written = h.written;
 }
 
--- the model before the lines of a piece: the moment was told, and requests were given up
+-- the model before the lines of a piece: the moment was read, and requests timed out
 abbrev pub piece_before : Moment → Model → Model
 piece_before m s = with_moment m (with_progress (told m) (with_progress turned s))
 

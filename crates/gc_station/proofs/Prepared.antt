@@ -1,5 +1,5 @@
--- No command of a cycle goes out before the set-up is done: each command of it was answered well, in order, since the connection was made and the
--- station began. So it is before each command of the set-up, and those in front of it.
+-- No command of a cycle is sent before the setup is done: each command of it was answered well, in order, since the connection
+-- was made and the station synchronized. So it is before each command of the setup, and those before it.
 use Rattle.std.proofs.Common.{◌≡◌, ◌⊎◌, inl, inr, ℕ, zero, suc, ◌+◌, ◌<◌, ◌≤◌, ◌&&◌, ◌||◌, Bool, true, false, not, nat_eq, nat_le, nat_lt, min, List, [], ◌∷◌, ◌++◌, length, drop, map, refl, sym, ap, ◌∙◌, subst, arith, append_assoc, append-nil, leb-true, eqb-true, lt-ltb}
 use Rattle.std.proofs.lemmas.List.{map-append}
 use Rattle.gc_texts.specs.declared.tasks.Task.{Task}
@@ -32,7 +32,7 @@ use Rattle.gc_station.proofs.Words.{begun_other}
 
 -- Records.
 
--- where the commands of some records end with one, the records end with one of that command
+-- if the commands of some records end with one, the records end with one of that command
 split_last : (rs : List Record) (xs : List Dispatch) (x : Dispatch) → map of_record rs ≡ xs ++ x ∷ [] → (mid : List Record) × (r : Record) × (rs ≡ mid ++ r ∷ []) × (of_record r ≡ x)
 split_last [] [] x e = cc
 split_last [] (y ∷ xs) x e = cc
@@ -43,7 +43,7 @@ split_last (r ∷ rs) (y ∷ xs) x e =
     let it = split_last rs xs x tail in
     (r ∷ it.0, it.1, ap (λ ys. r ∷ ys) it.2, it.3)
 
--- what is behind the same front is the same
+-- what is after the same front is the same
 cancel : {A : Type 0} (xs ys zs : List A) → xs ++ ys ≡ xs ++ zs → ys ≡ zs
 cancel [] ys zs e = e
 cancel (x ∷ xs) ys zs e = cancel xs ys zs (ap (drop 1) e)
@@ -55,7 +55,7 @@ last_end b (x ∷ rs) r = last_end (is_well x.end) rs r
 
 -- Numbers and tests.
 
--- what is below the number behind j is below j, or j itself
+-- what is below the number after j is below j, or j itself
 below_or_last : (n j : ℕ) → n < suc j → (n < j) ⊎ (n ≡ j)
 below_or_last zero zero h = inr refl
 below_or_last zero (suc j) h = inl (omega arith)
@@ -66,7 +66,7 @@ below_or_last (suc n) (suc j) h =
       | inr e ↦ inr (ap suc e)
     ]
 
--- three tests hold, where the negation of all of them doesn't
+-- three tests hold, if the negation of all of them doesn't
 three : (a b c : Bool) → (true && not (a && b && c)) ≡ false → (a ≡ true) × (b ≡ true) × (c ≡ true)
 three true true true e = (refl, refl, refl)
 three false b c e = cc
@@ -87,7 +87,8 @@ module _ (plan : Plan) (commands : List Task) (scope : Scope) where
   abbrev at : List Act → Model
   at acts = stood plan commands scope acts
 
-  -- after these acts, the first j commands of the set-up were answered well, and the one at place j went out, which is the last of the row
+  -- after these acts, the first j commands of the setup were answered well, and the one at place j was sent, which is the last
+  -- of the row
   record Partly (j : ℕ) (acts : List Act) : Type 0 where
     done : ArePrepared plan commands scope acts j
     before : List Act
@@ -102,7 +103,7 @@ module _ (plan : Plan) (commands : List Task) (scope : Scope) where
     xs : List Dispatch
     row : row_of (at acts) ≡ map of_record (at before).records ++ (xs ++ of_mark (mark_setup commands (at before).progress) ∷ [])
 
-  -- where the last one is settled, and was answered well, one more was
+  -- if the last one is settled, and was answered well, one more was
   finish : (j : ℕ) (acts : List Act) → commands_in (at acts).marks ≡ 0 → last_well false (at acts).records ≡ true → Partly j acts → ArePrepared plan commands scope acts (suc j)
   finish j acts none good p place below =
       let s = at acts in
@@ -133,13 +134,13 @@ module _ (plan : Plan) (commands : List Task) (scope : Scope) where
         }
       ]
 
-  -- `StaysUp` holds with one act more that closes no connection, if the station has begun after it
+  -- `StaysUp` holds with one act more that closes no connection, if the station has synchronized after it
   stays_more : (s : Model) (xs : List Act) (act : Act) → StaysUp plan commands s xs → KeepsOpen act → has_begun (after_all plan commands s (xs ++ act ∷ [])).progress ≡ true
       → StaysUp plan commands s (xs ++ act ∷ [])
   stays_more s [] act h keeps begun = (keeps, begun, tt)
   stays_more s (x ∷ xs) act h keeps begun = (h.0, h.1, stays_more (after plan commands s x) xs act h.2 keeps begun)
 
-  -- the acts since a request, with one more, where no connection was closed and the station is begun after it
+  -- the acts since a request, with one more, if no connection was closed and the station is begun after it
   since_more : (acts before since : List Act) (act : Act) → acts ≡ before ++ since → StaysUp plan commands (at before) since → KeepsOpen act
       → has_begun (at (acts ++ act ∷ [])).progress ≡ true → (acts ++ act ∷ [] ≡ before ++ (since ++ act ∷ [])) × StaysUp plan commands (at before) (since ++ act ∷ [])
   since_more acts before since act order stays keeps begun =
@@ -147,7 +148,7 @@ module _ (plan : Plan) (commands : List Task) (scope : Scope) where
       let there = ap (λ (x : Model). has_begun x.progress) (sym (ap (stood plan commands scope) longer ∙ after_all-append plan commands (opening plan scope) before (since ++ act ∷ []))) ∙ begun in
       (longer, stays_more (at before) since act stays keeps there)
 
-  -- an act that closes no connection, behind which the station is begun, keeps `ArePrepared`
+  -- an act that closes no connection, after which the station is begun, keeps `ArePrepared`
   prepared_more : (n : ℕ) (acts : List Act) (act : Act) → KeepsOpen act → has_begun (at (acts ++ act ∷ [])).progress ≡ true → ArePrepared plan commands scope acts n
       → ArePrepared plan commands scope (acts ++ act ∷ []) n
   prepared_more n acts act keeps begun h place below =
@@ -194,7 +195,7 @@ module _ (plan : Plan) (commands : List Task) (scope : Scope) where
         row = same ∙ d.row;
       }
 
-  -- a command of the set-up that goes out behind j that were answered well, and is the last of the row
+  -- a command of the setup that is sent after j that were answered well, and is the last of the row
   partly_sent : (j : ℕ) (acts : List Act) (act : Act) → KeepsOpen act → has_begun (at (acts ++ act ∷ [])).progress ≡ true → action_at plan (at acts) ≡ action.Prepare
       → (at acts).progress.prepared ≡ j → row_of (at (acts ++ act ∷ [])) ≡ row_of (at acts) ++ of_mark (mark_setup commands (at acts).progress) ∷ [] → ArePrepared plan commands scope acts j
       → Partly j (acts ++ act ∷ [])
@@ -217,17 +218,17 @@ module _ (plan : Plan) (commands : List Task) (scope : Scope) where
         row = longer ∙ append_assoc (map of_record s.records) (of_marks s.marks) (of_mark (mark_setup commands s.progress) ∷ []);
       }
 
-  -- what holds by whether the set-up's turn isn't over (`preparing`), and by how many of its commands went out (`prepared`)
+  -- what holds by whether the setup's turn isn't over (`preparing`), and by how many of its commands were sent (`prepared`)
   abbrev By : Bool → ℕ → List Act → Type 0
   By false k acts = (has_begun (at acts).progress ≡ true) × ArePrepared plan commands scope acts plan.setup
   By true zero acts = Unit {0}
   By true (suc j) acts = (has_begun (at acts).progress ≡ true) × Partly j acts
 
-  -- that, of the station as it stands; or the run is over
+  -- that, of the station as it is; or the run is over
   abbrev Stands : List Act → Type 0
   Stands acts = (is_over_in (at acts).progress.phase ≡ true) ⊎ By (at acts).progress.preparing (at acts).progress.prepared acts
 
-  -- where the set-up is done, each of its commands was answered well
+  -- if the setup is done, each of its commands was answered well
   done_so : (some : 0 < plan.setup) (b : Bool) (k : ℕ) (acts : List Act) → By b k acts
       → (b && not (nat_le plan.setup k && nat_eq (commands_in (at acts).marks) 0 && last_well false (at acts).records)) ≡ false
       → (has_begun (at acts).progress ≡ true) × ArePrepared plan commands scope acts plan.setup
@@ -241,7 +242,7 @@ module _ (plan : Plan) (commands : List Task) (scope : Scope) where
       let enough = leb-true plan.setup (suc j) it.0 in
       (h.0, λ place below. all place (omega (arith, below, enough)))
 
-  -- where the next command of the set-up may go out, each one before it was answered well
+  -- if the next command of the setup may be sent, each one before it was answered well
   next_so : (b : Bool) (k : ℕ) (acts : List Act) → By b k acts → b ≡ true → (k ≡ 0) ⊎ ((commands_in (at acts).marks ≡ 0) × (last_well false (at acts).records ≡ true))
       → ArePrepared plan commands scope acts k
   next_so false k acts h e may place below = cc
@@ -249,7 +250,7 @@ module _ (plan : Plan) (commands : List Task) (scope : Scope) where
   next_so true (suc j) acts h e (inl none) place below = absurd (omega (arith, none))
   next_so true (suc j) acts h e (inr it) place below = finish j acts it.0 it.1 h.1 place below
 
-  -- an act that closes no connection, leaves these two and the row, and behind which the station is begun if it was, keeps it
+  -- an act that closes no connection, leaves these two and the row, and after which the station is begun if it was, keeps it
   by_still : (b c : Bool) (k n : ℕ) (acts : List Act) (act : Act) → c ≡ b → n ≡ k → KeepsOpen act → (has_begun (at acts).progress ≡ true → has_begun (at (acts ++ act ∷ [])).progress ≡ true)
       → row_of (at (acts ++ act ∷ [])) ≡ row_of (at acts) → By b k acts → By c n (acts ++ act ∷ [])
   by_still b c k n acts act e f keeps begins same h =
@@ -265,7 +266,7 @@ module _ (plan : Plan) (commands : List Task) (scope : Scope) where
     abbrev s : Model
     s = at acts
 
-    -- the station after it, where it performs this action, but for what is lost then
+    -- the station after it, if it performs this action, but for what is lost then
     abbrev t : Action → Model
     t o = moved plan commands o (with_progress turned s) act
 
@@ -278,7 +279,7 @@ module _ (plan : Plan) (commands : List Task) (scope : Scope) where
     row_far o is =
         ap row_of (after_all-append plan commands (opening plan scope) acts (act ∷ [])) ∙ row_losing (loses_all (t (action_at plan s)).progress) (t (action_at plan s)) ∙ ap (λ (x : Action). row_of (t x)) is
 
-    -- the station stays begun, where it doesn't begin anew
+    -- the station stays begun, if it doesn't resynchronize
     begins : (o : Action) → action_at plan s ≡ o → Performs commands s o act → (o ≡ action.Renew → ⊥) → has_begun s.progress ≡ true → has_begun (at (acts ++ act ∷ [])).progress ≡ true
     begins o is obeys other begun = ap has_begun (far o is) ∙ begun_other plan commands s o act obeys other begun
 
@@ -290,13 +291,13 @@ module _ (plan : Plan) (commands : List Task) (scope : Scope) where
         inr (by_still s.progress.preparing (at (acts ++ act ∷ [])).progress.preparing s.progress.prepared (at (acts ++ act ∷ [])).progress.prepared acts act
         (ap (λ (p : Progress). p.preparing) (far o is) ∙ b) (ap (λ (p : Progress). p.prepared) (far o is) ∙ k) keeps begin (row_far o is ∙ same) h)
 
-    -- so does one behind which the set-up goes out again from its first command on
+    -- so does one after which the setup is sent again from its first command on
     stands_anew : (o : Action) → action_at plan s ≡ o → (t o).progress.preparing ≡ nat_lt 0 plan.setup → (t o).progress.prepared ≡ 0 → Stands (acts ++ act ∷ [])
     stands_anew o is b k =
         inr (subst (λ (n : ℕ). By (at (acts ++ act ∷ [])).progress.preparing n (acts ++ act ∷ [])) (sym (ap (λ (p : Progress). p.prepared) (far o is) ∙ k))
         (subst (λ (c : Bool). By c 0 (acts ++ act ∷ [])) (sym (ap (λ (p : Progress). p.preparing) (far o is) ∙ b ∙ above plan.setup some)) tt))
 
-    -- and one that gives a command of a cycle its turn, once the set-up is done
+    -- and one that gives a command of a cycle its turn, once the setup is done
     stands_done : (o : Action) → action_at plan s ≡ o → Performs commands s o act → (o ≡ action.Renew → ⊥) → KeepsOpen act → (t o).progress.preparing ≡ false
         → is_preparing plan s.progress (waiting_of s) ≡ false → By s.progress.preparing s.progress.prepared acts → Stands (acts ++ act ∷ [])
     stands_done o is obeys other keeps b done h =
@@ -304,7 +305,7 @@ module _ (plan : Plan) (commands : List Task) (scope : Scope) where
         let on = begins o is obeys other it.0 in
         inr (subst (λ (c : Bool). By c (at (acts ++ act ∷ [])).progress.prepared (acts ++ act ∷ [])) (sym (ap (λ (p : Progress). p.preparing) (far o is) ∙ b)) (on, prepared_more plan.setup acts act keeps on it.1))
 
-    -- an act that sends a command of the set-up keeps it
+    -- an act that sends a command of the setup keeps it
     stands_sent : action_at plan s ≡ action.Prepare → Performs commands s action.Prepare act → IsFor plan s.progress (waiting_of s) action.Prepare → By s.progress.preparing s.progress.prepared acts
         → Stands (acts ++ act ∷ [])
     stands_sent is obeys needs h =
@@ -324,7 +325,7 @@ module _ (plan : Plan) (commands : List Task) (scope : Scope) where
         ap (λ (p : Progress). p.preparing) (far action.Prepare is) ∙ ap (λ (x : Model). x.progress.preparing) (moved_changed plan commands action.Prepare (with_progress turned s) act) ∙ preparing in
         inr (subst (λ (n : ℕ). By (at (acts ++ act ∷ [])).progress.preparing n (acts ++ act ∷ [])) (sym next) (subst (λ (c : Bool). By c (suc k) (acts ++ act ∷ [])) (sym same) (on, part)))
 
-  -- a command of a cycle that is sent ends the set-up's turn
+  -- a command of a cycle that is sent ends the setup's turn
   sent_preparing : (s : Model) (act : Act) → (moved plan commands action.Send s act).progress.preparing ≡ false
   sent_preparing s (Cut bytes n) = subst (λ (x : Model). x.progress.preparing ≡ false) (is_sent plan commands s) refl
   sent_preparing s act = subst (λ (x : Model). x.progress.preparing ≡ false) (is_sent plan commands s) refl
@@ -367,17 +368,17 @@ module _ (plan : Plan) (commands : List Task) (scope : Scope) where
   -- it holds after every run
   stands : (some : 0 < plan.setup) (within : plan.setup ≤ length commands) (acts : List Act) → Runs plan commands (opening plan scope) acts → Stands acts
   stands some within acts runs = always plan commands (opening plan scope) (λ (xs : List Act) (u : Model). Stands xs) step start acts runs where
-    -- at the start the set-up goes out from its first command on
+    -- at the start the setup is sent from its first command on
     start : Stands []
     start = inr (subst (λ (c : Bool). By c 0 []) (sym (above plan.setup some)) tt)
 
-    -- an act keeps it: where the run is over, none follows
+    -- an act keeps it: if the run is over, none follows
     step : (done : List Act) (act : Act) → Runs plan commands (opening plan scope) done → Performs commands (at done) (action_at plan (at done)) act → Stands done → Stands (done ++ act ∷ [])
     step done act before obeys (inl over) =
         let p = (at done).progress in absurd (over_stays plan commands (at done) act (ap (λ b. b || (not (is_up p.phase) && nat_eq p.turns 0)) over) obeys)
     step done act before obeys (inr h) = stands_by some within done (action_at plan (at done)) act refl obeys (action_for plan (at done).progress (waiting_of (at done))) h
 
--- the law: no command of a cycle goes out before the set-up is done
+-- the law: no command of a cycle is sent before the setup is done
 pub none_before_the_set_up : NoneBeforeTheSetUp
 none_before_the_set_up plan commands scope acts runs is place below =
     let s = stood plan commands scope acts in
@@ -390,7 +391,7 @@ none_before_the_set_up plan commands scope acts runs is place below =
       | inr h ↦ (done_so plan commands scope some s.progress.preparing s.progress.prepared acts h needs.8).1 place below
     ]
 
--- the law: each command of the set-up goes out only behind the good answers of those before it
+-- the law: each command of the setup is sent only after the good answers of those before it
 pub set_up_in_order : SetUpInOrder
 set_up_in_order plan commands scope acts runs within is place below =
     let s = stood plan commands scope acts in

@@ -1,5 +1,5 @@
--- Further attempts of a chain go out for a cause: `listed` of a model is what its records say. An act is one call of the link, with what
--- came of it. A mark says which command a waiting request is of, and what is expected of its answer.
+-- Further attempts of a chain are sent for a cause: `listed` of a model is what its records say. An act is one call on the
+-- link, with its result. A mark says which command a waiting request is of, and what is expected of its answer.
 use Rattle.std.proofs.Common.{◌≡◌, ◌⊎◌, inl, inr, ℕ, zero, suc, ◌+◌, ◌-◌, ◌<◌, ◌≤◌, ◌||◌, Bool, true, false, List, [], ◌∷◌, ◌++◌, length, drop, Option, Some, None, if◌then◌else◌, nat_eq, nat_lt, refl, sym, ap, ◌∙◌, subst, arith, append-nil}
 use Rattle.std.specs.List.{AllByRecursion}
 use Rattle.std.proofs.lemmas.Bool.{ltb-true, ltb-false}
@@ -78,14 +78,14 @@ answer_line expected (reading.Value answer) zeroed q line l said e = value_line 
 answer_line expected (reading.Refused code) zeroed q line l said e = refused_line (are_accepted expected.accepted code) expected.near zeroed q line l said e
 answer_line expected (reading.ComFault code) zeroed q line l said e = cc
 
--- where a request's outcome makes it answered, its code is that of the line
+-- if a request's outcome makes it answered, its code is that of the line
 code_there : (reads : Asked → List ℕ → Reading) (expected : Expected) (call : Asked) (outcome : Rule.Outcome) (q : Quality) (said : Option Answer) (l : List ℕ)
     → end_of reads expected call outcome ≡ Answered q said l → code_of reads call outcome ≡ code_in (reads call l)
 code_there reads expected call (Rule.Answered line) q said l e = ap (λ k. code_in (reads call k)) (answer_line expected (reads call line) (reads call (as_zero line)) q line l said e)
 code_there reads expected call Rule.Late q said l e = cc
 code_there reads expected call Rule.Lost q said l e = cc
 
--- whether an end is named hangs on its code only where it is answered
+-- whether an end is named hangs on its code only if it is answered
 named_by : (reads : Asked → List ℕ → Reading) (again : Again) (call : Asked) (code : Option ℕ) (end : End)
     → ((q : Quality) (said : Option Answer) (l : List ℕ) → end ≡ Answered q said l → code ≡ code_in (reads call l)) → is_named again code end ≡ is_named again (code_said reads call end) end
 named_by reads again call code (Answered q said l) is = ap (has_code again.codes) (is q said l refl)
@@ -98,12 +98,12 @@ named_by reads again call code Missed is = refl
 
 -- What records list.
 
--- whether a command of the attempt that the last of these records is of ended as its rule names; where there is none, b
+-- whether a command of the attempt that the last of these records is of ended as its rule names; if there is none, b
 abbrev any_listed : (Asked → List ℕ → Reading) → List Task → Bool → List Record → Bool
 any_listed reads commands b [] = b
 any_listed reads commands b (r ∷ rs) = any_listed reads commands ((if nat_eq r.turn.link 0 then false else b) || is_listed reads commands r) rs
 
--- what two lists of records list is what the second does behind the first
+-- what two lists of records list is what the second does after the first
 any_append : (reads : Asked → List ℕ → Reading) (commands : List Task) (xs ys : List Record) (b : Bool) → any_listed reads commands b (xs ++ ys) ≡ any_listed reads commands (any_listed reads commands b xs) ys
 any_append reads commands [] ys b = refl
 any_append reads commands (x ∷ xs) ys b = any_append reads commands xs ys ((if nat_eq x.turn.link 0 then false else b) || is_listed reads commands x)
@@ -112,7 +112,7 @@ any_append reads commands (x ∷ xs) ys b = any_append reads commands xs ys ((if
 abbrev GoOn : List Record → Type 0
 GoOn rs = AllByRecursion (λ (r : Record). r.turn.link ≡ 0 → ⊥) rs
 
--- where the records list, one of them is listed, or none begins an attempt and b is true
+-- if the records list, one of them is listed, or none begins an attempt and b is true
 has_of : (reads : Asked → List ℕ → Reading) (commands : List Task) (rs : List Record) (b : Bool) → any_listed reads commands b rs ≡ true → ((b ≡ true) × GoOn rs) ⊎ HasListed reads commands rs
 has_of reads commands [] b e = inl (e, tt)
 has_of reads commands (r ∷ rs) b e = by_rest (has_of reads commands rs ((if nat_eq r.turn.link 0 then false else b) || is_listed reads commands r) e) where
@@ -145,7 +145,7 @@ listed_has reads commands rs e = by_case (has_of reads commands rs false e) wher
   by_case (inl it) = cc
   by_case (inr h) = h
 
--- what is listed stays so behind records that begin no attempt
+-- what is listed stays so after records that begin no attempt
 stays_listed : (reads : Asked → List ℕ → Reading) (commands : List Task) (rs : List Record) → GoOn rs → any_listed reads commands true rs ≡ true
 stays_listed reads commands [] all = refl
 stays_listed reads commands (r ∷ rs) all = by_test (λ b. stays_listed reads commands rs all.1) (nat_eq r.turn.link 0) refl where
@@ -158,14 +158,14 @@ stays_listed reads commands (r ∷ rs) all = by_test (λ b. stays_listed reads c
   by_test ih true t = absurd (all.0 (is_first r.turn.link t))
   by_test ih false t = ih true
 
--- where one of the records is listed, they list
+-- if one of the records is listed, they list
 has_listed : (reads : Asked → List ℕ → Reading) (commands : List Task) (rs : List Record) (b : Bool) → HasListed reads commands rs → any_listed reads commands b rs ≡ true
 has_listed reads commands rs b h =
     ap (any_listed reads commands b) h.order ∙ any_append reads commands h.front (h.one ∷ h.behind) b
     ∙ ap (λ x. any_listed reads commands ((if nat_eq h.one.turn.link 0 then false else any_listed reads commands b h.front) || x) h.behind) h.listed
     ∙ ap (λ x. any_listed reads commands x h.behind) (or_true (if nat_eq h.one.turn.link 0 then false else any_listed reads commands b h.front)) ∙ stays_listed reads commands h.behind h.same
 
--- what is expected of a command's answer, of which the text says this; where it is of the set-up (`true`), in this attempt
+-- what is expected of a command's answer, of which the text says this; if it is of the setup (`true`), in this attempt
 abbrev expected_as : Bool → ℕ → Expected → Expected
 expected_as true attempt expected = in_attempt attempt expected
 expected_as false attempt expected = expected
@@ -243,13 +243,13 @@ module _ (plan : Plan) (commands : List Task) (scope : Scope) where
     records : AllByRecursion IsSo s.records
     listed : s.listed ≡ any_listed scope.reads commands false s.records
 
-  -- settlements that are written down keep all records `IsSo`
+  -- settlements that are recorded keep all records `IsSo`
   settles_so : (s : Model) (x : List (Rule.Settlement Asked)) → Keeps s → AllByRecursion IsSo (s.records ++ records_of s.reads s.progress.moment.utc s.marks x)
   settles_so s x k =
       all_append IsSo s.records _ k.records
       (subst (λ (reads : Asked → List ℕ → Reading). AllByRecursion IsSo (records_of reads s.progress.moment.utc s.marks x)) (sym k.reads) (records_so s.progress.moment.utc s.marks x k.marks))
 
-  -- settlements that are written down keep `listed` what the records say
+  -- settlements that are recorded keep `listed` what the records say
   settles_listed : (s : Model) (x : List (Rule.Settlement Asked)) → Keeps s
       → listed_by s.reads s.listed s.marks x ≡ any_listed scope.reads commands false (s.records ++ records_of s.reads s.progress.moment.utc s.marks x)
   settles_listed s x k =
@@ -273,7 +273,7 @@ module _ (plan : Plan) (commands : List Task) (scope : Scope) where
       lines_along Keeps line_so (with_rest (rest_behind s.rest piece) s) (lines_behind s.rest piece) (record { reads = k.reads; marks = k.marks; records = k.records; listed = k.listed })
   came_so false word piece s k = k
 
-  -- `Keeps` lasts over the loss of what waits
+  -- `Keeps` lasts over the loss of what is outstanding
   losing_so : (b : Bool) (s : Model) → Keeps s → Keeps (losing b s)
   losing_so true s k =
       let x = restarts s.client in record { reads = k.reads; marks = all_drop _ s.marks k.marks; records = settles_so s x.settlements k; listed = settles_listed s x.settlements k }
@@ -292,7 +292,7 @@ module _ (plan : Plan) (commands : List Task) (scope : Scope) where
   next_so : (s : Model) → 0 < cycles_begun plan s.progress → Keeps s → Keeps (asks_first (mark_next plan commands s.progress) (drop (place_next commands s.progress) commands) s)
   next_so s many k = first_so (mark_next plan commands s.progress) (drop (place_next commands s.progress) commands) s (next_placed s.progress many) k
 
-  -- `Keeps` lasts over the send of the next command of the set-up
+  -- `Keeps` lasts over the send of the next command of the setup
   setup_so : (s : Model) → Keeps s → Keeps (asks_setup plan commands s)
   setup_so s k = by_list (drop s.progress.prepared commands) where
     -- the lemma above, whether there is one or not
@@ -320,13 +320,13 @@ module _ (plan : Plan) (commands : List Task) (scope : Scope) where
       ap (λ x. (if nat_eq mark.expected.turn.link 0 then false else b) || x)
       (unsent_named mark.expected.again task.command.call p.missed ∙ ap (λ (k : Again). is_named k (code_said scope.reads task.command.call end) end) (rule_so mark (next_placed p many)))
 
-  -- where the next command has its turn, a cycle has begun, and there is such a command
+  -- if the next command has its turn, a cycle has begun, and there is such a command
   abbrev IsThere : Action → Model → Type 0
   IsThere actions.Send s = (0 < cycles_begun plan s.progress) × (0 < length (drop (place_next commands s.progress) commands))
   IsThere actions.Skip s = (0 < cycles_begun plan s.progress) × (0 < length (drop (place_next commands s.progress) commands))
   IsThere next s = Unit {0}
 
-  -- `Keeps` lasts over an act of each action that is next, before what waits is lost
+  -- `Keeps` lasts over an act of each action that is next, before what is outstanding is lost
   moved_so : (next : Action) (s : Model) (act : Act) → IsThere next s → Keeps s → Keeps (moved plan commands next s act)
   moved_so actions.Prepare s (Cut bytes count) some k = let n = setup_so s k in record { reads = n.reads; marks = n.marks; records = n.records; listed = n.listed }
   moved_so actions.Prepare s act some k = let n = setup_so s k in record { reads = n.reads; marks = n.marks; records = n.records; listed = n.listed }
@@ -362,14 +362,14 @@ module _ (plan : Plan) (commands : List Task) (scope : Scope) where
       let t = moved plan commands (action_at plan s) (with_progress turned s) act in
       losing_so (loses_all t.progress) t (moved_so (action_at plan s) (with_progress turned s) act (there (action_at plan s) (action_for plan s.progress (waiting_of s)))
       (record { reads = k.reads; marks = k.marks; records = k.records; listed = k.listed })) where
-        -- where one is left, a cycle has begun, and there is a next command
+        -- if one is left, a cycle has begun, and there is a next command
         one_left : 0 < s.progress.unsent → (0 < cycles_begun plan s.progress) × (0 < length (drop (place_next commands s.progress) commands))
         one_left unsent =
             let many = length-drop (place_next commands s.progress) commands in
             let within = fine.unsent in
             let below = fine.begun unsent in (omega (arith, below), omega (arith, many, unsent, within))
 
-        -- where the next command has its turn, there is one
+        -- if the next command has its turn, there is one
         there : (next : Action) → IsFor plan s.progress (waiting_of s) next → IsThere next (with_progress turned s)
         there actions.Send needs = one_left needs.2
         there actions.Skip needs = one_left needs.2
@@ -386,11 +386,11 @@ module _ (plan : Plan) (commands : List Task) (scope : Scope) where
 
   -- What a progress says of the next command.
 
-  -- `next_others` is what the text says of the next command, where that isn't the first of its cycle, and else 0
+  -- `next_others` is what the text says of the next command, if that isn't the first of its cycle, and else 0
   abbrev Follows : Progress → Type 0
   Follows p = (plan.setup < place_next commands p → p.next_others ≡ others_in (drop (place_next commands p) commands)) × (place_next commands p ≤ plan.setup → p.next_others ≡ 0)
 
-  -- `Follows` lasts where the next command stays the same
+  -- `Follows` lasts if the next command stays the same
   follows_same : (p q : Progress) → q.unsent ≡ p.unsent → q.next_others ≡ p.next_others → Follows p → Follows q
   follows_same p q unsent others h =
       let at : place_next commands q ≡ place_next commands p = ap (λ (n : ℕ). length commands - n) unsent in
@@ -402,7 +402,7 @@ module _ (plan : Plan) (commands : List Task) (scope : Scope) where
       let at : place_next commands p + 1 ≡ place_next commands q = omega (arith, unsent, some, within) in
       (λ above. others ∙ ap (λ (n : ℕ). others_in (drop n commands)) at, λ none. absurd (omega (arith, at, none, some, within)))
 
-  -- `Follows` holds after attempts that are passed over
+  -- `Follows` holds after attempts that are left out
   follows_past : (p q : Progress) → q.unsent ≡ p.unsent - p.next_others → q.next_others ≡ others_behind p.next_others commands p → 0 < p.unsent → 0 < p.next_others → p.unsent ≤ length commands - plan.setup → Follows q
   follows_past p q unsent others some more within =
       let at : drop (place_next commands p + p.next_others) commands ≡ drop (place_next commands q) commands =
@@ -445,20 +445,20 @@ module _ (plan : Plan) (commands : List Task) (scope : Scope) where
       moved_follows (action_at plan s) s (waiting_of s) act (action_for plan s.progress (waiting_of s)) (fine_stood plan commands scope done).unsent h)
       (λ above. sym (ap others_in (none_behind commands)), λ none. refl) acts runs
 
-  -- what has to hold where this action is next holds of the station after these acts
+  -- what has to hold if this action is next holds of the station after these acts
   needs_of : (acts : List Act) (next : Action) → action_at plan (stood plan commands scope acts) ≡ next → IsFor plan (stood plan commands scope acts).progress (waiting_of (stood plan commands scope acts)) next
   needs_of acts next is =
       let s = stood plan commands scope acts in subst (λ (o : Action). IsFor plan s.progress (waiting_of s) o) is (action_for plan s.progress (waiting_of s))
 
-  -- the law of further attempts that go out
+  -- the law of further attempts that are sent
   goes_again : (acts : List Act) → Runs plan commands (opening plan scope) acts → action_at plan (stood plan commands scope acts) ≡ actions.Send → IsFurtherAttempt plan commands (stood plan commands scope acts)
       → (commands_in (stood plan commands scope acts).marks ≡ 0) × HasListed scope.reads commands (stood plan commands scope acts).records
   goes_again acts runs is further = by_may (needs_of acts actions.Send is).6 where
-    -- the station as it stands
+    -- the station as it is
     s : Model
     s = stood plan commands scope acts
 
-    -- the law above, by why the command may go out: it begins a further attempt
+    -- the law above, by why the command may be sent: it begins a further attempt
     by_may : ((s.progress.next_others ≡ 0) ⊎ ((commands_in s.marks ≡ 0) × (s.listed ≡ true))) → (commands_in s.marks ≡ 0) × HasListed scope.reads commands s.records
     by_may (inl none) = let others = (follows_stood acts runs).0 further.0 in let more = further.1 in absurd (omega (arith, none, others, more))
     by_may (inr may) = (may.0, listed_has scope.reads commands s.records (sym (kept_all acts).listed ∙ may.1))
@@ -467,17 +467,17 @@ module _ (plan : Plan) (commands : List Task) (scope : Scope) where
   not_both : (b : Bool) → b ≡ true → b ≡ false → ⊥
   not_both b e g = cc
 
-  -- the law of further attempts that are passed over
+  -- the law of further attempts that are left out
   passes_over : (acts : List Act) → Runs plan commands (opening plan scope) acts → action_at plan (stood plan commands scope acts) ≡ actions.Pass
       → IsFurtherAttempt plan commands (stood plan commands scope acts) × (commands_in (stood plan commands scope acts).marks ≡ 0)
       × ((HasListed scope.reads commands (stood plan commands scope acts).records → ⊥)
       ⊎ (((stood plan commands scope acts).progress.missed ≡ true) ⊎ (is_chained (drop (place_next commands (stood plan commands scope acts).progress) commands) ≡ true)))
   passes_over acts runs is = ((above, further), needs.3, by_why needs.5) where
-    -- the station as it stands
+    -- the station as it is
     s : Model
     s = stood plan commands scope acts
 
-    -- what has to hold where attempts are passed over
+    -- what has to hold where attempts are left out
     needs : IsFor plan s.progress (waiting_of s) actions.Pass
     needs = needs_of acts actions.Pass is
 
@@ -503,14 +503,14 @@ module _ (plan : Plan) (commands : List Task) (scope : Scope) where
     by_missed true c missed e = inl missed
     by_missed false c missed e = inr e
 
-    -- why the attempt is passed over
+    -- why the attempt is left out
     by_why : ((s.listed ≡ false) ⊎ (s.progress.next_is_chained ≡ true))
         → (HasListed scope.reads commands s.records → ⊥) ⊎ ((s.progress.missed ≡ true) ⊎ (is_chained (drop (place_next commands s.progress) commands) ≡ true))
     by_why (inl none) = inl (λ h. not_both s.listed ((kept_all acts).listed ∙ has_listed scope.reads commands s.records false h) none)
     by_why (inr bound) =
         inr (by_missed s.progress.missed (is_chained (drop (place_next commands s.progress) commands)) refl (sym (bound_stood plan commands scope acts runs above) ∙ bound))
 
--- the law: chains go out again for a cause
+-- the law: chains are sent again for a cause
 pub goes_out_again : GoesOutAgainForACause
 goes_out_again = record { goes = goes_again; passes = passes_over }
 

@@ -1,5 +1,6 @@
--- The row of a station: the requests of its records, and behind them those of the commands that wait. An act leaves it, or adds the request of
--- the command that goes out or is passed over. Where a chain is unbroken, the last request is of a cycle, not of the set-up.
+-- The row of a station: the requests of its records, and after them those of the outstanding commands. An act leaves it, or
+-- adds the request of the command that is sent or is left out. If a chain is unbroken, the last request is of a cycle, not of
+-- the setup.
 use Rattle.std.proofs.Common.{◌≡◌, ℕ, ◌-◌, ◌<◌, Bool, true, false, List, [], ◌∷◌, ◌++◌, length, drop, map, Some, None, refl, sym, ap, ◌∙◌, subst, arith, append_assoc, append-nil, nat_eq}
 use Rattle.std.proofs.lemmas.Bool.Decides.{nat_tests}
 use Rattle.std.proofs.lemmas.List.{length-drop, map-append}
@@ -53,7 +54,7 @@ pub row_gave : (plan : Plan) (until : Until) (s : Model) (bytes : List ℕ) (m :
 row_gave plan until s bytes m =
     row_came (is_heard s.progress.phase) s.progress.word bytes (with_moment m (with_progress (told m) s)) ∙ row_moment s.marks s.client.waiting s.records m.elapsed
 
--- the loss of what waits leaves the row
+-- the loss of what is outstanding leaves the row
 pub row_losing : (b : Bool) (s : Model) → row_of (losing b s) ≡ row_of s
 row_losing true s =
     row_settles s.reads s.progress.moment.utc s.marks s.client.waiting [] (map lost s.client.waiting) s.records (none (map of_settled (map lost s.client.waiting)) ∙ lost_parts s.client.waiting) where
@@ -80,27 +81,27 @@ row_read plan commands action.Flush s act bytes m o is = absurd (subst (λ (a : 
 row_read plan commands (action.Close why) s act bytes m o is = cc
 row_read plan commands (action.Stop why) s act bytes m o is = absurd o
 
--- Where a chain is unbroken, the last request of the row is of a cycle.
+-- If a chain is unbroken, the last request of the row is of a cycle.
 
--- the cycle of the last of these requests; `n` where there is none
+-- the cycle of the last of these requests; `n` if there is none
 abbrev pub last_cycle : ℕ → List Request → ℕ
 last_cycle n [] = n
 last_cycle n (x ∷ xs) = last_cycle x.cycle xs
 
--- the cycle of the last request is that of the one behind the others
+-- the cycle of the last request is that of the one after the others
 last_behind : (n : ℕ) (xs : List Request) (x : Request) → last_cycle n (xs ++ x ∷ []) ≡ x.cycle
 last_behind n [] x = refl
 last_behind n (y ∷ xs) x = last_behind y.cycle xs x
 
--- where a chain is unbroken, the last request of the row is of a cycle
+-- if a chain is unbroken, the last request of the row is of a cycle
 abbrev LastIsOfCycle : Model → Type 0
 LastIsOfCycle s = s.progress.chain_unbroken ≡ true → 0 < last_cycle 0 (row_of s)
 
--- it lasts where the row stays
+-- it lasts if the row stays
 kept : {xs ys : List Request} {b : Bool} → ys ≡ xs → (b ≡ true → 0 < last_cycle 0 xs) → b ≡ true → 0 < last_cycle 0 ys
 kept same h e = subst (λ (zs : List Request). 0 < last_cycle 0 zs) (sym same) (h e)
 
--- the first of these commands, where it is sent with a mark of a cycle, is the last request of the row
+-- the first of these commands, if it is sent with a mark of a cycle, is the last request of the row
 sent_last : (mark : Mark) (left : List Task) (s : Model) → length s.marks ≡ length s.client.waiting → length s.client.waiting < 7 → 0 < length left → 0 < mark.cycle
     → 0 < last_cycle 0 (row (asks_first mark left s).marks (asks_first mark left s).client.waiting s.records)
 sent_last mark [] s paired room some many = absurd (omega (arith, some))
@@ -172,12 +173,12 @@ module _ (plan : Plan) (commands : List Task) where
       let t = moved plan commands (action_at plan s) (with_progress turned s) act in
       let one = last_moved (action_at plan s) s act (fine_stood plan commands scope done) (action_for plan s.progress (waiting_of s)) obeys h in
       kept (row_losing (loses_all t.progress) t) (λ e. one (by_loss (loses_all t.progress) t e))) (λ e. cc) acts runs where
-        -- the loss of what waits mends no chain
+        -- the loss of what is outstanding mends no chain
         by_loss : (b : Bool) (t : Model) → (losing b t).progress.chain_unbroken ≡ true → t.progress.chain_unbroken ≡ true
         by_loss true t e = e
         by_loss false t e = e
 
--- where no command waits and a chain is unbroken, the last record is of a cycle
+-- if no command waits and a chain is unbroken, the last record is of a cycle
 pub last_of_cycle : (plan : Plan) (commands : List Task) (scope : Scope) (acts : List Act) → Runs plan commands (opening plan scope) acts
     → commands_in (stood plan commands scope acts).marks ≡ 0 → (stood plan commands scope acts).progress.chain_unbroken ≡ true → (xs : List Request) (x : Request)
     → map of_record (stood plan commands scope acts).records ≡ xs ++ x ∷ [] → 0 < x.cycle

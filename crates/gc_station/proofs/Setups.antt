@@ -1,5 +1,6 @@
--- Each command of the set-up that went out has one record, or waits; and its attempts count over the run. The row of a station has its records and,
--- behind them, the commands that wait. An act leaves the row, or adds the command that goes out or isn't sent.
+-- Each command of the setup that was sent has one record, or waits; and its attempts count over the run. The row of a station
+-- has its records and, after them, the outstanding commands. An act leaves the row, or adds the command that is sent or isn't
+-- sent.
 use Rattle.std.proofs.Common.{◌≡◌, ◌⊎◌, inl, inr, ℕ, ◌+◌, ◌-◌, ◌<◌, ◌≤◌, Bool, true, false, if◌then◌else◌, nat_eq, min, List, [], ◌∷◌, ◌++◌, length, drop, map, Option, Some, None, refl, sym, ap, ◌∙◌, subst, arith, append_assoc, append-nil}
 use Rattle.std.proofs.lemmas.Bool.Decides.{nat_tests}
 use Rattle.std.proofs.lemmas.List.{length-drop, map-append}
@@ -32,7 +33,7 @@ use Rattle.gc_station.proofs.Walk.{came_along, closed_along, is_prepared, moved_
 
 -- The row.
 
--- the row of a model: its records and, behind them, the commands that wait
+-- the row of a model: its records and, after them, the outstanding commands
 abbrev pub row_of : Model → List Dispatch
 row_of s = map of_record s.records ++ of_marks s.marks
 
@@ -66,33 +67,33 @@ row_came h word piece s = came_along (λ (t : Model). row_of t ≡ row_of s) (λ
 row_gave : (plan : Plan) (until : Until) (s : Model) (bytes : List ℕ) (m : Moment) → row_of (piece_at plan until bytes m s) ≡ row_of s
 row_gave plan until s bytes m = row_came (is_heard s.progress.phase) s.progress.word bytes (with_moment m (with_progress (told m) s))
 
--- the loss of what waits leaves the row
+-- the loss of what is outstanding leaves the row
 pub row_losing : (b : Bool) (s : Model) → row_of (losing b s) ≡ row_of s
 row_losing true s = row_settles s.reads s.progress.moment.utc s.marks (map lost s.client.waiting) s.records
 row_losing false s = refl
 
--- the commands of two lists of marks are those of the first list, and behind them those of the second
+-- the commands of two lists of marks are those of the first list, and after them those of the second
 marks_append : (xs ys : List (Option Mark)) → of_marks (xs ++ ys) ≡ of_marks xs ++ of_marks ys
 marks_append [] ys = refl
 marks_append (None ∷ xs) ys = marks_append xs ys
 marks_append (Some mark ∷ xs) ys = ap (λ zs. of_mark mark ∷ zs) (marks_append xs ys)
 
--- one mark more adds its command to the row, behind the others
+-- one mark more adds its command to the row, after the others
 row_more : (rs : List Record) (ms : List (Option Mark)) (m : Option Mark) → map of_record rs ++ of_marks (ms ++ m ∷ []) ≡ (map of_record rs ++ of_marks ms) ++ of_marks (m ∷ [])
 row_more rs ms m = ap (λ xs. map of_record rs ++ xs) (marks_append ms (m ∷ [])) ∙ sym (append_assoc (map of_record rs) (of_marks ms) (of_marks (m ∷ [])))
 
--- the first of these commands adds itself to the row where it is sent
+-- the first of these commands adds itself to the row if it is sent
 first_row : (mark : Mark) (left : List Task) (s : Model) → row_of (asks_first mark left s) ≡ row_of s ++ sent_first mark left
 first_row mark [] s = sym (append-nil (row_of s))
 first_row mark (task ∷ others) s = row_more s.records s.marks (Some mark)
 
--- so does the first of these commands of the set-up
+-- so does the first of these commands of the setup
 null_row : (plan : Plan) (mark : Mark) (left : List Task) (s : Model) → row_of (asks_or_null plan mark left s) ≡ row_of s ++ sent_first mark left
 null_row plan mark [] s = row_more s.records s.marks None
 null_row plan mark (task ∷ others) s = row_more s.records s.marks (Some mark)
 
 module _ (plan : Plan) (commands : List Task) where
-  -- an act that sends the next command of the set-up adds it to the row
+  -- an act that sends the next command of the setup adds it to the row
   pub row_prepared : (s : Model) (act : Act) → row_of (moved plan commands action.Prepare s act) ≡ row_of s ++ sent_as action.Prepare commands s
   row_prepared s (Cut bytes n) = null_row plan (mark_setup commands s.progress) (drop s.progress.prepared commands) s
   row_prepared s act = null_row plan (mark_setup commands s.progress) (drop s.progress.prepared commands) s
@@ -119,25 +120,25 @@ module _ (plan : Plan) (commands : List Task) where
   row_kept (action.Read until) s act other = refl
   row_kept o s act other = ap row_of (moved_changed plan commands o s act)
 
--- Those of the set-up.
+-- Those of the setup.
 
--- those of two lists that are of the set-up are those of the first list, and behind them those of the second
+-- those of two lists that are of the setup are those of the first list, and after them those of the second
 setup_append : (xs ys : List Dispatch) → of_setup (xs ++ ys) ≡ of_setup xs ++ of_setup ys
 setup_append [] ys = refl
 setup_append (x ∷ xs) ys = by_cycle (nat_eq x.cycle 0) (setup_append xs ys) where
-  -- the lemma above, whether the first one is of the set-up (`true`) or of a cycle
+  -- the lemma above, whether the first one is of the setup (`true`) or of a cycle
   by_cycle : (b : Bool) → of_setup (xs ++ ys) ≡ of_setup xs ++ of_setup ys → setup_with b x (of_setup (xs ++ ys)) ≡ setup_with b x (of_setup xs) ++ of_setup ys
   by_cycle true others = ap (λ zs. x ∷ zs) others
   by_cycle false others = others
 
--- one of a cycle is none of the set-up
+-- one of a cycle is none of the setup
 none_one : (x : Dispatch) → 0 < x.cycle → of_setup (x ∷ []) ≡ []
 none_one x many = ap (λ b. setup_with b x []) (not_none x.cycle many) where
   -- a number above 0 isn't 0
   not_none : (n : ℕ) → 0 < n → nat_eq n 0 ≡ false
   not_none n some = grind (arith, nat_tests, some)
 
--- a command of a cycle that is sent is none of the set-up
+-- a command of a cycle that is sent is none of the setup
 none_sent : (mark : Mark) (left : List Task) → 0 < mark.cycle → of_setup (sent_first mark left) ≡ []
 none_sent mark [] many = refl
 none_sent mark (task ∷ others) many = none_one (of_mark mark) many
@@ -147,30 +148,30 @@ none_skipped : (p : Progress) (m : Moment) (mark : Mark) (left : List Task) → 
 none_skipped p m mark [] many = refl
 none_skipped p m mark (task ∷ others) many = none_one (record { cycle = mark.cycle; place = mark.place; attempt = mark.expected.turn.attempt; sent = None }) many
 
--- a command of the set-up that is sent is of the set-up
+-- a command of the setup that is sent is of the setup
 all_sent : (commands : List Task) (p : Progress) (left : List Task) → of_setup (sent_first (mark_setup commands p) left) ≡ sent_first (mark_setup commands p) left
 all_sent commands p [] = refl
 all_sent commands p (task ∷ others) = refl
 
--- records that are of no set-up, between others and the commands that wait, add none
+-- records that are of no setup, between others and the outstanding commands, add none
 between_none : (rs news : List Record) (ms : List (Option Mark)) → of_setup (map of_record news) ≡ [] → of_setup (map of_record (rs ++ news) ++ of_marks ms) ≡ of_setup (map of_record rs ++ of_marks ms)
 between_none rs news ms none =
     ap (λ xs. of_setup (xs ++ of_marks ms)) (map-append of_record rs news) ∙ setup_append (map of_record rs ++ map of_record news) (of_marks ms)
     ∙ ap (λ xs. xs ++ of_setup (of_marks ms)) (setup_append (map of_record rs) (map of_record news) ∙ ap (λ xs. of_setup (map of_record rs) ++ xs) none ∙ append-nil (of_setup (map of_record rs)))
     ∙ sym (setup_append (map of_record rs) (of_marks ms))
 
--- where no mark is of a command, none waits
+-- if no mark is of a command, none is outstanding
 pub none_marked : (ms : List (Option Mark)) → commands_in ms ≡ 0 → of_marks ms ≡ []
 none_marked [] e = refl
 none_marked (None ∷ ms) e = none_marked ms e
 none_marked (Some mark ∷ ms) e = absurd (omega (arith, e))
 
 module _ (plan : Plan) (commands : List Task) where
-  -- where some command of the cycle isn't sent, a cycle has begun
+  -- if some command of the cycle isn't sent, a cycle has begun
   some_cycle : (s : Model) → Invariant plan commands s → 0 < s.progress.unsent → 0 < cycles_begun plan s.progress
   some_cycle s fine some = let below = fine.begun some in omega (arith, below)
 
-  -- an act adds to the set-up's part of the row the command of the set-up that it sends, if it sends one
+  -- an act adds to the setup's part of the row the command of the setup that it sends, if it sends one
   setup_moved : (o : Action) (s : Model) (act : Act) → Invariant plan commands s → IsFor plan s.progress (waiting_of s) o
       → of_setup (row_of (moved plan commands o (with_progress turned s) act)) ≡ of_setup (row_of s) ++ sent_as o commands s
   setup_moved action.Prepare s act fine is =
@@ -210,7 +211,7 @@ module _ (plan : Plan) (commands : List Task) where
       setup_from u acts (fine_all plan commands s (act ∷ []) fine) ∙ ap (λ xs. xs ++ setup_sent_by plan commands u acts) one
       ∙ append_assoc (of_setup (row_of s)) (sent_as o commands s) (setup_sent_by plan commands u acts)
 
--- the law: each command of the set-up that went out has one record, or waits; and where the run stopped, none waits
+-- the law: each command of the setup that was sent has one record, or waits; and if the run stopped, none is outstanding
 pub each_set_up_once : (plan : Plan) (commands : List Task) (scope : Scope) (acts : List Act) → EachSetUpOnce plan commands scope acts
 each_set_up_once plan commands scope acts =
     let s = stood plan commands scope acts in
@@ -230,11 +231,11 @@ each_set_up_once plan commands scope acts =
 
 -- Attempts.
 
--- from p to q the set-up's next command and attempt stay; or the set-up goes out again
+-- from p to q the setup's next command and attempt stay; or the setup is sent again
 abbrev pub Resets : Progress → Progress → Type 0
 Resets p q = ((q.attempt ≡ p.attempt) × (q.prepared ≡ p.prepared)) ⊎ ((q.attempt ≡ next_attempt p) × (q.prepared ≡ 0))
 
--- an act that sends no command of the set-up leaves them, or begins the set-up anew
+-- an act that sends no command of the setup leaves them, or begins the setup again
 resets : (plan : Plan) (commands : List Task) (o : Action) (s : Model) (act : Act) → (o ≡ action.Prepare → ⊥) → Resets s.progress (moved plan commands o s act).progress
 resets plan commands action.Prepare s act other = absurd (other refl)
 resets plan commands action.Renew s (Told m) other = inr (refl, refl)
@@ -246,7 +247,7 @@ resets plan commands o s act other =
     let is = moved_changed plan commands o s act in
     inl (ap (λ (x : Model). x.progress.attempt) is, ap (λ (x : Model). x.progress.prepared) is)
 
--- an act that sends a command of the set-up goes on to the next one, in the same attempt
+-- an act that sends a command of the setup goes on to the next one, in the same attempt
 pub prepares : (plan : Plan) (commands : List Task) (s : Model) (act : Act)
     → ((moved plan commands action.Prepare s act).progress.attempt ≡ s.progress.attempt) × ((moved plan commands action.Prepare s act).progress.prepared ≡ min (s.progress.prepared + 1) plan.setup)
 prepares plan commands s (Cut bytes n) =
@@ -254,11 +255,11 @@ prepares plan commands s (Cut bytes n) =
 prepares plan commands s act =
     subst (λ (x : Model). (x.progress.attempt ≡ s.progress.attempt) × (x.progress.prepared ≡ min (s.progress.prepared + 1) plan.setup)) (is_prepared plan commands s) (refl, refl)
 
--- where the last command of the set-up that went out is x, the next one goes behind it
+-- if the last command of the setup that was sent is x, the next one goes after it
 abbrev IsNext : Dispatch → Progress → Type 0
 IsNext x p = ((p.attempt ≡ x.attempt) × (p.prepared ≡ x.place + 1)) ⊎ ((p.attempt ≡ later x.attempt 1) × (p.prepared ≡ 0))
 
--- where the set-up begins anew, its first command is next
+-- if the setup starts again, its first command is next
 anew_next : (x : Dispatch) (p q : Progress) → q.attempt ≡ next_attempt p → q.prepared ≡ 0 → IsNext x p → IsNext x q
 anew_next x p q a k (inl is) = inr (a ∙ ap (λ (b : Bool). if b then p.attempt else later p.attempt 1) (not_none p.prepared (let at : p.prepared ≡ x.place + 1 = is.1 in omega (arith, at))) ∙ ap (λ n. later n 1) is.0, k) where
   -- a number above 0 isn't 0
@@ -266,13 +267,13 @@ anew_next x p q a k (inl is) = inr (a ∙ ap (λ (b : Bool). if b then p.attempt
   not_none n some = grind (arith, nat_tests, some)
 anew_next x p q a k (inr is) = inr (a ∙ ap (λ (n : ℕ). if nat_eq n 0 then p.attempt else later p.attempt 1) is.1 ∙ is.0, k)
 
--- an act that sends no command of the set-up leaves the next one behind x
+-- an act that sends no command of the setup leaves the next one after x
 next_kept : (x : Dispatch) (p q : Progress) → Resets p q → IsNext x p → IsNext x q
 next_kept x p q (inl same) (inl is) = inl (same.0 ∙ is.0, same.1 ∙ is.1)
 next_kept x p q (inl same) (inr is) = inr (same.0 ∙ is.0, same.1 ∙ is.1)
 next_kept x p q (inr anew) is = anew_next x p q anew.0 anew.1 is
 
--- whether an action sends a command of the set-up
+-- whether an action sends a command of the setup
 kind : (o : Action) → (o ≡ action.Prepare) ⊎ (o ≡ action.Prepare → ⊥)
 kind action.Prepare = inl refl
 kind action.ReadClock = inr (λ e. cc)
@@ -294,28 +295,28 @@ none_as : (o : Action) (commands : List Task) (s : Model) → (o ≡ action.Prep
 none_as action.Prepare commands s other = absurd (other refl)
 none_as o commands s other = refl
 
--- where there is a command, it is sent
+-- if there is a command, it is sent
 pub sent_some : (mark : Mark) (left : List Task) → 0 < length left → sent_first mark left ≡ of_mark mark ∷ []
 sent_some mark [] some = absurd (omega (arith, some))
 sent_some mark (task ∷ others) some = refl
 
 module _ (plan : Plan) (commands : List Task) (within : plan.setup ≤ length commands) where
-  -- the command of the set-up that is next, as it goes out
+  -- the command of the setup that is next, as it is sent
   abbrev its : Model → Dispatch
   its s = of_mark (mark_setup commands s.progress)
 
-  -- where a command of the set-up is next, it is in the set-up
+  -- if a command of the setup is next, it is in the setup
   below : (s : Model) → action_at plan s ≡ action.Prepare → s.progress.prepared < plan.setup
   below s is = let needs = subst (λ (o : Action). IsFor plan s.progress (waiting_of s) o) is (action_for plan s.progress (waiting_of s)) in needs.2.1
 
-  -- where a command of the set-up is next, it is sent
+  -- if a command of the setup is next, it is sent
   pub sends_it : (s : Model) → action_at plan s ≡ action.Prepare → sent_as (action_at plan s) commands s ≡ its s ∷ []
   sends_it s is =
       let some = below s is in
       let many : length (drop s.progress.prepared commands) ≡ length commands - s.progress.prepared = length-drop s.progress.prepared commands in
       ap (λ (o : Action). sent_as o commands s) is ∙ sent_some (mark_setup commands s.progress) (drop s.progress.prepared commands) (omega (arith, many, some, within))
 
-  -- behind it, the one behind it is next
+  -- after it, the one after it is next
   next_sent : (s : Model) (act : Act) → action_at plan s ≡ action.Prepare → IsNext (its s) (after plan commands s act).progress
   next_sent s act is =
       let t = with_progress turned s in
@@ -326,13 +327,13 @@ module _ (plan : Plan) (commands : List Task) (within : plan.setup ≤ length co
       let some = below s is in
       inl (ap (λ (p : Progress). p.attempt) far ∙ it.0, ap (λ (p : Progress). p.prepared) far ∙ omega (arith, prepared, some))
 
-  -- another act leaves the next one behind x
+  -- another act leaves the next one after x
   next_other : (x : Dispatch) (s : Model) (act : Act) → (action_at plan s ≡ action.Prepare → ⊥) → IsNext x s.progress → IsNext x (after plan commands s act).progress
   next_other x s act other is =
       let t = moved plan commands (action_at plan s) (with_progress turned s) act in
       subst (λ (q : Progress). IsNext x q) (sym (ended_progress t)) (next_kept x (turned s.progress) t.progress (resets plan commands (action_at plan s) (with_progress turned s) act other) is)
 
-  -- what these acts send goes on behind x
+  -- what these acts send goes on after x
   go_on_from : (x : Dispatch) (s : Model) (acts : List Act) → IsNext x s.progress → GoOn x (setup_sent_by plan commands s acts)
   go_on_from x s [] is = tt
   go_on_from x s (act ∷ acts) is =
@@ -343,16 +344,16 @@ module _ (plan : Plan) (commands : List Task) (within : plan.setup ≤ length co
         | inr other ↦ subst (λ xs. GoOn x (xs ++ rest)) (sym (none_as (action_at plan s) commands s other)) (go_on_from x u acts (next_other x s act other is))
       ]
 
-  -- nothing of the set-up went out
+  -- nothing of the setup was sent
   abbrev IsFresh : Progress → Type 0
   IsFresh p = (p.attempt ≡ 1) × (p.prepared ≡ 0)
 
-  -- an act that sends no command of the set-up keeps that
+  -- an act that sends no command of the setup keeps that
   fresh_kept : (p q : Progress) → Resets p q → IsFresh p → IsFresh q
   fresh_kept p q (inl same) is = (same.0 ∙ is.0, same.1 ∙ is.1)
   fresh_kept p q (inr anew) is = (anew.0 ∙ ap (λ (n : ℕ). if nat_eq n 0 then p.attempt else later p.attempt 1) is.1 ∙ is.0, anew.1)
 
-  -- what these acts send is in order, where nothing of the set-up went out before
+  -- what these acts send is in order, if nothing of the setup was sent before
   in_order_from : (s : Model) (acts : List Act) → IsFresh s.progress → AreInOrder (setup_sent_by plan commands s acts)
   in_order_from s [] is = tt
   in_order_from s (act ∷ acts) is =
@@ -366,6 +367,6 @@ module _ (plan : Plan) (commands : List Task) (within : plan.setup ≤ length co
             (in_order_from u acts (subst (λ (q : Progress). IsFresh q) (sym (ended_progress t)) (fresh_kept (turned s.progress) t.progress (resets plan commands (action_at plan s) (with_progress turned s) act other) is)))
       ]
 
--- the law: attempts of the set-up count over the run, and each goes from the first command on, one by one
+-- the law: attempts of the setup count over the run, and each goes from the first command on, one by one
 pub set_ups_go_on : SetUpsGoOn
 set_ups_go_on plan commands scope acts within = in_order_from plan commands within (opening plan scope) acts (refl, refl)

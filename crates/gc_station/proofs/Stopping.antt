@@ -1,5 +1,5 @@
--- How a run ends that is stale, and one whose end was asked for. `Freshly` says of an act which records it wrote down, and what became of
--- the moment from which on the run may become stale. An act is one call of the link, with what came of it.
+-- How a run ends that is stale, and one whose end was asked for. `Freshly` says of an act which records it recorded, and what
+-- became of the moment from which on the run may become stale. An act is one call on the link, with its result.
 use Rattle.std.proofs.Common.{◌≡◌, inl, inr, ◌⊎◌, ℕ, ◌-◌, ◌<◌, ◌≤◌, ◌||◌, min, Bool, true, false, List, [], ◌∷◌, ◌++◌, drop, map, Option, Some, None, nat_lt, nat_le, nat_eq, refl, sym, ap, ◌∙◌, subst, append-nil, append_assoc, arith}
 use Rattle.std.proofs.lemmas.Bool.{ltb-true, leb-true}
 use Rattle.std.proofs.lemmas.Bool.Decides.{nat_tests}
@@ -56,7 +56,8 @@ unwell_same now fresh [] all = refl
 unwell_same now fresh (r ∷ rs) all =
     ap (λ x. fresh_behind now x rs) (picks_other (is_well r.end) now fresh all.0) ∙ unwell_same now fresh rs all.1
 
--- of records that are written down at one moment none is of a command that was answered well, and they leave the moment that was; or one is
+-- of records that are recorded at one moment none is of a command that was answered well, and they leave the moment that was;
+-- or one is
 fresh_cases : (now fresh : ℕ) (rs : List Record) → (AllByRecursion IsUnwell rs × (fresh_behind now fresh rs ≡ fresh)) ⊎ (HasWell rs × (fresh_behind now fresh rs ≡ now))
 fresh_cases now fresh [] = inl (tt, refl)
 fresh_cases now fresh (r ∷ rs) = by_first (fresh_cases now now rs) (fresh_cases now fresh rs) (is_well r.end) refl where
@@ -65,13 +66,13 @@ fresh_cases now fresh (r ∷ rs) = by_first (fresh_cases now now rs) (fresh_case
       → (AllByRecursion IsUnwell rs × (fresh_behind now fresh rs ≡ fresh)) ⊎ (HasWell rs × (fresh_behind now fresh rs ≡ now)) → (b : Bool) → is_well r.end ≡ b
       → (AllByRecursion IsUnwell (r ∷ rs) × (fresh_behind now fresh (r ∷ rs) ≡ fresh)) ⊎ (HasWell (r ∷ rs) × (fresh_behind now fresh (r ∷ rs) ≡ now))
   by_first here there true well = on_well here where
-    -- what is left of the records behind one that is of such a command
+    -- what is left of the records after one that is of such a command
     on_well : ((AllByRecursion IsUnwell rs × (fresh_behind now now rs ≡ now)) ⊎ (HasWell rs × (fresh_behind now now rs ≡ now)))
         → (AllByRecursion IsUnwell (r ∷ rs) × (fresh_behind now fresh (r ∷ rs) ≡ fresh)) ⊎ (HasWell (r ∷ rs) × (fresh_behind now fresh (r ∷ rs) ≡ now))
     on_well (inl none) = inr (([], r, rs, refl, well), ap (λ x. fresh_behind now x rs) (picks (is_well r.end) now fresh well) ∙ none.1)
     on_well (inr some) = inr (([], r, rs, refl, well), ap (λ x. fresh_behind now x rs) (picks (is_well r.end) now fresh well) ∙ some.1)
   by_first here there false unwell = on_unwell there where
-    -- what is left of the records behind one that isn't of such a command
+    -- what is left of the records after one that isn't of such a command
     on_unwell : ((AllByRecursion IsUnwell rs × (fresh_behind now fresh rs ≡ fresh)) ⊎ (HasWell rs × (fresh_behind now fresh rs ≡ now)))
         → (AllByRecursion IsUnwell (r ∷ rs) × (fresh_behind now fresh (r ∷ rs) ≡ fresh)) ⊎ (HasWell (r ∷ rs) × (fresh_behind now fresh (r ∷ rs) ≡ now))
     on_unwell (inl none) = inl ((unwell, none.0), ap (λ x. fresh_behind now x rs) (picks_other (is_well r.end) now fresh unwell) ∙ none.1)
@@ -94,21 +95,21 @@ lost_unwell reads utc (mark ∷ marks) [] = tt
 lost_unwell reads utc (None ∷ marks) (p ∷ ps) = lost_unwell reads utc marks ps
 lost_unwell reads utc (Some mark ∷ marks) (p ∷ ps) = (refl, lost_unwell reads utc marks ps)
 
--- What an act writes down.
+-- What an act records.
 
--- an act wrote down records of which none is of a command that was answered well
+-- an act wrote records of which none is of a command that was answered well
 abbrev Plainly : Model → Act → Model → Type 0
 Plainly s act t = (rs : List Record) × (t.records ≡ s.records ++ rs) × AllByRecursion IsUnwell rs × (t.fresh ≡ least_told s.fresh (act ∷ []))
 
--- an act is a read that gave bytes, and wrote down records of which one is of a command that was answered well
+-- an act is a read that gave bytes, and wrote records of which one is of a command that was answered well
 abbrev Well : Model → Act → Model → Type 0
 Well s act t = (rs : List Record) × (t.records ≡ s.records ++ rs) × HasWell rs × (bytes : List ℕ) × (m : Moment) × (act ≡ Gave bytes m) × (t.fresh ≡ m.elapsed)
 
--- an act wrote down records, as `Plainly` or `Well` says
+-- an act wrote records, as `Plainly` or `Well` says
 abbrev Freshly : Model → Act → Model → Type 0
 Freshly s act t = Plainly s act t ⊎ Well s act t
 
--- a model of the lines so far of a piece, at this moment, behind the model `mid`
+-- a model of the lines so far of a piece, at this moment, after the model `mid`
 abbrev Heard : Model → ℕ → Model → Type 0
 Heard mid now t = (rs : List Record) × (t.records ≡ mid.records ++ rs) × (t.fresh ≡ fresh_behind now mid.fresh rs) × (t.progress.moment.elapsed ≡ now)
 
@@ -130,12 +131,12 @@ heard_piece is_heard word piece mid =
     came_along (Heard mid now) (λ t line h. heard_line mid now t line h) is_heard word piece mid ([], none, refl, refl)
     ([], none, refl, asked_along (λ (q : Progress). q.moment.elapsed ≡ now) (λ q line e. e) mid.progress (lines_behind mid.rest piece) refl) ([], none, refl, refl)
 
--- a read that gave bytes wrote down records as `Freshly` says
+-- a read that gave bytes wrote records as `Freshly` says
 gave_fresh : (plan : Plan) (until : Until) (s : Model) (bytes : List ℕ) (m : Moment) → Freshly s (Gave bytes m) (piece_at plan until bytes m s)
 gave_fresh plan until s bytes m =
     let mid = with_moment m (with_progress (told m) s) in
     by_case (heard_piece (is_heard s.progress.phase) s.progress.word bytes mid) where
-      -- the lemma above, by the records that the piece wrote down
+      -- the lemma above, by the records that the piece recorded
       by_case : Heard (with_moment m (with_progress (told m) s)) m.elapsed (came (is_heard s.progress.phase) s.progress.word bytes (with_moment m (with_progress (told m) s)))
           → Freshly s (Gave bytes m) (piece_at plan until bytes m s)
       by_case (rs, order, fresh, at) = by_records (fresh_cases m.elapsed (min s.fresh m.elapsed) rs) where
@@ -145,7 +146,7 @@ gave_fresh plan until s bytes m =
         by_records (inl none) = inl (rs, order, none.0, fresh ∙ none.1)
         by_records (inr some) = inr (rs, order, some.0, bytes, m, refl, fresh ∙ some.1)
 
--- an act of each action wrote down records as `Freshly` says, before what waits is lost
+-- an act of each action wrote records as `Freshly` says, before what is outstanding is lost
 moved_fresh : (plan : Plan) (commands : List Task) (next : Action) (s : Model) (act : Act) → Performs commands s next act → Freshly s act (moved plan commands next (with_progress turned s) act)
 moved_fresh plan commands actions.Skip s act o =
     walk plan commands (Freshly s) actions.Skip (with_progress turned s) act o (
@@ -191,7 +192,7 @@ losing_fresh s act true t (inr (rs, order, (front, r, later, split, well), bytes
       unwell_same t.progress.moment.elapsed t.fresh more none ∙ fresh,
     )
 
--- a whole act wrote down records as `Freshly` says
+-- a whole act wrote records as `Freshly` says
 after_fresh : (plan : Plan) (commands : List Task) (s : Model) (act : Act) → Performs commands s (action_at plan s) act → Freshly s act (after plan commands s act)
 after_fresh plan commands s act o =
     let t = moved plan commands (action_at plan s) (with_progress turned s) act in
@@ -267,7 +268,7 @@ since_stood plan commands scope acts runs =
     (after_fresh plan commands (stood plan commands scope done) act o)))
     (record { before = []; behind = []; order = refl; from = 0; start = inl (refl, refl); records = []; written = refl; unwell = tt; fresh = refl }) acts runs
 
--- where a connection is closed, or a run ends, because it is stale, it is
+-- if a connection is closed, or a run ends, because it is stale, it is
 pub closes_stale : ClosesStale
 closes_stale plan commands scope acts runs is =
     let s = stood plan commands scope acts in
@@ -280,9 +281,9 @@ closes_stale plan commands scope acts runs is =
       long = subst (λ n. plan.stale ≤ s.progress.moment.elapsed - n) u.fresh (leb-true plan.stale (s.progress.moment.elapsed - s.fresh) it.1);
     }
 
--- Where a run stops.
+-- If a run stops.
 
--- a run ends for `Stale` or `Stopped` only where the connection was closed for that
+-- a run ends for `Stale` or `Stopped` only if the connection was closed for that
 quits_only : (plan : Plan) (p : Progress) (n : ℕ) (other why : Cause) → (why ≡ cause.Stale) ⊎ (why ≡ cause.Stopped) → EndsBehind plan p n other why → other ≡ why
 quits_only plan p n cause.Done why (inl is) ends = let done = ends.0 in cc
 quits_only plan p n cause.Done why (inr is) ends = let done = ends.0 in cc
@@ -304,7 +305,7 @@ no_turns : (why : Cause) → (why ≡ cause.Stale) ⊎ (why ≡ cause.Stopped) �
 no_turns why (inl is) e = let other : cause.Stale ≡ cause.Turns = sym is ∙ e in cc
 no_turns why (inr is) e = let other : cause.Stopped ≡ cause.Turns = sym is ∙ e in cc
 
--- where a run stops for one of the two, its last act is the close that was next for that
+-- if a run stops for one of the two, its last act is the close that was next for that
 stops_at : (why : Cause) → (why ≡ cause.Stale) ⊎ (why ≡ cause.Stopped) → StopsAtItsClose why
 stops_at why is plan commands scope acts runs stop = by_shown (stopped_for plan commands scope acts why runs stop).shown where
   -- what is claimed
@@ -331,17 +332,17 @@ stops_at why is plan commands scope acts runs stop = by_shown (stopped_for plan 
   by_shown (inl turns) = absurd (no_turns why is turns.0)
   by_shown (inr (earlier, last, order, ends)) = by_end earlier last order ends
 
--- where a run stops because it is stale, its last act is the close for that
+-- if a run stops because it is stale, its last act is the close for that
 pub stops_stale : StopsAtItsClose cause.Stale
 stops_stale = stops_at cause.Stale (inl refl)
 
--- where a run stops because that was asked for, its last act is the close for that
+-- if a run stops because that was asked for, its last act is the close for that
 pub stops_stopped : StopsAtItsClose cause.Stopped
 stops_stopped = stops_at cause.Stopped (inr refl)
 
 -- What follows a moment at which the run is stale.
 
--- an act that tells a moment shows no cause
+-- an act that reads a moment shows no cause
 telling_shows : (act : Act) (why : Cause) → IsTelling act → Shows why act → ⊥
 telling_shows act cause.End o shows = subst IsTelling shows o
 telling_shows act cause.Read o shows = subst IsTelling shows o
@@ -349,20 +350,20 @@ telling_shows act cause.Clock o shows = subst IsTelling shows o
 telling_shows act (cause.Write requests bytes) o shows = subst IsTelling shows.1 o
 telling_shows act why o shows = shows
 
--- an act that tells a moment decides no end
+-- an act that reads a moment decides no end
 telling_not : (plan : Plan) (commands : List Task) (s : Model) (act : Act) (at : Phase) (why : Cause) → IsTelling act → Decided plan s at why act → ⊥
 telling_not plan commands s act at why o (inl failed) = telling_shows act why o failed.1
 telling_not plan commands s act at why o (inr (down, inl (other, is, next, ends))) = subst IsTelling is o
 telling_not plan commands s act at why o (inr (down, inr (is, ends))) = subst IsTelling is o
 
--- where the end isn't decided, turns are left, and the run is stale, the next action closes for that
+-- if the end isn't decided, turns are left, and the run is stale, the next action closes for that
 stale_next : (plan : Plan) (p : Progress) (w : Waiting) (at : Phase) → p.phase ≡ at → end_of at ≡ None → 0 < p.turns → is_stale plan p w ≡ true → action_of plan p w ≡ actions.Close cause.Stale
 stale_next plan p w at is none some stale = ap (λ x. action_in x plan p w) is ∙ by_phase at none where
   -- turns are left, by their test
   turns : nat_eq p.turns 0 ≡ false
   turns = grind (arith, nat_tests, some)
 
-  -- the action where the end isn't decided yet
+  -- the action if the end isn't decided yet
   on : action_on plan p w ≡ actions.Close cause.Stale
   on = picks_other (nat_eq p.turns 0) _ _ turns ∙ picks (is_stale plan p w) _ _ stale
 
@@ -376,7 +377,7 @@ stale_next plan p w at is none some stale = ap (λ x. action_in x plan p w) is �
   by_phase (phase.Closing why) e = cc
   by_phase (phase.Over why) e = cc
 
--- where the close for a stale run is next, no act follows but it
+-- if the close for a stale run is next, no act follows but it
 nothing_behind : (plan : Plan) (commands : List Task) (t : Model) (behind : List Act) → action_at plan t ≡ actions.Close cause.Stale → Runs plan commands t behind
     → (behind ≡ []) ⊎ (behind ≡ Closed ∷ [])
 nothing_behind plan commands t [] is runs = inl refl
@@ -385,23 +386,23 @@ nothing_behind plan commands t (act ∷ others) is runs = inr (by_rest others ru
   closes : act ≡ Closed
   closes = subst (λ (o : Action). Performs commands t o act) is runs.0
 
-  -- the run is over behind it
+  -- the run is over after it
   over : (after plan commands t act).progress.phase ≡ phase.Over cause.Stale
   over =
       let u = moved plan commands (action_at plan t) (with_progress turned t) act in
       ap (λ (p : Progress). p.phase) (ended_progress u) ∙ ap (λ (o : Action). (moved plan commands o (with_progress turned t) act).progress.phase) is
 
-  -- the lemma above, by the acts behind that one
+  -- the lemma above, by the acts after that one
   by_rest : (rest : List Act) → Runs plan commands (after plan commands t act) rest → act ∷ rest ≡ Closed ∷ []
   by_rest [] more = ap (λ a. a ∷ []) closes
   by_rest (x ∷ xs) more = absurd (over_stops plan commands (after plan commands t act) x more.0 cause.Stale over)
 
--- the acts of a run behind a front of it are a run from there on
+-- the acts of a run after a front of it are a run from there on
 runs_behind : (plan : Plan) (commands : List Task) (s : Model) (front later : List Act) → Runs plan commands s (front ++ later) → Runs plan commands (after_all plan commands s front) later
 runs_behind plan commands s [] later runs = runs
 runs_behind plan commands s (act ∷ front) later runs = runs_behind plan commands (after plan commands s act) front later runs.1
 
--- the first moment told at which a run with turns left is stale ends it
+-- the first moment read at which a run with turns left is stale ends it
 pub ends_once_stale : EndsOnceStale
 ends_once_stale plan commands scope earlier behind telling runs tells turns stale =
     let s = stood plan commands scope earlier in
@@ -422,7 +423,7 @@ ends_once_stale plan commands scope earlier behind telling runs tells turns stal
           absurd (telling_not plan commands s telling _ why tells
           (after_decided plan commands s telling why split.1 (done_sent plan commands scope earlier) (sym (ap (λ (x : Model). end_of x.progress.phase) next) ∙ is)))
 
--- Where the end of the run was asked for.
+-- If the end of the run was asked for.
 
 -- what an act leaves of whether the end was asked for
 moved_asked : (plan : Plan) (commands : List Task) (next : Action) (s : Model) (act : Act) → Performs commands s next act
@@ -456,8 +457,8 @@ asked_stood plan commands scope acts runs =
     let s = after_all plan commands (opening plan scope) done in
     moved_asked plan commands (action_at plan s) s act o ∙ ap (λ b. asked_behind b (act ∷ [])) e ∙ sym (asked-append false done (act ∷ []))) refl acts runs
 
--- once the end was asked for, no cycle begins, no command of the set-up goes out, and each command that goes out goes on with a chain that
--- has begun
+-- once the end was asked for, no cycle begins, no command of the setup is sent, and each command that is sent goes on with a
+-- chain that has begun
 pub goes_on_in_its_chain : GoesOnInItsChain
 goes_on_in_its_chain plan commands scope acts runs asked =
     let s = stood plan commands scope acts in
@@ -467,7 +468,7 @@ goes_on_in_its_chain plan commands scope acts runs asked =
       λ is. let needs = needs_of plan s actions.Prepare is in let never : true ≡ false = sym stops ∙ needs.5 in cc,
     )
 
--- where a connection is closed, or a run ends, because that was asked for, it was, and the run may end there
+-- if a connection is closed, or a run ends, because that was asked for, it was, and the run may end there
 pub closes_between_chains : ClosesBetweenChains
 closes_between_chains plan commands scope acts runs is =
     let s = stood plan commands scope acts in

@@ -1,8 +1,8 @@
 -- A run stops for want of tries only where enough connections ended, or couldn't be made, since a read settled a command.
--- `up_count` is 1 where there is a connection, and 0 where there is none. An act is one call of the link, with what came of it.
--- A piece is the bytes that one read gave. `Trying` says how many tries are left, by the connections that ended since the last
--- read that settled a command. `Hears` says what a piece does to the tries: they are all given back where it settles a command,
--- and stay where it doesn't; `Settling` says the same of a whole read, by the records.
+-- `up_count` is 1 if there is a connection, and 0 if there is none. An act is one call on the link, with its result. A piece is
+-- the bytes that one read gave. `Trying` says how many tries are left, by the connections that ended since the last read that
+-- settled a command. `Hears` says what a piece does to the tries: they are all given back if it settles a command, and stay if
+-- it doesn't; `Settling` says the same of a whole read, by the records.
 use Rattle.std.proofs.Common.{◌≡◌, ◌≢◌, ◌⊎◌, inl, inr, ℕ, suc, ◌+◌, ◌-◌, ◌<◌, ◌≤◌, Bool, true, false, not, List, [], ◌∷◌, ◌++◌, length, map, Option, Some, None, if◌then◌else◌, nat_lt, refl, sym, ap, ◌∙◌, subst, arith, append_assoc, append-nil, ◌&&◌}
 use Rattle.std.proofs.lemmas.Bool.{ltb-true, ltb-false}
 use Rattle.std.proofs.lemmas.List.{length-map, length-append, nil_from_length}
@@ -51,8 +51,9 @@ use Rattle.gc_station.specs.Scopes.{Scope}
 
 -- Each end of a connection takes a try at most, and only a read gives tries back.
 
--- what a piece does, from s to t: as many commands had their turn; the station doesn't begin anew by it; and either fewer
--- commands wait, the set-up is done, and all tries are left, or as many wait or more, or the set-up isn't done, and the tries stay
+-- what a piece does, from s to t: as many commands had their turn; the station doesn't resynchronize by it; and either fewer
+-- commands are outstanding, the setup is done, and all tries are left, or as many wait or more, or the setup isn't done, and
+-- the tries stay
 record Hears (plan : Plan) (s t : Model) : Type 0 where
   left : t.progress.left ≡ s.progress.left
   unsent : t.progress.unsent ≡ s.progress.unsent
@@ -66,8 +67,8 @@ abbrev Took : Plan → Model → Act → Model → Type 0
 Took plan s (Gave bytes m) t = Hears plan s t
 Took plan s act t = s.progress.tries ≤ t.progress.tries + ends_in (act ∷ [])
 
--- after a read either fewer commands wait, the set-up is done, and all tries are left; or as many or more wait (`b`: fewer do), or the set-up isn't
--- done (`on`), and the tries stay
+-- after a read either fewer commands are outstanding, the setup is done, and all tries are left; or as many or more wait (`b`:
+-- fewer do), or the setup isn't done (`on`), and the tries stay
 given_back : (b on : Bool) (after before retries new old : ℕ) → nat_lt after before ≡ b → new ≡ old
     → ((after < before) × (on ≡ false) × ((if b && not on then retries else new) ≡ retries)) ⊎ (((before ≤ after) ⊎ (on ≡ true)) × ((if b && not on then retries else new) ≡ old))
 given_back true false after before retries new old e same = inl (ltb-true after before e, refl, refl)
@@ -128,7 +129,7 @@ untook plan s t act h = h
 
 -- A read gives tries back where, and only where, it settled a command.
 
--- as many commands wait as marks are of commands
+-- as many commands are outstanding as marks are of commands
 waiting_count : (marks : List (Option Mark)) (waits : List (Pending Asked)) → length marks ≡ length waits → length (still_waiting marks waits) ≡ commands_in marks
 waiting_count [] [] e = refl
 waiting_count [] (w ∷ waits) e = refl
@@ -136,7 +137,7 @@ waiting_count (mark ∷ marks) [] e = absurd (omega (arith, e))
 waiting_count (None ∷ marks) (w ∷ waits) e = waiting_count marks waits (omega (arith, e))
 waiting_count (Some mark ∷ marks) (w ∷ waits) e = ap suc (waiting_count marks waits (omega (arith, e)))
 
--- the records and the commands that wait are as many as the row has
+-- the records and the outstanding commands are as many as the row has
 counted_out : (plan : Plan) (commands : List Task) (s : Model) → Invariant plan commands s → length s.records + commands_in s.marks ≡ length (row_of s)
 counted_out plan commands s fine =
     let a = length-append (map of_record s.records) (still_waiting s.marks s.client.waiting) in
@@ -144,7 +145,7 @@ counted_out plan commands s fine =
     let c = waiting_count s.marks s.client.waiting fine.paired in
     omega (arith, a, b, c)
 
--- where two models have the same row, the records and the commands that wait are as many in both
+-- where two models have the same row, the records and the outstanding commands are as many in both
 same_out : (plan : Plan) (commands : List Task) (s t : Model) → Invariant plan commands s → Invariant plan commands t → row_of t ≡ row_of s
     → length t.records + commands_in t.marks ≡ length s.records + commands_in s.marks
 same_out plan commands s t fine fine' same = counted_out plan commands t fine' ∙ ap length same ∙ sym (counted_out plan commands s fine)
@@ -157,20 +158,20 @@ grew_none old new more is few =
     let none : length more ≡ 0 = omega (arith, a, b, few) in
     is ∙ ap (λ xs. old ++ xs) (nil_from_length more none) ∙ append-nil old
 
--- from s to t a read settled a command, which added a record, the set-up is done, and all tries are left; or it settled none, or the set-up isn't
--- done, and the tries stay
+-- from s to t a read settled a command, which added a record, the setup is done, and all tries are left; or it settled none, or
+-- the setup isn't done, and the tries stay
 abbrev Settling : Plan → Model → Model → Type 0
 Settling plan s t =
     ((t.records ≢ s.records) × (t.progress.preparing ≡ false) × (t.progress.tries ≡ plan.retries))
     ⊎ (((t.records ≡ s.records) ⊎ (t.progress.preparing ≡ true)) × (t.progress.tries ≡ s.progress.tries))
 
--- a read does what `Settling` says, whatever is lost at its end. `old` commands waited before it, and `mid` after its lines
--- were heard, before anything was lost
+-- a read does what `Settling` says, whatever is lost at its end. `old` commands were outstanding before it, and `mid` after its
+-- lines were heard, before anything was lost
 settling_by : (plan : Plan) (s t : Model) (mid old : ℕ) → Grew s.records t.records → length t.records + commands_in t.marks ≡ length s.records + old → (commands_in t.marks ≡ mid) ⊎ (old ≡ 0)
     → ((mid < old) × (t.progress.preparing ≡ false) × (t.progress.tries ≡ plan.retries)) ⊎ (((old ≤ mid) ⊎ (t.progress.preparing ≡ true)) × (t.progress.tries ≡ s.progress.tries))
     → Settling plan s t
 settling_by plan s t mid old grew same kept (inl fewer) = inl (λ e. by_kept kept (ap length e), fewer.1, fewer.2) where
-  -- the records became more, as fewer commands wait; or no command waited before, and none can be fewer
+  -- the records became more, as fewer commands are outstanding; or no command waited before, and none can be fewer
   by_kept : ((commands_in t.marks ≡ mid) ⊎ (old ≡ 0)) → length t.records ≡ length s.records → ⊥
   by_kept (inl stay) e = let few = fewer.0 in omega (arith, stay, e, few, same)
   by_kept (inr none) e = let few = fewer.0 in omega (arith, none, few)
@@ -181,8 +182,8 @@ settling_by plan s t mid old grew same kept (inr (inl least, tries)) = inr (inl 
   by_kept (inl stay) = omega (arith, stay, least, same)
   by_kept (inr none) = omega (arith, none, same)
 
--- after a read that doesn't end the run, a loss takes no command away: as many commands wait as before the loss, or none waited
--- before the read
+-- after a read that doesn't end the run, a loss takes no command away: as many commands are outstanding as before the loss, or
+-- none waited before the read
 kept_marks : (plan : Plan) (commands : List Task) (s t : Model) (b : Bool) → loses_all t.progress ≡ b → is_over t.progress ≡ false
     → (has_begun t.progress ≡ false → has_begun s.progress ≡ false) → Invariant plan commands s
     → (commands_in (losing b t).marks ≡ commands_in t.marks) ⊎ (commands_in s.marks ≡ 0)
@@ -222,7 +223,7 @@ opens_more (Opened ∷ xs) act = let e = opens_more xs act in omega (arith, e)
 opens_more (Unopened ∷ xs) act = let e = opens_more xs act in omega (arith, e)
 opens_more (x ∷ xs) act = opens_more xs act
 
--- where no read among acts settled a command, and one act more settles none, none among all of them did
+-- if no read among acts settled a command, and one act more settles none, none among all of them did
 none_more : (plan : Plan) (commands : List Task) (s : Model) (xs : List Act) (act : Act) → NoneSettled plan commands s xs
     → SettlesNone (after_all plan commands s xs) act (after plan commands (after_all plan commands s xs) act)
     → NoneSettled plan commands s (xs ++ act ∷ [])
@@ -271,7 +272,7 @@ trying_on plan commands scope tries tries' up up' acts act took counted settles 
       opens = level;
     }
 
--- `Trying` begins anew with a read that settled a command, which gives all tries back
+-- `Trying` starts again with a read that settled a command, which gives all tries back
 trying_anew : (plan : Plan) (commands : List Task) (scope : Scope) (tries : ℕ) (up : Bool) (acts : List Act) (bytes : List ℕ) (m : Moment) → tries ≡ plan.retries → (stood plan commands scope (acts ++ Gave bytes m ∷ [])).progress.preparing ≡ false
     → (stood plan commands scope (acts ++ Gave bytes m ∷ [])).records ≢ (stood plan commands scope acts).records → Trying plan commands scope tries up (acts ++ Gave bytes m ∷ [])
 trying_anew plan commands scope tries up acts bytes m all done settled = record {
@@ -313,14 +314,14 @@ after_grew plan commands s act =
     let b = losing_records (loses_all t.progress) t in
     (a.0 ++ b.0, b.1 ∙ ap (λ xs. xs ++ b.0) a.1 ∙ append_assoc s.records a.0 b.0)
 
--- `Trying` lasts over one act, from the model s to u; t is the model before what waits is lost
+-- `Trying` lasts over one act, from the model s to u; t is the model before what is outstanding is lost
 try_step : (plan : Plan) (commands : List Task) (scope : Scope) (acts : List Act) (act : Act) (s u : Model) (t : Model) → stood plan commands scope acts ≡ s
     → stood plan commands scope (acts ++ act ∷ []) ≡ u → u ≡ after plan commands s act
     → u.progress ≡ t.progress → Took plan s act t → Counted (is_up s.progress.phase) act (is_up t.progress.phase)
     → (((bytes : List ℕ) × (m : Moment) × (act ≡ Gave bytes m)) → Hears plan s t → Settling plan s u)
     → Trying plan commands scope s.progress.tries (is_up s.progress.phase) acts → Trying plan commands scope u.progress.tries (is_up u.progress.phase) (acts ++ act ∷ [])
 try_step plan commands scope acts (Gave bytes m) s u t before behind does same took counted settling trying = by_settling (settling (bytes, m, refl) took) where
-  -- the loss of what waits changes nothing of the connection
+  -- the loss of what is outstanding changes nothing of the connection
   up_same : Counted (is_up s.progress.phase) (Gave bytes m) (is_up u.progress.phase)
   up_same = subst (λ (p : Progress). Counted (is_up s.progress.phase) (Gave bytes m) (is_up p.phase)) (sym same) counted
 
@@ -409,7 +410,7 @@ ending_shows why act o shows = shows
 not_done : (p : Progress) (n : ℕ) (why : Cause) → IsTried why → EndsDone p n why → ⊥
 not_done p n why tried done = subst IsTried done.0 tried
 
--- where a run ends for a cause that is one of `IsTried`, no try is left
+-- if a run ends for a cause that is one of `IsTried`, no try is left
 no_try : (plan : Plan) (p : Progress) (n : ℕ) (other why : Cause) → IsTried why → EndsBehind plan p n other why → p.tries ≡ 0
 no_try plan p n cause.Done why tried ends = absurd (not_done p n why tried ends)
 no_try plan p n cause.Clock why tried ends = absurd (subst IsTried ends tried)
@@ -443,8 +444,7 @@ one_end Closed o = refl
 one_end Unopened o = refl
 one_end act o = absurd o
 
--- where no try is left (`Trying`), and the last act ends one more connection, all tries are used up as the law says
--- (`AllTried`)
+-- if no try is left (`Trying`), and the last act ends one more connection, all tries are used up as the law says (`AllTried`)
 all_tried : (plan : Plan) (commands : List Task) (scope : Scope) (acts : List Act) (last : Act) → IsEnding last → Counted (is_up (stood plan commands scope acts).progress.phase) last false
     → Trying plan commands scope 0 (is_up (stood plan commands scope acts).progress.phase) acts → AllTried plan commands scope (acts ++ last ∷ [])
 all_tried plan commands scope acts last ending counted t =
@@ -469,7 +469,7 @@ all_tried plan commands scope acts last ending counted t =
       first = λ e. let start : t.held ≡ 0 = t.first e in let all : plan.retries < opens_in (t.behind ++ last ∷ []) = omega (arith, over, even, start) in all;
     }
 
--- where a run stops for a cause that is one of `IsTried`, which needs all tries used up, at an act that ends a connection, all
+-- if a run stops for a cause that is one of `IsTried`, which needs all tries used up, at an act that ends a connection, all
 -- tries were used up
 pub stop_tried : (plan : Plan) (commands : List Task) (scope : Scope) (acts : List Act) (last : Act) (why : Cause) → Runs plan commands (opening plan scope) (acts ++ last ∷ [])
     → action_at plan (stood plan commands scope (acts ++ last ∷ [])) ≡ actions.Stop why → IsTried why → IsEnding last → AllTried plan commands scope (acts ++ last ∷ [])
@@ -478,7 +478,7 @@ stop_tried plan commands scope acts last why runs stop tried ending = by_decided
   s : Model
   s = stood plan commands scope acts
 
-  -- the model after the last act, before what waits is lost
+  -- the model after the last act, before what is outstanding is lost
   t : Model
   t = moved plan commands (action_at plan s) (with_progress turned s) last
 
@@ -516,7 +516,7 @@ stop_tried plan commands scope acts last why runs stop tried ending = by_decided
   counted never = subst (λ (b : Bool). Counted (is_up s.progress.phase) last b) down
       (counted_moved plan commands (action_at plan s) s last split.1 (action_for plan s.progress (waiting_of s)) never)
 
-  -- where no try was left before the last act, all tries are used up
+  -- if no try was left before the last act, all tries are used up
   used : (Quits (action_at plan s) → ⊥) → s.progress.tries ≡ 0 → AllTried plan commands scope (acts ++ last ∷ [])
   used never none = all_tried plan commands scope acts last ending (counted never) (subst (λ n. Trying plan commands scope n (is_up s.progress.phase) acts) none (try_stood plan commands scope acts split.0 goes))
 

@@ -1,6 +1,6 @@
 -- Each record of a missed or a skipped command is of one that was missed or skipped for its cause, where cycles have due
--- moments and the clock doesn't go back. An act is one call of the link, with what came of it. A piece is the bytes that one
--- read gave.
+-- moments and the clock doesn't go back. An act is one call on the link, with its result. A piece is the bytes that one read
+-- gave.
 use Rattle.std.proofs.Common.{◌≡◌, ◌⊎◌, inl, inr, ℕ, ◌<◌, Bool, true, false, List, [], ◌∷◌, ◌++◌, drop, Option, Some, None, if◌then◌else◌, refl, sym, ap, ◌∙◌, subst, arith, append_assoc}
 use Rattle.std.specs.List.{AllByRecursion}
 use Rattle.gc_lines.specs.Frames.{rest_behind}
@@ -79,7 +79,7 @@ module _ (plan : Plan) (commands : List Task) (scope : Scope) (some : 0 < plan.e
           utc = x.utc;
         }
 
-  -- the record of a command that went out says nothing of being missed or skipped, so it is justified (`Truly`)
+  -- the record of a command that was sent says nothing of being missed or skipped, so it is justified (`Truly`)
   sent_truly : (acts : List Act) (r : Record) → went_out r.end ≡ true → Truly acts r
   sent_truly acts r out = (λ e. absurd (clash (went_out r.end) out (ap went_out e)), λ e. absurd (clash (went_out r.end) out (ap went_out e)))
 
@@ -103,7 +103,7 @@ module _ (plan : Plan) (commands : List Task) (scope : Scope) (some : 0 < plan.e
   came_truly acts true [] piece s h = lines_truly acts (with_rest (rest_behind s.rest piece) s) (lines_behind s.rest piece) h
   came_truly acts false word piece s h = h
 
-  -- the loss of what waits adds records that say nothing of being missed or skipped
+  -- the loss of what is outstanding adds records that say nothing of being missed or skipped
   losing_truly : (acts : List Act) (b : Bool) (s : Model) → AllByRecursion (Truly acts) s.records → AllByRecursion (Truly acts) (losing b s).records
   losing_truly acts true s h = all_append (Truly acts) s.records _ h (settled_truly acts s.reads s.progress.moment.utc s.marks (restarts s.client).settlements)
   losing_truly acts false s h = h
@@ -113,7 +113,7 @@ module _ (plan : Plan) (commands : List Task) (scope : Scope) (some : 0 < plan.e
   unsent_end true = (λ e. refl, λ e. cc)
   unsent_end false = (λ e. cc, λ e. refl)
 
-  -- a command of a missed cycle, which is passed over, is missed for its cause
+  -- a command of a missed cycle, which is left out, is missed for its cause
   skip_missed : (acts : List Act) (m : Moment) (p : Progress) (r : Record) → (Begun plan commands scope some) acts p → 0 < p.unsent → r.cycle ≡ cycles_begun plan p → r.sent ≡ None
       → r.utc ≡ skipped_at m p → p.missed ≡ true → IsMissedIn plan commands scope (acts ++ Told m ∷ []) r
   skip_missed acts m p r (inl none) here cycle sent utc missed = let nothing = none.1 in absurd (omega (arith, nothing, here))
@@ -128,13 +128,13 @@ module _ (plan : Plan) (commands : List Task) (scope : Scope) (some : 0 < plan.e
     due = utc ∙ picks p.missed p.due m.utc missed ∙ c.due;
   }
 
-  -- in a cycle that isn't missed, a command that is passed over is of a chain, and not its first
+  -- in a cycle that isn't missed, a command that is left out is of a chain, and not its first
   chain_of : (p : Progress) → ((p.missed ≡ true) ⊎ ((plan.setup < place_next commands p) × (is_chained (drop (place_next commands p) commands) ≡ true))) → p.missed ≡ false
       → (plan.setup < place_next commands p) × (is_chained (drop (place_next commands p) commands) ≡ true)
   chain_of p (inl missed) free = absurd (clash p.missed missed free)
   chain_of p (inr chain) free = chain
 
-  -- a command that is passed over in a cycle that isn't missed is skipped for its cause
+  -- a command that is left out in a cycle that isn't missed is skipped for its cause
   skip_skipped : (acts : List Act) (m : Moment) (r : Record) → (Begun plan commands scope some) acts (stood plan commands scope acts).progress
       → action_at plan (stood plan commands scope acts) ≡ actions.Skip
       → r.cycle ≡ cycles_begun plan (stood plan commands scope acts).progress → r.place ≡ place_next commands (stood plan commands scope acts).progress
@@ -169,7 +169,7 @@ module _ (plan : Plan) (commands : List Task) (scope : Scope) (some : 0 < plan.e
           utc = utc ∙ picks_other (stood plan commands scope acts).progress.missed (stood plan commands scope acts).progress.due m.utc free;
         }
 
-  -- the record of a command that is passed over is justified
+  -- the record of a command that is left out is justified
   skips_truly : (acts : List Act) (m : Moment) (left : List Task) → (Begun plan commands scope some) acts (stood plan commands scope acts).progress
       → action_at plan (stood plan commands scope acts) ≡ actions.Skip
       → AllByRecursion (Truly (acts ++ Told m ∷ [])) (skips_first (turned (stood plan commands scope acts).progress) m
@@ -181,7 +181,7 @@ module _ (plan : Plan) (commands : List Task) (scope : Scope) (some : 0 < plan.e
       let ends = unsent_end p.missed in
       ((λ e. skip_missed acts m p _ begun here refl refl refl (ends.0 e), λ e. skip_skipped acts m _ begun is refl refl refl refl (ends.1 e)), tt)
 
-  -- the records after an act, before what waits is lost, are justified
+  -- the records after an act, before what is outstanding is lost, are justified
   moved_truly : (acts : List Act) (next : Action) (act : Act) → (Begun plan commands scope some) acts (stood plan commands scope acts).progress → action_at plan (stood plan commands scope acts) ≡ next
       → AllByRecursion (Truly (acts ++ act ∷ [])) (stood plan commands scope acts).records
       → AllByRecursion (Truly (acts ++ act ∷ [])) (moved plan commands next (with_progress turned (stood plan commands scope acts)) act).records
@@ -197,7 +197,7 @@ module _ (plan : Plan) (commands : List Task) (scope : Scope) (some : 0 < plan.e
       let t = with_progress turned (stood plan commands scope acts) in
       subst (λ (x : Model). AllByRecursion (Truly (acts ++ act ∷ [])) x.records) (sym (moved_changed plan commands next t act)) all
 
-  -- where the clock doesn't go back in these acts, each record after them is justified
+  -- if the clock doesn't go back in these acts, each record after them is justified
   abbrev Written : List Act → Type 0
   Written acts = Rises 0 acts → AllByRecursion (Truly acts) (stood plan commands scope acts).records
 

@@ -1,5 +1,5 @@
 -- A connection is closed, and a run stops, because its turns are used up only after as many acts as it had turns. An act is one
--- call of the link, with what came of it.
+-- call on the link, with its result.
 use Rattle.std.proofs.Common.{◌≡◌, ℕ, ◌-◌, ◌≤◌, ◌⊎◌, inl, inr, List, [], ◌∷◌, ◌++◌, length, refl, sym, ap, ◌∙◌, subst, arith}
 use Rattle.std.proofs.lemmas.List.{length-append}
 use Rattle.gc_texts.specs.declared.tasks.Task.{Task}
@@ -27,7 +27,7 @@ turns_behind plan commands s (act ∷ acts) =
     ap (λ (p : Progress). p.turns) (ended_progress (moved plan commands (action_at plan s) (with_progress turned s) act)) ∙ turns_kept plan commands (action_at plan s) (with_progress turned s) act in
     omega (arith, on, one)
 
--- where no turn is left, as many acts were made as there were turns
+-- if no turn is left, as many acts were made as there were turns
 used_up : (plan : Plan) (commands : List Task) (scope : Scope) (acts : List Act) → (stood plan commands scope acts).progress.turns ≡ 0 → scope.turns ≤ length acts
 used_up plan commands scope acts none = let left : (stood plan commands scope acts).progress.turns ≡ scope.turns - length acts =
     turns_behind plan commands (opening plan scope) acts in omega (arith, none, left)
@@ -52,7 +52,7 @@ turns_only plan p n other (inr used) = sym used.0
 stop_used : (plan : Plan) (commands : List Task) (scope : Scope) (acts : List Act) → Runs plan commands (opening plan scope) acts
     → action_at plan (stood plan commands scope acts) ≡ actions.Stop cause.Turns → scope.turns ≤ length acts
 stop_used plan commands scope acts runs is = by_shown (stopped_for plan commands scope acts cause.Turns runs is).shown where
-  -- where the last act closed a connection for the turns, as many acts were made before it
+  -- if the last act closed a connection for the turns, as many acts were made before it
   before : (earlier : List Act) (last : Act) → acts ≡ earlier ++ last ∷ [] → action_at plan (stood plan commands scope earlier) ≡ actions.Close cause.Turns → scope.turns ≤ length acts
   before earlier last action closes =
       let front = (runs_split plan commands (opening plan scope) earlier [] last (subst (λ (xs : List Act). Runs plan commands (opening plan scope) xs) action runs)).0 in

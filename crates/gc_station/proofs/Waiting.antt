@@ -1,6 +1,6 @@
--- The requests that wait: each was put among the acts, in order; and since then no moment at or past its deadline was told, or
--- one was and the request is given up. What every run keeps of this, and of the truth of its records, is `Honest`. An act is
--- one call of the link, with what came of it.
+-- The outstanding requests: each was put among the acts, in order; and since then no moment at or past its deadline was read,
+-- or one was and the request has timed out. What every run keeps of this, and of the truth of its records, is `Honest`. An act
+-- is one call on the link, with its result.
 use Rattle.std.proofs.Common.{◌≡◌, ◌⊎◌, inl, inr, ℕ, ◌+◌, ◌<◌, ◌≤◌, ◌||◌, Bool, true, false, List, [], ◌∷◌, ◌++◌, length, map, Option, Some, nat_le, refl, sym, ap, ◌∙◌, subst, arith, append_assoc, length-append}
 use Rattle.std.specs.List.{AllByRecursion}
 use Rattle.std.proofs.lemmas.Bool.Decides.{nat_tests}
@@ -25,15 +25,15 @@ use Rattle.gc_station.specs.Model.{Model, IsSending, action_at, cycle_out, place
 use Rattle.gc_station.proofs.Lists.{all_append, all_on, Rows, rows_same, rows_map}
 use Rattle.gc_station.specs.Scopes.{Scope}
 
--- after these acts, the command with this mark goes out
+-- after these acts, the command with this mark is sent
 pub record Marked (plan : Plan) (commands : List Task) (scope : Scope) (acts : List Act) (mark : Mark) : Type 0 where
   pub sends : IsSending plan (stood plan commands scope acts)
   pub cycle : mark.cycle ≡ cycle_out plan (stood plan commands scope acts)
   pub place : mark.place ≡ place_out plan commands (stood plan commands scope acts)
   pub sent : mark.sent ≡ (stood plan commands scope acts).progress.moment.utc
 
--- the request p that waits at the place `at`, with this id and mark, was put among these acts; `number` acts came before it, and
--- `Stays` holds of the acts after it, by whether p is given up and its deadline
+-- the request p that waits at the place `at`, with this id and mark, was put among these acts; `number` acts came before it,
+-- and `Stays` holds of the acts after it, by whether p has timed out and its deadline
 pub record WasAsked (plan : Plan) (commands : List Task) (scope : Scope) (acts : List Act) (Stays : Bool → ℕ → List Act → Type 0) (number at with_id : ℕ) (p : Pending Asked) (mark : Option Mark) : Type 0 where
   pub before : List Act
   pub request : Act
@@ -47,18 +47,19 @@ pub record WasAsked (plan : Plan) (commands : List Task) (scope : Scope) (acts :
   pub deadline : (m : Mark) → mark ≡ Some m → p.deadline ≡ deadline_behind plan commands scope before
   pub stays : Stays p.given_up p.deadline between
 
--- of a request that is given up (`true`), a moment at or past its deadline was told in these acts; of one that isn't, none was
+-- of a request that has timed out (`true`), a moment at or past its deadline was read in these acts; of one that hasn't, none
+-- was
 abbrev pub Stayed : Bool → ℕ → List Act → Type 0
 Stayed true deadline acts = TellsPast deadline acts
 Stayed false deadline acts = AllByRecursion (IsBefore deadline) acts
 
--- as `Stayed`, where besides the acts the moment `now` was told, which isn't among them yet
+-- as `Stayed`, where besides the acts the moment `now` was read, which isn't among them yet
 abbrev pub StayedAt : ℕ → Bool → ℕ → List Act → Type 0
 StayedAt now true deadline acts = TellsPast deadline acts ⊎ (deadline ≤ now)
 StayedAt now false deadline acts = AllByRecursion (IsBefore deadline) acts × (now < deadline)
 
--- a request that waits at the place `at` was put among these acts, with the id of that place, and `Stayed` holds of it since. The
--- client's next id is `next`, and `count` requests wait
+-- an outstanding request at the place `at` was put among these acts, with the id of that place, and `Stayed` holds of it since.
+-- The client's next id is `next`, and `count` requests wait
 abbrev pub Waits : Plan → List Task → Scope → List Act → (next count : ℕ) → (number at : ℕ) → Pending Asked → Option Mark → Type 0
 Waits plan commands scope acts next count number at p mark = WasAsked plan commands scope acts Stayed number at (id_at next count at) p mark
 
@@ -74,8 +75,8 @@ pub record IsTrue (plan : Plan) (commands : List Task) (scope : Scope) (acts : L
   pub late : IsTrulyLate plan commands scope acts r
   pub lost : IsTrulyLost plan commands scope acts r
 
--- what every run keeps: the requests that wait at the client c, with these marks, were put among the acts, in order (`Waits`);
--- and the records are true by `all` acts
+-- what every run keeps: the outstanding requests at the client c, with these marks, were put among the acts, in order
+-- (`Waits`); and the records are true by `all` acts
 pub record Honest (plan : Plan) (commands : List Task) (scope : Scope) (acts all : List Act) (c : ById Asked) (marks : List (Option Mark)) (records : List Record) : Type 0 where
   pub waiting : Rows (Waits plan commands scope acts c.next (length c.waiting)) 0 0 c.waiting marks
   pub written : AllByRecursion (IsTrue plan commands scope all) records
@@ -130,11 +131,11 @@ asked_among plan commands scope acts S number at id p mark s =
     let many = s.many in
     omega (arith, whole, many)
 
--- a moment at or past d that was told among acts was told among them and more
+-- a moment at or past d that was read among acts was read among them and more
 pub past_more : (d : ℕ) (xs ys : List Act) → TellsPast d xs → TellsPast d (xs ++ ys)
 past_more d xs ys t = record { earlier = t.earlier; telling = t.telling; later = t.later ++ ys; at = ap (λ zs. zs ++ ys) t.at ∙ append_assoc t.earlier (t.telling ∷ t.later) ys; past = t.past }
 
--- a moment at or past d that the last act tells was told
+-- a moment at or past d that the last act reads was read
 pub past_here : (d : ℕ) (xs : List Act) (act : Act) → IsPast d act → TellsPast d (xs ++ act ∷ [])
 past_here d xs act on = record { earlier = xs; telling = act; later = []; at = refl; past = on }
 
@@ -220,8 +221,8 @@ true_more plan commands scope acts act r obeys is = record { answered = answered
         written = a.written;
         shown = on a a.shown;
       } where
-        -- why a request is lost holds with one act more: a later request's reply came, or the station began anew; it isn't that
-        -- the run stopped
+        -- why a request is lost holds with one act more: a later request's reply came, or the station resynchronized; it isn't
+        -- that the run stopped
         on : (a : IsLostIn plan commands scope acts r) → IsOvertaken plan commands scope a.before a.request a.between a.act
             ⊎ (BeginsAnew plan commands scope (a.before ++ a.request ∷ a.between) a.act ⊎ IsLast plan commands scope (a.before ++ a.request ∷ a.between) a.act a.behind)
             → IsOvertaken plan commands scope a.before a.request a.between a.act
@@ -237,12 +238,12 @@ pub more_true : (plan : Plan) (commands : List Task) (scope : Scope) (acts : Lis
 more_true plan commands scope acts act rs obeys all = all_on (IsTrue plan commands scope acts) (IsTrue plan commands scope (acts ++ act ∷ [])) rs
     (λ r is. true_more plan commands scope acts act r obeys is) all
 
--- an act that tells no moment keeps `Stayed`
+-- an act that reads no moment keeps `Stayed`
 pub stays_still : (act : Act) → ((d : ℕ) → IsBefore d act) → (b : Bool) (d : ℕ) (xs : List Act) → Stayed b d xs → Stayed b d (xs ++ act ∷ [])
 stays_still act on true d xs told = past_more d xs (act ∷ []) told
 stays_still act on false d xs all = all_append (IsBefore d) xs (act ∷ []) all (on d, tt)
 
--- an act that changes nothing of the client, and tells no moment, keeps `Honest`
+-- an act that changes nothing of the client, and reads no moment, keeps `Honest`
 pub still : (plan : Plan) (commands : List Task) (scope : Scope) (acts : List Act) (act : Act) (c : ById Asked) (marks : List (Option Mark)) (rs : List Record) → ((d : ℕ) → IsBefore d act)
     → Honest plan commands scope acts (acts ++ act ∷ []) c marks rs → Honest plan commands scope (acts ++ act ∷ []) (acts ++ act ∷ []) c marks rs
 still plan commands scope acts act c marks rs on h = record {
@@ -279,11 +280,11 @@ at_moment plan commands scope acts now number at id p mark s = record {
   stays = stays_at now p.given_up p.deadline s.between s.stays;
 }
 
--- the client once the requests whose deadline has come at this moment are given up
+-- the client once the requests whose deadline has come at this moment have timed out
 abbrev pub at_expired : ById Asked → ℕ → ById Asked
 at_expired c now = record { next = c.next; waiting = map (expired now) c.waiting }
 
--- once the moment `now` has given up the requests whose deadline has come, the same requests wait, as `WaitsAt` says
+-- once the moment `now` has timed out the requests whose deadline has come, the same requests wait, as `WaitsAt` says
 pub expired_waits : (plan : Plan) (commands : List Task) (scope : Scope) (acts : List Act) (now : ℕ) (c : ById Asked) (marks : List (Option Mark))
     → Rows (Waits plan commands scope acts c.next (length c.waiting)) 0 0 c.waiting marks
     → Rows (WaitsAt plan commands scope acts c now c.next (length (map (expired now) c.waiting))) 0 0 (map (expired now) c.waiting) marks
@@ -296,14 +297,14 @@ expired_waits plan commands scope acts now c marks all =
 pub expired_window : (c : ById Asked) (now : ℕ) → IsWindow c → IsWindow (at_expired c now)
 expired_window c now w = record { digit = w.digit; few = let n : length (map (expired now) c.waiting) ≡ length c.waiting = length-map c.waiting (expired now) in omega (arith, n, w.few) }
 
--- once the act that tells the moment `now` is among the acts, `StayedAt` becomes `Stayed`
+-- once the act that reads the moment `now` is among the acts, `StayedAt` becomes `Stayed`
 stays_behind : (act : Act) (now : ℕ) → ((d : ℕ) → now < d → IsBefore d act) → ((d : ℕ) → d ≤ now → IsPast d act) → (b : Bool) (d : ℕ) (xs : List Act)
     → StayedAt now b d xs → Stayed b d (xs ++ act ∷ [])
 stays_behind act now on past true d xs (inl told) = past_more d xs (act ∷ []) told
 stays_behind act now on past true d xs (inr reached) = past_here d xs act (past d reached)
 stays_behind act now on past false d xs both = all_append (IsBefore d) xs (act ∷ []) both.0 (on d both.1, tt)
 
--- the requests that wait as `WaitsAt` says wait as `Waits` says after the act that tells the moment
+-- the outstanding requests as `WaitsAt` says wait as `Waits` says after the act that reads the moment
 pub behind_moment : (plan : Plan) (commands : List Task) (scope : Scope) (acts : List Act) (act : Act) (client : ById Asked) (now next count : ℕ) (ps : List (Pending Asked)) (marks : List (Option Mark))
     → ((d : ℕ) → now < d → IsBefore d act) → ((d : ℕ) → d ≤ now → IsPast d act)
     → Rows (WaitsAt plan commands scope acts client now next count) 0 0 ps marks → Rows (Waits plan commands scope (acts ++ act ∷ []) next count) 0 0 ps marks
@@ -311,7 +312,7 @@ behind_moment plan commands scope acts act client now next count ps marks on pas
     rows_same (WaitsAt plan commands scope acts client now next count) (Waits plan commands scope (acts ++ act ∷ []) next count) 0 0 ps marks
     (λ n j p mark w. asked_more plan commands scope acts act (StayedAt now) Stayed n j _ p mark (stays_behind act now on past) w.0) all
 
--- an act that tells a moment, and so gives requests up, keeps `Honest`
+-- an act that reads a moment, and so times requests out, keeps `Honest`
 pub moment_told : (plan : Plan) (commands : List Task) (scope : Scope) (acts : List Act) (act : Act) (now : ℕ) (c : ById Asked) (marks : List (Option Mark))
     (rs : List Record) → ((d : ℕ) → now < d → IsBefore d act) → ((d : ℕ) → d ≤ now → IsPast d act)
     → Honest plan commands scope acts (acts ++ act ∷ []) c marks rs → Honest plan commands scope (acts ++ act ∷ []) (acts ++ act ∷ []) (at_expired c now) marks rs

@@ -1,6 +1,6 @@
 -- One walk over the actions: which fields an act of each action changes (`changed`), and what has to hold for a fact to hold
 -- after it (`Behind`). A new action is a row in each of these tables; a fact about all actions is an instance. An act is one
--- call of the link, with what came of it.
+-- call on the link, with its result.
 use Rattle.std.proofs.Common.{◌≡◌, ℕ, Bool, true, false, List, [], ◌∷◌, drop, if◌then◌else◌, refl, sym, subst}
 use Rattle.gc_lines.specs.Frames.{rest_behind}
 use Rattle.gc_catalogue.specs.declared.asked.Asked.TheVariants.{Table}
@@ -31,20 +31,20 @@ pub lines_along : (P : Model → Type 0) → ((t : Model) (line : List ℕ) → 
 lines_along P step s [] p = p
 lines_along P step s (line ∷ others) p = lines_along P step (line_came s line) others (step s line p)
 
--- a fact of progresses that each line heard while a station begins keeps is kept by all of them
+-- a fact of progresses that each line heard while a station synchronizes keeps is kept by all of them
 pub asked_along : (P : Progress → Type 0) → ((q : Progress) (line : List ℕ) → P q → P (line_asked q line)) → (p : Progress) (lines : List (List ℕ)) → P p → P (lines_asked p lines)
 asked_along P step p [] h = h
 asked_along P step p (line ∷ others) h = asked_along P step (line_asked p line) others (step p line h)
 
--- a fact of models that each line keeps is kept by a piece, if it is also where the piece is heard while the station begins, or
--- dropped
+-- a fact of models that each line keeps is kept by a piece, if it is also if the piece is heard while the station synchronizes,
+-- or discarded
 pub came_along : (P : Model → Type 0) → ((t : Model) (line : List ℕ) → P t → P (line_came t line)) → (heard : Bool) (word piece : List ℕ) (s : Model)
     → P (with_rest (rest_behind s.rest piece) s) → P (piece_asked piece s) → P s → P (came heard word piece s)
 came_along P step true [] piece s hears begins drops = lines_along P step (with_rest (rest_behind s.rest piece) s) (lines_behind s.rest piece) hears
 came_along P step true (asked ∷ others) piece s hears begins drops = begins
 came_along P step false word piece s hears begins drops = drops
 
--- a fact of progresses is kept where a read gave nothing, if it is where a pause ends, where a drain ends, and where neither does
+-- a fact of progresses is kept if a read gave nothing, if it is if a pause ends, if a drain ends, and if neither does
 pub quieted_along : (P : Progress → Type 0) (plan : Plan) (at : Phase) (p : Progress) → P (pause_ended plan p) → P (drained p) → P p → P (quieted plan at p)
 quieted_along P plan Pausing p paused quiet same = paused
 quieted_along P plan Draining p paused quiet same = by_test (is_quiet plan p) where
@@ -54,7 +54,7 @@ quieted_along P plan Draining p paused quiet same = by_test (is_quiet plan p) wh
   by_test false = same
 quieted_along P plan at p paused quiet same = same
 
--- a fact of progresses is kept by a close, if it is where the run ends, and where another connection may be made
+-- a fact of progresses is kept by a close, if it is if the run ends, and if another connection may be made
 pub closed_along : (P : Progress → Type 0) (plan : Plan) (w : Waiting) (why : Cause) (p : Progress) → P (ended_for why p) → P (again plan w.commands why p) → P (closed plan w why p)
 closed_along P plan w cause.Done p ends on = ends
 closed_along P plan w cause.Clock p ends on = ends
@@ -80,18 +80,18 @@ first_sent next_is_chained behind mark (task ∷ others) s = refl
 pub is_sent : (plan : Plan) (commands : List Task) (s : Model) → sending plan commands s ≡ with_progress (sent (is_chained_behind_next commands s.progress) (others_behind_next commands s.progress)) (asks_next plan commands s)
 is_sent plan commands s = first_sent (is_chained_behind_next commands s.progress) (others_behind_next commands s.progress) (mark_next plan commands s.progress) (drop (place_next commands s.progress) commands) s
 
--- the model that sent the next command of the set-up, by its fields
+-- the model that sent the next command of the setup, by its fields
 abbrev pub preparing : Plan → List Task → Model → Model
 preparing plan commands s = record s { progress = setup_sent plan s.progress; client = (asks_setup plan commands s).client; marks = (asks_setup plan commands s).marks }
 
--- the model that sent the first of these commands of the set-up, by its fields, is that after the send
+-- the model that sent the first of these commands of the setup, by its fields, is that after the send
 first_prepared : (plan : Plan) (mark : Mark) (left : List Task) (s : Model)
     → record s { progress = setup_sent plan s.progress; client = (asks_or_null plan mark left s).client; marks = (asks_or_null plan mark left s).marks }
     ≡ with_progress (setup_sent plan) (asks_or_null plan mark left s)
 first_prepared plan mark [] s = refl
 first_prepared plan mark (task ∷ others) s = refl
 
--- the model that sent the next command of the set-up, by its fields (`preparing`), is that after the act that sends
+-- the model that sent the next command of the setup, by its fields (`preparing`), is that after the act that sends
 pub is_prepared : (plan : Plan) (commands : List Task) (s : Model) → preparing plan commands s ≡ with_progress (setup_sent plan) (asks_setup plan commands s)
 is_prepared plan commands s = first_prepared plan (mark_setup commands s.progress) (drop s.progress.prepared commands) s
 
@@ -144,11 +144,11 @@ changed_by (Stop why) s t = s
 abbrev pub changed : Action → Model → Model → Model
 changed action s t = record (changed_by action s t) { progress = record (progress_of action s.progress t.progress) { turns = s.progress.turns }; reads = s.reads }
 
--- the progress p with those fields of q that lines change which are heard while the station begins
+-- the progress p with those fields of q that lines change which are heard while the station synchronizes
 abbrev asked_of : Progress → Progress → Progress
 asked_of p q = record p { word = q.word; again = q.again; alive = q.alive; asked = q.asked; behind = q.behind }
 
--- lines that are heard while the station begins change what `asked_of` says
+-- lines that are heard while the station synchronizes change what `asked_of` says
 lines_changed : (p : Progress) (lines : List (List ℕ)) → lines_asked p lines ≡ asked_of p (lines_asked p lines)
 lines_changed p lines = asked_along (λ (q : Progress). q ≡ asked_of p q) (λ q line e. subst (λ (r : Progress). line_asked r line ≡ asked_of p (line_asked r line)) (sym e) refl) p lines refl
 
@@ -165,7 +165,7 @@ gave_changed plan until s bytes m =
     let is = came_along (λ (t : Model). t ≡ piece_of mid t) (λ t line e. subst (λ (u : Model). line_came u line ≡ piece_of mid (line_came u line))
     (sym e) refl) heard s.progress.word bytes mid refl (begins mid (lines_behind s.rest bytes) (rest_behind s.rest bytes)) refl in
     subst (λ (u : Model). reckoned plan until n u ≡ changed (Read until) s (reckoned plan until n u)) (sym is) refl where
-      -- the lemma above for a piece that is heard while the station begins
+      -- the lemma above for a piece that is heard while the station synchronizes
       begins : (t : Model) (lines : List (List ℕ)) (rest : List ℕ) → record t { progress = lines_asked t.progress lines; rest = rest } ≡ piece_of t
           (record t { progress = lines_asked t.progress lines; rest = rest })
       begins t lines rest = subst (λ (q : Progress). record t { progress = q; rest = rest } ≡ piece_of t (record t { progress = q; rest = rest })) (sym (lines_changed t.progress lines)) refl
@@ -215,8 +215,8 @@ moved_changed plan commands (Read until) s act = refl
 moved_changed plan commands (Close why) s act = closed_changed plan why s
 moved_changed plan commands (Stop why) s act = refl
 
--- What has to hold for a fact to hold after an act of an action: where it goes well, and where it doesn't. The former is given
--- a moment and the latter a number, also where no clock is read and no bytes are cut, so that one row serves many actions.
+-- What has to hold for a fact to hold after an act of an action: if it goes well, and if it doesn't. The former is given a
+-- moment and the latter a number, also if no clock is read and no bytes are cut, so that one row serves many actions.
 
 -- what has to hold for P to hold after an act that puts these bytes: P after a whole write, and P after one that is cut. The
 -- number is how many requests the bytes have

@@ -1,6 +1,6 @@
--- What an act leaves of a station's word, the ids of its beginning that aren't answered: what the lines that the act brings
--- leave, unless the station begins anew. An act is one call of the link, with what came of it. A piece is the bytes that one
--- read gave.
+-- What an act leaves of a station's word, the ids of its synchronization that aren't answered: what the lines that the act
+-- brings leave, unless the station resynchronizes. An act is one call on the link, with its result. A piece is the bytes that
+-- one read gave.
 use Rattle.std.proofs.Common.{◌≡◌, ℕ, Bool, true, false, List, [], ◌∷◌, length, if◌then◌else◌, refl, sym, ap, ◌∙◌, subst, arith}
 use Rattle.std.proofs.lemmas.List.{nil_from_length}
 use Rattle.gc_lines.specs.Frames.{rest_behind}
@@ -22,24 +22,24 @@ use Rattle.gc_station.proofs.Invariant.{Invariant}
 use Rattle.gc_station.proofs.Midway.{clash}
 use Rattle.gc_station.proofs.Walk.{lines_along, quieted_along, closed_along, walk}
 
--- where all ids are answered, lines leave none
+-- if all ids are answered, lines leave none
 pub left_none : (lines : List (List ℕ)) → left_behind [] lines ≡ []
 left_none [] = refl
 left_none (line ∷ others) = left_none others
 
--- lines that are heard while the station begins leave of the ids what `left_behind` says
+-- lines that are heard while the station synchronizes leave of the ids what `left_behind` says
 word_asked : (p : Progress) (lines : List (List ℕ)) → (lines_asked p lines).word ≡ left_behind p.word lines
 word_asked p [] = refl
 word_asked p (line ∷ others) = word_asked (line_asked p line) others
 
--- a piece leaves of the ids what its lines leave, where they are heard
+-- a piece leaves of the ids what its lines leave, if they are heard
 word_came : (h : Bool) (word piece : List ℕ) (s : Model) → s.progress.word ≡ word → (came h word piece s).progress.word ≡ left_behind word (if h then lines_behind s.rest piece else [])
 word_came true [] piece s e =
     lines_along (λ (t : Model). t.progress.word ≡ []) (λ t line same. same) (with_rest (rest_behind s.rest piece) s) (lines_behind s.rest piece) e ∙ sym (left_none (lines_behind s.rest piece))
 word_came true (asked ∷ others) piece s e = word_asked s.progress (lines_behind s.rest piece) ∙ ap (λ (w : List ℕ). left_behind w (lines_behind s.rest piece)) e
 word_came false word piece s e = e
 
--- where a station begins after a piece, it began before it
+-- if a station synchronizes after a piece, it began before it
 pub begins_before : (h : Bool) (word piece : List ℕ) (s : Model) → s.progress.word ≡ word → has_begun (came h word piece s).progress ≡ false → is_none_left word ≡ false
 begins_before h [] piece s e f =
     let lines = if h then lines_behind s.rest piece else [] in absurd (clash (has_begun (came h [] piece s).progress) (ap is_none_left (word_came h [] piece s e ∙ left_none lines)) f)
@@ -77,21 +77,21 @@ module _ (plan : Plan) (commands : List Task) where
     by_word [] e b = ap is_none_left (word_moved s o act obeys other ∙ ap (λ (w : List ℕ). left_behind w (heard_at s act)) e ∙ left_none (heard_at s act))
     by_word (asked ∷ others) e b = cc
 
-  -- where a chain goes on, the station doesn't begin anew
+  -- if a chain goes on, the station doesn't resynchronize
   pub begun_kept : (s : Model) (o : Action) (act : Act) → Performs commands s o act → has_begun s.progress ≡ true → (moved plan commands o (with_progress turned s) act).progress.chain_unbroken ≡ true
       → has_begun (moved plan commands o (with_progress turned s) act).progress ≡ true
   begun_kept s actions.Renew (Told m) obeys begun whole = cc
   begun_kept s actions.Renew act obeys begun whole = begun
   begun_kept s o act obeys begun whole = begun_other s o act obeys (λ e. cc) begun
 
-  -- a station begins anew only where it reads the clock for that
+  -- a station resynchronizes only if it reads the clock for that
   pub renews_only : (s : Model) (o : Action) (act : Act) → Performs commands s o act → has_begun s.progress ≡ true → has_begun (moved plan commands o (with_progress turned s) act).progress ≡ false
       → (o ≡ actions.Renew) × (m : Moment) × (act ≡ Told m)
   renews_only s actions.Renew (Told m) obeys begun begins = (refl, m, refl)
   renews_only s actions.Renew act obeys begun begins = absurd (clash (has_begun s.progress) begun begins)
   renews_only s o act obeys begun begins = absurd (clash (has_begun (moved plan commands o (with_progress turned s) act).progress) (begun_other s o act obeys (λ e. cc) begun) begins)
 
--- where a station begins anew, seven wait, which are all given up
+-- if a station resynchronizes, seven are outstanding, which have all timed out
 pub renews_needs : (plan : Plan) (commands : List Task) (s : Model) (o : Action) → Invariant plan commands s → o ≡ actions.Renew
     → IsFor plan s.progress (waiting_of s) o → (length s.client.waiting ≡ WINDOW) × (deadlines s.client.waiting ≡ [])
 renews_needs plan commands s o fine is needs =

@@ -1,5 +1,5 @@
--- Where an answer comes from, in an operator's words, this project's own: its own request went out, and the line came after it,
--- with its id, before a moment at or past its deadline was told. An act is one call of the link, with what came of it.
+-- Where an answer comes from, in an operator's words, this project's own: its own request was sent, and the line came after it,
+-- with its id, before a moment at or past its deadline was read. An act is one call on the link, with its result.
 use Rattle.std.specs.Prelude.{◌≡◌, ℕ, ◌<◌, List, [], ◌∷◌, ◌++◌, drop, Option, Some, None}
 use Rattle.std.specs.List.{AllByRecursion}
 use Rattle.gc_client.specs.Rule.{heard}
@@ -14,27 +14,28 @@ use Rattle.gc_station.specs.Runs.{stood}
 use Rattle.gc_station.specs.Model.{Puts, IsSending, cycle_out, place_out, request_text, lines_behind}
 use Rattle.gc_station.specs.Scopes.{Scope}
 
--- an act tells no moment at or past this deadline
+-- an act reads no moment at or past this deadline
 abbrev pub IsBefore : ℕ → Act → Type 0
 IsBefore deadline (Told m) = m.elapsed < deadline
 IsBefore deadline (Gave bytes m) = m.elapsed < deadline
 IsBefore deadline (Silent m) = m.elapsed < deadline
 IsBefore deadline _ = Unit {0}
 
--- how long the first of these commands waits; 0 where there is none
+-- how long the first of these commands waits; 0 if there is none
 abbrev pub first_deadline : List Task → ℕ
 first_deadline [] = 0
 first_deadline (task ∷ others) = task.deadline
 
--- the deadline of the next command, if its request goes out directly after these acts
+-- the deadline of the next command, if its request is sent directly after these acts
 abbrev pub deadline_behind : Plan → List Task → Scope → List Act → ℕ
 deadline_behind plan commands scope acts =
     let s = stood plan commands scope acts in
     later s.progress.moment.elapsed (first_deadline (drop (place_out plan commands s) commands))
 
--- the acts are, in this order: `before`; `request`, which puts the request of the record r, of its cycle and place, where the moment
--- told last is the one that the record has for it; `between`, in which no moment at or past the request's deadline is told; a read
--- before that deadline, whose piece completes `line`, with the request's id; and `behind`. At that read r is written down
+-- the acts are, in this order: `before`; `request`, which puts the request of the record r, of its cycle and place, where the
+-- moment read last is the one that the record has for it; `between`, in which no moment at or past the request's deadline is
+-- read; a read before that deadline, whose piece completes `line`, with the request's id; and `behind`. At that read r is
+-- recorded
 pub record IsAnsweredIn (plan : Plan) (commands : List Task) (scope : Scope) (acts : List Act) (r : Record) (line : List ℕ) : Type 0 where
   pub before : List Act
   pub request : Act

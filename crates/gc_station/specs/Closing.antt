@@ -1,4 +1,4 @@
--- Why each act is made, and why a connection is closed: this project's own. An act is one call of the link, with what came of it.
+-- Why each act is made, and why a connection is closed: this project's own. An act is one call on the link, with its result.
 use Rattle.std.specs.Prelude.{◌≡◌, ◌⊎◌, ℕ, false, List, [], ◌∷◌, ◌++◌}
 use Rattle.gc_client.specs.Rule.{fresh}
 use Rattle.gc_texts.specs.declared.tasks.Task.{Task}
@@ -17,7 +17,8 @@ use Rattle.gc_station.specs.Runs.{stood}
 use Rattle.gc_station.specs.Model.{Model, waiting_of, action_at, Performs}
 use Rattle.gc_station.specs.Scopes.{Scope}
 
--- where a null procedure of a beginning goes out nothing waits, and the client is new: the first command after the beginning has id 0
+-- if a null procedure of a synchronization is sent nothing is outstanding, and the client is new: the first command after the
+-- synchronization has id 0
 abbrev pub IsAlone : Action → Model → Type 0
 IsAlone Ask s = (s.client ≡ fresh) × (s.marks ≡ [])
 IsAlone _ s = Unit {0}
@@ -43,14 +44,15 @@ pub record ClosesForACause (plan : Plan) (commands : List Task) (scope : Scope) 
   pub shown : IsAtItsEnd plan (stood plan commands scope acts).progress (waiting_of (stood plan commands scope acts)) why
       ⊎ ((earlier : List Act) × (last : Act) × (acts ≡ earlier ++ last ∷ []) × Shows why last)
 
--- a run ends as done: no command is left to be sent, and none waits
+-- a run ends as done: no command is left to be sent, and none is outstanding
 abbrev pub EndsDone : Progress → ℕ → Cause → Type 0
 EndsDone p commands why = (why ≡ cause.Done) × (p.left ≡ 0) × (p.unsent ≡ 0) × (commands ≡ 0)
 
--- a connection was closed, or couldn't be made, for the first of these causes, while `commands` commands waited; and then the
--- run ends for the cause `why`. After `Clock` (the clock can't be read), `Turns` (all turns are used up), `Stale` and `Stopped`, `why`
--- is that same cause. After `Done` it is `Done`: no command is left to be sent, and none waits. After any other cause the run is done in the
--- same way; or `why` is that other cause, a new connection would take a try, and no try is left
+-- a connection was closed, or couldn't be made, for the first of these causes, while `commands` commands were outstanding; and
+-- then the run ends for the cause `why`. After `Clock` (the clock can't be read), `Turns` (all turns are used up), `Stale` and
+-- `Stopped`, `why` is that same cause. After `Done` it is `Done`: no command is left to be sent, and none is outstanding. After
+-- any other cause the run is done in the same way; or `why` is that other cause, a new connection would take a try, and no try
+-- is left
 abbrev pub EndsBehind : Plan → Progress → ℕ → Cause → Cause → Type 0
 EndsBehind plan p commands cause.Done why = EndsDone p commands why
 EndsBehind plan p commands cause.Clock why = why ≡ cause.Clock
@@ -67,7 +69,7 @@ EndsGone plan p w next why act =
     ((other : Cause) × (act ≡ Closed) × (next ≡ Close other) × EndsBehind plan p w.commands other why)
     ⊎ ((act ≡ Unopened) × EndsBehind plan p w.commands cause.Open why)
 
--- an act ends a run for a cause: a call failed where there was no connection, or the connection is gone, and no other is made
+-- an act ends a run for a cause: a call failed if there was no connection, or the connection is gone, and no other is made
 abbrev pub Ends : Plan → Model → Cause → Act → Type 0
 Ends plan s why act = ((is_up s.progress.phase ≡ false) × Shows why act) ⊎ EndsGone plan s.progress (waiting_of s) (action_at plan s) why act
 

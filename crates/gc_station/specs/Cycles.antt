@@ -1,6 +1,6 @@
--- When cycles begin, and which commands aren't sent, in the acts' own moments: this project's own. Cycles are due on a grid: the
--- first when it begins, and each other one `every` milliseconds after the one before it. An act is one call of the link, with what
--- came of it.
+-- When cycles begin, and which commands aren't sent, in the acts' own moments: this project's own. Cycles are due on a grid:
+-- the first when it begins, and each other one `every` milliseconds after the one before it. An act is one call on the link,
+-- with its result.
 use Rattle.std.specs.Prelude.{◌≡◌, ℕ, zero, suc, ◌+◌, ◌-◌, ◌<◌, ◌≤◌, true, false, List, [], ◌∷◌, ◌++◌, drop, None}
 use Rattle.std.specs.List.{AllByRecursion}
 use Rattle.gc_texts.specs.Endings.{Skipped, Missed}
@@ -15,7 +15,7 @@ use Rattle.gc_station.specs.Model.{opening, action_at, waiting_of, cycles_begun,
 use Rattle.gc_station.specs.declared.plan.Plan.{Plan}
 use Rattle.gc_station.specs.declared.progress.Action.TheVariants.{Begin, Send, Skip}
 
--- the clock doesn't go back: the first moment that these acts tell is at or past `now`, each later one at or past the one
+-- the clock doesn't go back: the first moment that these acts read is at or past `now`, each later one at or past the one
 -- before it, and all have 64 bits
 abbrev pub Rises : ℕ → List Act → Type 0
 Rises now [] = Unit {0}
@@ -24,7 +24,7 @@ Rises now (Gave bytes m ∷ acts) = (now ≤ m.elapsed) × (m.elapsed ≤ 184467
 Rises now (Silent m ∷ acts) = (now ≤ m.elapsed) × (m.elapsed ≤ 18446744073709551615) × Rises m.elapsed acts
 Rises now (act ∷ acts) = Rises now acts
 
--- the due moment of the cycle that has n cycles before it, where the first one began at `first`
+-- the due moment of the cycle that has n cycles before it, if the first one began at `first`
 abbrev pub due_behind : ℕ → ℕ → ℕ → ℕ
 due_behind first every zero = first
 due_behind first every (suc n) = due_behind first every n + every
@@ -60,7 +60,7 @@ CyclesBeginWhenDue =
     → Rises 0 (acts ++ Told m ∷ []) → action_at plan (stood plan commands scope acts) ≡ Begin
     → (late : ℕ) × BeginsLate plan commands scope (acts ++ Told m ∷ []) (cycles_begun plan (stood plan commands scope acts).progress) m late
 
--- where a command goes out, its cycle began before the next one was due, if cycles have due moments and the clock doesn't go back
+-- if a command is sent, its cycle began before the next one was due, if cycles have due moments and the clock doesn't go back
 abbrev pub SentOnlyInTime : Type 0
 SentOnlyInTime =
     (plan : Plan) (commands : List Task) (scope : Scope) (acts : List Act) → 0 < plan.every → Runs plan commands (opening plan scope) acts → Rises 0 acts
@@ -78,9 +78,9 @@ pub record IsMissedIn (plan : Plan) (commands : List Task) (scope : Scope) (acts
   pub sent : r.sent ≡ None
   pub due : r.utc ≡ moment.utc - late
 
--- the command of a record is skipped: it is of a chain, and not its first; its cycle began before the next one was due; it wasn't sent,
--- because the one before it wasn't answered well, or a connection was closed or the station began anew since that one went out; and the
--- record has the moment at which the command was passed over
+-- the command of a record is skipped: it is of a chain, and not its first; its cycle began before the next one was due; it
+-- wasn't sent, because the one before it wasn't answered well, or a connection was closed or the station resynchronized since
+-- that one was sent; and the record has the moment at which the command was left out
 pub record IsSkippedIn (plan : Plan) (commands : List Task) (scope : Scope) (acts : List Act) (r : Record) : Type 0 where
   pub before : List Act
   pub moment : Moment

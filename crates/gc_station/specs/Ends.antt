@@ -1,7 +1,7 @@
--- How a request ends that has no answer, in an operator's words, this project's own. Late: its own request went out, then a moment
--- at or past its deadline was told, and only then a line came with its id. Lost: its own request went out, and at the act that
--- wrote it down as lost a line came with the id of a request that was put after it, or the station begins anew, because seven wait
--- that are all given up, or the run stopped. An act is one call of the link, with what came of it.
+-- How a request ends that has no answer, in an operator's words, this project's own. Late: its own request was sent, then a
+-- moment at or past its deadline was read, and only then a line came with its id. Lost: its own request was sent, and at the
+-- act that recorded it as lost a line came with the id of a request that was put after it, or the station resynchronizes,
+-- because seven are outstanding that have all timed out, or the run stopped. An act is one call on the link, with its result.
 use Rattle.std.specs.Prelude.{◌≡◌, ◌⊎◌, ℕ, ◌≤◌, List, [], ◌∷◌, ◌++◌, length, Some}
 use Rattle.gc_catalogue.specs.declared.asked.Asked.{Asked}
 use Rattle.gc_client.specs.Ids.{Waits}
@@ -21,14 +21,14 @@ use Rattle.gc_station.specs.Runs.{stood}
 use Rattle.gc_station.specs.Model.{Puts, IsSending, action_at, cycle_out, place_out, request_text, lines_behind}
 use Rattle.gc_station.specs.Scopes.{Scope}
 
--- an act tells a moment at or past this one
+-- an act reads a moment at or past this one
 abbrev pub IsPast : ℕ → Act → Type 0
 IsPast deadline (Told m) = deadline ≤ m.elapsed
 IsPast deadline (Gave bytes m) = deadline ≤ m.elapsed
 IsPast deadline (Silent m) = deadline ≤ m.elapsed
 IsPast deadline _ = ⊥
 
--- among these acts one tells a moment at or past this one
+-- among these acts one reads a moment at or past this one
 pub record TellsPast (deadline : ℕ) (acts : List Act) : Type 0 where
   pub earlier : List Act
   pub telling : Act
@@ -36,8 +36,9 @@ pub record TellsPast (deadline : ℕ) (acts : List Act) : Type 0 where
   pub at : acts ≡ earlier ++ telling ∷ later
   pub past : IsPast deadline telling
 
--- after these acts, this act puts the very request of record `r`: the station's next action is a send; the cycle and the place are the
--- record's; the moment told last is the one that the record has as `sent`; and what is put is the request line of the record's call
+-- after these acts, this act puts the very request of record `r`: the station's next action is a send; the cycle and the place
+-- are the record's; the moment read last is the one that the record has as `sent`; and what is put is the request line of the
+-- record's call
 pub record IsOwnRequest (plan : Plan) (commands : List Task) (scope : Scope) (acts : List Act) (act : Act) (r : Record) : Type 0 where
   pub sends : IsSending plan (stood plan commands scope acts)
   pub cycle : r.cycle ≡ cycle_out plan (stood plan commands scope acts)
@@ -53,14 +54,14 @@ pub record Brings (plan : Plan) (commands : List Task) (scope : Scope) (acts : L
   pub came : lines_behind (stood plan commands scope acts).rest piece ≡ front ++ line ∷ others
   pub has : heard line ≡ Some id
 
--- after these acts, this act writes a record down
+-- after these acts, this act writes a record
 pub record IsWrittenAt (plan : Plan) (commands : List Task) (scope : Scope) (acts : List Act) (act : Act) (r : Record) : Type 0 where
   pub earlier : List Record
   pub later : List Record
   pub written : (stood plan commands scope (acts ++ act ∷ [])).records ≡ (stood plan commands scope acts).records ++ (earlier ++ r ∷ later)
 
--- among these acts the very request of a record was put; then, up to and with the moment of a piece, a moment at or past its deadline was
--- told; a line with the request's id came with that piece; and this act wrote the record down
+-- among these acts the very request of a record was put; then, up to and with the moment of a piece, a moment at or past its
+-- deadline was read; a line with the request's id came with that piece; and this act wrote the record
 pub record IsLateIn (plan : Plan) (commands : List Task) (scope : Scope) (acts : List Act) (r : Record) : Type 0 where
   pub before : List Act
   pub request : Act
@@ -74,7 +75,8 @@ pub record IsLateIn (plan : Plan) (commands : List Task) (scope : Scope) (acts :
   pub came : Brings plan commands scope (before ++ request ∷ between) piece (stood plan commands scope before).client.next
   pub written : IsWrittenAt plan commands scope (before ++ request ∷ between) (Gave piece moment) r
 
--- between a request and this act another request was put; the other one still waits, and this act brings a line with its id
+-- between a request and this act another request was put; the other one is still outstanding, and this act brings a line with
+-- its id
 pub record IsOvertaken (plan : Plan) (commands : List Task) (scope : Scope) (before : List Act) (request : Act) (between : List Act) (act : Act) : Type 0 where
   pub first : List Act
   pub other : Act
@@ -89,7 +91,8 @@ pub record IsOvertaken (plan : Plan) (commands : List Task) (scope : Scope) (bef
   pub reads : act ≡ Gave piece moment
   pub came : Brings plan commands scope (before ++ request ∷ between) piece (stood plan commands scope (before ++ request ∷ first)).client.next
 
--- after these acts the station begins anew at this act: it reads the clock, and seven wait, which are all given up
+-- after these acts the station resynchronizes at this act: it reads the clock, and seven are outstanding, which have all timed
+-- out
 pub record BeginsAnew (plan : Plan) (commands : List Task) (scope : Scope) (acts : List Act) (act : Act) : Type 0 where
   pub renews : action_at plan (stood plan commands scope acts) ≡ Renew
   pub moment : Moment
@@ -103,8 +106,8 @@ pub record IsLast (plan : Plan) (commands : List Task) (scope : Scope) (acts : L
   pub why : Cause
   pub stops : action_at plan (stood plan commands scope (acts ++ act ∷ [])) ≡ Stop why
 
--- among these acts the very request of a record was put, and after it an act wrote the record down: it brought a line with the id of a
--- request that was put after that one, or the station begins anew at it, or it is the last act
+-- among these acts the very request of a record was put, and after it an act wrote the record: it brought a line with the id of
+-- a request that was put after that one, or the station resynchronizes at it, or it is the last act
 pub record IsLostIn (plan : Plan) (commands : List Task) (scope : Scope) (acts : List Act) (r : Record) : Type 0 where
   pub before : List Act
   pub request : Act
@@ -117,11 +120,11 @@ pub record IsLostIn (plan : Plan) (commands : List Task) (scope : Scope) (acts :
   pub shown : IsOvertaken plan commands scope before request between act
       ⊎ (BeginsAnew plan commands scope (before ++ request ∷ between) act ⊎ IsLast plan commands scope (before ++ request ∷ between) act behind)
 
--- where a record says that its command is late, `IsLateIn` holds of it: the request went out, and its reply came too late
+-- if a record says that its command is late, `IsLateIn` holds of it: the request was sent, and its reply came too late
 abbrev pub IsTrulyLate : Plan → List Task → Scope → List Act → Record → Type 0
 IsTrulyLate plan commands scope acts r = r.end ≡ Late → IsLateIn plan commands scope acts r
 
--- where a record says that its command is lost, `IsLostIn` holds of it: the request went out, and no reply to it can be taken
--- any more
+-- if a record says that its command is lost, `IsLostIn` holds of it: the request was sent, and no reply to it can be taken any
+-- more
 abbrev pub IsTrulyLost : Plan → List Task → Scope → List Act → Record → Type 0
 IsTrulyLost plan commands scope acts r = r.end ≡ Lost → IsLostIn plan commands scope acts r

@@ -1,5 +1,5 @@
--- What came on a connection, this project's own: the bytes that were given on it while they were heard. An act is one call of the
--- link, with what came of it.
+-- What came on a connection, this project's own: the bytes that were given on it while they were heard. An act is one call on
+-- the link, with its result.
 use Rattle.std.specs.Prelude.{ℕ, Bool, List, [], ◌∷◌, ◌++◌, if◌then◌else◌}
 use Rattle.gc_texts.specs.declared.tasks.Task.{Task}
 use Rattle.gc_station.specs.declared.plan.Plan.{Plan}

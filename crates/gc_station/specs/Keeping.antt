@@ -1,5 +1,5 @@
 -- What lasts while a run goes on, this project's own: at each act of the link all that the acts before it settled is in the
--- book, and lasts. An act is one call of the link, with what came of it. The book is what takes the texts of the records.
+-- book, and lasts. An act is one call on the link, with its result. The book is what takes the texts of the records.
 use Rattle.std.specs.Prelude.{◌≡◌, ℕ, Bool, true, List, [], ◌∷◌, ◌++◌, Option, Result, Ok, Err, refl}
 use Rattle.std.specs.Coded.{Coded, code_by, coded×, coded_ℕ, coded_bool, coded_list, coded_option}
 use Rattle.std.specs.Io.KnownBytes.{Appends}
@@ -14,7 +14,7 @@ use Rattle.gc_station.specs.Model.{opening, Runs}
 use Rattle.gc_station.specs.Runs.{stood}
 use Rattle.gc_station.specs.Scopes.{Scope}
 
--- a turn is what was seen of a link and a book at one moment: what the link had told and what the book had taken, where these
+-- a turn is what was seen of a link and a book at one moment: what the link had recorded and what the book had taken, if these
 -- are known, and whether all that the book had taken lasted, as far as the book is meant to make it last. A book that isn't
 -- meant to make anything last always says so
 pub record Turn : Type 0 where
@@ -22,8 +22,8 @@ pub record Turn : Type 0 where
   pub taken : Option (List ℕ)
   pub lasts : Bool
 
--- at this turn the link had told these acts (after `told`), and the book had taken (after `taken`) the text of each record that they
--- settled, and all of it lasted
+-- at this turn the link had recorded these acts (after `told`), and the book had taken (after `taken`) the text of each record
+-- that they settled, and all of it lasted
 pub record IsKept (plan : Plan) (commands : List Task) (scope : Scope) (text : Record → List ℕ) (told : Option (List Act)) (taken : Option (List ℕ))
     (acts : List Act) (turn : Turn) : Type 0 where
   pub tells : Tells told turn.acts acts
@@ -39,8 +39,8 @@ AreKept plan commands scope text told taken done (act ∷ acts) [] = ⊥
 AreKept plan commands scope text told taken done (act ∷ acts) (turn ∷ turns) =
     IsKept plan commands scope text told taken done turn × AreKept plan commands scope text told taken (done ++ act ∷ []) acts turns
 
--- a link told a run's `acts`, each the one that was to be made next, and after them `others`. Before each of `acts` a turn was seen, at
--- which all that the acts before it settled was kept
+-- a link recorded a run's `acts`, each the one that was to be made next, and after them `others`. Before each of `acts` a turn
+-- was seen, at which all that the acts before it settled was kept
 pub record KeepsUp (plan : Plan) (commands : List Task) (scope : Scope) (text : Record → List ℕ) (told told' : Option (List Act)) (taken : Option (List ℕ))
     (seen seen' : List Turn) (others : List Act) : Type 0 where
   pub acts : List Act
@@ -50,12 +50,12 @@ pub record KeepsUp (plan : Plan) (commands : List Task) (scope : Scope) (text : 
   pub saw : seen' ≡ seen ++ turns
   pub kept : AreKept plan commands scope text told taken [] acts turns
 
--- the acts after a run with this result: where the book failed (`Err`) the connection is closed; else none
+-- the acts after a run with this result: if the book failed (`Err`) the connection is closed; otherwise none
 abbrev pub closing : {X E : Type 0} → Result X E → List Act
 closing (Ok _) = []
 closing (Err _) = Closed ∷ []
 
--- the acts after a run that ended so: where the fault is `Output`, so that the book failed, the connection is closed; else
+-- the acts after a run that ended so: if the fault is `Output`, so that the book failed, the connection is closed; otherwise
 -- none
 abbrev pub closing_at : {X : Type 0} → Result X RunFault → List Act
 closing_at (Ok _) = []

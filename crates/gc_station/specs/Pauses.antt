@@ -1,5 +1,5 @@
--- How often a station connects anew, and how long it pauses before that, by its failures in a row: this project's own. An act is
--- one call of the link, with what came of it.
+-- How often a station reconnects, and how long it pauses before that, by its failures in a row: this project's own. An act is
+-- one call on the link, with its result.
 use Rattle.std.specs.Prelude.{◌≡◌, ◌⊎◌, ℕ, zero, suc, ◌+◌, ◌*◌, ◌<◌, ◌≤◌, true, false, List, min, max}
 use Rattle.gc_texts.specs.declared.tasks.Task.{Task}
 use Rattle.gc_links.specs.Acts.{Act}
@@ -33,10 +33,10 @@ LeavesTries (Read until) = ⊥
 LeavesTries (Close why) = ⊥
 LeavesTries _ = Unit {0}
 
--- at the start all tries are left, and the pause is 0. A failure takes one try, and makes the pause that of one failure more; without a try
--- left the run is over. A close while no connection is wanted takes no try, and makes a pause of 0 that of one failure. A read that settles
--- a command gives all tries back, and makes the pause 0, where since the set-up a command of a cycle had its turn. Other bytes change neither, and nor does an act that is no opening, no
--- read and no close
+-- at the start all tries are left, and the pause is 0. A failure takes one try, and makes the pause that of one failure more;
+-- without a try left the run is over. A close while no connection is wanted takes no try, and makes a pause of 0 that of one
+-- failure. A read that settles a command gives all tries back, and makes the pause 0, where since the setup a command of a
+-- cycle had its turn. Other bytes change neither, and nor does an act that is no opening, no read and no close
 pub record TriesAndPausesAreCounted : Type 0 where
   pub start : (plan : Plan) (turns : ℕ) → ((at_start plan turns).tries ≡ plan.retries) × ((at_start plan turns).pause ≡ pause_behind plan 0)
   pub failed : (plan : Plan) (commands n : ℕ) (why : Cause) (p : Progress) → is_spared plan why p ≡ false → p.pause ≡ pause_behind plan n

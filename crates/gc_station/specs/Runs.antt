@@ -1,5 +1,5 @@
--- Whole runs of a station, this project's own: each act was the one that was to be made next, and the book has what they write
--- down. An act is one call of the link, with what came of it. The book is what takes the texts of the records.
+-- Whole runs of a station, this project's own: each act was the one that was to be made next, and the book has what they
+-- record. An act is one call on the link, with its result. The book is what takes the texts of the records.
 use Rattle.std.specs.Prelude.{◌≡◌, ◌⊎◌, ℕ, Bool, true, List, [], ◌∷◌, ◌++◌, Option, Some, None, Result, Ok, Err}
 use Rattle.std.specs.Io.KnownBytes.{Appends}
 use Rattle.gc_texts.specs.declared.tasks.Task.{Task}
@@ -20,8 +20,8 @@ use Rattle.gc_station.specs.Scopes.{Scope}
 abbrev pub stood : Plan → List Task → Scope → List Act → Model
 stood plan commands scope acts = after_all plan commands (opening plan scope) acts
 
--- a link told these acts, each the one that was to be made next; then none was, for this cause; the book took the records of
--- the acts, and the tally counts them
+-- a link recorded these acts, each the one that was to be made next; then none was, for this cause; the book took the records
+-- of the acts, and the tally counts them
 pub record RanTo (plan : Plan) (commands : List Task) (scope : Scope) (text : Record → List ℕ) (told told' : Option (List Act))
     (taken taken' : Option (List ℕ)) (cause : Cause) (tally : Tally) : Type 0 where
   pub acts : List Act
@@ -31,8 +31,9 @@ pub record RanTo (plan : Plan) (commands : List Task) (scope : Scope) (text : Re
   pub took : Appends taken taken' (texts_of text (stood plan commands scope acts).records)
   pub counts : tally ≡ tally_of (stood plan commands scope acts).records
 
--- a link told these acts, each the one that was to be made next, and after the last one that the connection was closed, and nothing
--- else; the book took the records of the acts before the last one whole, and of those that this one writes down a part, from the front
+-- a link recorded these acts, each the one that was to be made next, and after the last one that the connection was closed, and
+-- nothing else; the book took the records of the acts before the last one whole, and of those that this one records a part,
+-- from the front
 pub record BrokeAt (plan : Plan) (commands : List Task) (scope : Scope) (text : Record → List ℕ) (told told' : Option (List Act)) (taken taken' : Option (List ℕ)) : Type 0 where
   pub acts : List Act
   pub last : Act
@@ -40,8 +41,8 @@ pub record BrokeAt (plan : Plan) (commands : List Task) (scope : Scope) (text : 
   pub runs : Runs plan commands (opening plan scope) (acts ++ last ∷ [])
   pub took : WritesPart text (stood plan commands scope acts).records (stood plan commands scope (acts ++ last ∷ [])).records taken taken'
 
--- a link told these acts, each the one that was to be made next, and after them that the connection was closed, and nothing else; the
--- book took the records of all of them, and couldn't make them last
+-- a link recorded these acts, each the one that was to be made next, and after them that the connection was closed, and nothing
+-- else; the book took the records of all of them, and couldn't make them last
 pub record LeftAt (plan : Plan) (commands : List Task) (scope : Scope) (text : Record → List ℕ) (told told' : Option (List Act)) (taken taken' : Option (List ℕ)) : Type 0 where
   pub acts : List Act
   pub tells : Tells told told' (acts ++ Closed ∷ [])

@@ -1,5 +1,5 @@
--- How long no reply line came, where a connection is closed for it: this project's own. An act is one call of the link, with what
--- came of it.
+-- How long no reply line came, if a connection is closed for it: this project's own. An act is one call on the link, with its
+-- result.
 use Rattle.std.specs.Prelude.{◌≡◌, ◌⊎◌, ℕ, ◌-◌, ◌<◌, ◌≤◌, false, List, [], ◌∷◌, ◌++◌}
 use Rattle.std.specs.List.{AllByRecursion}
 use Rattle.gc_texts.specs.declared.tasks.Task.{Task}
@@ -10,7 +10,7 @@ use Rattle.gc_station.specs.Runs.{stood}
 use Rattle.gc_station.specs.Model.{Model, is_reply, lines_behind, after}
 use Rattle.gc_station.specs.Scopes.{Scope}
 
--- the moment that these acts told last; where they told none, `now`
+-- the moment that these acts read last; if they read none, `now`
 abbrev pub latest : ℕ → List Act → ℕ
 latest now [] = now
 latest now (Told m ∷ acts) = latest m.elapsed acts
@@ -32,7 +32,7 @@ abbrev pub IsMute : Plan → List Task → Model → List Act → Type 0
 IsMute plan commands s [] = Unit {0}
 IsMute plan commands s (act ∷ acts) = BringsNoReply s.rest act × IsMute plan commands (after plan commands s act) acts
 
--- after these acts the clock goes back to the moment `from`: the moment that they told last is later
+-- after these acts the clock goes back to the moment `from`: the moment that they read last is later
 pub record WentBack (from : ℕ) (acts : List Act) : Type 0 where
   pub earlier : List Act
   pub act : Act
@@ -42,9 +42,9 @@ pub record WentBack (from : ℕ) (acts : List Act) : Type 0 where
   pub tells : TellsMoment told act
   pub later : from < latest told others
 
--- after an act that told a moment, `start`, no line that reads as a reply came on the same connection, and the moment that was told last is
--- at least `wait` milliseconds later. After `start` no request went out, or one went out at once, so that its reply had all that time; or
--- the clock went back at `start`
+-- after an act that read a moment, `start`, no line that reads as a reply came on the same connection, and the moment that was
+-- read last is at least `wait` milliseconds later. After `start` no request was sent, or one was sent at once, so that its
+-- reply had all that time; or the clock went back at `start`
 pub record IsMuteFor (wait : ℕ) (plan : Plan) (commands : List Task) (scope : Scope) (acts : List Act) : Type 0 where
   pub before : List Act
   pub start : Act

@@ -1,5 +1,5 @@
--- Which command of the text a record is of, and what its request asked: this project's own. A command that sets the clock asks for the
--- moment at which its request goes out. An act is one call of the link, with what came of it.
+-- Which command of the text a record is of, and what its request asked: this project's own. A command that sets the clock asks
+-- for the moment at which its request is sent. An act is one call on the link, with its result.
 use Rattle.std.specs.Prelude.{◌≡◌, ℕ, Bool, true, false, List, Option, Some, None, slice_get}
 use Rattle.std.specs.List.{AllByRecursion}
 use Rattle.gc_texts.specs.declared.tasks.Task.{Task}
@@ -16,9 +16,9 @@ abbrev pub has_moment : Option ℕ → Bool
 has_moment (Some utc) = true
 has_moment None = false
 
--- a record is of the task at its place of the text. It has a moment of sending exactly where its request went out, and its command is
--- what the task asks at that moment: where the task sets the clock, the moment cut to seconds, and else what the text says. A command
--- whose request never went out is as in the text
+-- a record is of the task at its place of the text. It has a moment of sending exactly where its request was sent, and its
+-- command is what the task asks at that moment: if the task sets the clock, the moment cut to seconds, and else what the text
+-- says. A command whose request never was sent is as in the text
 pub record IsOfItsTask (commands : List Task) (r : Record) : Type 0 where
   pub task : Task
   pub listed : slice_get commands r.place ≡ Some task

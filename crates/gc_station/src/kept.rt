@@ -9,7 +9,7 @@ use crate::book::Book;
 use gc_links::Link;
 use std::marker::Model;
 
-/// What was seen so far, in order: at each moment what a link had told, what a book had taken, and whether that lasted.
+/// What was seen so far, in order: at each moment what a link had recorded, what a book had taken, and whether that lasted.
 #[derive(Drop)]
 pub struct Kept {
     pub ghost turns: { List Turn } by { turns_code },
@@ -35,8 +35,8 @@ impl Kept {
         Kept {}
     }
 
-    // What was seen so far, with a turn of now added at the end: what the link has told, what the book has taken, and whether the
-    // book is durable.
+    // What was seen so far, with a turn of now added at the end: what the link has recorded, what the book has taken, and
+    // whether the book is durable.
     pub(crate) fn and<L: Link, B: Book>(&self, link: &L, book: &B) -> Kept
         ensures { result.turns ≡ self.now.turns ++ record { acts = L.acts link.now; taken = B.taken book.now; lasts = B.is_durable book.now } ∷ [] }
     {

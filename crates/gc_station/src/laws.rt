@@ -1,8 +1,9 @@
-//! Laws of a station's runs, whatever its link tells. A run is the list of its acts: an act is one call of the link, with what
-//! came of it. A request is put where its bytes are written, all of them or some; a moment is told where the clock is read. A run
-//! begins with eight null procedures, one after the other, and begins anew where seven requests wait, all given up. Then it sends
-//! the commands of its text, cycle by cycle. A request waits from its sending until it is settled; at its deadline it is given
-//! up, but goes on waiting. A chain is a row of commands for one target, each sent only once the one before it was answered well.
+//! Laws of a station's runs, whatever its link does. A run is the list of its acts: an act is one call of the link, with what
+//! came of it. A request is put where its bytes are written, all of them or some; a moment is read if the clock is read. A run
+//! begins with eight null procedures, one after the other, and resynchronizes where seven requests wait, all timed out. Then it
+//! sends the commands of its text, cycle by cycle. A request waits from its sending until it is settled; at its deadline it has
+//! timed out, but stays outstanding. A chain is a row of commands for one target, each sent only once the one before it was
+//! answered well.
 
 ghost use Rattle.std.specs.Prelude.{◌≡◌, ◌⊎◌, ◌≤◌, List, [], ◌∷◌, ◌++◌, length};
 ghost use Rattle.std.specs.List.{AllByRecursion};
@@ -93,9 +94,9 @@ pub fn each_act_is_due()
         → Runs plan commands (opening plan scope) (earlier ++ act ∷ later) → IsReasoned plan commands (stood plan commands scope earlier) act }
 {}
 
-/// A connection is closed only for a cause: nothing was left to be done; or no command could go out, and the line was dead; or
-/// all turns were used up; or the run was stale; or its end was asked for, and it could end there; or the act before it shows that a
-/// call failed or that the other end closed.
+/// A connection is closed only for a cause: nothing was left to be done; or no command could be sent, and the line was dead; or
+/// all turns were used up; or the run was stale; or its end was asked for, and it could end there; or the act before it shows
+/// that a call failed or that the other end closed.
 pub fn closes_for_a_cause()
     ensures { (plan : Plan) (commands : List Task) (scope : Scope) (earlier later : List Act)
         → Runs plan commands (opening plan scope) (earlier ++ Closed ∷ later) → ClosesForACause plan commands scope earlier }
@@ -248,7 +249,7 @@ pub fn qualities_are_as_listed()
     ensures { QualitiesAreAsListed }
 {}
 
-/// Where the text accepts no code of a command, an answer of a good quality has both codes 0 and values that read. So for a text
+/// If the text accepts no code of a command, an answer of a good quality has both codes 0 and values that read. So for a text
 /// without `accept` the laws on chains speak of such answers alone.
 pub fn good_without_accept_is_an_answer()
     ensures { GoodIsAnAnswer }
@@ -275,7 +276,7 @@ pub fn each_record_is_of_its_task()
 {}
 
 /// Each count of a tally is the number of the records that ended in its way, of those of the last attempt of their chain, up to
-/// 2^64 - 1; and one more is how many times a chain went out again.
+/// 2^64 - 1; and one more is how many times a chain was sent again.
 pub fn tallies_count_the_records()
     ensures { TalliesCountRecords }
 {}

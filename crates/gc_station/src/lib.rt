@@ -1,4 +1,4 @@
-//! A station: commands sent over a link with deadlines, cycle after cycle, and each request's end written down.
+//! A station: commands sent over a link with deadlines, cycle after cycle, and each request's end recorded.
 #![tactic(auto)]
 
 mod book;

@@ -1,5 +1,5 @@
-//! Pace: how long a read waits, and which cycle is reported as overrun, because it wasn't done in time. No record, and nothing that
-//! goes out, rests on either.
+//! Pace: how long a read waits, and which cycle is reported as overrun, because it wasn't done in time. No record, and nothing
+//! that is sent, rests on either.
 
 ghost use Rattle.std.specs.Prelude.{◌≡◌, ℕ, Option};
 ghost use Rattle.std.specs.Option.{option_to_list};
@@ -13,8 +13,7 @@ use crate::progress::{Phase, Progress, Until, patience_of};
 use crate::progressing::later;
 use crate::station::Station;
 
-// The moment from which on the run is stale, if no answer of a good quality is written down until then; `u64::MAX` where it never
-// is.
+// The moment from which on the run is stale, if no answer of a good quality is recorded until then; `u64::MAX` if it never is.
 fn stale_at(plan: &Plan, fresh: u64) -> u64
     ensures { result ≡ stale_at plan.now fresh }
 {
@@ -60,8 +59,8 @@ impl Progress {
         }
     }
 
-    // The moment at which a read in this phase ends if nothing comes, leaving out the deadlines of the requests that wait: at the end of
-    // a pause or a drain, when the line is dead, or when a null procedure of the beginning goes out again.
+    // The moment at which a read in this phase ends if nothing comes, leaving out the deadlines of the outstanding requests: at
+    // the end of a pause or a drain, when the line is dead, or when a null procedure of the synchronization is sent again.
     fn ends(&self, plan: &Plan) -> u64
         ensures { result ≡ ends_in self.now.phase plan.now self.now }
     {

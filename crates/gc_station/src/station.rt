@@ -37,7 +37,7 @@ use gc_lines::{Assembler, PortFailed};
 use gc_links::{Link, Moment};
 use gc_texts::{Again, Codes, Ending, Expected, Stamp, Task, Turn};
 
-// Whether a command at this place goes out only once the one before it was answered well.
+// Whether a command at this place is sent only once the one before it was answered well.
 fn is_chained(commands: &[Task], place: usize) -> bool
     ensures { result ≡ is_chained (drop place commands.now) }
 {
@@ -71,8 +71,8 @@ fn expected_at(commands: &[Task], place: usize) -> Expected
     }
 }
 
-// Of a command at this place that begins a further attempt of its chain: how many commands this attempt and those behind it have.
-// 0 of any other.
+// Of a command at this place that begins a further attempt of its chain: how many commands this attempt and those after it
+// have. 0 of any other.
 fn others_at(commands: &[Task], place: usize) -> usize
     ensures { result ≡ others_in (drop place commands.now) }
 {
@@ -86,19 +86,19 @@ fn others_at(commands: &[Task], place: usize) -> usize
 #[derive(Drop)]
 pub(crate) struct Station {
     pub(crate) client: Client<SlotsOf<Asked>>,
-    // One for each request that waits, in order: which command it is, or none for a null procedure.
+    // One for each outstanding request, in order: which command it is, or none for a null procedure.
     pub(crate) marks: ArrayVec<Option<Mark>, WINDOW>,
     pub(crate) assembler: Assembler,
     pub(crate) progress: Progress,
     pub(crate) tally: Counts,
-    // Whether the command that was written down last was answered well.
+    // Whether the command that was recorded last was answered well.
     pub(crate) well: bool,
     // Whether it, or a command before it of the same attempt, ended as its rule names.
     pub(crate) listed: bool,
-    // When a command that was answered well was written down last, by the clock for deadlines; 0 where none was; an earlier moment
-    // where the clock went back since.
+    // When a command that was answered well was recorded last, by the clock for deadlines; 0 if none was; an earlier moment if
+    // the clock went back since.
     pub(crate) fresh: u64,
-    // The settlements of the last line or restart, which `write` writes down.
+    // The settlements of the last line or restart, which `write` records.
     pub(crate) settled: ArrayVec<Settlement<Asked>, WINDOW>,
 }
 
@@ -120,7 +120,7 @@ impl Station {
         }
     }
 
-    // How many requests wait, whether the command that was written down last was answered well, and when one was last.
+    // How many requests wait, whether the command that was recorded last was answered well, and when one was last.
     fn waiting(&self) -> Waiting
         ensures { result ≡ waiting_in self.now }
     {
@@ -134,7 +134,7 @@ impl Station {
         }
     }
 
-    // How many of the requests that wait are commands.
+    // How many of the outstanding requests are commands.
     pub(crate) fn commands(&self) -> usize
         ensures { result ≡ commands_in self.now.marks.items }
     {
@@ -150,7 +150,7 @@ impl Station {
         self.progress.action(plan, self.waiting())
     }
 
-    // The place of the next command, counted from 0: how many commands of the cycle were sent or passed over.
+    // The place of the next command, counted from 0: how many commands of the cycle were sent or left out.
     fn place(&self, commands: &[Task]) -> usize
         ensures { result ≡ place_next commands.now self.now.progress }
     {
@@ -169,7 +169,7 @@ impl Station {
         }
     }
 
-    // The mark of the next command of the set-up: it has cycle 0, and the attempt of the set-up.
+    // The mark of the next command of the setup: it has cycle 0, and the attempt of the setup.
     fn mark_setup(&self, commands: &[Task]) -> Mark
         ensures { result ≡ mark_setup commands.now self.now.progress }
     {
@@ -185,24 +185,23 @@ impl Station {
         }
     }
 
-    // Whether the command `count` places behind the next one goes out only once the one before it was answered well. In a missed
-    // cycle the result is true for each command, because none goes out.
+    // Whether the command `count` places after the next one is sent only once the one before it was answered well. In a missed
+    // cycle the result is true for each command, because none is sent.
     fn is_chained_behind(&self, count: usize, commands: &[Task]) -> bool
         ensures { result ≡ is_chained_behind count commands.now self.now.progress }
     {
         self.progress.missed || is_chained(commands, self.place(commands).saturating_add(count))
     }
 
-    // Where the command `count` places behind the next one begins a further attempt of its chain: how many commands this attempt
-    // and those behind it have. Else 0.
+    // If the command `count` places after the next one begins a further attempt of its chain: how many commands this attempt
+    // and those after it have. Else 0.
     fn others_behind(&self, count: usize, commands: &[Task]) -> usize
         ensures { result ≡ others_behind count commands.now self.now.progress }
     {
         others_at(commands, self.place(commands).saturating_add(count))
     }
 
-    // How many commands of the cycle were sent or passed over: 0 before the first cycle. The fault of a cut write has this
-    // number.
+    // How many commands of the cycle were sent or left out: 0 before the first cycle. The fault of a cut write has this number.
     fn requests_out(&self, plan: &Plan, commands: &[Task]) -> usize
         ensures { result ≡ requests_out plan.now commands.now self.now.progress }
     {
@@ -212,7 +211,7 @@ impl Station {
         self.place(commands)
     }
 
-    // Reads the clock, and gives up the requests whose deadline has come. Where the clock can't be read, that is noted as the
+    // Reads the clock, and times out the requests whose deadline has come. If the clock can't be read, that is noted as the
     // cause to close for.
     fn read_clock<L: Link>(&mut self, link: &mut L, plan: &Plan)
         ensures { (commands : List Task) (text : Record → List ℕ) (known : Option (List ℕ))
@@ -230,8 +229,8 @@ impl Station {
         }
     }
 
-    // Reads the clock, and begins anew: `end` writes down as lost what waits. A clock that can't be read is noted, as by
-    // `read_clock`.
+    // Reads the clock, and resynchronizes: `end` records as lost what is outstanding. A clock that can't be read is noted, as
+    // by `read_clock`.
     fn renew<L: Link>(&mut self, link: &mut L, plan: &Plan)
         ensures { (commands : List Task) (text : Record → List ℕ) (known : Option (List ℕ))
             → Does plan.now commands Renew (seen (L.acts link.old) text known self.old) (seen (L.acts link.new) text known self.new) }
@@ -275,7 +274,7 @@ impl Station {
         }
     }
 
-    // Reads the clock, and writes the next command down without sending it. A clock that can't be read is noted, as by
+    // Reads the clock, and records the next command without sending it. A clock that can't be read is noted, as by
     // `read_clock`, and nothing is written. `Err`: the book failed.
     fn skip<L: Link, B: Book>(
         &mut self,
@@ -311,8 +310,8 @@ impl Station {
         }
     }
 
-    // Reads the clock, and passes over the further attempts of a chain that the next command begins. A clock that can't be read is
-    // noted, as by `read_clock`, and nothing is passed over.
+    // Reads the clock, and leaves out the further attempts of a chain that the next command begins. A clock that can't be read
+    // is noted, as by `read_clock`, and nothing is left out.
     fn pass<L: Link>(&mut self, link: &mut L, plan: &Plan, commands: &[Task])
         ensures { (text : Record → List ℕ) (known : Option (List ℕ))
             → Does plan.now commands.now Pass (seen (L.acts link.old) text known self.old) (seen (L.acts link.new) text known self.new) }
@@ -410,7 +409,7 @@ impl Station {
         )
     }
 
-    // Closes the connection, and drops half a line that came on it. Requests that wait go on waiting.
+    // Closes the connection, and discards half a line that came on it. Requests that wait stay outstanding.
     fn close<L: Link>(&mut self, link: &mut L, plan: &Plan, cause: Cause)
         ensures { (commands : List Task) (text : Record → List ℕ) (known : Option (List ℕ))
             → Does plan.now commands (Close cause) (seen (L.acts link.old) text known self.old) (seen (L.acts link.new) text known self.new) }
@@ -490,7 +489,7 @@ impl Station {
         }
     }
 
-    // Writes down all commands that wait as lost, where the station begins anew or no act follows; else does nothing.
+    // Records all outstanding commands as lost, if the station resynchronizes or no act follows; otherwise does nothing.
     fn end<B: Book>(&mut self, book: &mut B) -> Result<(), PortFailed>
         ensures ends { (s : Model) (start : Option (List ℕ)) → Refines self.old s → Took (B.text book.old) start (B.taken book.old) s
             → ComesTo (B.text book.old) s.records self.new start (B.taken book.new) (ended s) result }
@@ -504,7 +503,7 @@ impl Station {
         self.write(book)
     }
 
-    // Takes a turn: makes the one call of an action, does what comes of it, and writes down what is lost. When it is called, all
+    // Takes a turn: makes the one call of an action, does what comes of it, and records what is lost. When it is called, all
     // records so far must be durable.
     pub(crate) fn step<L: Link, B: Book>(
         &mut self,

@@ -29,7 +29,7 @@ use gc_lines::{Line, PortFailed};
 use gc_links::Moment;
 use gc_texts::{Ending, Expected, Near, Quality, Stamp, Wish, is_elsewhere, reading_as_zero};
 
-// Takes out the mark of the oldest request that waits. `None`: that request is a null procedure, or none waits.
+// Takes out the mark of the oldest request that waits. `None`: that request is a null procedure, or none is outstanding.
 fn take_mark(marks: &mut ArrayVec<Option<Mark>, WINDOW>) -> Option<Mark>
     ensures goes { marks.new.items ≡ drop 1 marks.old.items }
     ensures listed { (reads : Asked → List ℕ → Reading) (listed : Bool) (settlement : Rule.Settlement Asked)
@@ -43,8 +43,8 @@ fn take_mark(marks: &mut ArrayVec<Option<Mark>, WINDOW>) -> Option<Mark>
     }
 }
 
-// The ending of a command whose reply, this line, has this answer: elsewhere where the answer's direction isn't near where the
-// target stands (`near`), else answered with this quality.
+// The ending of a command whose reply, this line, has this answer: elsewhere if the answer's direction isn't near where the
+// target is (`near`), else answered with this quality.
 fn value_ending<'a>(
     quality: Quality,
     near: Option<Near>,
@@ -61,7 +61,7 @@ fn value_ending<'a>(
 }
 
 // The ending of a command whose reply, this line, has this return code, which isn't 0, and would say `zero` with return code 0.
-// With an accepted code: elsewhere where the values would read and were measured elsewhere, else answered with a warning. With
+// With an accepted code: elsewhere if the values would read and were measured elsewhere, else answered with a warning. With
 // another code: answered and refused.
 fn refused_ending<'a>(
     expected: &Expected,
@@ -93,8 +93,8 @@ fn zero_of(call: &Asked, outcome: &Outcome) -> Reading
     }
 }
 
-// The ending of a command whose request had this outcome, where this is expected of its answer, and its line would say `zero`
-// with return code 0.
+// The ending of a command whose request had this outcome, if this is expected of its answer, and its line would say `zero` with
+// return code 0.
 fn ending_of<'a>(expected: &Expected, zero: &'a Reading, outcome: &'a Outcome) -> Ending<'a>
     ensures { (reads : Asked → List ℕ → Reading) (call : Asked) → AreReadings reads → IsReadBy IsAskedReading call outcome.now → IsZeroOf call outcome.now zero.now
         → ending_seen result ≡ end_of reads expected.now call (outcome_seen outcome.now) }
@@ -138,8 +138,8 @@ fn code_of(outcome: &Outcome) -> Option<u16>
     }
 }
 
-// Whether a command of an attempt ended as its rule names, where this is expected of the one that ended last, and its reply has this
-// return code other than 0: it did, or one before it (`listed`), unless the attempt begins with it.
+// Whether a command of an attempt ended as its rule names, if this is expected of the one that ended last, and its reply has
+// this return code other than 0: it did, or one before it (`listed`), unless the attempt begins with it.
 pub(crate) fn is_listed(
     listed: bool,
     expected: &Expected,
@@ -151,9 +151,9 @@ pub(crate) fn is_listed(
     (expected.turn.link != 0 && listed) || expected.again.names(code, ending)
 }
 
-// Writes how a request with this mark ended, and counts its ending. Notes in `well` whether it was answered well, and if so in `fresh`
-// that it is written down at the moment `now`; and in `listed` whether it or one before it of its attempt ended as its rule names. A
-// null procedure has no mark: nothing is written or counted of it. `Err`: the book failed.
+// Writes how a request with this mark ended, and counts its ending. Notes in `well` whether it was answered well, and if so in
+// `fresh` that it is recorded at the moment `now`; and in `listed` whether it or one before it of its attempt ended as its rule
+// names. A null procedure has no mark: nothing is written or counted of it. `Err`: the book failed.
 fn write_one<B: Book>(
     book: &mut B,
     tally: &mut Counts,
@@ -214,10 +214,10 @@ pub(crate) fn ends_with_table(settlements: &[Settlement<Asked>]) -> bool
     }
 }
 
-// Writes and counts the records of these settlements, which are those of the oldest requests that wait, and takes out the marks
-// of these requests. `well` becomes whether the command written last was answered well, and stays as it is where none was
-// written. Where one was answered well, `fresh` becomes the moment `now`. `listed` becomes whether one of the attempt that was settled
-// last ended as its rule names. `Err`: the book failed at a record, and no record after it was written.
+// Writes and counts the records of these settlements, which are those of the oldest outstanding requests, and takes out the
+// marks of these requests. `well` becomes whether the command written last was answered well, and stays as it is if none was
+// written. If one was answered well, `fresh` becomes the moment `now`. `listed` becomes whether one of the attempt that was
+// settled last ended as its rule names. `Err`: the book failed at a record, and no record after it was written.
 pub(crate) fn write_settlements<B: Book>(
     book: &mut B,
     tally: &mut Counts,

@@ -20,7 +20,7 @@ pub record HasRoom (settlements : List GeocomSettlement) (text : List ℕ) : Typ
   pub for_records : WINDOW ≤ length settlements
   pub for_text : TEXT_ROOM ≤ length text
 
--- the kind of a line, by how it reads as a reply and by whether it fits a request that waits
+-- the kind of a line, by how it reads as a reply and by whether it fits an outstanding request
 abbrev pub line_kind : Result ReplyFields LineFault → Bool → ℕ
 line_kind (Ok reply) true = SETTLED
 line_kind (Ok reply) false = STRAY
@@ -33,7 +33,7 @@ frame_kind c Cleared = CLEARED
 frame_kind c Overlong = OVERLONG
 frame_kind c More = MORE
 
--- the number of a line's fault where it is no reply, else 0
+-- the number of a line's fault if it is no reply, else 0
 abbrev pub number_in : Result ReplyFields LineFault → ℕ
 number_in (Ok reply) = 0
 number_in (Err fault) = fault_number fault
@@ -59,7 +59,7 @@ behind c Cleared = c
 behind c Overlong = c
 behind c More = c
 
--- where a line settled at least one request, by this count, it stands at the front of the text
+-- if a line settled at least one request, by this count, it is at the front of the text
 abbrev pub IsInFront : Frame → ℕ → List ℕ → Type 0
 IsInFront (Line line) count text = 0 < count → take (length line.items) text ≡ line.items
 IsInFront Cleared count text = Unit {0}
