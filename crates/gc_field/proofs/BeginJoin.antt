@@ -109,7 +109,7 @@ module _ {State : Type 0} (ends : Ends State) (Good : State → Type 0) (kept : 
     pub known : Each IsKnown s.up
     pub small : IsSmall s.left
 
-  -- `Shows` lasts if the beginner asks
+  -- `Shows` is preserved if the beginner asks
   shows_asks : (s : Model State) (p : ids.Model) (left : List ℕ) → s.left ≡ left → Shows s p → Shows (asks s left) (ids.asks p left)
   shows_asks s p [] e g = g
   shows_asks s p (asked ∷ rest) e g =
@@ -124,7 +124,7 @@ module _ {State : Type 0} (ends : Ends State) (Good : State → Type 0) (kept : 
         small = g.small;
       }
 
-  -- `Shows` lasts if a reply comes
+  -- `Shows` is preserved if a reply comes
   shows_comes : (s : Model State) (p : ids.Model) (q : List (Aged (List ℕ))) → s.down ≡ q → Shows s p → Shows (comes s q) (ids.comes p (map mark_down q))
   shows_comes s p [] e g = g
   shows_comes s p (x ∷ rest) e g = record {
@@ -137,7 +137,7 @@ module _ {State : Type 0} (ends : Ends State) (Good : State → Type 0) (kept : 
     small = small_left s.left (rule.heard x.line) g.small;
   }
 
-  -- `Shows` lasts if a line without an id comes
+  -- `Shows` is preserved if a line without an id comes
   shows_foreign : (s : Model State) (p : ids.Model) (line : List ℕ) → rule.heard line ≡ None → Shows s p → Shows (record s { left = left_by s.left (rule.heard line) }) p
   shows_foreign s p line e g = record {
     up = g.up;
@@ -197,11 +197,11 @@ module _ {State : Type 0} (ends : Ends State) (Good : State → Type 0) (kept : 
             (λ k f. ap (λ b. ids.kept_past b x.line.id p.kept) (old_raw x known.0 third.0) ∙ g.keeps k (sym third.1 ∙ f)))
       ]
 
-  -- `Shows` lasts if the requests in flight change alike in both
+  -- `Shows` is preserved if the requests in flight change alike in both
   shows_up : (s : Model State) (p : ids.Model) (up : List (Aged Request)) (ups : List Sent) → ups ≡ map mark_up up → Each IsKnown up → Shows s p → Shows (record s { up = up }) (record p { up = ups })
   shows_up s p up ups e known g = record { up = e; down = g.down; left = g.left; keeps = g.keeps; good = g.good; known = known; small = g.small }
 
-  -- `Shows` lasts if the replies in flight change alike in both
+  -- `Shows` is preserved if the replies in flight change alike in both
   shows_down : (s : Model State) (p : ids.Model) (down : List (Aged (List ℕ))) (downs : List Sent) → downs ≡ map mark_down down → Shows s p
       → Shows (record s { down = down }) (record p { down = downs })
   shows_down s p down downs e g = record { up = g.up; down = e; left = g.left; keeps = g.keeps; good = g.good; known = g.known; small = g.small }
@@ -211,7 +211,7 @@ module _ {State : Type 0} (ends : Ends State) (Good : State → Type 0) (kept : 
   still_kept k after o (inl none) f r e = absurd (none_is_not r (sym none ∙ e))
   still_kept k after o (inr same) f r e = f r (sym same ∙ e)
 
-  -- `Shows` lasts if the instrument's state changes, and it then keeps the same or nothing
+  -- `Shows` is preserved if the instrument's state changes, and it then keeps the same or nothing
   shows_state : (s : Model State) (p : ids.Model) (state : State) → Good state → (kept state ≡ None) ⊎ (kept state ≡ kept s.state) → Shows s p → Shows (record s { state = state }) p
   shows_state s p state good same g =
       record { up = g.up; down = g.down; left = g.left; keeps = still_kept (kept s.state) (kept state) p.kept same g.keeps; good = good; known = g.known; small = g.small }

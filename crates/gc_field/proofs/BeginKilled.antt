@@ -45,7 +45,7 @@ pub record IsTrying (z : ℕ) (word first left : List ℕ) (line : List Sent) : 
 
 -- Old lines are lost or repeated.
 
--- `IsHearing` lasts if the old lines change, and their ids contain no more words
+-- `IsHearing` is preserved if the old lines change, and their ids contain no more words
 hearing_has : (first done : List ℕ) (line other : List Sent) → Has (olds other) (olds line) → IsHearing first done line → IsHearing first done other
 hearing_has first done line other has h =
     record {
@@ -54,7 +54,7 @@ hearing_has first done line other has h =
     }
 
 module _ (z : ℕ) (word first : List ℕ) where
-  -- `IsTrying` lasts if a line is lost
+  -- `IsTrying` is preserved if a line is lost
   trying_lost : (left : List ℕ) (k : ℕ) (line : List Sent) → IsTrying z word first left line → IsTrying z word first left (without k line)
   trying_lost left k line h =
       record {
@@ -68,7 +68,7 @@ module _ (z : ℕ) (word first : List ℕ) where
             ];
       }
 
-  -- `IsTrying` lasts if a line comes twice
+  -- `IsTrying` is preserved if a line comes twice
   trying_twice : (left : List ℕ) (k : ℕ) (line : List Sent) → IsTrying z word first left line → IsTrying z word first left (doubled k line)
   trying_twice left k line h =
       record {
@@ -82,7 +82,7 @@ module _ (z : ℕ) (word first : List ℕ) where
             ];
       }
 
-  -- `IsTrying` lasts if the beginner asks
+  -- `IsTrying` is preserved if the beginner asks
   trying_asked : (id : ℕ) (later : List ℕ) (line : List Sent) → IsTrying z word first (id ∷ later) line → IsTrying z word first (id ∷ later) (line ++ record { id = id; old = false } ∷ [])
   trying_asked id later line h =
       let new : Sent = record { id = id; old = false } in
@@ -105,7 +105,7 @@ module _ (z : ℕ) (word first : List ℕ) where
   old_stands true i id ids v o e s = inl (sym e, s)
   old_stands false i id ids v o e s = absurd (never o)
 
-  -- `IsHearing` lasts if an old reply answers
+  -- `IsHearing` is preserved if an old reply answers
   old_answers : (id : ℕ) (done : List ℕ) (x : Sent) (rest : List Sent) → IsOld x → x.id ≡ id → IsHearing first done (x ∷ rest) → IsHearing first (done ++ id ∷ []) rest
   old_answers id done x rest o e h =
       record {
@@ -126,7 +126,7 @@ module _ (z : ℕ) (word first : List ℕ) where
   phase_answered id later done x rest true o h e (inl g) = inl (old_answers id done x rest o e g)
   phase_answered id later done x rest true o h e (inr g) = absurd (never (sym g.1.0.0 ∙ o))
 
-  -- `IsTrying` lasts if a reply comes
+  -- `IsTrying` is preserved if a reply comes
   trying_came : (left : List ℕ) (x : Sent) (rest : List Sent) → IsTrying z word first left (x ∷ rest) → IsTrying z word first (heard left x.id) rest
   trying_came [] x rest h = trying_lost [] zero (x ∷ rest) h
   trying_came (id ∷ later) x rest h = chosen (nat_eq x.id id) refl (line_came z (id ∷ later) x rest h.sound) where
@@ -141,7 +141,7 @@ module _ (z : ℕ) (word first : List ℕ) where
         }
     chosen false e line = trying_lost (id ∷ later) zero (x ∷ rest) h
 
-  -- `IsTrying` lasts over all that happens to the line
+  -- `IsTrying` is preserved by all that happens to the line
   trying_lasts : Lasts (IsTrying z word first)
   trying_lasts = record { lost = trying_lost; twice = trying_twice; asked = trying_asked; came = trying_came }
 

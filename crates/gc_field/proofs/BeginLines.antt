@@ -99,7 +99,7 @@ pub olds_push : (i : ℕ) (xs : List Sent) → olds (xs ++ record { id = i; old 
 olds_push i [] = refl
 olds_push i (x ∷ xs) = ap (λ l. old_if x.old x.id l) (olds_push i xs)
 
--- `Has` lasts if the same line, old or own, is put before both
+-- `Has` is preserved if the same line, old or own, is put before both
 has_if : (b : Bool) (i : ℕ) (ids others : List ℕ) → Has ids others → Has (old_if b i ids) (old_if b i others)
 has_if true i ids others h = has_behind i ids others h
 has_if false i ids others h = h
@@ -128,17 +128,17 @@ has_doubled (suc k) (x ∷ xs) = has_if x.old x.id (olds (doubled k xs)) (olds x
 
 -- The line loses one, or repeats one.
 
--- `AreOwn` lasts if a line is lost
+-- `AreOwn` is preserved if a line is lost
 own_without : (z : ℕ) (left : List ℕ) (k : ℕ) (line : List Sent) → AreOwn z left line → AreOwn z left (without k line)
 own_without z [] k line h = each_without (λ x. IsOwn x → x.id ≡ z) k line h
 own_without z (asked ∷ later) k line h = (each_without (HasNone later) k line h.0, pairs_without (KeepsTheId asked) k line h.1)
 
--- `AreOwn` lasts if a line comes twice
+-- `AreOwn` is preserved if a line comes twice
 own_doubled : (z : ℕ) (left : List ℕ) (k : ℕ) (line : List Sent) → AreOwn z left line → AreOwn z left (doubled k line)
 own_doubled z [] k line h = each_doubled (λ x. IsOwn x → x.id ≡ z) k line h
 own_doubled z (asked ∷ later) k line h = (each_doubled (HasNone later) k line h.0, pairs_doubled (KeepsTheId asked) (λ x o e. e) k line h.1)
 
--- `IsLine` lasts if a line is lost
+-- `IsLine` is preserved if a line is lost
 pub line_without : (z : ℕ) (left : List ℕ) (k : ℕ) (line : List Sent) → IsLine z left line → IsLine z left (without k line)
 line_without z left k line h =
     record {
@@ -149,7 +149,7 @@ line_without z left k line h =
       own = own_without z left k line h.own;
     }
 
--- `IsLine` lasts if a line comes twice
+-- `IsLine` is preserved if a line comes twice
 pub line_doubled : (z : ℕ) (left : List ℕ) (k : ℕ) (line : List Sent) → IsLine z left line → IsLine z left (doubled k line)
 line_doubled z left k line h =
     record {
@@ -162,7 +162,7 @@ line_doubled z left k line h =
 
 -- A null procedure is sent.
 
--- `IsLine` lasts if the beginner asks
+-- `IsLine` is preserved if the beginner asks
 pub line_asked : (z asked : ℕ) (later : List ℕ) (line : List Sent) → IsLine z (asked ∷ later) line → IsLine z (asked ∷ later) (line ++ record { id = asked; old = false } ∷ [])
 line_asked z asked later line h =
     let new : Sent = record { id = asked; old = false } in
@@ -197,7 +197,7 @@ ends_behind : (z asked : ℕ) (later : List ℕ) → last asked later ≡ z → 
 ends_behind z asked [] e = refl
 ends_behind z asked (i ∷ later) e = e
 
--- `AreOwn` lasts if a reply answers
+-- `AreOwn` is preserved if a reply answers
 own_answered : (z asked : ℕ) (later : List ℕ) (x : Sent) (rest : List Sent) → IsLine z (asked ∷ later) (x ∷ rest) → x.id ≡ asked → AreOwn z later rest
 own_answered z asked [] x rest h e =
     each_more (KeepsTheId asked x) (λ y. IsOwn y → y.id ≡ z) (λ y f o. f (is_own z asked x rest h e) e ∙ h.ends) rest h.own.1.0
@@ -213,7 +213,7 @@ clear_answered z asked later x rest h e s = chosen x.old refl where
   chosen true o = absurd (no_old x.old x.id asked (olds rest) later o e h.clear s)
   chosen false o = olds_none rest (each_more (IsBefore x) IsOwn (λ y f. f o) rest h.ordered.0)
 
--- `IsLine` lasts if a reply answers
+-- `IsLine` is preserved if a reply answers
 line_answered : (z asked : ℕ) (later : List ℕ) (x : Sent) (rest : List Sent) → IsLine z (asked ∷ later) (x ∷ rest) → x.id ≡ asked → IsLine z later rest
 line_answered z asked later x rest h e =
     record {
@@ -224,7 +224,7 @@ line_answered z asked later x rest h e =
       own = own_answered z asked later x rest h e;
     }
 
--- `IsLine` lasts if a reply comes
+-- `IsLine` is preserved if a reply comes
 pub line_came : (z : ℕ) (left : List ℕ) (x : Sent) (rest : List Sent) → IsLine z left (x ∷ rest) → IsLine z (heard left x.id) rest
 line_came z [] x rest h = line_without z [] zero (x ∷ rest) h
 line_came z (asked ∷ later) x rest h = chosen (nat_eq x.id asked) refl where

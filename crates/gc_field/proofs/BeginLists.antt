@@ -44,19 +44,19 @@ module _ {A : Type 0} where
   each_both P Q R f [] h g = tt
   each_both P Q R f (x ∷ xs) h g = (f x h.0 g.0, each_both P Q R f xs h.1 g.1)
 
-  -- `Pairs` lasts if an element is lost
+  -- `Pairs` is preserved if an element is lost
   pub pairs_without : (R : A → A → Type 0) (k : ℕ) (xs : List A) → Pairs R xs → Pairs R (without k xs)
   pairs_without R k [] h = tt
   pairs_without R zero (x ∷ xs) h = h.1
   pairs_without R (suc k) (x ∷ xs) h = (each_without (R x) k xs h.0, pairs_without R k xs h.1)
 
-  -- `Pairs` lasts if an element is repeated, if R holds of each element and itself
+  -- `Pairs` is preserved if an element is repeated, if R holds of each element and itself
   pub pairs_doubled : (R : A → A → Type 0) → ((x : A) → R x x) → (k : ℕ) (xs : List A) → Pairs R xs → Pairs R (doubled k xs)
   pairs_doubled R same k [] h = tt
   pairs_doubled R same zero (x ∷ xs) h = ((same x, h.0), (h.0, h.1))
   pairs_doubled R same (suc k) (x ∷ xs) h = (each_doubled (R x) k xs h.0, pairs_doubled R same k xs h.1)
 
-  -- `Pairs` lasts if an element is added at the end to which every one has the relation
+  -- `Pairs` is preserved if an element is added at the end to which every one has the relation
   pub pairs_push : (R : A → A → Type 0) (y : A) → ((x : A) → R x y) → (xs : List A) → Pairs R xs → Pairs R (xs ++ y ∷ [])
   pairs_push R y f [] h = (tt, tt)
   pairs_push R y f (x ∷ xs) h = (each_append (R x) xs (y ∷ []) h.0 (f x, tt), pairs_push R y f xs h.1)

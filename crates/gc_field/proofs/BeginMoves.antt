@@ -1,11 +1,11 @@
--- A fact of the whole line, replies first, that lasts over the four things that can happen to the line lasts over each move of
+-- A fact of the whole line, replies first, that is preserved by the four things that can happen to the line is preserved by each move of
 -- a synchronization.
 use Rattle.std.proofs.Common.{◌≡◌, ℕ, zero, inl, inr, Bool, true, false, List, [], ◌∷◌, ◌++◌, refl, sym, subst}
 use Rattle.gc_field.proofs.BeginIds.{Sent, Model, Move, Ask, Reach, Pass, Come, Up_lose, Up_repeat, Down_lose, Down_repeat, Anew, heard, asks, reaches, passes, comes, moves, moved}
 use Rattle.gc_field.specs.World.{without, doubled}
 use Rattle.gc_field.proofs.BeginLists.{lost_back, lost_front, twice_back, twice_front, goes_over, behind_both}
 
--- a fact of the ids that are left, and of the line, lasts over a loss, a repeat, a request that is sent and a reply that comes
+-- a fact of the ids that are left, and of the line, is preserved by a loss, a repeat, a request that is sent and a reply that comes
 pub record Lasts (I : List ℕ → List Sent → Type 0) : Type 0 where
   pub lost : (left : List ℕ) (k : ℕ) (line : List Sent) → I left line → I left (without k line)
   pub twice : (left : List ℕ) (k : ℕ) (line : List Sent) → I left line → I left (doubled k line)
@@ -45,7 +45,7 @@ module _ (I : List ℕ → List Sent → Type 0) (lasts : Lasts I) where
   holds_comes s [] e h = h
   holds_comes s (x ∷ rest) e h = lasts.came s.left x (rest ++ s.up) (subst (λ q. I s.left (q ++ s.up)) e h)
 
-  -- the fact lasts over each move
+  -- the fact is preserved by each move
   pub holds_moves : (s : Model) (m : Move) → Holds s → Holds (moves s m)
   holds_moves s Ask h = holds_asks s s.left refl h
   holds_moves s (Reach replies) h = holds_reaches s replies s.up refl h
@@ -69,7 +69,7 @@ module _ (I : List ℕ → List Sent → Type 0) (lasts : Lasts I) where
       ]
   holds_moves s Anew h = h
 
-  -- the fact lasts over moves
+  -- the fact is preserved by moves
   pub holds_moved : (ms : List Move) (s : Model) → Holds s → Holds (moved ms s)
   holds_moved [] s h = h
   holds_moved (m ∷ ms) s h = holds_moved ms (moves s m) (holds_moves s m h)

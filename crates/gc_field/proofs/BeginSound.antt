@@ -36,12 +36,12 @@ pub record IsSound (z : ℕ) (s : Model) : Type 0 where
 
 -- What is kept.
 
--- `Keeps` lasts if a reply is lost
+-- `Keeps` is preserved if a reply is lost
 keeps_without : (z : ℕ) (left : List ℕ) (k : ℕ) (down : List Sent) (kept : Option ℕ) → Keeps z left down kept → Keeps z left (without k down) kept
 keeps_without z [] k down kept h = h
 keeps_without z (asked ∷ later) k down kept h = each_without (KeepsIf asked kept) k down h
 
--- `Keeps` lasts if a reply comes twice
+-- `Keeps` is preserved if a reply comes twice
 keeps_doubled : (z : ℕ) (left : List ℕ) (k : ℕ) (down : List Sent) (kept : Option ℕ) → Keeps z left down kept → Keeps z left (doubled k down) kept
 keeps_doubled z [] k down kept h = h
 keeps_doubled z (asked ∷ later) k down kept h = each_doubled (KeepsIf asked kept) k down h
@@ -62,19 +62,19 @@ keeps_reached z [] down x rest h =
     (each_back (λ y. IsOwn y → y.id ≡ z) down (x ∷ rest) h.own).0 own
 keeps_reached z (asked ∷ later) down x rest h = pairs_before (KeepsTheId asked) down x rest h.own.1
 
--- `Keeps` lasts if the reply to that request is sent
+-- `Keeps` is preserved if the reply to that request is sent
 keeps_replied : (z : ℕ) (left : List ℕ) (down : List Sent) (x : Sent) → Keeps z left down (Some x.id) → Keeps z left (down ++ x ∷ []) (Some x.id)
 keeps_replied z [] down x h = h
 keeps_replied z (asked ∷ later) down x h = each_append (KeepsIf asked (Some x.id)) down (x ∷ []) h ((λ o e. e), tt)
 
--- `Keeps` lasts if a reply comes and answers
+-- `Keeps` is preserved if a reply comes and answers
 keeps_answered : (z asked : ℕ) (later : List ℕ) (x : Sent) (rest up : List Sent) (kept : Option ℕ) → IsLine z (asked ∷ later) (x ∷ (rest ++ up))
     → x.id ≡ asked → Keeps z (asked ∷ later) (x ∷ rest) kept → Keeps z later rest kept
 keeps_answered z asked [] x rest up kept h e k = subst (λ i. IsFor i kept) h.ends (k.0 (is_own z asked x (rest ++ up) h e) e)
 keeps_answered z asked (i ∷ later) x rest up kept h e k =
     each_more (HasNone (i ∷ later)) (KeepsIf i kept) (λ y f o g. absurd ((f o).0 (sym g))) rest (each_front (HasNone (i ∷ later)) rest up h.own.0.1)
 
--- `Keeps` lasts where x, the front reply, is heard: of what is left then, and of the replies after x
+-- `Keeps` is preserved where x, the front reply, is heard: of what is left then, and of the replies after x
 keeps_heard : (z : ℕ) (left : List ℕ) (x : Sent) (rest up : List Sent) (kept : Option ℕ) → IsLine z left (x ∷ (rest ++ up)) → Keeps z left (x ∷ rest) kept → Keeps z (heard left x.id) rest kept
 keeps_heard z [] x rest up kept h k = k
 keeps_heard z (asked ∷ later) x rest up kept h k = chosen (nat_eq x.id asked) refl where
@@ -84,16 +84,16 @@ keeps_heard z (asked ∷ later) x rest up kept h k = chosen (nat_eq x.id asked) 
 
 -- Each move.
 
--- `IsLine` lasts over all that happens to the line
+-- `IsLine` is preserved by all that happens to the line
 line_lasts : (z : ℕ) → Lasts (IsLine z)
 line_lasts z = record { lost = line_without z; twice = line_doubled z; asked = line_asked z; came = line_came z }
 
--- `Keeps` lasts if the beginner asks
+-- `Keeps` is preserved if the beginner asks
 keeps_asks : (z : ℕ) (s : Model) (left : List ℕ) → IsSound z s → Keeps z (asks s left).left (asks s left).down (asks s left).kept
 keeps_asks z s [] h = h.keeps
 keeps_asks z s (asked ∷ later) h = h.keeps
 
--- `Keeps` lasts if a request reaches the instrument
+-- `Keeps` is preserved if a request reaches the instrument
 keeps_reaches : (z : ℕ) (s : Model) (replies : Bool) (up : List Sent) → s.up ≡ up → IsSound z s → Keeps z (reaches s replies up).left (reaches s replies up).down (reaches s replies up).kept
 keeps_reaches z s replies [] e h = h.keeps
 keeps_reaches z s true (x ∷ rest) e h = keeps_replied z s.left s.down x (keeps_reached z s.left s.down x rest (subst (λ q. IsLine z s.left (s.down ++ q)) e h.line))
@@ -103,12 +103,12 @@ keeps_reaches z s false (x ∷ rest) e h = keeps_reached z s.left s.down x rest 
 both : (x : Sent) → IsOld x → IsOwn x → ⊥
 both x old own = never (sym own ∙ old)
 
--- `Keeps` lasts if the reply to an old request is sent, and what is kept stays
+-- `Keeps` is preserved if the reply to an old request is sent, and what is kept stays
 keeps_old : (z : ℕ) (left : List ℕ) (down : List Sent) (x : Sent) (kept : Option ℕ) → IsOld x → Keeps z left down kept → Keeps z left (down ++ x ∷ []) kept
 keeps_old z [] down x kept old h = h
 keeps_old z (asked ∷ later) down x kept old h = each_append (KeepsIf asked kept) down (x ∷ []) h ((λ own e. absurd (both x old own)), tt)
 
--- `Keeps` lasts if a request is left out
+-- `Keeps` is preserved if a request is left out
 keeps_passes : (z : ℕ) (s : Model) (up : List Sent) → s.up ≡ up → IsSound z s → Keeps z (passes s up).left (passes s up).down (passes s up).kept
 keeps_passes z s [] e h = h.keeps
 keeps_passes z s (x ∷ rest) e h = by_case x.old refl where
@@ -116,13 +116,13 @@ keeps_passes z s (x ∷ rest) e h = by_case x.old refl where
   by_case true old = keeps_old z s.left s.down x s.kept old h.keeps
   by_case false own = keeps_replied z s.left s.down x (keeps_reached z s.left s.down x rest (subst (λ q. IsLine z s.left (s.down ++ q)) e h.line))
 
--- the same of a whole state: `Keeps` lasts if a reply comes
+-- the same of a whole state: `Keeps` is preserved if a reply comes
 keeps_comes : (z : ℕ) (s : Model) (down : List Sent) → s.down ≡ down → IsSound z s → Keeps z (comes s down).left (comes s down).down (comes s down).kept
 keeps_comes z s [] e h = h.keeps
 keeps_comes z s (x ∷ rest) e h =
     keeps_heard z s.left x rest s.up s.kept (subst (λ q. IsLine z s.left (q ++ s.up)) e h.line) (subst (λ q. Keeps z s.left q s.kept) e h.keeps)
 
--- `Keeps` lasts over each move
+-- `Keeps` is preserved by each move
 keeps_moves : (z : ℕ) (s : Model) (m : Move) → IsSound z s → Keeps z (moves s m).left (moves s m).down (moves s m).kept
 keeps_moves z s Ask h = keeps_asks z s s.left h
 keeps_moves z s (Reach replies) h = keeps_reaches z s replies s.up refl h
@@ -134,11 +134,11 @@ keeps_moves z s (Down_lose k) h = keeps_without z s.left k s.down s.kept h.keeps
 keeps_moves z s (Down_repeat k) h = keeps_doubled z s.left k s.down s.kept h.keeps
 keeps_moves z s Anew h = keeps_nothing z s.left s.down
 
--- `IsSound` lasts over each move
+-- `IsSound` is preserved by each move
 sound_moves : (z : ℕ) (s : Model) (m : Move) → IsSound z s → IsSound z (moves s m)
 sound_moves z s m h = record { line = holds_moves (IsLine z) (line_lasts z) s m h.line; keeps = keeps_moves z s m h }
 
--- `IsSound` lasts over moves
+-- `IsSound` is preserved by moves
 pub sound_moved : (z : ℕ) (ms : List Move) (s : Model) → IsSound z s → IsSound z (moved ms s)
 sound_moved z [] s h = h
 sound_moved z (m ∷ ms) s h = sound_moved z ms (moves s m) (sound_moves z s m h)

@@ -46,7 +46,7 @@ stands_each P (w ∷ word) (i ∷ ids) h (inr s) = stands_each P (w ∷ word) id
 abbrev pub Has : List ℕ → List ℕ → Type 0
 Has ids others = (word : List ℕ) → AllDiffer word → IsSubsequence word ids → IsSubsequence word others
 
--- `Has` lasts if the same id is put before both lists
+-- `Has` is preserved if the same id is put before both lists
 pub has_behind : (i : ℕ) (ids others : List ℕ) → Has ids others → Has (i ∷ ids) (i ∷ others)
 has_behind i ids others f [] d h = tt
 has_behind i ids others f (w ∷ word) d (inl h) = inl (h.0, f word d.1 h.1)
@@ -162,7 +162,7 @@ each_below a b ns e h = subst (λ c. Each (λ m. m < c) ns) e h
 abbrev InRow : ℕ → ℕ → List ℕ → Type 0
 InRow a k ns = Rising (a + 1) ns → Each (λ m. m < a + k) ns → Has (ids_at ns) (upward a k)
 
--- `InRow` lasts if one number more, m, is put before it: either m is a (`b`), or all of the numbers are above a
+-- `InRow` is preserved if one number more, m, is put before it: either m is a (`b`), or all of the numbers are above a
 row_first : (a k m : ℕ) (ns : List ℕ) (b : Bool) → nat_eq m a ≡ b → InRow (a + 1) k (m ∷ ns) → InRow a (suc k) ns → InRow a (suc k) (m ∷ ns)
 row_first a k m ns true e above more h low = λ word d s.
     let same : m ≡ a = eqb-true m a e in

@@ -40,19 +40,19 @@ record Behind (before : List (Wanted Asked)) (old : List (Settlement Asked)) (x 
   settled : x.settlements ≡ old ++ y.settlements
   client : x.client ≡ y.client
 
--- `Behind` lasts over a send
+-- `Behind` is preserved by a send
 behind_send : (before : List (Wanted Asked)) (old : List (Settlement Asked)) (x y : Course Asked) (target : ℕ) (call : Asked) (o : Option (Sending (ById Asked))) → Behind before old x y
     → Behind before old (sent_on x target call o) (sent_on y target call o)
 behind_send before old x y target call None h = h
 behind_send before old x y target call (Some s) h =
     record { sent = ap (λ l. l ++ record { target = target; call = call } ∷ []) h.sent ∙ append_assoc before y.sent (record { target = target; call = call } ∷ []); settled = h.settled; client = refl }
 
--- `Behind` lasts over settlements
+-- `Behind` is preserved by settlements
 behind_settled : (before : List (Wanted Asked)) (old : List (Settlement Asked)) (x y : Course Asked) (s : Settled Asked (ById Asked)) → Behind before old x y
     → Behind before old (settled_on x s) (settled_on y s)
 behind_settled before old x y s h = record { sent = h.sent; settled = ap (λ l. l ++ s.settlements) h.settled ∙ append_assoc old y.settlements s.settlements; client = refl }
 
--- `Behind` lasts over a step
+-- `Behind` is preserved by a step
 behind_step : (width : ℕ) (before : List (Wanted Asked)) (old : List (Settlement Asked)) (x y : Course Asked) (step : Step Asked) → Behind before old x y
     → Behind before old (goes width x step) (goes width y step)
 behind_step width before old x y (Send target call deadline) h =
@@ -65,7 +65,7 @@ behind_step width before old x y (Expire now) h = record { sent = h.sent; settle
 behind_step width before old x y Restart h =
     subst (λ c. Behind before old (settled_on x (restarts c)) (settled_on y (restarts y.client))) (sym h.client) (behind_settled before old x y (restarts y.client) h)
 
--- `Behind` lasts over steps
+-- `Behind` is preserved by steps
 behind_all : (width : ℕ) (before : List (Wanted Asked)) (old : List (Settlement Asked)) (steps : List (Step Asked)) (x y : Course Asked) → Behind before old x y
     → Behind before old (course width x steps) (course width y steps)
 behind_all width before old [] x y h = h

@@ -47,22 +47,22 @@ module _ {State : Type 0} (width : ℕ) (ends : Ends State) where
   abbrev Based : World (ByNumber Asked) State → Type 0
   Based w = IsBased w.client
 
-  -- a send keeps `Based`
+  -- a send preserves `Based`
   based_sent : (w : World (ByNumber Asked) State) (target : ℕ) (call : Asked) (deadline : ℕ) (full : Bool) → Based w → Based (requested w target call (number_send w.client target call deadline full))
   based_sent w target call deadline true h = h
   based_sent w target call deadline false h = record { since = h.since; count = h.count }
 
-  -- a reply keeps `IsBased`
+  -- a reply preserves `IsBased`
   based_reply : (c : ByNumber Asked) (x : Numbered (List ℕ)) (old : Bool) → ltb x.number c.count ≡ old → IsBased c → IsBased (number_reply c x old).client
   based_reply c x true t h = h
   based_reply c x false t h = record { since = h.since; count = (let ge : c.count ≤ x.number = ltb-false _ _ t in let low = h.count in omega (arith, ge, low)) }
 
-  -- a reply that comes keeps `Based`
+  -- a reply that comes preserves `Based`
   based_down : (w : World (ByNumber Asked) State) (q : List (Numbered (List ℕ))) → Based w → Based (down_delivered (by_numbers width) w q)
   based_down w [] h = h
   based_down w (x ∷ rest) h = based_reply w.client x (ltb x.number w.client.count) refl h
 
-  -- a step of the line keeps `Based`
+  -- a step of the line preserves `Based`
   based_line : (w : World (ByNumber Asked) State) (step : Step) → IsOfLine step → Based w → Based (happens ends (by_numbers width) w step)
   based_line w (Send target call deadline) p h = absurd p
   based_line w Up_deliver p h = h
@@ -77,7 +77,7 @@ module _ {State : Type 0} (width : ℕ) (ends : Ends State) where
   based_line w Nothing p h = h
 
   module _ (Good : State → Type 0) (kept : State → Option KeptReply) where
-    -- moves that are possible for the client that knows ids keep `Based`
+    -- moves that are possible for the client that knows ids preserve `Based`
     based_all : (ms : List (Move State)) (a : World (ById Asked) State) (w : World (ByNumber Asked) State) → ArePossible ends Good kept (by_ids width ends) ms a → Based w
         → Based (moved ends (by_numbers width) ms w)
     based_all [] a w p h = h

@@ -67,7 +67,7 @@ joined_assoc p q r =
     ∙ ap (λ (steps : List (step.Step Asked)). record { turns = p.turns ++ (q.turns ++ r.turns); steps = steps; marks = (p.marks ++ q.marks) ++ r.marks }) (append_assoc p.steps q.steps r.steps)
     ∙ ap (λ (marks : List _). record { turns = p.turns ++ (q.turns ++ r.turns); steps = p.steps ++ (q.steps ++ r.steps); marks = marks }) (append_assoc p.marks q.marks r.marks)
 
--- `IsFront` lasts if the same part is put before both lists
+-- `IsFront` is preserved if the same part is put before both lists
 front_more : (p : Part) (b : Bool) (ps qs : List Part) → IsFront ps qs → IsFront (in_front p b ps) (in_front p b qs)
 front_more p b [] qs h = absurd h
 front_more p true (x ∷ ps) [] h = absurd h
@@ -193,7 +193,7 @@ record SplitSeen {State : Type 0} (ms : List (Move State)) (xs : List (step.Step
   order : ms ≡ front ++ later
   steps : seen front ≡ xs
 
--- `SplitSeen` lasts if a move that the client sees is put before it
+-- `SplitSeen` is preserved if a move that the client sees is put before it
 split_visible : {State : Type 0} (m : Move State) (st x : step.Step Asked) (ms : List (Move State)) (xs ys : List (step.Step Asked))
     → ((l : List (Move State)) → seen (m ∷ l) ≡ st ∷ seen l) → (seen ms ≡ xs ++ ys → SplitSeen ms xs) → seen (m ∷ ms) ≡ x ∷ (xs ++ ys)
     → SplitSeen (m ∷ ms) (x ∷ xs)
@@ -281,7 +281,7 @@ module _ {State : Type 0} (ends : Ends State) (Good : State → Type 0) (kept : 
       let here : seen r.moves ≡ p.steps ++ h.0.steps = e.1 ∙ ap (λ (x : Part). x.steps) h.1 in
       cut_one p u r rs (e.0 ∙ same) (split_seen r.moves p.steps h.0.steps here) good.0.0 good.0.1
 
-  -- `Cut` lasts if the run of a part is put before it
+  -- `Cut` is preserved if the run of a part is put before it
   cut_more : (p next : Part) (ps : List Part) (u : UnderWay State) (r : Run State) (rs : List (Run State)) → shown ends r.turns (begins u) ≡ p.turns → seen r.moves ≡ p.steps
       → AreTurns ends Good kept r.turns (begins u) × ArePossibleIf 7 ends Good kept (stood_by 7 ends u r).left (stood_by 7 ends u r) r.moves
       → Cut (next ∷ ps) (left_by_run 7 ends u r) rs → Cut (p ∷ next ∷ ps) u (r ∷ rs)

@@ -33,7 +33,7 @@ module _ {State : Type 0} (width : ℕ) (narrow : width ≤ 7) (ends : Ends Stat
     pub agree : Agree width narrow ends Good a b
     pub sound : Sound width ends Good b
 
-  -- a start of the instrument keeps `Sound`
+  -- a start of the instrument preserves `Sound`
   pub sound_anew : (b : World (ByNumber Asked) State) → Sound width ends Good b → Sound width ends Good (on_wire b (started ends b.wire true))
   sound_anew b h =
       record {
@@ -48,15 +48,15 @@ module _ {State : Type 0} (width : ℕ) (narrow : width ≤ 7) (ends : Ends Stat
         coming = h.coming;
       }
 
-  -- a step keeps `Both`
+  -- a step preserves `Both`
   both_step : (a : World (ById Asked) State) (b : World (ByNumber Asked) State) (step : Step) → Both a b → Both (happens ends (by_ids width ends) a step) (happens ends (by_numbers width) b step)
   both_step a b step h = record { agree = agrees width narrow ends Good written a b step h.sound h.agree; sound = sound_step width ends Good written ex b step h.sound }
 
-  -- a change of the instrument's state to a good one keeps `Sound`
+  -- a change of the instrument's state to a good one preserves `Sound`
   pub sound_changed : (b : World (ByNumber Asked) State) (state : State) → Good state → Sound width ends Good b → Sound width ends Good (on_wire b (record b.wire { state = state }))
   sound_changed b state good h = record { good = good; counted = h.counted; booked = h.booked; begun = h.begun; within = h.within; few = h.few; order = h.order; going = h.going; coming = h.coming }
 
-  -- a possible move keeps `Both`
+  -- a possible move preserves `Both`
   pub both_move : (a : World (ById Asked) State) (b : World (ByNumber Asked) State) (m : Move State) → IsPossible Good kept a m → Both a b
       → Both (moves ends (by_ids width ends) a m) (moves ends (by_numbers width) b m)
   both_move a b (Sends target call deadline) p h = both_step a b (Send target call deadline) h
@@ -70,7 +70,7 @@ module _ {State : Type 0} (width : ℕ) (narrow : width ≤ 7) (ends : Ends Stat
       record { agree = record { wire = ap (λ (w : Wire State). record w { state = state }) h.agree.wire; client = h.agree.client }; sound = sound_changed b state p.0 h.sound }
   both_move a b (Joins line) p h = absurd p
 
-  -- possible moves keep `Both`
+  -- possible moves preserve `Both`
   pub both_all : (ms : List (Move State)) (a : World (ById Asked) State) (b : World (ByNumber Asked) State) → ArePossible ends Good kept (by_ids width ends) ms a → Both a b
       → Both (moved ends (by_ids width ends) ms a) (moved ends (by_numbers width) ms b)
   both_all [] a b p h = h
@@ -180,7 +180,7 @@ module _ {State : Type 0} (width : ℕ) (narrow : width ≤ 7) (knows : Asked �
   asks_behind (Changes state) ms h = h
   asks_behind (Joins line) ms h = h
 
-  -- `Trusted` lasts over a possible move, where its execution, if it is one, is `AreOn`
+  -- `Trusted` is preserved by a possible move, where its execution, if it is one, is `AreOn`
   trusted_move : (m : Move State) (ms : List (Move State)) (a : World (ById Asked) State) (b : World (ByNumber Asked) State) → Both width narrow ends Good ex kept a b → IsPossible Good kept a m
       → (Plain → AsksOnly knows (m ∷ ms)) → AreOn width ends M (m ∷ ms) b → Sound width ends Good b → Trusted b → Trusted (moves ends (by_numbers width) b m)
   trusted_move (Sends target call deadline) ms a b both p asks on s t =

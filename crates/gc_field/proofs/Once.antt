@@ -82,7 +82,7 @@ order_few executed few j k m n lt a b =
     let size : k < length executed = below executed k n b in
     absurd (omega (arith, size, few, lt))
 
--- `IsOrdered` lasts where request n is executed, and no request that was sent later was executed before
+-- `IsOrdered` is preserved where request n is executed, and no request that was sent later was executed before
 pub ordered_acted : (top n : ℕ) (executed : List ℕ) → top ≤ n + 1 → IsOrdered top executed → IsOrdered (n + 1) (executed ++ n ∷ [])
 ordered_acted top n executed le h =
     record {
@@ -100,7 +100,7 @@ ordered_acted top n executed le h =
       below = each_append (λ m. m < n + 1) executed (n ∷ []) (each_more (λ m. m < top) (λ m. m < n + 1) (λ m l. omega (arith, l, le)) executed h.below) (omega arith, tt);
     }
 
--- `IsOrdered` lasts where request n is handed to the instrument and isn't executed
+-- `IsOrdered` is preserved where request n is handed to the instrument and isn't executed
 pub ordered_handed : (top n : ℕ) (executed : List ℕ) → top ≤ n + 1 → IsOrdered top executed → IsOrdered (n + 1) executed
 ordered_handed top n executed le h = record { order = h.order; below = each_more (λ m. m < top) (λ m. m < n + 1) (λ m l. omega (arith, l, le)) executed h.below }
 
@@ -128,7 +128,7 @@ acts_once knows sent executed starts once i j m n r lt run a b found known =
       | inr u ↦ absurd (known_not knows sent n r found known u)
     ]
 
--- `IsClimbing` lasts where more requests are sent
+-- `IsClimbing` is preserved where more requests are sent
 pub climbing_sent : (knows : Asked → Bool) (id top : ℕ) (sent more : List Sent) (executed starts : List ℕ) (k : Option KeptReply)
     → IsClimbing knows id top sent executed starts k → IsClimbing knows id top (sent ++ more) executed starts k
 climbing_sent knows id top sent more executed starts k h =
@@ -144,7 +144,7 @@ climbing_sent knows id top sent more executed starts k h =
       ];
     }
 
--- `IsClimbing` lasts over a start of the instrument, which keeps what it kept (`k`), or nothing
+-- `IsClimbing` is preserved by a start of the instrument, which keeps what it kept (`k`), or nothing
 pub climbing_started : (knows : Asked → Bool) (id top : ℕ) (sent : List Sent) (executed starts : List ℕ) (k after : Option KeptReply) → (after ≡ None) ⊎ (after ≡ k)
     → IsClimbing knows id top sent executed starts k → IsClimbing knows id top sent executed (starts ++ length executed ∷ []) after
 climbing_started knows id top sent executed starts k after now h =
@@ -174,7 +174,7 @@ last_of knows new n sent executed starts after r (inr kept) =
       same = λ y e. ap (λ (x : KeptReply). x.id) (sym (some_is r y (sym kept.0 ∙ e))) ∙ kept.1;
     })
 
--- `IsClimbing` lasts where request n, which has the id `new`, is handed to the instrument and isn't executed: it isn't known, or the instrument
+-- `IsClimbing` is preserved where request n, which has the id `new`, is handed to the instrument and isn't executed: it isn't known, or the instrument
 -- keeps a reply with its id
 pub climbing_handed : (knows : Asked → Bool) (id new top n : ℕ) (sent : List Sent) (executed starts : List ℕ) (k after : Option KeptReply) (r : KeptReply) → top ≤ n + 1
     → IsUnknown knows sent n ⊎ ((after ≡ Some r) × (r.id ≡ new))
@@ -197,7 +197,7 @@ never_idle executed starts j k m (inr h) run a e =
       | inr l ↦ omega (arith, l, e)
     ]
 
--- `IsClimbing` lasts where request n is executed, if it isn't known; or if nothing was executed since the last start, or n is later than each
+-- `IsClimbing` is preserved where request n is executed, if it isn't known; or if nothing was executed since the last start, or n is later than each
 -- request that was executed before, and the instrument then keeps a reply with n's id, `new`
 pub climbing_acted : (knows : Asked → Bool) (id new top n : ℕ) (sent : List Sent) (executed starts : List ℕ) (k after : Option KeptReply) (r : KeptReply) → top ≤ n + 1
     → IsUnknown knows sent n ⊎ ((IsIdle executed starts ⊎ (top ≤ n)) × (after ≡ Some r) × (r.id ≡ new))

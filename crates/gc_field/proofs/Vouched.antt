@@ -199,7 +199,7 @@ module _ {State : Type 0} (width : ℕ) (narrow : width ≤ 7) (knows : Asked �
   abbrev pub True : World (ByNumber Asked) State → Type 0
   True w = IsTrue w.client.since w.client.count w.wire.sent w.wire.executed w.wire.starts w.wire.made w.wire.settled w.wire.up w.wire.down (kept w.wire.state)
 
-  -- `IsTrue` lasts if a request is sent, which is known if all have to be
+  -- `IsTrue` is preserved if a request is sent, which is known if all have to be
   true_sent : (since count : ℕ) (sent : List Sent) (executed starts : List ℕ) (made : List (Numbered (List ℕ))) (settled : List (Settlement Asked))
       (up : List (Numbered Request)) (down : List (Numbered (List ℕ))) (k : Option KeptReply) (target id : ℕ) (call : Asked) → id < 8 → (Plain → knows call ≡ true)
       → IsTrue since count sent executed starts made settled up down k
@@ -232,7 +232,7 @@ module _ {State : Type 0} (width : ℕ) (narrow : width ≤ 7) (knows : Asked �
       near_sent r plain (inl n) = inl (n.0, n.1, each_append (λ (r : Sent). knows r.call ≡ true) sent (r ∷ []) n.2 (plain n.0, tt))
       near_sent r plain (inr n) = inr n
 
-  -- `True` lasts if the client sends a request
+  -- `True` is preserved if the client sends a request
   true_send : (w : World (ByNumber Asked) State) (target : ℕ) (call : Asked) (deadline : ℕ) (full : Bool) (x : Sending (ByNumber Asked)) → (Plain → knows call ≡ true)
       → number_send w.client target call deadline full ≡ Some x → True w → True (requested w target call (Some x))
   true_send w target call deadline true x plain e h = cc
@@ -304,7 +304,7 @@ module _ {State : Type 0} (width : ℕ) (narrow : width ≤ 7) (knows : Asked �
         all = λ every. sym is ∙ sym (ap knows o.call) ∙ each_get (λ (r : Sent). knows r.call ≡ true) w.wire.sent x.number o.request every o.found;
       }
 
-  -- `IsTrue` lasts if the front request, x, is handed to the instrument, if what it sends is vouched for, and the executions
+  -- `IsTrue` is preserved if the front request, x, is handed to the instrument, if what it sends is vouched for, and the executions
   -- are in order and act once
   true_on : (w : World (ByNumber Asked) State) (x : Numbered Request) (rest : List (Numbered Request)) (known : Bool) (line executed : List ℕ) (after : Option KeptReply) → w.wire.up ≡ x ∷ rest
       → (h : True w) → IsFront w h x known → Sound width ends Good w → ((i : ℕ) → Has i w.wire.executed → Has i executed)
@@ -379,7 +379,7 @@ module _ {State : Type 0} (width : ℕ) (narrow : width ≤ 7) (knows : Asked �
       )
   held_by w x hd keeps false e is handed good since own o = inl (o.request, o.found, ap keeps o.call ∙ e)
 
-  -- `True` lasts if the front request isn't executed, and the kept line is sent again for it
+  -- `True` is preserved if the front request isn't executed, and the kept line is sent again for it
   true_again : (w : World (ByNumber Asked) State) (x : Numbered Request) (rest : List (Numbered Request)) (hd : Handed State) (known : Bool) → w.wire.up ≡ x ∷ rest
       → ends.handed w.wire.state x.line.id x.line.call ≡ hd → knows x.line.call ≡ known → kept w.wire.state ≡ Some (record { id = x.line.id; line = hd.reply }) → AfterIs w x hd known
       → Sound width ends Good w → True w → True (on_wire w (replied w.wire x.number rest (record hd { executed = false })))
@@ -412,7 +412,7 @@ module _ {State : Type 0} (width : ℕ) (narrow : width ≤ 7) (knows : Asked �
       )
   acted_by w x hd known keeps false e k is exe good h front = inl (front.of.request, front.of.found, ap keeps front.of.call ∙ e)
 
-  -- `True` lasts if the front request is executed
+  -- `True` is preserved if the front request is executed
   true_new : (w : World (ByNumber Asked) State) (x : Numbered Request) (rest : List (Numbered Request)) (hd : Handed State) (known : Bool) → w.wire.up ≡ x ∷ rest
       → ends.handed w.wire.state x.line.id x.line.call ≡ hd → knows x.line.call ≡ known → hd.executed ≡ true → M x.number x.line.call hd.reply → AfterIs w x hd known
       → Sound width ends Good w → True w → True (on_wire w (replied w.wire x.number rest (record hd { executed = true })))
@@ -443,7 +443,7 @@ module _ {State : Type 0} (width : ℕ) (narrow : width ≤ 7) (knows : Asked �
       (λ keeps k. climbing_acted keeps ((h.top - 1 - c.since) % 8) ((n + 1 - 1 - c.since) % 8) h.top n v.sent v.executed v.starts (kept v.state) (kept hd.state)
       (record { id = x.line.id; line = hd.reply }) front.top (acted_by w x hd known keeps (keeps x.line.call) refl k is exe s.good h front) (h.once keeps k))
 
-  -- `True` lasts if the front request is handed to the instrument, whether that executes the request (`b`) or not
+  -- `True` is preserved if the front request is handed to the instrument, whether that executes the request (`b`) or not
   true_handed : (w : World (ByNumber Asked) State) (x : Numbered Request) (rest : List (Numbered Request)) (hd : Handed State) (b : Bool) → w.wire.up ≡ x ∷ rest
       → ends.handed w.wire.state x.line.id x.line.call ≡ hd → hd.executed ≡ b → (hd.executed ≡ true → M x.number x.line.call hd.reply)
       → Sound width ends Good w → True w → True (on_wire w (replied w.wire x.number rest (record hd { executed = b })))
@@ -466,7 +466,7 @@ module _ {State : Type 0} (width : ℕ) (narrow : width ≤ 7) (knows : Asked �
     chosen false not = true_again w x rest hd (knows x.line.call) q is refl (same not) now s h
     chosen true exe = true_new w x rest hd (knows x.line.call) q is refl exe (on exe) now s h
 
-  -- `True` lasts if the front reply comes, be its request settled already (`old`) or not
+  -- `True` is preserved if the front reply comes, be its request settled already (`old`) or not
   true_reply : (w : World (ByNumber Asked) State) (x : Numbered (List ℕ)) (rest : List (Numbered (List ℕ))) (old : Bool) → ltb x.number w.client.count ≡ old
       → w.wire.down ≡ x ∷ rest → length w.wire.settled ≡ w.client.count → True w
       → True (with_settled (record w.wire { down = rest }) (number_reply w.client x old))
@@ -518,7 +518,7 @@ module _ {State : Type 0} (width : ℕ) (narrow : width ≤ 7) (knows : Asked �
         once = h.once;
       }
 
-  -- `True` lasts if the instrument starts again, whatever is in flight
+  -- `True` is preserved if the instrument starts again, whatever is in flight
   pub true_started : (w : World (ByNumber Asked) State) (b : Bool) → Good w.wire.state → True w → True (on_wire w (started ends w.wire b))
   true_started w false good h = h
   true_started w true good h =
@@ -543,7 +543,7 @@ module _ {State : Type 0} (width : ℕ) (narrow : width ≤ 7) (knows : Asked �
             climbing_started keeps ((h.top - 1 - w.client.since) % 8) h.top v.sent v.executed v.starts (kept v.state) (kept (ends.restarted v.state)) (keeper.starts v.state good) (h.once keeps k);
       }
 
-  -- `True` lasts if the instrument's state changes by itself
+  -- `True` is preserved if the instrument's state changes by itself
   pub true_changed : (w : World (ByNumber Asked) State) (state : State) → kept state ≡ kept w.wire.state → True w → True (on_wire w (record w.wire { state = state }))
   true_changed w state same h =
       let v = w.wire in
@@ -565,7 +565,7 @@ module _ {State : Type 0} (width : ℕ) (narrow : width ≤ 7) (knows : Asked �
         once = λ keeps k. subst (λ o. IsClimbing keeps ((h.top - 1 - w.client.since) % 8) h.top v.sent v.executed v.starts o) (sym same) (h.once keeps k);
       }
 
-  -- `True` lasts if the lines in flight change, if those that are in flight now still have what the invariant says of each
+  -- `True` is preserved if the lines in flight change, if those that are in flight now still have what the invariant says of each
   true_queues : (w : World (ByNumber Asked) State) (up : List (Numbered Request)) (down : List (Numbered (List ℕ))) (h : True w)
       → Each (λ x. h.top ≤ x.number + 1) up → Each (IsOf written w.wire.sent) up → Each (λ x. x.number < h.top) down
       → Each (λ x. Vouched w.wire.sent w.wire.executed w.wire.made h.table x.number x.line) down → True (on_wire w (record w.wire { up = up; down = down }))
@@ -587,13 +587,13 @@ module _ {State : Type 0} (width : ℕ) (narrow : width ≤ 7) (knows : Asked �
     once = h.once;
   }
 
-  -- `True` lasts over a step that does nothing but count itself
+  -- `True` is preserved by a step that does nothing but count itself
   true_idle : (w : World (ByNumber Asked) State) → True w → True (on_wire w (idle w.wire))
   true_idle w h = h
 
   -- A move of the line, and a reply that comes.
 
-  -- `True` lasts if the front request reaches the instrument, if `IsOn` holds of it
+  -- `True` is preserved if the front request reaches the instrument, if `IsOn` holds of it
   pub true_up : (w : World (ByNumber Asked) State) (q : List (Numbered Request)) → w.wire.up ≡ q
       → ((x : Numbered Request) (rest : List (Numbered Request)) → q ≡ x ∷ rest → IsOn ends M w x) → Sound width ends Good w → True w
       → True (on_wire w (up_delivered ends w.wire q))
@@ -601,31 +601,31 @@ module _ {State : Type 0} (width : ℕ) (narrow : width ≤ 7) (knows : Asked �
   true_up w (x ∷ rest) e on s h =
       true_handed w x rest (ends.handed w.wire.state x.line.id x.line.call) (ends.handed w.wire.state x.line.id x.line.call).executed e refl refl (on x rest refl) s h
 
-  -- `True` lasts if the front reply comes
+  -- `True` is preserved if the front reply comes
   pub true_down : (w : World (ByNumber Asked) State) (q : List (Numbered (List ℕ))) → w.wire.down ≡ q → Sound width ends Good w → True w → True (down_delivered (by_numbers width) w q)
   true_down w [] e s h = true_idle w h
   true_down w (x ∷ rest) e s h = true_reply w x rest (ltb x.number w.client.count) refl e s.booked h
 
-  -- `True` lasts over a loss or a repeat of a request in flight; if there is none at that place (`b` is false), nothing happens
+  -- `True` is preserved by a loss or a repeat of a request in flight; if there is none at that place (`b` is false), nothing happens
   true_with_up : (w : World (ByNumber Asked) State) (up : List (Numbered Request)) (b : Bool) (h : True w)
       → Each (λ x. h.top ≤ x.number + 1) up → Each (IsOf written w.wire.sent) up → True (on_wire w (with_up w.wire up b))
   true_with_up w up false h a l = true_idle w h
   true_with_up w up true h a l = true_queues w up w.wire.down h a l h.below h.coming
 
-  -- `True` lasts over a loss or a repeat of a reply in flight; if there is none at that place (`b` is false), nothing happens
+  -- `True` is preserved by a loss or a repeat of a reply in flight; if there is none at that place (`b` is false), nothing happens
   true_with_down : (w : World (ByNumber Asked) State) (down : List (Numbered (List ℕ))) (b : Bool) (h : True w)
       → Each (λ x. x.number < h.top) down → Each (λ x. Vouched w.wire.sent w.wire.executed w.wire.made h.table x.number x.line) down
       → True (on_wire w (with_down w.wire down b))
   true_with_down w down false h l c = true_idle w h
   true_with_down w down true h l c = true_queues w w.wire.up down h h.above h.lines l c
 
-  -- `True` lasts over a send, refused or not
+  -- `True` is preserved by a send, refused or not
   pub true_requested : (w : World (ByNumber Asked) State) (target : ℕ) (call : Asked) (deadline : ℕ) (o : Option (Sending (ByNumber Asked))) → (Plain → knows call ≡ true)
       → (by_numbers width).send w.client target call deadline ≡ o → True w → True (requested w target call o)
   true_requested w target call deadline None plain e h = h
   true_requested w target call deadline (Some x) plain e h = true_send w target call deadline (eqb (length w.client.requests - w.client.count) width) x plain e h
 
-  -- `True` lasts over a step of the line
+  -- `True` is preserved by a step of the line
   pub true_line : (w : World (ByNumber Asked) State) (step : Step) → IsOfLine step
       → ((x : Numbered Request) (rest : List (Numbered Request)) → step ≡ Up_deliver → w.wire.up ≡ x ∷ rest → IsOn ends M w x) → Sound width ends Good w → True w
       → True (happens ends (by_numbers width) w step)

@@ -1,5 +1,5 @@
 -- Each record is of its very request: an answer came after it, with its id, and in time; a late reply came too late; and a lost
--- one is lost for a cause. Each act keeps `IsHonest` (of `Waiting`): the outstanding requests were put among the acts, and the
+-- one is lost for a cause. Each act preserves `IsHonest` (of `Waiting`): the outstanding requests were put among the acts, and the
 -- records are true. An act is one call on the link, with its result.
 use Rattle.std.proofs.Common.{◌≡◌, inl, inr, ℕ, ◌+◌, ◌%◌, ◌<◌, ◌≤◌, Bool, true, false, List, [], ◌∷◌, ◌++◌, length, drop, if◌then◌else◌, Option, Some, None, nat_eq, refl, sym, ap, ◌∙◌, subst, arith, append_assoc, append-nil, length-append}
 use Rattle.std.specs.List.{AllByRecursion}
@@ -64,7 +64,7 @@ client_is c target call deadline room = ap (λ (b : Bool). client_sent c (id_sen
   not_full : (n w : ℕ) → n < w → nat_eq n w ≡ false
   not_full n w low = grind (arith, nat_tests, low)
 
--- an act that sends a request keeps `Honest`: one more request waits, after the others
+-- an act that sends a request preserves `Honest`: one more request waits, after the others
 sent_honest : (plan : Plan) (commands : List Task) (scope : Scope) (acts : List Act) (act : Act) (c : ById Asked) (marks : List (Option Mark))
     (records : List Record) (target : ℕ) (call : Asked) (deadline : ℕ) (mark : Option Mark)
     → ((d : ℕ) → IsBefore d act) → c.next < 8 → length c.waiting < 7 → length marks ≡ length c.waiting
@@ -118,7 +118,7 @@ asked_here plan commands scope acts act target call deadline mark fine room asks
       stays = tt;
     }
 
--- an act that sends a command keeps `Honest`
+-- an act that sends a command preserves `Honest`
 command_honest : (plan : Plan) (commands : List Task) (scope : Scope) (acts : List Act) (act : Act) (target : ℕ) (call : Asked) (mark : Mark)
     → Invariant plan commands (stood plan commands scope acts) → IsHonest plan commands scope acts (acts ++ act ∷ []) (stood plan commands scope acts)
     → Marked plan commands scope acts mark → length (stood plan commands scope acts).client.waiting < 7
@@ -133,7 +133,7 @@ command_honest plan commands scope acts act target call mark fine h is room puts
     (asked_here plan commands scope acts act target call (deadline_behind plan commands scope acts) (Some mark) fine room (λ above. sending_asks plan s is.sends)
     (λ m its. let same : mark ≡ m = cc in subst (λ (x : Mark). Marked plan commands scope acts x) same is) (λ m its. refl) puts) h
 
--- the act that sends the first of these commands, with this mark, keeps `IsHonest`
+-- the act that sends the first of these commands, with this mark, preserves `IsHonest`
 first_honest : (plan : Plan) (commands : List Task) (scope : Scope) (acts : List Act) (act : Act) (next_is_chained : Bool) (behind : ℕ) (left : List Task) (mark : Mark)
     → Invariant plan commands (stood plan commands scope acts) → IsHonest plan commands scope acts (acts ++ act ∷ []) (stood plan commands scope acts)
     → Marked plan commands scope acts mark → length (stood plan commands scope acts).client.waiting < 7
@@ -151,7 +151,7 @@ first_honest plan commands scope acts act next_is_chained behind (task ∷ other
     ∙ client_is s.client task.command.target (call_at task mark.sent) (deadline_behind plan commands scope acts) room))
     (command_honest plan commands scope acts act task.command.target (call_at task mark.sent) mark fine h is room puts)
 
--- an act that sends a null procedure after commands keeps `IsHonest`
+-- an act that sends a null procedure after commands preserves `IsHonest`
 null_honest : (plan : Plan) (commands : List Task) (scope : Scope) (acts : List Act) (act : Act) (f : Progress → Progress)
     → Invariant plan commands (stood plan commands scope acts) → IsHonest plan commands scope acts (acts ++ act ∷ []) (stood plan commands scope acts)
     → length (stood plan commands scope acts).client.waiting < 7 → (0 < length (stood plan commands scope acts).client.waiting → IsAsking (action_at plan (stood plan commands scope acts)))
@@ -167,7 +167,7 @@ null_honest plan commands scope acts act f fine h room asks puts =
       never : (m : Mark) → None ≡ Some m → ⊥
       never m e = cc
 
--- the act that sends the first of these commands of the setup, with this mark, keeps `IsHonest`
+-- the act that sends the first of these commands of the setup, with this mark, preserves `IsHonest`
 setup_honest : (plan : Plan) (commands : List Task) (scope : Scope) (acts : List Act) (act : Act) (left : List Task) (mark : Mark)
     → Invariant plan commands (stood plan commands scope acts) → IsHonest plan commands scope acts (acts ++ act ∷ []) (stood plan commands scope acts)
     → Marked plan commands scope acts mark → length (stood plan commands scope acts).client.waiting < 7
@@ -211,7 +211,7 @@ skips_true plan commands scope all p act = tt
 
 -- Each action.
 
--- an act that reads the clock keeps `IsHonest`
+-- an act that reads the clock preserves `IsHonest`
 clock_honest : (plan : Plan) (commands : List Task) (scope : Scope) (acts : List Act) (act : Act) (f : Moment → Progress → Progress) (s : Model)
     → IsHonest plan commands scope acts (acts ++ act ∷ []) s → ReadsClock act
     → IsHonest plan commands scope (acts ++ act ∷ []) (acts ++ act ∷ []) (after_clock f (with_progress turned s) act)
@@ -219,7 +219,7 @@ clock_honest plan commands scope acts (Told m) f s h o = moment_told plan comman
 clock_honest plan commands scope acts Untold f s h o = still plan commands scope acts Untold _ _ _ (λ d. tt) h
 clock_honest plan commands scope acts act f s h o = absurd o
 
--- an act that passes attempts over keeps `IsHonest`
+-- an act that passes attempts over preserves `IsHonest`
 pass_honest : (plan : Plan) (commands : List Task) (scope : Scope) (acts : List Act) (act : Act) (s : Model)
     → IsHonest plan commands scope acts (acts ++ act ∷ []) s → ReadsClock act
     → IsHonest plan commands scope (acts ++ act ∷ []) (acts ++ act ∷ []) (after_pass plan commands (with_progress turned s) act)
@@ -231,14 +231,14 @@ pass_honest plan commands scope acts (Told m) s h o =
 pass_honest plan commands scope acts Untold s h o = clock_honest plan commands scope acts Untold (λ m p. p) s h o
 pass_honest plan commands scope acts act s h o = absurd o
 
--- an attempt to connect keeps `IsHonest`
+-- an attempt to connect preserves `IsHonest`
 open_honest : (plan : Plan) (commands : List Task) (scope : Scope) (acts : List Act) (act : Act) (s : Model) → IsHonest plan commands scope acts (acts ++ act ∷ []) s → IsOpening act
     → IsHonest plan commands scope (acts ++ act ∷ []) (acts ++ act ∷ []) (after_open plan (with_progress turned s) act)
 open_honest plan commands scope acts Opened s h o = still plan commands scope acts Opened _ _ _ (λ d. tt) h
 open_honest plan commands scope acts Unopened s h o = still plan commands scope acts Unopened _ _ _ (λ d. tt) h
 open_honest plan commands scope acts act s h o = absurd o
 
--- a read keeps `IsHonest`, whatever came of it
+-- a read preserves `IsHonest`, whatever came of it
 read_honest : (plan : Plan) (commands : List Task) (scope : Scope) (acts : List Act) (until : Until) (act : Act) (tail : List Record)
     → Invariant plan commands (stood plan commands scope acts) → IsHonest plan commands scope acts (acts ++ act ∷ []) (stood plan commands scope acts)
     → IsReading act
@@ -257,7 +257,7 @@ read_honest plan commands scope acts until act tail fine h o ends = absurd o
 close_still : (act : Act) → act ≡ Closed → (d : ℕ) → IsBefore d act
 close_still act is d = subst (λ (x : Act). IsBefore d x) (sym is) tt
 
--- each act keeps `IsHonest`, before what is outstanding is lost
+-- each act preserves `IsHonest`, before what is outstanding is lost
 moved_honest : (plan : Plan) (commands : List Task) (scope : Scope) (acts : List Act) (action : Action) (act : Act) (tail : List Record)
     → Invariant plan commands (stood plan commands scope acts) → IsHonest plan commands scope acts (acts ++ act ∷ []) (stood plan commands scope acts)
     → action_at plan (stood plan commands scope acts) ≡ action → IsFor plan (stood plan commands scope acts).progress (waiting_of (stood plan commands scope acts)) action
@@ -307,7 +307,7 @@ moved_honest plan commands scope acts (actions.Read until) act tail fine h is ne
 moved_honest plan commands scope acts (actions.Close why) act tail fine h is needs o ends = still plan commands scope acts act _ _ _ (close_still act o) h
 moved_honest plan commands scope acts (actions.Stop why) act tail fine h is needs o ends = absurd o
 
--- acts of a run keep `IsHonest`
+-- acts of a run preserve `IsHonest`
 honest_along : (plan : Plan) (commands : List Task) (scope : Scope) (done acts : List Act)
     → IsHonest plan commands scope done done (stood plan commands scope done) → Runs plan commands (stood plan commands scope done) acts
     → IsHonest plan commands scope (done ++ acts) (done ++ acts) (stood plan commands scope (done ++ acts))

@@ -121,13 +121,13 @@ one_many x one =
     let e = ap length one in
     omega (arith, a, b, d, e)
 
--- more settlements, and no fewer after, keep `IsWithin`
+-- more settlements, and no fewer after, preserve `IsWithin`
 within_more : (x : Course Asked) (more : List (Settlement Asked)) (client : ById Asked) (b : ℕ) → IsWithin x b
     → IsWithin (record { sent = x.sent; settlements = x.settlements ++ more; client = client }) b
 within_more x more client b (inl few) = inl few
 within_more x more client b (inr (k, s, at, replied, near)) = inr (k, s, get_more x.settlements more k s at, replied, near)
 
--- one more request, and one more after, keeps `IsWithin`
+-- one more request, and one more after, preserves `IsWithin`
 within_sent : (x : Course Asked) (target : ℕ) (call : Asked) (o : Option (Sending (ById Asked))) (b : ℕ) → IsWithin x b → IsWithin (sent_on x target call o) (b + 1)
 within_sent x target call None b (inl few) = inl (omega (arith, few))
 within_sent x target call None b (inr (k, s, at, replied, near)) = inr (k, s, at, replied, omega (arith, near))
@@ -144,7 +144,7 @@ one_more_is b low = either (λ n. n < 7 → (b < 7) × (n ≡ b + 1)) (b + 1) b 
       ltb_not : (n : ℕ) → nat_lt n WINDOW ≡ false → 7 ≤ n
       ltb_not n e = grind (arith, e)
 
--- a step keeps `Counts`, if the course is one for one after it
+-- a step preserves `Counts`, if the course is one for one after it
 counts_step : (x : Course Asked) (b : ℕ) (step : Step Asked) → IsOneForOne (goes WINDOW x step) → Counts x b → Counts (goes WINDOW x step) (behind_step x.client b step)
 counts_step x b (Send target call deadline) one h low =
     let is = one_more_is b low in
@@ -177,7 +177,7 @@ reached steps = course WINDOW begun steps
 reached_more : (done : List (Step Asked)) (step : Step Asked) → reached (done ++ step ∷ []) ≡ goes WINDOW (reached done) step
 reached_more done step = course_append begun done (step ∷ [])
 
--- steps keep `Counts`, after the steps that were done
+-- steps preserve `Counts`, after the steps that were done
 pub counts_steps : (done steps : List (Step Asked)) (b : ℕ) → Counts (reached done) b → Counts (reached (done ++ steps)) (behind_by (reached done).client b steps)
 counts_steps done [] b h = subst (λ (l : List (Step Asked)). Counts (reached l) b) (sym (append-nil done)) h
 counts_steps done (step ∷ steps) b h =

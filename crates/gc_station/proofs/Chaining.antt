@@ -154,7 +154,7 @@ abbrev pub StaysBegun : Plan → List Task → Model → List Act → Type 0
 StaysBegun plan commands s [] = Unit {0}
 StaysBegun plan commands s (act ∷ acts) = (has_begun (after plan commands s act).progress ≡ true) × StaysBegun plan commands (after plan commands s act) acts
 
--- `StaysBegun` holds with one act more, if the station has synchronized after it
+-- `StaysBegun` holds after one more act, if the station has synchronized after it
 stays_more : (plan : Plan) (commands : List Task) (s : Model) (acts : List Act) (act : Act) → StaysBegun plan commands s acts
     → has_begun (after_all plan commands s (acts ++ act ∷ [])).progress ≡ true → StaysBegun plan commands s (acts ++ act ∷ [])
 stays_more plan commands s [] act h e = (e, tt)
@@ -216,7 +216,7 @@ still_passes : (s t : Model) (before : List Request) → Keeps s t → t.progres
 still_passes s t before (inl same) e is = same ∙ is
 still_passes s t before (inr none) e is = absurd (clash t.progress.chain_unbroken e none)
 
--- `Chain` lasts over an act that leaves these fields and doesn't close the connection
+-- `Chain` is preserved by an act that leaves these fields and doesn't close the connection
 chain_still : (plan : Plan) (commands : List Task) (scope : Scope) (acts : List Act) (act : Act) (p q : Progress)
     → (stood plan commands scope (acts ++ act ∷ [])).progress ≡ q → Still p q → (has_begun p ≡ true → q.chain_unbroken ≡ true → has_begun q ≡ true)
     → Keeps (stood plan commands scope acts) (stood plan commands scope (acts ++ act ∷ [])) → KeepsOpen act → (action_at plan (stood plan commands scope acts) ≡ Prepare → ⊥)
@@ -253,7 +253,7 @@ chain_still plan commands scope acts act p q there k begins keeps stays other h 
           };
     }
 
--- `Chain` lasts over an act that breaks the chain, as a close or a new synchronization does
+-- `Chain` is preserved by an act that breaks the chain, as a close or a new synchronization does
 chain_closed : (plan : Plan) (commands : List Task) (scope : Scope) (acts all : List Act) (p q : Progress) → Still p q → q.chain_unbroken ≡ false
     → Chain plan commands scope acts p → Chain plan commands scope all q
 chain_closed plan commands scope acts all p q k broken h =
@@ -326,7 +326,7 @@ chain_sent plan commands scope acts act p q here there is begins n some within k
       };
     }
 
--- `Chain` lasts over an act of any action
+-- `Chain` is preserved by an act of any action
 chain_moved : (plan : Plan) (commands : List Task) (scope : Scope) (acts : List Act) (act : Act) (action : Action) (w : Waiting) (q : Progress)
     → Invariant plan commands (stood plan commands scope acts)
     → action_at plan (stood plan commands scope acts) ≡ action → IsFor plan (stood plan commands scope acts).progress w action → Performs commands (stood plan commands scope acts) action act
@@ -366,7 +366,7 @@ kept_ended : (s t : Model) → Keeps s t → Keeps s (ended t)
 kept_ended s t (inl same) = inl (ended_passes t ∙ same)
 kept_ended s t (inr none) = inr (ap (λ (p : Progress). p.chain_unbroken) (ended_progress t) ∙ none)
 
--- `Chain` lasts over all acts of a run
+-- `Chain` is preserved by all acts of a run
 chain_along : (plan : Plan) (commands : List Task) (scope : Scope) (done acts : List Act) → Runs plan commands (stood plan commands scope done) acts
     → Chain plan commands scope done (stood plan commands scope done).progress
     → Chain plan commands scope (done ++ acts) (stood plan commands scope (done ++ acts)).progress
@@ -503,7 +503,7 @@ chain_whole plan commands scope acts runs is chained = of_may needs.4 where
   h : Chain plan commands scope acts s.progress
   h = chain_stood plan commands scope acts runs
 
-  -- it has what every run keeps
+  -- the invariant of every run holds of it
   fine : Invariant plan commands s
   fine = fine_stood plan commands scope acts
 

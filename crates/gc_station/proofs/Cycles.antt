@@ -95,7 +95,7 @@ module _ (plan : Plan) (commands : List Task) (scope : Scope) (some : 0 < plan.e
   broken a b (inl same) e = same ∙ e
   broken a b (inr none) e = none
 
-  -- `Begun` lasts over an act that stays in its cycle (`Stays`) and reads moments as `Ticks` says, if the clock doesn't go back
+  -- `Begun` is preserved by an act that stays in its cycle (`Stays`) and reads moments as `Ticks` says, if the clock doesn't go back
   pub begun_stays : (acts : List Act) (act : Act) (p q : Progress) → Stays p q → Ticks p act q → Rises p.moment.elapsed (act ∷ []) → Begun acts p → Begun (acts ++ act ∷ []) q
   begun_stays acts act p q k t rises (inl none) = inl (k.left ∙ none.0, k.unsent ∙ none.1)
   begun_stays acts act p q k t rises (inr c) =
@@ -126,7 +126,7 @@ module _ (plan : Plan) (commands : List Task) (scope : Scope) (some : 0 < plan.e
         by_chain (inl missed) at same = inl (same ∙ missed)
         by_chain (inr (above, is)) at same = inr (subst (λ (x : ℕ). plan.setup < x) (sym at) above, ap (λ (x : ℕ). is_chained (drop x commands)) at ∙ is)
 
-  -- `Begun` lasts over an act that sends or leaves out the next command, if the command after that waits for its answer as
+  -- `Begun` is preserved by an act that sends or leaves out the next command, if the command after that waits for its answer as
   -- `is_chained_behind_next` says
   pub begun_next : (acts : List Act) (act : Act) (p q : Progress) → q.left ≡ p.left → q.unsent ≡ p.unsent - 1 → q.missed ≡ p.missed → q.due ≡ p.due
       → q.next_is_chained ≡ is_chained_behind_next commands p
@@ -159,7 +159,7 @@ module _ (plan : Plan) (commands : List Task) (scope : Scope) (some : 0 < plan.e
         by_missed false is e at low =
             inr (omega (arith, at, low), ap (λ (x : ℕ). is_chained (drop x commands)) at ∙ or_second p.missed (is_chained (drop (place_next commands p + 1) commands)) e is)
 
-  -- `Begun` lasts over an act that leaves out the further attempts of a chain
+  -- `Begun` is preserved by an act that leaves out the further attempts of a chain
   pub begun_past : (acts : List Act) (act : Act) (p q : Progress) → q.left ≡ p.left → q.unsent ≡ p.unsent - p.next_others → q.missed ≡ p.missed → q.due ≡ p.due
       → q.next_is_chained ≡ is_chained_behind p.next_others commands p
       → 0 < p.next_others → (p.missed ≡ true → q.chain_unbroken ≡ false) → Ticks p act q → Rises p.moment.elapsed (act ∷ []) → 0 < p.unsent → p.unsent ≤ length commands - plan.setup → Begun acts p → Begun (acts ++ act ∷ []) q
@@ -422,7 +422,7 @@ module _ (plan : Plan) (commands : List Task) (scope : Scope) (some : 0 < plan.e
 
   -- Whole runs.
 
-  -- a turn that is taken keeps `Begun`
+  -- a turn that is taken preserves `Begun`
   pub begun_turned : (acts : List Act) (p : Progress) → Begun acts p → Begun acts (turned p)
   begun_turned acts p (inl none) = inl none
   begun_turned acts p (inr c) = inr (record {
@@ -449,7 +449,7 @@ module _ (plan : Plan) (commands : List Task) (scope : Scope) (some : 0 < plan.e
       → Rises (stood plan commands scope acts).progress.moment.elapsed (act ∷ [])
   rises_here acts act rises at = subst (λ (n : ℕ). Rises n (act ∷ [])) (sym at) (rises_last 0 acts act rises)
 
-  -- `Kept` lasts over one act of a run more
+  -- `Kept` is preserved by one act of a run more
   pub kept_step : (done : List Act) (act : Act) → Runs plan commands (opening plan scope) done
       → Performs commands (stood plan commands scope done) (action_at plan (stood plan commands scope done)) act → Kept done → Kept (done ++ act ∷ [])
   kept_step done act runs o h rises =

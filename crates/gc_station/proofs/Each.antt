@@ -111,7 +111,7 @@ row ms ws rs = map of_record rs ++ still_waiting ms ws
 pub row_moment : (ms : List (Option Mark)) (ws : List (Pending Asked)) (rs : List Record) (m : ℕ) → row ms (map (expired m) ws) rs ≡ row ms ws rs
 row_moment ms ws rs m = ap (λ xs. map of_record rs ++ xs) (waiting_marked ms (map (expired m) ws) ∙ ap (marked ms) (expired_parts m ws) ∙ sym (waiting_marked ms ws))
 
--- a moment that times requests out keeps `EachIs`
+-- a moment that times requests out preserves `EachIs`
 pub each_moment : (commands : List Task) (ms : List (Option Mark)) (ws : List (Pending Asked)) (rs : List Record) (sent : List Request) (m : ℕ)
     → EachIs commands ms ws rs sent → EachIs commands ms (map (expired m) ws) rs sent
 each_moment commands ms ws rs sent m h = ap (of_text commands) (row_moment ms ws rs m) ∙ h
@@ -152,7 +152,7 @@ row_settles reads utc ms ws left ss rs parts =
     ∙ ap (λ xs. front ++ (marked ms ended ++ xs)) (waiting_marked (drop (length ss) ms) left ∙ ap (λ n. marked (drop n ms) waits) (sym count))
     ∙ ap (λ xs. front ++ xs) (sym (marked_append ms ended waits) ∙ ap (marked ms) parts ∙ sym (waiting_marked ms ws))
 
--- settlements of the oldest requests keep `EachIs`
+-- settlements of the oldest requests preserve `EachIs`
 pub each_settles : (reads : Asked → List ℕ → Reading) (commands : List Task) (utc : ℕ) (ms : List (Option Mark)) (ws left : List (Pending Asked)) (ss : List (Settlement Asked)) (rs : List Record)
     (sent : List Request) → map of_settled ss ++ map of_pending left ≡ map of_pending ws
     → EachIs commands ms ws rs sent → EachIs commands (drop (length ss) ms) left (rs ++ records_of reads utc ms ss) sent
@@ -167,7 +167,7 @@ more_waiting ms ws m p paired =
     waiting_marked (ms ++ m ∷ []) (ws ++ p ∷ []) ∙ ap (marked (ms ++ m ∷ [])) (map-append of_pending ws (p ∷ []))
     ∙ marked_more ms asked m (of_pending p) count ∙ ap (λ xs. xs ++ marked (m ∷ []) (of_pending p ∷ [])) (sym (waiting_marked ms ws))
 
--- a null procedure that is sent keeps `EachIs`
+-- a null procedure that is sent preserves `EachIs`
 pub each_null : (commands : List Task) (ms : List (Option Mark)) (ws : List (Pending Asked)) (p : Pending Asked) (rs : List Record) (sent : List Request) → length ms ≡ length ws
     → EachIs commands ms ws rs sent → EachIs commands (ms ++ None ∷ []) (ws ++ p ∷ []) rs sent
 each_null commands ms ws p rs sent paired h = ap (λ xs. of_text commands (map of_record rs ++ xs)) (more_waiting ms ws None p paired ∙ append-nil (still_waiting ms ws)) ∙ h
@@ -188,7 +188,7 @@ take_place commands zero task others e = refl
 take_place [] (suc n) task others e = cc
 take_place (c ∷ cs) (suc n) task others e = ap suc (take_place cs n task others e)
 
--- a command of the setup that is sent keeps `EachIs`
+-- a command of the setup that is sent preserves `EachIs`
 pub each_prepared : (commands : List Task) (mark : Mark) (ms : List (Option Mark)) (ws : List (Pending Asked)) (p : Pending Asked) (rs : List Record) (sent : List Request) → mark.cycle ≡ 0
     → length ms ≡ length ws → EachIs commands ms ws rs sent → EachIs commands (ms ++ Some mark ∷ []) (ws ++ p ∷ []) rs sent
 each_prepared commands mark ms ws p rs sent none paired h =
@@ -233,7 +233,7 @@ sent_next setup commands (suc n) place task others at within some =
     ∙ ap (λ xs. cycles ++ xs) (sym (requests-append (suc n) setup taken one))
     ∙ ap (λ xs. cycles ++ requests (suc n) setup xs) (sym (map-append of_task front (task ∷ [])) ∙ ap (map of_task) (sym more))
 
--- a command that is sent keeps `EachIs`
+-- a command that is sent preserves `EachIs`
 pub each_sent : (commands : List Task) (begun place utc : ℕ) (expected : Expected) (ms : List (Option Mark)) (ws : List (Pending Asked)) (p : Pending Asked) (rs : List Record) (task : Task) (others : List Task)
     → length ms ≡ length ws → drop place commands ≡ task ∷ others → of_pending p ≡ asked_at utc task → 0 < begun
     → (kept : List Request) → EachIs commands ms ws rs kept
@@ -250,7 +250,7 @@ each_sent commands begun place utc expected ms ws p rs task others paired at is 
     ∙ ap (λ x. of_text commands (front ++ waits) ++ x ∷ []) (asked_text commands begun place utc task others at)
     ∙ ap (λ xs. xs ++ requests begun place (of_task task ∷ [])) h
 
--- a command that isn't sent keeps `EachIs`: its record is added after the others, and no command waits then
+-- a command that isn't sent preserves `EachIs`: its record is added after the others, and no command waits then
 pub each_skipped : (commands : List Task) (begun place : ℕ) (ms : List (Option Mark)) (ws : List (Pending Asked)) (rs : List Record) (r : Record) (task : Task) (others : List Task)
     → commands_in ms ≡ 0 → drop place commands ≡ task ∷ others → of_record r ∷ [] ≡ requests begun place (of_command task.command ∷ []) → 0 < begun
     → (kept : List Request) → EachIs commands ms ws rs kept → EachIs commands ms ws (rs ++ r ∷ []) (kept ++ requests begun place (of_task task ∷ []))

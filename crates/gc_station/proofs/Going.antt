@@ -139,7 +139,7 @@ went_nothing plan commands scope text told taken station stands = record {
   took = Appends-nil taken;
 }
 
--- `Went` lasts if a book took nothing more, as `Keeps` says: if what it took was known, it is known still, and the same
+-- `Went` is preserved if a book took nothing more, as `Keeps` says: if what it took was known, it is known still, and the same
 abbrev pub went_kept : (plan : Plan) (commands : List Task) (scope : Scope) (text : Record → List ℕ) (told told' : Option (List Act))
     (taken taken' taken'' : Option (List ℕ)) (station : Station) → Keeps taken' taken''
     → Went plan commands scope text told told' taken taken' station → Went plan commands scope text told told' taken taken'' station
@@ -151,7 +151,7 @@ went_kept plan commands scope text told told' taken taken' taken'' station keeps
   took = Appends-kept taken taken' taken'' (texts_of text (stood plan commands scope w.acts).records) w.took keeps;
 }
 
--- `Went` lasts if a book took nothing more
+-- `Went` is preserved if a book took nothing more
 abbrev pub went_same : (plan : Plan) (commands : List Task) (scope : Scope) (text : Record → List ℕ) (told told' : Option (List Act))
     (taken taken' taken'' : Option (List ℕ)) (station : Station) → taken'' ≡ taken'
     → Went plan commands scope text told told' taken taken' station → Went plan commands scope text told told' taken taken'' station
@@ -183,7 +183,7 @@ pub runs-append : (plan : Plan) (commands : List Task) (s : Model) (xs ys : List
 runs-append plan commands s [] ys p q = q
 runs-append plan commands s (x ∷ xs) ys p q = (p.0, runs-append plan commands (after plan commands s x) xs ys p.1 q)
 
--- `Went` lasts over one act more
+-- `Went` is preserved by one act more
 abbrev pub went_on : (plan : Plan) (commands : List Task) (scope : Scope) (text : Record → List ℕ) (told told' told'' : Option (List Act))
     (taken taken' taken'' : Option (List ℕ)) (station new : Station) (action : Action)
     → (w : Went plan commands scope text told told' taken taken' station)

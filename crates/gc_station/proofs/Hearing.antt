@@ -95,7 +95,7 @@ frame_first s left later rest frame seen rests =
       rest_kept : (rest : List ℕ) (line : List (List ℕ)) → (lines_came (with_rest rest s) line).rest ≡ rest
       rest_kept rest line = ap (λ (x : Model). x.rest) (lines_rest s rest line)
 
--- `Hearing` lasts over one frame more
+-- `Hearing` is preserved by one frame more
 pub hearing_on : (text : Record → List ℕ) (start taken taken' : Option (List ℕ)) (station station' : Station) (s : Model) (piece left : List ℕ) (used : ℕ) (frame : Frame) (kept : Kept)
     → (h : Hearing text start taken station s piece left) → (t : Takes h.now.rest left used frame kept)
     → (Refines station' (lines_came (with_rest t.now h.now) (option_to_list (line_in frame))) × Took text start taken' (lines_came (with_rest t.now h.now) (option_to_list (line_in frame))))
@@ -383,7 +383,7 @@ asked_first s left later rest frame seen rests =
       shown : List ℕ → Progress → Model
       shown r p = record s { rest = r; progress = p }
 
--- `Asking` lasts over one frame more
+-- `Asking` is preserved by one frame more
 pub asking_on : (station station' : Station) (s : Model) (piece left : List ℕ) (used : ℕ) (frame : Frame) (kept : Kept)
     → (h : Asking station s piece left) → (t : Takes h.now.rest left used frame kept)
     → station' ≡ record station { assembler = kept; progress = lines_asked station.progress (option_to_list (line_in frame)) }

@@ -99,7 +99,7 @@ more_is n low = by_test (nat_lt n WINDOW) refl where
   by_test true e = refl
   by_test false e = let high : 7 ≤ n = ltb-false n WINDOW e in absurd (omega (arith, low, high))
 
--- a send to a window that isn't full keeps `Level`; one to a full window changes nothing
+-- a send to a window that isn't full preserves `Level`; one to a full window changes nothing
 level_sent : (c : ById Asked) (b target : ℕ) (call : Asked) (deadline : ℕ) → is_of_table call ≡ true → Level c b → (full : Bool) → nat_eq (length c.waiting) 7 ≡ full
     → Level (sent_on (record { sent = []; settlements = []; client = c }) target call (id_send c target call deadline full)).client (one_more b)
 level_sent c b target call deadline table h true e =
@@ -118,7 +118,7 @@ level_sent c b target call deadline table h false e =
       less : (n : ℕ) → n ≤ 7 → nat_eq n 7 ≡ false → n < 7
       less n few other = grind (arith, nat_tests, few, other)
 
--- a line keeps `Level`
+-- a line preserves `Level`
 level_heard : (c : ById Asked) (b : ℕ) (line : List ℕ) (o : Option ℕ) → Level c b
     → Level (hears c line o).client (if ends_with_table (hears c line o).settlements then length (hears c line o).client.waiting else b)
 level_heard c b line None h = h
@@ -140,7 +140,7 @@ level_heard c b line (Some id) h = by_test _ _ refl where
         same = ap (λ (t : Bool). if t then length (drop (k + 1) c.waiting) else b) ends;
       }
 
--- a step that sends calls of the table alone keeps `Level`
+-- a step that sends calls of the table alone preserves `Level`
 level_step : (c : ById Asked) (b : ℕ) (step : Step Asked) → SendsTables step → Level c b → Level (stepped c step) (behind_step c b step)
 level_step c b (Send target call deadline) table h = level_sent c b target call deadline table h (nat_eq (length c.waiting) 7) refl
 level_step c b (Hear line) table h = level_heard c b line (heard line) h
@@ -149,7 +149,7 @@ level_step c b (Expire now) table h =
     record { tables = expired_tables now c.waiting h.tables; few = subst (λ n. n ≤ 7) (sym many) h.few; same = h.same ∙ sym many }
 level_step c b Restart table h = absurd table
 
--- steps that send calls of the table alone keep `Level`
+-- steps that send calls of the table alone preserve `Level`
 level_steps : (c : ById Asked) (b : ℕ) (steps : List (Step Asked)) → AllByRecursion SendsTables steps → Level c b → Level (client_after c steps) (behind_by c b steps)
 level_steps c b [] all h = h
 level_steps c b (step ∷ steps) all h = level_steps (stepped c step) (behind_step c b step) steps all.1 (level_step c b step all.0 h)
@@ -321,7 +321,7 @@ module _ (plan : Plan) (commands : List Task) (all : AreOfTable commands) where
               (subst (λ (n : ℕ). Level fresh n) (sym (ap (λ (p : Progress). p.behind) far ∙ none)) (record { tables = tt; few = omega arith; same = refl }));
         }
 
-  -- each act keeps `Free`
+  -- each act preserves `Free`
   free_after : (s : Model) (act : Act) → Invariant plan commands s → Performs commands s (action_at plan s) act → Free s → Free (after plan commands s act)
   free_after s act fine obeys h = free_so s act fine obeys h (has_begun s.progress) refl
 

@@ -1,5 +1,5 @@
 -- What holds in the midst of an act, before what is outstanding is lost: `Mid`, the weaker record, which has the counts and the
--- records, and what the phase says. At the end of an act it gives what every run keeps (`Invariant`).
+-- records, and what the phase says. At the end of an act it gives the invariant of every run (`Invariant`).
 use Rattle.std.proofs.Common.{◌≡◌, ℕ, nat_lt, ltb-true, ltb-false, take, ◌+◌, ◌-◌, ◌%◌, ◌<◌, ◌≤◌, ◌⊎◌, inl, inr, ◌&&◌, ◌||◌, Bool, true, false, not, List, [], ◌∷◌, ◌++◌, length, drop, map, nat_eq, Option, Some, None, refl, sym, ap, ◌∙◌, subst, arith, length-append}
 use Rattle.std.specs.Prelude.{slice_get}
 use Rattle.std.specs.List.{AllByRecursion}
@@ -97,7 +97,7 @@ clash b e g = cc
 as_kept : (xs xs' ys zs : List Request) → xs' ≡ xs → Parted xs ys zs → Parted xs' ys zs
 as_kept xs xs' ys zs e h = subst (λ (l : List Request). Parted l ys zs) (sym e) h
 
--- a moment that times requests out keeps `Sound`
+-- a moment that times requests out preserves `Sound`
 pub sound_moment : (plan : Plan) (commands : List Task) (left unsent : ℕ) (client : ById Asked) (marks : List (Option Mark)) (records : List Record) (passes : List Request) (m : ℕ)
     → Sound plan commands left unsent client marks records passes
     → Sound plan commands left unsent (expires client m) marks records passes
@@ -115,7 +115,7 @@ sound_moment plan commands left unsent client marks records passes m sound =
       told = sound.told;
     }
 
--- settlements of the oldest requests keep `Sound`
+-- settlements of the oldest requests preserve `Sound`
 pub sound_settles : (reads : Asked → List ℕ → Reading) (plan : Plan) (commands : List Task) (left unsent : ℕ) (client next : ById Asked) (marks : List (Option Mark))
     (records : List Record) (passes : List Request) (utc : ℕ) (ss : List (Settlement Asked))
     → map of_settled ss ++ map of_pending next.waiting ≡ map of_pending client.waiting → next.next < 8 → Sound plan commands left unsent client marks records passes
@@ -153,7 +153,7 @@ client_behind client target call deadline room =
 one_more : (marks : List (Option Mark)) (ws : List (Pending Asked)) (m : Option Mark) (p : Pending Asked) → length marks ≡ length ws → length (marks ++ m ∷ []) ≡ length (ws ++ p ∷ [])
 one_more marks ws m p paired = length-append marks (m ∷ []) ∙ ap (λ n. n + 1) paired ∙ sym (length-append ws (p ∷ []))
 
--- a null procedure that is sent keeps `Sound`
+-- a null procedure that is sent preserves `Sound`
 pub sound_null : (plan : Plan) (commands : List Task) (left unsent : ℕ) (client : ById Asked) (marks : List (Option Mark)) (records : List Record) (passes : List Request) (target : ℕ) (call : Asked) (deadline : ℕ)
     → length client.waiting < 7 → IsOf commands None (record { target = target; call = call }) → Sound plan commands left unsent client marks records passes
     → Sound plan commands left unsent (client_sent client (sends WINDOW client target call deadline)) (marks ++ None ∷ []) records passes
@@ -172,7 +172,7 @@ sound_null plan commands left unsent client marks records passes target call dea
       told = sound.told;
     })
 
--- a command that is sent keeps `Sound`, with one command less unsent
+-- a command that is sent preserves `Sound`, with one command less unsent
 pub sound_sent : (plan : Plan) (commands : List Task) (left unsent : ℕ) (client : ById Asked) (marks : List (Option Mark)) (records : List Record) (passes : List Request) (utc deadline : ℕ) (expected : Expected) (task : Task) (others : List Task)
     → length client.waiting < 7 → 0 < unsent → drop (length commands - unsent) commands ≡ task ∷ others → Sound plan commands left unsent client marks records passes
     → Sound plan commands left (unsent - 1) (client_sent client (sends WINDOW client task.command.target (call_at task utc) deadline))
@@ -204,7 +204,7 @@ sound_sent plan commands left unsent client marks records passes utc deadline ex
       told = sound.told;
     })
 
--- a command of the setup that is sent keeps `Sound`
+-- a command of the setup that is sent preserves `Sound`
 pub sound_prepared : (plan : Plan) (commands : List Task) (left unsent : ℕ) (client : ById Asked) (marks : List (Option Mark)) (records : List Record) (passes : List Request) (deadline : ℕ) (mark : Mark) (task : Task)
     → length client.waiting < 7 → mark.cycle ≡ 0 → slice_get commands mark.place ≡ Some task → Sound plan commands left unsent client marks records passes
     → Sound plan commands left unsent (client_sent client (sends WINDOW client task.command.target (call_at task mark.sent) deadline)) (marks ++ Some mark ∷ []) records passes
@@ -223,7 +223,7 @@ sound_prepared plan commands left unsent client marks records passes deadline ma
       told = sound.told;
     })
 
--- a command that isn't sent keeps `Sound`, with one command less unsent
+-- a command that isn't sent preserves `Sound`, with one command less unsent
 pub sound_skipped : (plan : Plan) (commands : List Task) (left unsent : ℕ) (client : ById Asked) (marks : List (Option Mark)) (records : List Record) (passes : List Request) (utc : ℕ) (end : End) (turn : Turn) (task : Task) (others : List Task)
     → commands_in marks ≡ 0 → 0 < unsent → drop (length commands - unsent) commands ≡ task ∷ others → went_out end ≡ false → Sound plan commands left unsent client marks records passes
     → Sound plan commands left (unsent - 1) client marks (records ++ record
@@ -252,7 +252,7 @@ sound_skipped plan commands left unsent client marks records passes utc end turn
       told = all_append (IsOfItsTask commands) records _ sound.told (unsent_told commands utc begun place turn end task (at_place place commands task others at) out, tt);
     }
 
--- the attempts of a chain that are left out keep `Sound`, with so many commands less unsent
+-- the attempts of a chain that are left out preserve `Sound`, with so many commands less unsent
 pub sound_passed : (plan : Plan) (commands : List Task) (left unsent count : ℕ) (client : ById Asked) (marks : List (Option Mark)) (records : List Record) (passes : List Request)
     → 0 < unsent → Sound plan commands left unsent client marks records passes
     → Sound plan commands left (unsent - count) client marks records
@@ -282,7 +282,7 @@ sound_passed plan commands left unsent count client marks records passes some so
       by_count true e = let more = ltb-true unsent count e in inr (omega (arith, more), omega (arith, more, sound.unsents))
       by_count false e = let few = ltb-false unsent count e in inl (omega (arith, few, sound.unsents))
 
--- the beginning of a cycle keeps `Sound`
+-- the beginning of a cycle preserves `Sound`
 pub sound_begun : (plan : Plan) (commands : List Task) (left unsent : ℕ) (client : ById Asked) (marks : List (Option Mark)) (records : List Record) (passes : List Request)
     → unsent ≡ 0 → 0 < left → Sound plan commands left unsent client marks records passes → Sound plan commands (left - 1) (length commands - plan.setup) client marks records passes
 sound_begun plan commands left unsent client marks records passes none some sound =
@@ -314,7 +314,7 @@ still_finished : (p : Progress) (marks : List (Option Mark)) → is_over p ≡ f
 still_finished p marks not_over (left, unsent, inl over) = absurd (clash (is_over p) (ap (λ b. b || (not (is_up p.phase) && nat_eq p.turns 0)) over) not_over)
 still_finished p marks not_over (left, unsent, inr none) = (left, unsent, none)
 
--- once all that is outstanding is lost where `loses_all` says so, the weaker record gives what every run keeps
+-- once all that is outstanding is lost where `loses_all` says so, the weaker record gives the invariant of every run
 fine_losing : (plan : Plan) (commands : List Task) (s : Model) (b : Bool) → loses_all s.progress ≡ b → Mid plan commands s → Invariant plan commands (losing b s)
 fine_losing plan commands s true is (sound, placed) =
     let p = s.progress in
@@ -359,6 +359,6 @@ fine_losing plan commands s false is (sound, placed) =
       told = sound.told;
     }
 
--- the weaker record gives what every run keeps after the whole act
+-- the weaker record gives the invariant of every run after the whole act
 pub fine_ended : (plan : Plan) (commands : List Task) (s : Model) → Mid plan commands s → Invariant plan commands (ended s)
 fine_ended plan commands s mid = fine_losing plan commands s (loses_all s.progress) refl mid

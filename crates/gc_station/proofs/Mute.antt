@@ -146,12 +146,12 @@ abbrev Asks : Bool → ℕ → List Act → List Act → Type 0
 Asks false from before behind = AllByRecursion IsListening behind
 Asks true from before behind = ((text : List ℕ) × (others : List Act) × (behind ≡ Put text ∷ others)) ⊎ WentBack from before
 
--- if a request was sent at once, or the clock went back, `Asks` lasts over any act
+-- if a request was sent at once, or the clock went back, `Asks` is preserved by any act
 asks_still : (from : ℕ) (before behind : List Act) (act : Act) → Asks true from before behind → Asks true from before (behind ++ act ∷ [])
 asks_still from before behind act (inl put) = inl (put.0, put.1 ++ act ∷ [], ap (λ xs. xs ++ act ∷ []) put.2)
 asks_still from before behind act (inr back) = inr back
 
--- an act that puts no bytes keeps `Asks`
+-- an act that puts no bytes preserves `Asks`
 asks_on : (asked : Bool) (from : ℕ) (before behind : List Act) (act : Act) → IsListening act → Asks asked from before behind → Asks asked from before (behind ++ act ∷ [])
 asks_on false from before behind act listens asks = all_append IsListening behind (act ∷ []) asks (listens, tt)
 asks_on true from before behind act listens asks = asks_still from before behind act asks
@@ -268,7 +268,7 @@ module _ (plan : Plan) (commands : List Task) (scope : Scope) where
   mute_none sought asked alive now phase.Ready acts none = cc
   mute_none sought asked alive now at acts none = tt
 
-  -- `Mute` lasts over an act that reads a moment and brings no reply line
+  -- `Mute` is preserved by an act that reads a moment and brings no reply line
   mute_told : (sought sought' asked : Bool) (alive now : ℕ) (m : Moment) (at : Phase) (acts : List Act) (act : Act)
       → (at ≡ phase.Ready → sought' ≡ true → sought ≡ true) → TellsMoment m.elapsed act → latest now (act ∷ []) ≡ m.elapsed → StaysConnected act
       → IsListening act
@@ -306,7 +306,7 @@ module _ (plan : Plan) (commands : List Task) (scope : Scope) where
       came_along (λ (t : Model). (t.progress.phase ≡ s.progress.phase) × (t.progress.moment ≡ s.progress.moment)) (λ t line e. e) h word bytes s (refl, refl)
       (asked_along (λ (q : Progress). (q.phase ≡ s.progress.phase) × (q.moment ≡ s.progress.moment)) (λ q line e. e) s.progress (lines_behind s.rest bytes) (refl, refl)) (refl, refl)
 
-  -- `Mute` lasts over a piece in the phase `Ready`
+  -- `Mute` is preserved by a piece in the phase `Ready`
   ready_mute : (s : Model) (bytes : List ℕ) (m : Moment) (acts : List Act) (word : List ℕ) → s.progress.word ≡ word → (stood plan commands scope acts).rest ≡ s.rest
       → (is_sought s.progress.word s.progress.again s.progress.asked ≡ true → IsMuted s.progress.asked s.progress.alive s.progress.moment.elapsed acts)
       → (let q = (came true word bytes (with_moment m (with_progress (told m) s))).progress in is_sought q.word q.again q.asked ≡ true
@@ -352,7 +352,7 @@ module _ (plan : Plan) (commands : List Task) (scope : Scope) where
             inl (none.0, none.1, none.2, h (same ∙ so))
         by_lines (inr now) = inr now
 
-  -- `Mute` lasts over a piece in any phase
+  -- `Mute` is preserved by a piece in any phase
   gave_mute : (s : Model) (bytes : List ℕ) (m : Moment) (at : Phase) (acts : List Act) → s.progress.phase ≡ at → (stood plan commands scope acts).rest ≡ s.rest
       → Mute (is_sought s.progress.word s.progress.again s.progress.asked) s.progress.asked s.progress.alive s.progress.moment.elapsed at acts
       → MuteAt (came (is_heard at) s.progress.word bytes (with_moment m (with_progress (told m) s))).progress (acts ++ Gave bytes m ∷ [])
@@ -385,13 +385,13 @@ module _ (plan : Plan) (commands : List Task) (scope : Scope) where
   in_phase : (p : Progress) (at : Phase) (acts : List Act) → p.phase ≡ at → MuteAt p acts → Mute (is_sought p.word p.again p.asked) p.asked p.alive p.moment.elapsed at acts
   in_phase p at acts is q = subst (λ (x : Phase). Mute (is_sought p.word p.again p.asked) p.asked p.alive p.moment.elapsed x acts) is q
 
-  -- `MuteAt` lasts over an act that reads the clock
+  -- `MuteAt` is preserved by an act that reads the clock
   told_mute : (sought : Bool) (p : Progress) (m : Moment) (acts : List Act)
       → (p.phase ≡ phase.Ready → sought ≡ true → is_sought p.word p.again p.asked ≡ true) → MuteAt p acts
       → Mute sought p.asked (min p.alive m.elapsed) m.elapsed p.phase (acts ++ Told m ∷ [])
   told_mute sought p m acts back q = mute_told (is_sought p.word p.again p.asked) sought p.asked p.alive p.moment.elapsed m p.phase acts (Told m) back refl refl tt tt tt q
 
-  -- `MuteAt` lasts over a request
+  -- `MuteAt` is preserved by a request
   asks_mute : (sought : Bool) (p : Progress) (acts : List Act) (out : List ℕ) → p.phase ≡ phase.Ready → LastTells p.moment.elapsed acts → MuteAt p acts
       → Mute sought true (if p.asked then p.alive else p.moment.elapsed) p.moment.elapsed p.phase (acts ++ Put out ∷ [])
   asks_mute sought p acts out is tells q =
@@ -405,7 +405,7 @@ module _ (plan : Plan) (commands : List Task) (scope : Scope) where
   cleared_mute true p acts e = tt
   cleared_mute false p acts e = λ so. absurd (clash (is_sought p.word 0 false) so (ap (λ b. b || false) e))
 
-  -- `Mute` lasts if the station resynchronizes: the silence goes on, or begins with the next request
+  -- `Mute` is preserved if the station resynchronizes: the silence goes on, or begins with the next request
   mute_where : (asked on : Bool) (alive now : ℕ) (at : Phase) (acts : List Act) → Mute (is_sought the_word 0 asked) asked alive now at acts
       → Mute (is_sought the_word 0 (asked && on)) (asked && on) alive now at acts
   mute_where true true alive now at acts q = q
@@ -452,7 +452,7 @@ module _ (plan : Plan) (commands : List Task) (scope : Scope) where
   -- `MuteAt` holds after every run
   mute_stood : (acts : List Act) → Runs plan commands (opening plan scope) acts → MuteAt (stood plan commands scope acts).progress acts
   mute_stood acts runs = always_far plan commands (opening plan scope) MuteAt step tt acts runs where
-    -- one act of a run keeps `MuteAt`
+    -- one act of a run preserves `MuteAt`
     step : (done : List Act) (act : Act) → Runs plan commands (opening plan scope) done
         → Performs commands (stood plan commands scope done) (action_at plan (stood plan commands scope done)) act
         → MuteAt (stood plan commands scope done).progress done

@@ -112,38 +112,38 @@ module _ (plan : Plan) (commands : List Task) (scope : Scope) where
       all_append IsSo s.records _ k.records
       (subst (λ (reads : Asked → List ℕ → Reading). AllByRecursion IsSo (records_of reads s.progress.moment.utc s.marks x)) (sym k.reads) (records_so s.progress.moment.utc s.marks x k.marks))
 
-  -- `Keeps` lasts over a line that is heard
+  -- `Keeps` is preserved by a line that is heard
   line_so : (s : Model) (line : List ℕ) → Keeps s → Keeps (line_came s line)
   line_so s line k =
       let x = hears s.client line (heard line) in
       record { reads = k.reads; marks = all_drop _ s.marks k.marks; records = settles_so s x.settlements k }
 
-  -- `Keeps` lasts over a piece
+  -- `Keeps` is preserved by a piece
   came_so : (b : Bool) (word piece : List ℕ) (s : Model) → Keeps s → Keeps (came b word piece s)
   came_so true (asked ∷ others) piece s k = record { reads = k.reads; marks = k.marks; records = k.records }
   came_so true [] piece s k =
       lines_along Keeps line_so (with_rest (rest_behind s.rest piece) s) (lines_behind s.rest piece) (record { reads = k.reads; marks = k.marks; records = k.records })
   came_so false word piece s k = k
 
-  -- `Keeps` lasts over the loss of what is outstanding
+  -- `Keeps` is preserved by the loss of what is outstanding
   losing_so : (b : Bool) (s : Model) → Keeps s → Keeps (losing b s)
   losing_so true s k = let x = restarts s.client in record { reads = k.reads; marks = all_drop _ s.marks k.marks; records = settles_so s x.settlements k }
   losing_so false s k = k
 
-  -- `Keeps` lasts over a request that is sent, if its mark is `IsPlaced`
+  -- `Keeps` is preserved by a request that is sent, if its mark is `IsPlaced`
   asks_so : (wait target : ℕ) (call : Asked) (mark : Option Mark) (s : Model) → IsPlaced mark → Keeps s → Keeps (asks wait target call mark s)
   asks_so wait target call mark s placed k = record { reads = k.reads; marks = all_append IsPlaced s.marks _ k.marks (placed, tt); records = k.records }
 
-  -- `Keeps` lasts over the send of the first of these commands, if its mark is `IsPlaced`
+  -- `Keeps` is preserved by the send of the first of these commands, if its mark is `IsPlaced`
   first_so : (mark : Mark) (left : List Task) (s : Model) → IsPlaced (Some mark) → Keeps s → Keeps (asks_first mark left s)
   first_so mark [] s placed k = k
   first_so mark (task ∷ others) s placed k = asks_so task.deadline task.command.target (call_at task mark.sent) (Some mark) s placed k
 
-  -- `Keeps` lasts over the send of the next command
+  -- `Keeps` is preserved by the send of the next command
   next_so : (s : Model) → Keeps s → Keeps (asks_first (mark_next plan commands s.progress) (drop (place_next commands s.progress) commands) s)
   next_so s k = first_so (mark_next plan commands s.progress) (drop (place_next commands s.progress) commands) s (refl, refl) k
 
-  -- `Keeps` lasts over the send of the next command of the setup
+  -- `Keeps` is preserved by the send of the next command of the setup
   setup_so : (s : Model) → Keeps s → Keeps (asks_setup plan commands s)
   setup_so s k = by_list (drop s.progress.prepared commands) where
     -- the lemma above, whether there is one or not
@@ -173,7 +173,7 @@ module _ (plan : Plan) (commands : List Task) (scope : Scope) where
     tt,
   )
 
-  -- `Keeps` lasts over an act of each action, before what is outstanding is lost
+  -- `Keeps` is preserved by an act of each action, before what is outstanding is lost
   moved_so : (next : Action) (s : Model) (act : Act) → Keeps s → Keeps (moved plan commands next s act)
   moved_so actions.Prepare s (Cut bytes count) k = let n = setup_so s k in record { reads = n.reads; marks = n.marks; records = n.records }
   moved_so actions.Prepare s act k = let n = setup_so s k in record { reads = n.reads; marks = n.marks; records = n.records }
@@ -193,13 +193,13 @@ module _ (plan : Plan) (commands : List Task) (scope : Scope) where
   moved_so (actions.Read until) s act k = record { reads = k.reads; marks = k.marks; records = k.records }
   moved_so next s act k = subst Keeps (sym (moved_changed plan commands next s act)) (record { reads = k.reads; marks = k.marks; records = k.records })
 
-  -- `Keeps` lasts over an act
+  -- `Keeps` is preserved by an act
   after_so : (s : Model) (act : Act) → Keeps s → Keeps (after plan commands s act)
   after_so s act k =
       let t = moved plan commands (action_at plan s) (with_progress turned s) act in
       losing_so (loses_all t.progress) t (moved_so (action_at plan s) (with_progress turned s) act (record { reads = k.reads; marks = k.marks; records = k.records }))
 
-  -- `Keeps` lasts over acts
+  -- `Keeps` is preserved by acts
   along : (s : Model) (acts : List Act) → Keeps s → Keeps (after_all plan commands s acts)
   along s [] k = k
   along s (act ∷ acts) k = along (after plan commands s act) acts (after_so s act k)

@@ -33,7 +33,7 @@ module _ (plan : Plan) (commands : List Task) (scope : Scope) (text : Record →
     pub all : saw' ≡ saw ++ turns
     pub kept : AreKept plan commands scope text told taken [] went.acts turns
 
-  -- `AreKept` lasts over one act more, if what all acts before that act settled was kept at its turn
+  -- `AreKept` is preserved by one act more, if what all acts before that act settled was kept at its turn
   kept_more : (done acts : List Act) (turns : List Turn) (act : Act) (turn : Turn) → AreKept plan commands scope text told taken done acts turns
       → IsKept plan commands scope text told taken (done ++ acts) turn → AreKept plan commands scope text told taken done (acts ++ act ∷ []) (turns ++ turn ∷ [])
   kept_more done [] [] act turn are is = (subst (λ (xs : List Act). IsKept plan commands scope text told taken xs turn) (append-nil done) is, tt)
@@ -49,13 +49,13 @@ module _ (plan : Plan) (commands : List Task) (scope : Scope) (text : Record →
   pub noted_nothing : (station : Station) (saw : List Turn) → Refines station (opening plan scope) → Noted told taken station saw saw
   noted_nothing station saw stands = record { went = went_nothing plan commands scope text told taken station stands; turns = []; all = sym (append-nil saw); kept = tt }
 
-  -- `Noted` lasts if a book took nothing more, as `Keeps` says: if what it took was known, it is known still, and the same
+  -- `Noted` is preserved if a book took nothing more, as `Keeps` says: if what it took was known, it is known still, and the same
   pub noted_kept : (told' : Option (List Act)) (taken' taken'' : Option (List ℕ)) (station : Station) (saw saw' : List Turn) → Keeps taken' taken''
       → Noted told' taken' station saw saw' → Noted told' taken'' station saw saw'
   noted_kept told' taken' taken'' station saw saw' keeps n =
       record { went = went_kept plan commands scope text told told' taken taken' taken'' station keeps n.went; turns = n.turns; all = n.all; kept = n.kept }
 
-  -- `Noted` lasts if a book took the same
+  -- `Noted` is preserved if a book took the same
   pub noted_same : (told' : Option (List Act)) (taken' taken'' : Option (List ℕ)) (station : Station) (saw saw' : List Turn) → taken'' ≡ taken'
       → Noted told' taken' station saw saw' → Noted told' taken'' station saw saw'
   noted_same told' taken' taken'' station saw saw' same n =
@@ -69,7 +69,7 @@ module _ (plan : Plan) (commands : List Task) (scope : Scope) (text : Record →
   saw_more : (saw saw' saw'' turns : List Turn) (turn : Turn) → saw' ≡ saw ++ turns → saw'' ≡ saw' ++ turn ∷ [] → saw'' ≡ saw ++ (turns ++ turn ∷ [])
   saw_more saw saw' saw'' turns turn all one = one ∙ ap (λ (xs : List Turn). xs ++ turn ∷ []) all ∙ append_assoc saw turns (turn ∷ [])
 
-  -- `Noted` lasts over one act more, before which the link and the book were seen, and all records lasted
+  -- `Noted` is preserved by one act more, before which the link and the book were seen, and all records lasted
   pub noted_on : (told' told'' : Option (List Act)) (taken' taken'' : Option (List ℕ)) (lasts : Bool) (station new : Station) (action : Action) (saw saw' saw'' : List Turn)
       → (n : Noted told' taken' station saw saw')
       → action ≡ action_at plan (stood plan commands scope n.went.acts)

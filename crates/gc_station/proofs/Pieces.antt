@@ -261,7 +261,7 @@ line_true plan commands scope acts piece m c front others line r news earlier la
           };
     }
 
--- `Hears` lasts over the lines of a piece
+-- `Hears` is preserved by the lines of a piece
 pub hear_all : (plan : Plan) (commands : List Task) (scope : Scope) (acts : List Act) (piece : List ℕ) (m : Moment) (front lines : List (List ℕ)) (x : Model) (tail : List Record)
     → front ++ lines ≡ lines_behind (stood plan commands scope acts).rest piece
     → (stood plan commands scope (acts ++ Gave piece m ∷ [])).records ≡ (lines_came x lines).records ++ tail
@@ -303,7 +303,7 @@ behind_piece plan commands scope acts piece m x h = record {
 abbrev pub piece_before : Moment → Model → Model
 piece_before m s = with_moment m (with_progress (told m) (with_progress turned s))
 
--- an act that brings a piece keeps `IsHonest`
+-- an act that brings a piece preserves `IsHonest`
 pub piece_honest : (plan : Plan) (commands : List Task) (scope : Scope) (acts : List Act) (piece : List ℕ) (m : Moment) (b : Bool) (word : List ℕ) (tail : List Record)
     → (stood plan commands scope (acts ++ Gave piece m ∷ [])).records ≡ (came b word piece (piece_before m (stood plan commands scope acts))).records ++ tail
     → IsWindow (stood plan commands scope acts).client

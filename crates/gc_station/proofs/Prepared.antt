@@ -134,7 +134,7 @@ module _ (plan : Plan) (commands : List Task) (scope : Scope) where
         }
       ]
 
-  -- `StaysUp` holds with one act more that closes no connection, if the station has synchronized after it
+  -- `StaysUp` holds after one more act that closes no connection, if the station has synchronized after it
   stays_more : (s : Model) (xs : List Act) (act : Act) → StaysUp plan commands s xs → KeepsOpen act → has_begun (after_all plan commands s (xs ++ act ∷ [])).progress ≡ true
       → StaysUp plan commands s (xs ++ act ∷ [])
   stays_more s [] act h keeps begun = (keeps, begun, tt)
@@ -148,7 +148,7 @@ module _ (plan : Plan) (commands : List Task) (scope : Scope) where
       let there = ap (λ (x : Model). has_begun x.progress) (sym (ap (stood plan commands scope) longer ∙ after_all-append plan commands (opening plan scope) before (since ++ act ∷ []))) ∙ begun in
       (longer, stays_more (at before) since act stays keeps there)
 
-  -- an act that closes no connection, after which the station is begun, keeps `ArePrepared`
+  -- an act that closes no connection, after which the station is begun, preserves `ArePrepared`
   prepared_more : (n : ℕ) (acts : List Act) (act : Act) → KeepsOpen act → has_begun (at (acts ++ act ∷ [])).progress ≡ true → ArePrepared plan commands scope acts n
       → ArePrepared plan commands scope (acts ++ act ∷ []) n
   prepared_more n acts act keeps begun h place below =
@@ -174,7 +174,7 @@ module _ (plan : Plan) (commands : List Task) (scope : Scope) where
         well = d.well;
       }
 
-  -- it keeps `Partly`, if it leaves the row
+  -- it preserves `Partly`, if it leaves the row
   partly_more : (j : ℕ) (acts : List Act) (act : Act) → KeepsOpen act → has_begun (at (acts ++ act ∷ [])).progress ≡ true → row_of (at (acts ++ act ∷ [])) ≡ row_of (at acts) → Partly j acts
       → Partly j (acts ++ act ∷ [])
   partly_more j acts act keeps begun same d =
@@ -283,7 +283,7 @@ module _ (plan : Plan) (commands : List Task) (scope : Scope) where
     begins : (o : Action) → action_at plan s ≡ o → Performs commands s o act → (o ≡ action.Renew → ⊥) → has_begun s.progress ≡ true → has_begun (at (acts ++ act ∷ [])).progress ≡ true
     begins o is obeys other begun = ap has_begun (far o is) ∙ begun_other plan commands s o act obeys other begun
 
-    -- an act that leaves the two fields and the row keeps `By`
+    -- an act that leaves the two fields and the row preserves `By`
     stands_still : (o : Action) → action_at plan s ≡ o → (has_begun s.progress ≡ true → has_begun (at (acts ++ act ∷ [])).progress ≡ true) → KeepsOpen act
         → (t o).progress.preparing ≡ s.progress.preparing → (t o).progress.prepared ≡ s.progress.prepared → row_of (t o) ≡ row_of s
         → By s.progress.preparing s.progress.prepared acts → Stands (acts ++ act ∷ [])
@@ -331,7 +331,7 @@ module _ (plan : Plan) (commands : List Task) (scope : Scope) where
   sent_preparing s act = subst (λ (x : Model). x.progress.preparing ≡ false) (is_sent plan commands s) refl
 
   module _ (some : 0 < plan.setup) (within : plan.setup ≤ length commands) (acts : List Act) where
-    -- the fact lasts over an act of each action
+    -- the fact is preserved by an act of each action
     stands_by : (o : Action) (act : Act) → action_at plan (at acts) ≡ o → Performs commands (at acts) o act → IsFor plan (at acts).progress (waiting_of (at acts)) o
         → By (at acts).progress.preparing (at acts).progress.prepared acts → Stands (acts ++ act ∷ [])
     stands_by action.Prepare act is obeys needs h = stands_sent some within acts act is obeys needs h

@@ -230,7 +230,7 @@ module _ (plan : Plan) (commands : List Task) (scope : Scope) where
   more acts act on (inr b) =
       inr (since_on (Begins plan commands scope) (Begins plan commands scope) acts (act ∷ []) (λ before start behind order h. (h.0, h.1, all_append StaysConnected behind (act ∷ []) h.2 (on, tt))) b)
 
-  -- `Stage` lasts over an act that reads a moment
+  -- `Stage` is preserved by an act that reads a moment
   stage_on : (begun begun' stale : Bool) (since now : ℕ) (at : Phase) (acts : List Act) (act : Act) → StaysConnected act
       → (at ≡ phase.Clearing → stale ≡ false → ⊥) → (IsDraining stale since acts → IsDrained now (acts ++ act ∷ []))
       → Here begun stale since at acts → Here begun' false now at (acts ++ act ∷ [])
@@ -307,7 +307,7 @@ module _ (plan : Plan) (commands : List Task) (scope : Scope) where
   -- `Stage` holds after every run
   stage_stood : (acts : List Act) → Runs plan commands (opening plan scope) acts → HereAt (stood plan commands scope acts).progress acts
   stage_stood acts runs = always_far plan commands (opening plan scope) HereAt step tt acts runs where
-    -- one act of a run keeps `HereAt`
+    -- one act of a run preserves `HereAt`
     step : (done : List Act) (act : Act) → Runs plan commands (opening plan scope) done
         → Performs commands (stood plan commands scope done) (action_at plan (stood plan commands scope done)) act
         → HereAt (stood plan commands scope done).progress done

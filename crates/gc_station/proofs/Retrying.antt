@@ -260,39 +260,39 @@ module _ (plan : Plan) (commands : List Task) (scope : Scope) where
       ∙ sym (any_append scope.reads commands s.records (records_of scope.reads utc s.marks x) false)
       ∙ sym (ap (λ (reads : Asked → List ℕ → Reading). any_listed scope.reads commands false (s.records ++ records_of reads utc s.marks x)) k.reads)
 
-  -- `Keeps` lasts over a line that is heard
+  -- `Keeps` is preserved by a line that is heard
   line_so : (s : Model) (line : List ℕ) → Keeps s → Keeps (line_came s line)
   line_so s line k =
       let x = hears s.client line (heard line) in
       record { reads = k.reads; marks = all_drop _ s.marks k.marks; records = settles_so s x.settlements k; listed = settles_listed s x.settlements k }
 
-  -- `Keeps` lasts over a piece
+  -- `Keeps` is preserved by a piece
   came_so : (b : Bool) (word piece : List ℕ) (s : Model) → Keeps s → Keeps (came b word piece s)
   came_so true (asked ∷ others) piece s k = record { reads = k.reads; marks = k.marks; records = k.records; listed = k.listed }
   came_so true [] piece s k =
       lines_along Keeps line_so (with_rest (rest_behind s.rest piece) s) (lines_behind s.rest piece) (record { reads = k.reads; marks = k.marks; records = k.records; listed = k.listed })
   came_so false word piece s k = k
 
-  -- `Keeps` lasts over the loss of what is outstanding
+  -- `Keeps` is preserved by the loss of what is outstanding
   losing_so : (b : Bool) (s : Model) → Keeps s → Keeps (losing b s)
   losing_so true s k =
       let x = restarts s.client in record { reads = k.reads; marks = all_drop _ s.marks k.marks; records = settles_so s x.settlements k; listed = settles_listed s x.settlements k }
   losing_so false s k = k
 
-  -- `Keeps` lasts over a request that is sent, if its mark is `IsPlaced`
+  -- `Keeps` is preserved by a request that is sent, if its mark is `IsPlaced`
   asks_so : (wait target : ℕ) (call : Asked) (mark : Option Mark) (s : Model) → IsPlaced mark → Keeps s → Keeps (asks wait target call mark s)
   asks_so wait target call mark s placed k = record { reads = k.reads; marks = all_append IsPlaced s.marks _ k.marks (placed, tt); records = k.records; listed = k.listed }
 
-  -- `Keeps` lasts over the send of the first of these commands, if its mark is `IsPlaced`
+  -- `Keeps` is preserved by the send of the first of these commands, if its mark is `IsPlaced`
   first_so : (mark : Mark) (left : List Task) (s : Model) → IsPlaced (Some mark) → Keeps s → Keeps (asks_first mark left s)
   first_so mark [] s placed k = k
   first_so mark (task ∷ others) s placed k = asks_so task.deadline task.command.target (call_at task mark.sent) (Some mark) s placed k
 
-  -- `Keeps` lasts over the send of the next command
+  -- `Keeps` is preserved by the send of the next command
   next_so : (s : Model) → 0 < cycles_begun plan s.progress → Keeps s → Keeps (asks_first (mark_next plan commands s.progress) (drop (place_next commands s.progress) commands) s)
   next_so s many k = first_so (mark_next plan commands s.progress) (drop (place_next commands s.progress) commands) s (next_placed s.progress many) k
 
-  -- `Keeps` lasts over the send of the next command of the setup
+  -- `Keeps` is preserved by the send of the next command of the setup
   setup_so : (s : Model) → Keeps s → Keeps (asks_setup plan commands s)
   setup_so s k = by_list (drop s.progress.prepared commands) where
     -- the lemma above, whether there is one or not
@@ -326,7 +326,7 @@ module _ (plan : Plan) (commands : List Task) (scope : Scope) where
   IsThere actions.Skip s = (0 < cycles_begun plan s.progress) × (0 < length (drop (place_next commands s.progress) commands))
   IsThere next s = Unit {0}
 
-  -- `Keeps` lasts over an act of each action that is next, before what is outstanding is lost
+  -- `Keeps` is preserved by an act of each action that is next, before what is outstanding is lost
   moved_so : (next : Action) (s : Model) (act : Act) → IsThere next s → Keeps s → Keeps (moved plan commands next s act)
   moved_so actions.Prepare s (Cut bytes count) some k = let n = setup_so s k in record { reads = n.reads; marks = n.marks; records = n.records; listed = n.listed }
   moved_so actions.Prepare s act some k = let n = setup_so s k in record { reads = n.reads; marks = n.marks; records = n.records; listed = n.listed }
@@ -356,7 +356,7 @@ module _ (plan : Plan) (commands : List Task) (scope : Scope) where
   moved_so (actions.Read until) s act some k = record { reads = k.reads; marks = k.marks; records = k.records; listed = k.listed }
   moved_so next s act some k = subst Keeps (sym (moved_changed plan commands next s act)) (record { reads = k.reads; marks = k.marks; records = k.records; listed = k.listed })
 
-  -- `Keeps` lasts over an act
+  -- `Keeps` is preserved by an act
   after_so : (s : Model) (act : Act) → Invariant plan commands s → Keeps s → Keeps (after plan commands s act)
   after_so s act fine k =
       let t = moved plan commands (action_at plan s) (with_progress turned s) act in
@@ -375,7 +375,7 @@ module _ (plan : Plan) (commands : List Task) (scope : Scope) where
         there actions.Skip needs = one_left needs.2
         there next needs = tt
 
-  -- `Keeps` lasts over acts
+  -- `Keeps` is preserved by acts
   along : (s : Model) (acts : List Act) → Invariant plan commands s → Keeps s → Keeps (after_all plan commands s acts)
   along s [] fine k = k
   along s (act ∷ acts) fine k = along (after plan commands s act) acts (fine_after plan commands s act fine) (after_so s act fine k)
@@ -390,7 +390,7 @@ module _ (plan : Plan) (commands : List Task) (scope : Scope) where
   abbrev Follows : Progress → Type 0
   Follows p = (plan.setup < place_next commands p → p.next_others ≡ others_in (drop (place_next commands p) commands)) × (place_next commands p ≤ plan.setup → p.next_others ≡ 0)
 
-  -- `Follows` lasts if the next command stays the same
+  -- `Follows` is preserved if the next command stays the same
   follows_same : (p q : Progress) → q.unsent ≡ p.unsent → q.next_others ≡ p.next_others → Follows p → Follows q
   follows_same p q unsent others h =
       let at : place_next commands q ≡ place_next commands p = ap (λ (n : ℕ). length commands - n) unsent in
@@ -417,7 +417,7 @@ module _ (plan : Plan) (commands : List Task) (scope : Scope) where
   abbrev far : Action → Model → Act → Progress
   far next s act = (moved plan commands next (with_progress turned s) act).progress
 
-  -- `Follows` lasts over an act of each action
+  -- `Follows` is preserved by an act of each action
   moved_follows : (next : Action) (s : Model) (w : Waiting) (act : Act) → IsFor plan s.progress w next → s.progress.unsent ≤ length commands - plan.setup → Follows s.progress → Follows (far next s act)
   moved_follows actions.Begin s w (Told m) needs within h = follows_begun (far actions.Begin s (Told m)) refl refl
   moved_follows actions.Send s w (Cut bytes n) needs within h =

@@ -87,7 +87,7 @@ fresh_stale now phase.Ready acts = λ e. cc
 fresh_stale now at acts = tt
 
 module _ (plan : Plan) (commands : List Task) where
-  -- `Fresh` lasts over an act of any action
+  -- `Fresh` is preserved by an act of any action
   fresh_line : (next : Action) (s : Model) (acts : List Act) → OnLine plan commands FreshAt next (with_progress turned s) acts
   fresh_line actions.Open s acts = λ m. tt
   fresh_line actions.Clear s acts = λ m. fresh_stale s.progress.moment.elapsed (cleared s.progress).phase _
@@ -111,7 +111,7 @@ module _ (plan : Plan) (commands : List Task) where
   -- `Fresh` holds after every run
   fresh_stood : (scope : Scope) (acts : List Act) → Runs plan commands (opening plan scope) acts → FreshAt (stood plan commands scope acts).progress acts
   fresh_stood scope acts runs = always_far plan commands (opening plan scope) FreshAt step tt acts runs where
-    -- one act of a run keeps `FreshAt`
+    -- one act of a run preserves `FreshAt`
     step : (done : List Act) (act : Act) → Runs plan commands (opening plan scope) done
         → Performs commands (stood plan commands scope done) (action_at plan (stood plan commands scope done)) act
         → FreshAt (stood plan commands scope done).progress done

@@ -113,7 +113,7 @@ Freshly s act t = Plainly s act t ⊎ Well s act t
 abbrev Heard : Model → ℕ → Model → Type 0
 Heard mid now t = (rs : List Record) × (t.records ≡ mid.records ++ rs) × (t.fresh ≡ fresh_behind now mid.fresh rs) × (t.progress.moment.elapsed ≡ now)
 
--- one line more keeps `Heard`
+-- one line more preserves `Heard`
 heard_line : (mid : Model) (now : ℕ) (t : Model) (line : List ℕ) → Heard mid now t → Heard mid now (line_came t line)
 heard_line mid now t line (rs, order, fresh, at) =
     let added = records_of t.reads t.progress.moment.utc t.marks (hears t.client line (heard line)).settlements in (
@@ -123,7 +123,7 @@ heard_line mid now t line (rs, order, fresh, at) =
       at,
     )
 
--- a piece keeps `Heard`
+-- a piece preserves `Heard`
 heard_piece : (is_heard : Bool) (word piece : List ℕ) (mid : Model) → Heard mid mid.progress.moment.elapsed (came is_heard word piece mid)
 heard_piece is_heard word piece mid =
     let now = mid.progress.moment.elapsed in
@@ -221,7 +221,7 @@ behind_one : (plan : Plan) (commands : List Task) (scope : Scope) (done : List A
     → stood plan commands scope (done ++ act ∷ []) ≡ after plan commands (stood plan commands scope done) act
 behind_one plan commands scope done act = after_all-append plan commands (opening plan scope) done (act ∷ [])
 
--- one act more keeps `UnwellSince`
+-- one act more preserves `UnwellSince`
 since_more : (plan : Plan) (commands : List Task) (scope : Scope) (done : List Act) (act : Act) → UnwellSince plan commands scope done
     → Freshly (stood plan commands scope done) act (stood plan commands scope (done ++ act ∷ [])) → UnwellSince plan commands scope (done ++ act ∷ [])
 since_more plan commands scope done act u (inl (rs, order, unwell, fresh)) = record {

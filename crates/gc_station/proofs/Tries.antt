@@ -246,7 +246,7 @@ record Trying (plan : Plan) (commands : List Task) (scope : Scope) (tries : ℕ)
   first : before ≡ [] → held ≡ 0
   opens : opens_in behind + held ≡ ends_in behind + up_count up
 
--- `Trying` lasts over an act at which no command was settled
+-- `Trying` is preserved by an act at which no command was settled
 abbrev trying_on : (plan : Plan) (commands : List Task) (scope : Scope) (tries tries' : ℕ) (up up' : Bool) (acts : List Act) (act : Act) → tries ≤ tries' + ends_in (act ∷ []) → Counted up act up'
     → SettlesNone (stood plan commands scope acts) act (after plan commands (stood plan commands scope acts) act)
     → Trying plan commands scope tries up acts → Trying plan commands scope tries' up' (acts ++ act ∷ [])
@@ -314,7 +314,7 @@ after_grew plan commands s act =
     let b = losing_records (loses_all t.progress) t in
     (a.0 ++ b.0, b.1 ∙ ap (λ xs. xs ++ b.0) a.1 ∙ append_assoc s.records a.0 b.0)
 
--- `Trying` lasts over one act, from the model s to u; t is the model before what is outstanding is lost
+-- `Trying` is preserved by one act, from the model s to u; t is the model before what is outstanding is lost
 try_step : (plan : Plan) (commands : List Task) (scope : Scope) (acts : List Act) (act : Act) (s u : Model) (t : Model) → stood plan commands scope acts ≡ s
     → stood plan commands scope (acts ++ act ∷ []) ≡ u → u ≡ after plan commands s act
     → u.progress ≡ t.progress → Took plan s act t → Counted (is_up s.progress.phase) act (is_up t.progress.phase)
@@ -358,7 +358,7 @@ quits_over plan commands (actions.Close cause.Stale) s act quits = refl
 quits_over plan commands (actions.Close cause.Stopped) s act quits = refl
 quits_over plan commands next s act quits = absurd quits
 
--- `Try` lasts over one act of a run more
+-- `Try` is preserved by one act of a run more
 try_after : (plan : Plan) (commands : List Task) (scope : Scope) (done : List Act) (act : Act)
     → Performs commands (stood plan commands scope done) (action_at plan (stood plan commands scope done)) act
     → Try plan commands scope done (stood plan commands scope done)

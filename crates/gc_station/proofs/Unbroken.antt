@@ -85,7 +85,7 @@ module _ (plan : Plan) (commands : List Task) where
   abbrev Up : Act → Model → Type 0
   Up a t = t.progress.chain_unbroken ≡ true → is_up t.progress.phase ≡ true
 
-  -- a failure keeps `Up`
+  -- a failure preserves `Up`
   failed_up : (s : Model) (why : Cause) → is_up s.progress.phase ≡ true → is_up (with_progress (failing why) s).progress.phase ≡ true
   failed_up s why up = fails (is_up s.progress.phase) why ∙ up
 
@@ -140,7 +140,7 @@ module _ (plan : Plan) (commands : List Task) where
       closed_along (λ (q : Progress). q.chain_unbroken ≡ true → q.preparing ≡ false) plan (waiting_of (with_rest [] (with_progress turned s))) why (turned s.progress) (λ d. cc) (λ d. cc) c
   unprepared_kept s o act c was = ap (λ (x : Model). x.progress.preparing) (moved_changed plan commands o (with_progress turned s) act) ∙ was
 
-  -- an act keeps `OnLine`
+  -- an act preserves `OnLine`
   on_line_moved : (s : Model) (o : Action) (act : Act) → Performs commands s o act → IsFor plan s.progress (waiting_of s) o → OnLine s.progress
       → OnLine (moved plan commands o (with_progress turned s) act).progress
   on_line_moved s o act obeys needs on c = by_before (unbroken_before s o act obeys c) where

@@ -201,7 +201,7 @@ module _ (plan : Plan) (commands : List Task) (scope : Scope) (some : 0 < plan.e
   abbrev Written : List Act → Type 0
   Written acts = Rises 0 acts → AllByRecursion (Truly acts) (stood plan commands scope acts).records
 
-  -- one act of a run more keeps `Written`
+  -- one act of a run more preserves `Written`
   written_step : (done : List Act) (act : Act) → Runs plan commands (opening plan scope) done
       → Performs commands (stood plan commands scope done) (action_at plan (stood plan commands scope done)) act → Written done → Written (done ++ act ∷ [])
   written_step done act runs o h rises =

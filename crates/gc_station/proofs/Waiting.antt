@@ -221,7 +221,7 @@ true_more plan commands scope acts act r obeys is = record { answered = answered
         written = a.written;
         shown = on a a.shown;
       } where
-        -- why a request is lost holds with one act more: a later request's reply came, or the station resynchronized; it isn't
+        -- why a request is lost holds after one more act: a later request's reply came, or the station resynchronized; it isn't
         -- that the run stopped
         on : (a : IsLostIn plan commands scope acts r) → IsOvertaken plan commands scope a.before a.request a.between a.act
             ⊎ (BeginsAnew plan commands scope (a.before ++ a.request ∷ a.between) a.act ⊎ IsLast plan commands scope (a.before ++ a.request ∷ a.between) a.act a.behind)
@@ -238,12 +238,12 @@ pub more_true : (plan : Plan) (commands : List Task) (scope : Scope) (acts : Lis
 more_true plan commands scope acts act rs obeys all = all_on (IsTrue plan commands scope acts) (IsTrue plan commands scope (acts ++ act ∷ [])) rs
     (λ r is. true_more plan commands scope acts act r obeys is) all
 
--- an act that reads no moment keeps `Stayed`
+-- an act that reads no moment preserves `Stayed`
 pub stays_still : (act : Act) → ((d : ℕ) → IsBefore d act) → (b : Bool) (d : ℕ) (xs : List Act) → Stayed b d xs → Stayed b d (xs ++ act ∷ [])
 stays_still act on true d xs told = past_more d xs (act ∷ []) told
 stays_still act on false d xs all = all_append (IsBefore d) xs (act ∷ []) all (on d, tt)
 
--- an act that changes nothing of the client, and reads no moment, keeps `Honest`
+-- an act that changes nothing of the client, and reads no moment, preserves `Honest`
 pub still : (plan : Plan) (commands : List Task) (scope : Scope) (acts : List Act) (act : Act) (c : ById Asked) (marks : List (Option Mark)) (rs : List Record) → ((d : ℕ) → IsBefore d act)
     → Honest plan commands scope acts (acts ++ act ∷ []) c marks rs → Honest plan commands scope (acts ++ act ∷ []) (acts ++ act ∷ []) c marks rs
 still plan commands scope acts act c marks rs on h = record {
@@ -312,7 +312,7 @@ behind_moment plan commands scope acts act client now next count ps marks on pas
     rows_same (WaitsAt plan commands scope acts client now next count) (Waits plan commands scope (acts ++ act ∷ []) next count) 0 0 ps marks
     (λ n j p mark w. asked_more plan commands scope acts act (StayedAt now) Stayed n j _ p mark (stays_behind act now on past) w.0) all
 
--- an act that reads a moment, and so times requests out, keeps `Honest`
+-- an act that reads a moment, and so times requests out, preserves `Honest`
 pub moment_told : (plan : Plan) (commands : List Task) (scope : Scope) (acts : List Act) (act : Act) (now : ℕ) (c : ById Asked) (marks : List (Option Mark))
     (rs : List Record) → ((d : ℕ) → now < d → IsBefore d act) → ((d : ℕ) → d ≤ now → IsPast d act)
     → Honest plan commands scope acts (acts ++ act ∷ []) c marks rs → Honest plan commands scope (acts ++ act ∷ []) (acts ++ act ∷ []) (at_expired c now) marks rs
