@@ -333,7 +333,8 @@ module _ {State : Type 0} (ends : Ends State) (Good : State → Type 0) (kept : 
       let a = of_at commands p.marks (map asked (own_sent ends s)) n (Some mark) sent at in
       let r = asked_at (own_sent ends s) n a.0 a.1 in
       let b = f.faithful.booked (8 + n) x beyond (safe n mark at) there line answered in
-      let right : x.call ≡ call_at a.2.0 mark.sent = (f.faithful.one_for_one.same (8 + n) x r.0 there (get_drop 8 n (world ends s).wire.sent r.0 r.1)).1 ∙ ap (λ (o : Wanted Asked). o.call) (r.2 ∙ a.2.2) in
+      let right : x.call ≡ call_at a.2.0 mark.sent = (f.faithful.one_for_one.same (8 + n) x r.0 there (get_drop 8 n (world ends s).wire.sent r.0 r.1)).1 ∙ ap
+          (λ (o : Wanted Asked). o.call) (r.2 ∙ a.2.2) in
       record {
         k = 0;
         part = p;
@@ -462,7 +463,8 @@ module _ {State : Type 0} (ends : Ends State) (Good : State → Type 0) (kept : 
       let there = get_drop 8 n (world ends s).wire.settled x here in
       let a = of_at commands p.marks (map asked (own_sent ends s)) n (Some mark) sent at in
       let r = asked_at (own_sent ends s) n a.0 a.1 in
-      let right : x.call ≡ call_at a.2.0 mark.sent = (f.faithful.one_for_one.same (8 + n) x r.0 there (get_drop 8 n (world ends s).wire.sent r.0 r.1)).1 ∙ ap (λ (o : Wanted Asked). o.call) (r.2 ∙ a.2.2) in
+      let right : x.call ≡ call_at a.2.0 mark.sent = (f.faithful.one_for_one.same (8 + n) x r.0 there (get_drop 8 n (world ends s).wire.sent r.0 r.1)).1 ∙ ap
+          (λ (o : Wanted Asked). o.call) (r.2 ∙ a.2.2) in
       let made = f.faithful.late (8 + n) x beyond (safe n mark at) there late in
       record {
         k = 0;

@@ -268,7 +268,8 @@ moved_honest plan commands scope acts actions.ReadClock act tail fine h is needs
     let s = stood plan commands scope acts in clock_honest plan commands scope acts act (λ m p. reckoned_early plan (commands_in s.marks) (told m p)) s h o
 moved_honest plan commands scope acts actions.Renew act tail fine h is needs o ends =
     clock_honest plan commands scope acts act (λ m p. reckoned_early plan 0 (renewed plan m p)) (stood plan commands scope acts) h o
-moved_honest plan commands scope acts actions.Begin act tail fine h is needs o ends = clock_honest plan commands scope acts act (begun plan (cycle_length plan commands)) (stood plan commands scope acts) h o
+moved_honest plan commands scope acts actions.Begin act tail fine h is needs o ends = clock_honest plan commands scope acts act (begun plan (cycle_length plan commands))
+    (stood plan commands scope acts) h o
 moved_honest plan commands scope acts actions.Open act tail fine h is needs o ends = open_honest plan commands scope acts act (stood plan commands scope acts) h o
 moved_honest plan commands scope acts actions.Clear act tail fine h is needs o ends =
     let s = stood plan commands scope acts in
@@ -285,7 +286,9 @@ moved_honest plan commands scope acts actions.Prepare act tail fine h is needs o
     (ap (λ n. drop n commands) (prepare_place plan commands s is)) o)
 moved_honest plan commands scope acts actions.Send act tail fine h is needs o ends =
     let s = stood plan commands scope acts in
-    put_honest plan commands scope (acts ++ act ∷ []) _ (λ (x : Model). with_progress (sent (is_chained_behind_next commands x.progress) (others_behind_next commands x.progress)) (asks_next plan commands x)) (with_progress turned s) act
+    put_honest plan commands scope (acts ++ act ∷ []) _
+        (λ (x : Model). with_progress (sent (is_chained_behind_next commands x.progress) (others_behind_next commands x.progress)) (asks_next plan commands x))
+        (with_progress turned s) act
     (first_honest plan commands scope acts act (is_chained_behind_next commands s.progress) (others_behind_next commands s.progress) (drop (place_next commands s.progress) commands) (mark_next plan commands s.progress) fine h
     (record { sends = inl is; cycle = sym (send_cycle plan s is); place = sym (send_place plan commands s is); sent = refl }) needs.3.1
     (ap (λ n. drop n commands) (send_place plan commands s is)) o)

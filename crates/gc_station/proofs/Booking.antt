@@ -262,7 +262,8 @@ pub record Wrote (reads : Asked → List ℕ → Reading) (commands : List Task)
   pub sent : AreOf commands more asks
 
 -- where `Wrote` holds of settlements, and of others after them, it holds of all
-wrote_both : (reads : Asked → List ℕ → Reading) (commands : List Task) (ms ms1 ms2 more1 more2 : List (Option Mark)) (rs rs1 rs2 : List Record) (ss1 ss2 : List (Settlement Asked)) (asks1 asks2 : List (Wanted Asked))
+wrote_both : (reads : Asked → List ℕ → Reading) (commands : List Task) (ms ms1 ms2 more1 more2 : List (Option Mark)) (rs rs1 rs2 : List Record) (ss1 ss2 : List (Settlement Asked))
+    (asks1 asks2 : List (Wanted Asked))
     → Wrote reads commands ms rs more1 ss1 asks1 ms1 rs1 → Wrote reads commands ms1 rs1 more2 ss2 asks2 ms2 rs2
     → Wrote reads commands ms rs (more1 ++ more2) (ss1 ++ ss2) (asks1 ++ asks2) ms2 rs2
 wrote_both reads commands ms ms1 ms2 more1 more2 rs rs1 rs2 ss1 ss2 asks1 asks2 h g =

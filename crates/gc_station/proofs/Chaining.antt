@@ -241,13 +241,15 @@ chain_still plan commands scope acts act p q there k begins keeps stays other h 
             place = place_is ∙ w.place;
             stays = all_append KeepsOpen w.between (act ∷ []) w.stays (stays, tt);
             begun = begun;
-            passes = still_passes (stood plan commands scope acts) (stood plan commands scope (acts ++ act ∷ [])) (stood plan commands scope w.before).passes keeps (ap (λ (x : Progress). x.chain_unbroken) there ∙ e) w.passes;
+            passes = still_passes (stood plan commands scope acts) (stood plan commands scope (acts ++ act ∷ [])) (stood plan commands scope w.before).passes keeps
+                (ap (λ (x : Progress). x.chain_unbroken) there ∙ e) w.passes;
             keeps =
                 stays_more plan commands (stood plan commands scope w.before) (w.request ∷ w.between) act w.keeps
                 (begun_there plan commands scope w.before (w.request ∷ (w.between ++ act ∷ [])) (acts ++ act ∷ []) q order there begun);
             cycles =
                 let back = after_all-append plan commands (opening plan scope) w.before (w.request ∷ w.between) in
-                let here : after_all plan commands (stood plan commands scope w.before) (w.request ∷ w.between) ≡ stood plan commands scope acts = sym back ∙ ap (stood plan commands scope) (sym w.order) in
+                let here : after_all plan commands (stood plan commands scope w.before) (w.request ∷ w.between)
+                    ≡ stood plan commands scope acts = sym back ∙ ap (stood plan commands scope) (sym w.order) in
                 prepares_none plan commands (stood plan commands scope w.before) (w.request ∷ w.between) (act ∷ []) w.cycles
                 (subst (λ (x : Model). PreparesNothing plan commands x (act ∷ [])) (sym here) (other, tt));
           };
@@ -320,7 +322,8 @@ chain_sent plan commands scope acts act p q here there is begins n some within k
         place = at ∙ ap (λ (x : Progress). place_next commands x + 1) here;
         stays = tt;
         begun = begins e;
-        passes = still_passes (stood plan commands scope acts) (stood plan commands scope (acts ++ act ∷ [])) (stood plan commands scope acts).passes keeps (ap (λ (x : Progress). x.chain_unbroken) there ∙ e) refl;
+        passes = still_passes (stood plan commands scope acts) (stood plan commands scope (acts ++ act ∷ [])) (stood plan commands scope acts).passes keeps
+            (ap (λ (x : Progress). x.chain_unbroken) there ∙ e) refl;
         keeps = (begun_there plan commands scope acts (act ∷ []) (acts ++ act ∷ []) q refl there (begins e), tt);
         cycles = (λ prepares. let both : Send ≡ Prepare = sym is ∙ prepares in cc, tt);
       };
@@ -541,7 +544,8 @@ chain_whole plan commands scope acts runs is chained = of_may needs.4 where
       (subst (λ (ys : List Request). Parted (of_text commands (map of_record s.records)) ys (sent_by plan.setup commands (cycles_begun plan s.progress) (place_next commands s.progress))) w.passes
       (subst (λ (xs : List Request). Parted xs s.passes (sent_by plan.setup commands (cycles_begun plan s.progress) (place_next commands s.progress)))
       (sym (each_settled commands s.marks s.client.waiting s.records (of_text commands (map of_record s.records ++ still_waiting s.marks s.client.waiting)) settled refl)) fine.each)) in
-      let front = parted_all (IsInFront cycle place) (of_text commands (map of_record b.records ++ still_waiting b.marks b.client.waiting)) b_passes (sent_by plan.setup commands cycle place) before.each
+      let front = parted_all (IsInFront cycle place) (of_text commands (map of_record b.records ++ still_waiting b.marks b.client.waiting)) b_passes
+          (sent_by plan.setup commands cycle place) before.each
       (sent_before plan.setup commands cycle place within) in
       let kept = parted_last one (of_text commands (map of_record s.records)) b_passes (sent_by plan.setup commands cycle place) all
       (λ xs e. not_in_front cycle place one refl refl (all_last (IsInFront cycle place) xs one (subst (AllByRecursion (IsInFront cycle place)) e front))) in

@@ -69,7 +69,9 @@ OnLine plan commands F actions.Ask s acts = (m : Moment) → F (null_sent plan s
 OnLine plan commands F actions.Prepare s acts = (m : Moment) → F (setup_sent plan s.progress) (acts ++ Put (text_or_null s.progress.moment.utc s.client (drop s.progress.prepared commands)) ∷ [])
 OnLine plan commands F actions.Send s acts = (m : Moment) → F (sent (is_chained_behind_next commands s.progress) (others_behind_next commands s.progress) s.progress)
     (acts ++ Put (first_text s.progress.moment.utc s.client (drop (place_next commands s.progress) commands)) ∷ [])
-OnLine plan commands F actions.Skip s acts = (m : Moment) → F (reckoned_early plan (commands_in s.marks) (skipped (is_chained_behind_next commands s.progress) (others_behind_next commands s.progress) m s.progress)) (acts ++ Told m ∷ [])
+OnLine plan commands F actions.Skip s acts = (m : Moment)
+    → F (reckoned_early plan (commands_in s.marks) (skipped (is_chained_behind_next commands s.progress) (others_behind_next commands s.progress) m s.progress))
+    (acts ++ Told m ∷ [])
 OnLine plan commands F actions.Pass s acts =
     (m : Moment) → F (reckoned_early plan (commands_in s.marks)
     (passed (is_chained_behind s.progress.next_others commands s.progress) (others_behind s.progress.next_others commands s.progress) m s.progress)) (acts ++ Told m ∷ [])

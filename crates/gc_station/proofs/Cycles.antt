@@ -130,7 +130,8 @@ module _ (plan : Plan) (commands : List Task) (scope : Scope) (some : 0 < plan.e
   -- `is_chained_behind_next` says
   pub begun_next : (acts : List Act) (act : Act) (p q : Progress) → q.left ≡ p.left → q.unsent ≡ p.unsent - 1 → q.missed ≡ p.missed → q.due ≡ p.due
       → q.next_is_chained ≡ is_chained_behind_next commands p
-      → (p.missed ≡ true → q.chain_unbroken ≡ false) → Ticks p act q → Rises p.moment.elapsed (act ∷ []) → 0 < p.unsent → p.unsent ≤ cycle_length plan commands → Begun acts p → Begun (acts ++ act ∷ []) q
+      → (p.missed ≡ true → q.chain_unbroken ≡ false) → Ticks p act q → Rises p.moment.elapsed (act ∷ []) → 0 < p.unsent → p.unsent ≤ cycle_length plan commands → Begun acts p
+          → Begun (acts ++ act ∷ []) q
   begun_next acts act p q left unsent missed due next_is_chained chain_unbroken t rises here within (inl none) = let nothing = none.1 in absurd (omega (arith, nothing, here))
   begun_next acts act p q left unsent missed due next_is_chained chain_unbroken t rises here within (inr c) =
       let tick = ticked p q act t rises c.past in
@@ -162,7 +163,8 @@ module _ (plan : Plan) (commands : List Task) (scope : Scope) (some : 0 < plan.e
   -- `Begun` is preserved by an act that leaves out the further attempts of a chain
   pub begun_past : (acts : List Act) (act : Act) (p q : Progress) → q.left ≡ p.left → q.unsent ≡ p.unsent - p.next_others → q.missed ≡ p.missed → q.due ≡ p.due
       → q.next_is_chained ≡ is_chained_behind p.next_others commands p
-      → 0 < p.next_others → (p.missed ≡ true → q.chain_unbroken ≡ false) → Ticks p act q → Rises p.moment.elapsed (act ∷ []) → 0 < p.unsent → p.unsent ≤ length commands - plan.setup → Begun acts p → Begun (acts ++ act ∷ []) q
+      → 0 < p.next_others → (p.missed ≡ true → q.chain_unbroken ≡ false) → Ticks p act q → Rises p.moment.elapsed (act ∷ []) → 0 < p.unsent
+          → p.unsent ≤ length commands - plan.setup → Begun acts p → Begun (acts ++ act ∷ []) q
   begun_past acts act p q left unsent missed due next_is_chained more chain_unbroken t rises here within (inl none) = let nothing = none.1 in absurd (omega (arith, nothing, here))
   begun_past acts act p q left unsent missed due next_is_chained more chain_unbroken t rises here within (inr c) =
       let tick = ticked p q act t rises c.past in
@@ -187,7 +189,8 @@ module _ (plan : Plan) (commands : List Task) (scope : Scope) (some : 0 < plan.e
         chained = λ e. by_missed p.missed refl (sym next_is_chained ∙ e) above at;
       }) where
         -- what makes the new next command wait: its cycle is missed (`true`), or the text chains it
-        by_missed : (b : Bool) → p.missed ≡ b → is_chained_behind p.next_others commands p ≡ true → plan.setup < place_next commands q → drop (place_next commands p + p.next_others) commands ≡ drop (place_next commands q) commands
+        by_missed : (b : Bool) → p.missed ≡ b → is_chained_behind p.next_others commands p ≡ true → plan.setup < place_next commands q
+            → drop (place_next commands p + p.next_others) commands ≡ drop (place_next commands q) commands
             → (q.missed ≡ true) ⊎ ((plan.setup < place_next commands q) × (is_chained (drop (place_next commands q) commands) ≡ true))
         by_missed true is e above at = inl (missed ∙ is)
         by_missed false is e above at =

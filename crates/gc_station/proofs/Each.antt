@@ -234,7 +234,8 @@ sent_next setup commands (suc n) place task others at within some =
     ∙ ap (λ xs. cycles ++ requests (suc n) setup xs) (sym (map-append of_task front (task ∷ [])) ∙ ap (map of_task) (sym more))
 
 -- a command that is sent preserves `EachIs`
-pub each_sent : (commands : List Task) (begun place utc : ℕ) (expected : Expected) (ms : List (Option Mark)) (ws : List (Pending Asked)) (p : Pending Asked) (rs : List Record) (task : Task) (others : List Task)
+pub each_sent : (commands : List Task) (begun place utc : ℕ) (expected : Expected) (ms : List (Option Mark)) (ws : List (Pending Asked)) (p : Pending Asked) (rs : List Record)
+    (task : Task) (others : List Task)
     → length ms ≡ length ws → drop place commands ≡ task ∷ others → of_pending p ≡ asked_at utc task → 0 < begun
     → (kept : List Request) → EachIs commands ms ws rs kept
     → EachIs commands (ms ++ Some (record { cycle = begun; place = place; sent = utc; expected = expected }) ∷ []) (ws ++ p ∷ []) rs (kept ++ requests begun place (of_task task ∷ []))

@@ -82,7 +82,8 @@ mid_first plan commands next_is_chained behind s [] at is some room mid =
 mid_first plan commands next_is_chained behind s (task ∷ others) at is some room mid =
     let p = s.progress in
     let t = asks_first (mark_next plan commands p) (task ∷ others) s in (
-      sound_sent plan commands p.left p.unsent s.client s.marks s.records s.passes p.moment.utc (later p.moment.elapsed task.deadline) (expected_first (drop (place_next commands p) commands)) task others room some at mid.0,
+      sound_sent plan commands p.left p.unsent s.client s.marks s.records s.passes p.moment.utc (later p.moment.elapsed task.deadline)
+          (expected_first (drop (place_next commands p) commands)) task others room some at mid.0,
       going_placed p.phase p.left (p.unsent - 1) s.rest t.marks is,
     )
 
@@ -92,7 +93,8 @@ mid_sent : (plan : Plan) (commands : List Task) (next_is_chained : Bool) (behind
 mid_sent plan commands next_is_chained behind s is some room mid = mid_first plan commands next_is_chained behind s (drop (place_next commands s.progress) commands) refl is some room mid
 
 -- the first of these commands, if it is sent as the next one of the setup, preserves the weaker record
-mid_prepares : (plan : Plan) (commands : List Task) (s : Model) (left : List Task) → drop s.progress.prepared commands ≡ left → s.progress.phase ≡ Ready → length s.client.waiting < 7 → Mid plan commands s
+mid_prepares : (plan : Plan) (commands : List Task) (s : Model) (left : List Task) → drop s.progress.prepared commands ≡ left → s.progress.phase ≡ Ready
+    → length s.client.waiting < 7 → Mid plan commands s
     → Mid plan commands (with_progress (setup_sent plan) (asks_or_null plan (mark_setup commands s.progress) left s))
 mid_prepares plan commands s [] at is room mid =
     let p = s.progress in (
@@ -102,7 +104,8 @@ mid_prepares plan commands s [] at is room mid =
 mid_prepares plan commands s (task ∷ others) at is room mid =
     let p = s.progress in
     let t = asks_or_null plan (mark_setup commands p) (task ∷ others) s in (
-      sound_prepared plan commands p.left p.unsent s.client s.marks s.records s.passes (later p.moment.elapsed task.deadline) (mark_setup commands p) task room refl (at_place p.prepared commands task others at) mid.0,
+      sound_prepared plan commands p.left p.unsent s.client s.marks s.records s.passes (later p.moment.elapsed task.deadline) (mark_setup commands p) task room refl
+          (at_place p.prepared commands task others at) mid.0,
       going_placed p.phase p.left p.unsent s.rest t.marks is,
     )
 
@@ -117,12 +120,14 @@ mid_skips plan commands next_is_chained behind s m [] at is some none mid =
     absurd (omega (arith, n, some, sound.unsents))
 mid_skips plan commands next_is_chained behind s m (task ∷ others) at is some none mid =
     let p = s.progress in (
-      sound_skipped plan commands p.left p.unsent s.client s.marks s.records s.passes (skipped_at m p) (if p.missed then Missed else Skipped) (mark_next plan commands p).expected.turn task others none some at (unsent_end p.missed) mid.0,
+      sound_skipped plan commands p.left p.unsent s.client s.marks s.records s.passes (skipped_at m p) (if p.missed then Missed else Skipped)
+          (mark_next plan commands p).expected.turn task others none some at (unsent_end p.missed) mid.0,
       going_placed p.phase p.left (p.unsent - 1) s.rest s.marks is,
     )
 
 -- the next command, if it isn't sent, preserves the weaker record
-mid_skip : (plan : Plan) (commands : List Task) (next_is_chained : Bool) (behind : ℕ) (s : Model) (act : Act) → s.progress.phase ≡ Ready → 0 < s.progress.unsent → commands_in s.marks ≡ 0 → Mid plan commands s
+mid_skip : (plan : Plan) (commands : List Task) (next_is_chained : Bool) (behind : ℕ) (s : Model) (act : Act) → s.progress.phase ≡ Ready → 0 < s.progress.unsent
+    → commands_in s.marks ≡ 0 → Mid plan commands s
     → Mid plan commands (after_clock (λ m p. reckoned_early plan (commands_in s.marks) (skipped next_is_chained behind m p)) (with_listed (skip_listed plan commands s act) (with_records (skips plan commands s.progress act) s)) act)
 mid_skip plan commands next_is_chained behind s (Told m) is some none mid =
     mid_moment plan commands (with_progress (λ p. reckoned_early plan (commands_in s.marks) (skipped next_is_chained behind m p)) (with_listed (skip_listed plan commands s (Told m)) (with_records (skips plan commands s.progress (Told m)) s))) m
@@ -262,7 +267,8 @@ each_once plan commands scope acts =
           let none = it.2 refl in
           let cycles : plan.cycles - s.progress.left ≡ plan.cycles = omega (arith, none.0) in
           let place : place_next commands s.progress ≡ length commands = omega (arith, none.1) in
-          subst (λ (xs : List Request). Parted (of_text commands (map of_record s.records)) s.passes xs) (sent_whole plan.setup commands (plan.cycles - s.progress.left) (place_next commands s.progress) place ∙ ap (all_cycles plan.setup commands) cycles) it.1;
+          subst (λ (xs : List Request). Parted (of_text commands (map of_record s.records)) s.passes xs)
+              (sent_whole plan.setup commands (plan.cycles - s.progress.left) (place_next commands s.progress) place ∙ ap (all_cycles plan.setup commands) cycles) it.1;
     }
 
 -- each record after any acts is of its task

@@ -146,7 +146,8 @@ room_for plan p w o awake begun step =
     (λ e. let none = one_false (nat_lt w.current (width_of plan)) (nat_lt w.all WINDOW) e in waits plan p w awake begun (no_room plan p w none) (no_room_full plan w none))
 
 -- `Holds` is true if the next command may be sent
-next_for : (plan : Plan) (p : Progress) (w : Waiting) → Awake p → has_begun p ≡ true → 0 < p.unsent → MayGo p w → MayRetry p w → StaysInItsChain p → is_preparing plan p w ≡ false → Holds plan p w (action_next plan p w)
+next_for : (plan : Plan) (p : Progress) (w : Waiting) → Awake p → has_begun p ≡ true → 0 < p.unsent → MayGo p w → MayRetry p w → StaysInItsChain p → is_preparing plan p w ≡ false
+    → Holds plan p w (action_next plan p w)
 next_for plan p w awake begun some may retry stays ready =
     let P = Holds plan p w in
     either P _ _ (nat_lt p.behind WINDOW)
@@ -240,7 +241,8 @@ held_back_for plan p w awake begun held =
     waits plan p w awake begun (inr (inr (inr (inr (inr (asked.0, between_so p.unsent p.next_is_chained p.preparing asked.1, under)))))) (λ none. absurd (omega (arith, none, under)))
 
 -- `Holds` is true if each command of the cycle is settled
-done_for : (plan : Plan) (p : Progress) (w : Waiting) → Awake p → has_begun p ≡ true → p.unsent ≡ 0 → w.commands ≡ 0 → p.stops ≡ false → is_preparing plan p w ≡ false → Holds plan p w (action_done plan p)
+done_for : (plan : Plan) (p : Progress) (w : Waiting) → Awake p → has_begun p ≡ true → p.unsent ≡ 0 → w.commands ≡ 0 → p.stops ≡ false → is_preparing plan p w ≡ false
+    → Holds plan p w (action_done plan p)
 done_for plan p w awake begun sent settled unasked ready =
     let P = Holds plan p w in
     either P (action.Close cause.Done) _ (nat_eq p.left 0) (λ e. ((awake_up p awake, inr (eqb-true p.left 0 e, sent, settled)), tt, tt))
@@ -254,7 +256,8 @@ chained p (inr (inl next_is_chained)) e first = next_is_chained
 chained p (inr (inr more)) e first = absurd (omega (arith, more, first))
 
 -- `Holds` is true if the next command begins a further attempt, and each command that was sent is settled
-again_for : (plan : Plan) (p : Progress) (w : Waiting) → Awake p → has_begun p ≡ true → 0 < p.unsent → w.commands ≡ 0 → 0 < p.next_others → StaysInItsChain p → is_preparing plan p w ≡ false → Holds plan p w (action_again plan p w)
+again_for : (plan : Plan) (p : Progress) (w : Waiting) → Awake p → has_begun p ≡ true → 0 < p.unsent → w.commands ≡ 0 → 0 < p.next_others → StaysInItsChain p
+    → is_preparing plan p w ≡ false → Holds plan p w (action_again plan p w)
 again_for plan p w awake begun some settled more stays ready =
     either (Holds plan p w) _ action.Pass (w.listed && not p.next_is_chained)
     (λ e. let it = both_true w.listed (not p.next_is_chained) e in
@@ -266,7 +269,8 @@ again_for plan p w awake begun some settled more stays ready =
       by_test (inr bound) = inr (negated p.next_is_chained bound)
 
 -- `Holds` is true if each command that was sent is settled
-settled_for : (plan : Plan) (p : Progress) (w : Waiting) → Awake p → has_begun p ≡ true → IsHeld p → w.commands ≡ 0 → GoesOnly p → is_preparing plan p w ≡ false → Holds plan p w (action_settled plan p w)
+settled_for : (plan : Plan) (p : Progress) (w : Waiting) → Awake p → has_begun p ≡ true → IsHeld p → w.commands ≡ 0 → GoesOnly p → is_preparing plan p w ≡ false
+    → Holds plan p w (action_settled plan p w)
 settled_for plan p w awake begun held settled only ready =
     let P = Holds plan p w in
     either P _ _ (nat_eq p.unsent 0) (λ e. done_for plan p w awake begun (eqb-true p.unsent 0 e) settled (none_asked p only (eqb-true p.unsent 0 e)) ready)
@@ -339,7 +343,8 @@ prepare_for plan p w awake begun unasked may =
 turn_for : (plan : Plan) (p : Progress) (w : Waiting) → Awake p → has_begun p ≡ true → p.stops ≡ false → is_preparing plan p w ≡ true → (p.prepared ≡ 0) ⊎ ((w.commands ≡ 0) × (w.well ≡ true))
     → Holds plan p w (action_turn plan p w)
 turn_for plan p w awake begun unasked on first =
-    either (Holds plan p w) _ (action.Read Limit) (nat_lt p.prepared plan.setup) (λ e. prepare_for plan p w awake begun unasked (on, ltb-true p.prepared plan.setup e, first)) (λ e. (tt, awake_reads p awake, tt))
+    either (Holds plan p w) _ (action.Read Limit) (nat_lt p.prepared plan.setup) (λ e. prepare_for plan p w awake begun unasked (on, ltb-true p.prepared plan.setup e, first))
+        (λ e. (tt, awake_reads p awake, tt))
 
 -- `Holds` is true while the setup isn't done
 preparing_for : (plan : Plan) (p : Progress) (w : Waiting) → Awake p → has_begun p ≡ true → p.stops ≡ false → is_preparing plan p w ≡ true → Holds plan p w (action_preparing plan p w)

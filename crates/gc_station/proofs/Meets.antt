@@ -158,7 +158,8 @@ pub left_window : (c : ById Asked) (x : Settled Asked (ById Asked)) → Left c x
 left_window c x l w = let many = left_count c x l in record { digit = subst (λ (n : ℕ). n < 8) (sym l.next) w.digit; few = omega (arith, many, w.few) }
 
 -- the requests that a line leaves waiting are as they were (`WaitsAt`), with the same numbers and at lower places
-pub left_waits : (plan : Plan) (commands : List Task) (scope : Scope) (acts : List Act) (first : ById Asked) (now : ℕ) (c : ById Asked) (x : Settled Asked (ById Asked)) (marks : List (Option Mark)) → Left c x → IsWindow c
+pub left_waits : (plan : Plan) (commands : List Task) (scope : Scope) (acts : List Act) (first : ById Asked) (now : ℕ) (c : ById Asked) (x : Settled Asked (ById Asked))
+    (marks : List (Option Mark)) → Left c x → IsWindow c
     → Rows (WaitsAt plan commands scope acts first now c.next (length c.waiting)) 0 0 c.waiting marks
     → Rows (WaitsAt plan commands scope acts first now x.client.next (length x.client.waiting)) 0 0 x.client.waiting (drop (length x.settlements) marks)
 left_waits plan commands scope acts first now c x marks l w all =

@@ -154,7 +154,8 @@ one_more : (marks : List (Option Mark)) (ws : List (Pending Asked)) (m : Option 
 one_more marks ws m p paired = length-append marks (m ∷ []) ∙ ap (λ n. n + 1) paired ∙ sym (length-append ws (p ∷ []))
 
 -- a null procedure that is sent preserves `Sound`
-pub sound_null : (plan : Plan) (commands : List Task) (left unsent : ℕ) (client : ById Asked) (marks : List (Option Mark)) (records : List Record) (passes : List Request) (target : ℕ) (call : Asked) (deadline : ℕ)
+pub sound_null : (plan : Plan) (commands : List Task) (left unsent : ℕ) (client : ById Asked) (marks : List (Option Mark)) (records : List Record) (passes : List Request)
+    (target : ℕ) (call : Asked) (deadline : ℕ)
     → length client.waiting < 7 → IsOf commands None (record { target = target; call = call }) → Sound plan commands left unsent client marks records passes
     → Sound plan commands left unsent (client_sent client (sends WINDOW client target call deadline)) (marks ++ None ∷ []) records passes
 sound_null plan commands left unsent client marks records passes target call deadline room is sound =
@@ -173,7 +174,8 @@ sound_null plan commands left unsent client marks records passes target call dea
     })
 
 -- a command that is sent preserves `Sound`, with one command less unsent
-pub sound_sent : (plan : Plan) (commands : List Task) (left unsent : ℕ) (client : ById Asked) (marks : List (Option Mark)) (records : List Record) (passes : List Request) (utc deadline : ℕ) (expected : Expected) (task : Task) (others : List Task)
+pub sound_sent : (plan : Plan) (commands : List Task) (left unsent : ℕ) (client : ById Asked) (marks : List (Option Mark)) (records : List Record) (passes : List Request)
+    (utc deadline : ℕ) (expected : Expected) (task : Task) (others : List Task)
     → length client.waiting < 7 → 0 < unsent → drop (length commands - unsent) commands ≡ task ∷ others → Sound plan commands left unsent client marks records passes
     → Sound plan commands left (unsent - 1) (client_sent client (sends WINDOW client task.command.target (call_at task utc) deadline))
     (marks ++ Some (record { cycle = plan.cycles - left; place = length commands - unsent; sent = utc; expected = expected }) ∷ []) records passes
@@ -190,9 +192,11 @@ sound_sent plan commands left unsent client marks records passes utc deadline ex
     let within : plan.setup ≤ place = omega (arith, some, sound.unsents) in
     let one = requests begun place (of_task task ∷ []) in
     let each : Parted (of_text commands (map of_record records ++ still_waiting (marks ++ Some mark ∷ []) (client.waiting ++ p ∷ []))) passes (sent_by plan.setup commands begun (place + 1)) =
-    subst (λ (xs : List Request). Parted (of_text commands (map of_record records ++ still_waiting (marks ++ Some mark ∷ []) (client.waiting ++ p ∷ []))) passes xs) (sent_next plan.setup commands begun place task others at within many)
+    subst (λ (xs : List Request). Parted (of_text commands (map of_record records ++ still_waiting (marks ++ Some mark ∷ []) (client.waiting ++ p ∷ []))) passes xs)
+        (sent_next plan.setup commands begun place task others at within many)
     (as_kept _ _ _ _ (each_sent commands begun place utc expected marks client.waiting p records task others sound.paired at refl many kept refl) (parted_more kept passes (sent_by plan.setup commands begun place) one sound.each)) in
-    subst (λ (c : ById Asked). Sound plan commands left (unsent - 1) c (marks ++ Some mark ∷ []) records passes) (sym (client_behind client task.command.target (call_at task utc) deadline room)) (record {
+    subst (λ (c : ById Asked). Sound plan commands left (unsent - 1) c (marks ++ Some mark ∷ []) records passes)
+        (sym (client_behind client task.command.target (call_at task utc) deadline room)) (record {
       unsents = omega (arith, sound.unsents);
       lefts = sound.lefts;
       begun = λ e. below;
@@ -205,13 +209,15 @@ sound_sent plan commands left unsent client marks records passes utc deadline ex
     })
 
 -- a command of the setup that is sent preserves `Sound`
-pub sound_prepared : (plan : Plan) (commands : List Task) (left unsent : ℕ) (client : ById Asked) (marks : List (Option Mark)) (records : List Record) (passes : List Request) (deadline : ℕ) (mark : Mark) (task : Task)
+pub sound_prepared : (plan : Plan) (commands : List Task) (left unsent : ℕ) (client : ById Asked) (marks : List (Option Mark)) (records : List Record) (passes : List Request)
+    (deadline : ℕ) (mark : Mark) (task : Task)
     → length client.waiting < 7 → mark.cycle ≡ 0 → slice_get commands mark.place ≡ Some task → Sound plan commands left unsent client marks records passes
     → Sound plan commands left unsent (client_sent client (sends WINDOW client task.command.target (call_at task mark.sent) deadline)) (marks ++ Some mark ∷ []) records passes
 sound_prepared plan commands left unsent client marks records passes deadline mark task room none at sound =
     let p = pending_of task.command.target (call_at task mark.sent) deadline in
     let more : length (client.waiting ++ p ∷ []) ≡ length client.waiting + 1 = length-append client.waiting (p ∷ []) in
-    subst (λ (c : ById Asked). Sound plan commands left unsent c (marks ++ Some mark ∷ []) records passes) (sym (client_behind client task.command.target (call_at task mark.sent) deadline room)) (record {
+    subst (λ (c : ById Asked). Sound plan commands left unsent c (marks ++ Some mark ∷ []) records passes)
+        (sym (client_behind client task.command.target (call_at task mark.sent) deadline room)) (record {
       unsents = sound.unsents;
       lefts = sound.lefts;
       begun = sound.begun;
@@ -224,7 +230,8 @@ sound_prepared plan commands left unsent client marks records passes deadline ma
     })
 
 -- a command that isn't sent preserves `Sound`, with one command less unsent
-pub sound_skipped : (plan : Plan) (commands : List Task) (left unsent : ℕ) (client : ById Asked) (marks : List (Option Mark)) (records : List Record) (passes : List Request) (utc : ℕ) (end : End) (turn : Turn) (task : Task) (others : List Task)
+pub sound_skipped : (plan : Plan) (commands : List Task) (left unsent : ℕ) (client : ById Asked) (marks : List (Option Mark)) (records : List Record) (passes : List Request)
+    (utc : ℕ) (end : End) (turn : Turn) (task : Task) (others : List Task)
     → commands_in marks ≡ 0 → 0 < unsent → drop (length commands - unsent) commands ≡ task ∷ others → went_out end ≡ false → Sound plan commands left unsent client marks records passes
     → Sound plan commands left (unsent - 1) client marks (records ++ record
     { sent = None; utc = utc; cycle = plan.cycles - left; place = length commands - unsent; turn = turn; command = task.command; end = end } ∷ []) passes
@@ -271,7 +278,8 @@ sound_passed plan commands left unsent count client marks records passes some so
       paired = sound.paired;
       window = sound.window;
       digit = sound.digit;
-      each = subst (λ (xs : List Request). Parted kept (passes ++ past) xs) (sent_past plan.setup commands begun place count (length commands - (unsent - count)) (omega (arith, some, sound.unsents)) (omega (arith, sound.unsents)) many
+      each = subst (λ (xs : List Request). Parted kept (passes ++ past) xs)
+          (sent_past plan.setup commands begun place count (length commands - (unsent - count)) (omega (arith, some, sound.unsents)) (omega (arith, sound.unsents)) many
           (by_count (nat_lt unsent count) refl)) (parted_past kept passes (sent_by plan.setup commands begun place) past sound.each);
       own = sound.own;
       told = sound.told;
@@ -319,7 +327,8 @@ fine_losing : (plan : Plan) (commands : List Task) (s : Model) (b : Bool) → lo
 fine_losing plan commands s true is (sound, placed) =
     let p = s.progress in
     let ss = map lost s.client.waiting in
-    let x = sound_settles s.reads plan commands p.left p.unsent s.client fresh s.marks s.records s.passes p.moment.utc ss (append_none (map of_settled ss) ∙ lost_parts s.client.waiting) (omega arith) sound in
+    let x = sound_settles s.reads plan commands p.left p.unsent s.client fresh s.marks s.records s.passes p.moment.utc ss
+        (append_none (map of_settled ss) ∙ lost_parts s.client.waiting) (omega arith) sound in
     let nothing : drop (length ss) s.marks ≡ [] = nil_from_length (drop (length ss) s.marks) x.paired in
     record {
       unsent = x.unsents;

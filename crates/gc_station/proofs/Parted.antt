@@ -67,7 +67,8 @@ take_all (suc a) (suc b) (x ∷ xs) m n = ap (λ ys. x ∷ ys) (take_all a b xs 
 
 -- the commands that had their turn, with so many of the next ones after them, are those that had their turn at a place after
 -- these, or at the end
-pub sent_past : (setup : ℕ) (commands : List Task) (begun place count place' : ℕ) → setup ≤ place → place ≤ length commands → 0 < begun → (place' ≡ place + count) ⊎ ((place' ≡ length commands) × (length commands ≤ place + count))
+pub sent_past : (setup : ℕ) (commands : List Task) (begun place count place' : ℕ) → setup ≤ place → place ≤ length commands → 0 < begun
+    → (place' ≡ place + count) ⊎ ((place' ≡ length commands) × (length commands ≤ place + count))
     → sent_by setup commands begun place ++ requests begun place (map of_task (take count (drop place commands))) ≡ sent_by setup commands begun place'
 sent_past setup commands zero place count place' low within some at = absurd (omega (arith, some))
 sent_past setup commands (suc n) place count place' low within some at =
@@ -109,7 +110,8 @@ drop_past commands unsent count within = by_count (nat_lt unsent count) refl whe
 -- the requests of a cycle are of it, and of places from the first one on
 requests_before : (cycle place : ℕ) (asks : List (Wanted Asked)) → AllByRecursion (λ (r : Request). (r.cycle ≡ cycle) × (r.place < place + length asks)) (requests cycle place asks)
 requests_before cycle place [] = tt
-requests_before cycle place (a ∷ others) = ((refl, omega arith), all_by cycle (place + 1) (length others) place (length (a ∷ others)) (requests cycle (place + 1) others) (omega arith) (requests_before cycle (place + 1) others)) where
+requests_before cycle place (a ∷ others) =
+    ((refl, omega arith), all_by cycle (place + 1) (length others) place (length (a ∷ others)) (requests cycle (place + 1) others) (omega arith) (requests_before cycle (place + 1) others)) where
   -- a place below one number is below another that is the same
   all_by : (cycle a m b n : ℕ) (rs : List Request) → a + m ≡ b + n → AllByRecursion (λ (r : Request). (r.cycle ≡ cycle) × (r.place < a + m)) rs
       → AllByRecursion (λ (r : Request). (r.cycle ≡ cycle) × (r.place < b + n)) rs

@@ -277,7 +277,8 @@ module _ (plan : Plan) (commands : List Task) (scope : Scope) where
     -- and so is the row
     row_far : (o : Action) → action_at plan s ≡ o → row_of (at (acts ++ act ∷ [])) ≡ row_of (t o)
     row_far o is =
-        ap row_of (after_all-append plan commands (opening plan scope) acts (act ∷ [])) ∙ row_losing (loses_all (t (action_at plan s)).progress) (t (action_at plan s)) ∙ ap (λ (x : Action). row_of (t x)) is
+        ap row_of (after_all-append plan commands (opening plan scope) acts (act ∷ [])) ∙ row_losing (loses_all (t (action_at plan s)).progress) (t (action_at plan s)) ∙ ap
+            (λ (x : Action). row_of (t x)) is
 
     -- the station stays begun, if it doesn't resynchronize
     begins : (o : Action) → action_at plan s ≡ o → Performs commands s o act → (o ≡ action.Renew → ⊥) → has_begun s.progress ≡ true → has_begun (at (acts ++ act ∷ [])).progress ≡ true
@@ -336,7 +337,8 @@ module _ (plan : Plan) (commands : List Task) (scope : Scope) where
         → By (at acts).progress.preparing (at acts).progress.prepared acts → Stands (acts ++ act ∷ [])
     stands_by action.Prepare act is obeys needs h = stands_sent some within acts act is obeys needs h
     stands_by action.Send act is obeys needs h =
-        stands_done some within acts act action.Send is obeys (λ e. cc) (stays_open plan commands action.Send (at acts) act obeys (λ why e. cc)) (sent_preparing (with_progress turned (at acts)) act) needs.8 h
+        stands_done some within acts act action.Send is obeys (λ e. cc) (stays_open plan commands action.Send (at acts) act obeys (λ why e. cc))
+            (sent_preparing (with_progress turned (at acts)) act) needs.8 h
     stands_by action.Begin (Told m) is obeys needs h = stands_done some within acts (Told m) action.Begin is obeys (λ e. cc) tt refl needs.6 h
     stands_by action.Skip (Told m) is obeys needs h = stands_done some within acts (Told m) action.Skip is obeys (λ e. cc) tt refl needs.6 h
     stands_by action.Pass (Told m) is obeys needs h = stands_done some within acts (Told m) action.Pass is obeys (λ e. cc) tt refl needs.6 h
@@ -351,14 +353,17 @@ module _ (plan : Plan) (commands : List Task) (scope : Scope) where
         ]
     stands_by (action.Stop why) act is obeys needs h = absurd obeys
     stands_by action.Begin act is obeys needs h =
-        stands_still some within acts act action.Begin is (begins some within acts act action.Begin is obeys (λ e. cc)) (stays_open plan commands action.Begin (at acts) act obeys (λ why e. cc)) refl refl refl h
+        stands_still some within acts act action.Begin is (begins some within acts act action.Begin is obeys (λ e. cc))
+            (stays_open plan commands action.Begin (at acts) act obeys (λ why e. cc)) refl refl refl h
     stands_by action.Pass act is obeys needs h =
-        stands_still some within acts act action.Pass is (begins some within acts act action.Pass is obeys (λ e. cc)) (stays_open plan commands action.Pass (at acts) act obeys (λ why e. cc)) refl refl refl h
+        stands_still some within acts act action.Pass is (begins some within acts act action.Pass is obeys (λ e. cc))
+            (stays_open plan commands action.Pass (at acts) act obeys (λ why e. cc)) refl refl refl h
     stands_by action.Skip act is obeys needs h =
         stands_still some within acts act action.Skip is (begins some within acts act action.Skip is obeys (λ e. cc)) (stays_open plan commands action.Skip (at acts) act obeys (λ why e. cc)) refl refl
         (ap (λ rs. map of_record rs ++ of_marks (at acts).marks) (append-nil (at acts).records)) h
     stands_by action.Renew act is obeys needs h =
-        stands_still some within acts act action.Renew is (λ begun. ap has_begun (far some within acts act action.Renew is) ∙ begun) (stays_open plan commands action.Renew (at acts) act obeys (λ why e. cc)) refl refl refl h
+        stands_still some within acts act action.Renew is (λ begun. ap has_begun (far some within acts act action.Renew is) ∙ begun)
+            (stays_open plan commands action.Renew (at acts) act obeys (λ why e. cc)) refl refl refl h
     stands_by o act is obeys needs h =
         let u = with_progress turned (at acts) in
         let same = moved_changed plan commands o u act in

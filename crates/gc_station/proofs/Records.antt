@@ -82,7 +82,8 @@ records-append reads utc (None ∷ marks) (x ∷ xs) ys = records-append reads u
 records-append reads utc (Some mark ∷ marks) (x ∷ xs) ys = ap (λ rs. record_of reads utc mark x ∷ rs) (records-append reads utc marks xs ys)
 
 -- the records of the first i + 1 settlements are those of the first i, and that of s, the one at place i, by its mark
-pub front_more : (reads : Asked → List ℕ → Reading) (utc : ℕ) (marks : List (Option Mark)) (ss : List (Settlement Asked)) (i : ℕ) (s : Settlement Asked) (mark : Option Mark) → i < length ss → s ≡ get_or ss i s
+pub front_more : (reads : Asked → List ℕ → Reading) (utc : ℕ) (marks : List (Option Mark)) (ss : List (Settlement Asked)) (i : ℕ) (s : Settlement Asked) (mark : Option Mark)
+    → i < length ss → s ≡ get_or ss i s
     → records_of reads utc (drop i marks) (settlement_seen s ∷ []) ≡ records_of reads utc (mark ∷ []) (settlement_seen s ∷ [])
     → records_of reads utc marks (map settlement_seen (take (i + 1) ss)) ≡ records_of reads utc marks (map settlement_seen (take i ss)) ++ records_of reads utc (mark ∷ []) (settlement_seen s ∷ [])
 front_more reads utc marks ss i s mark below is here =

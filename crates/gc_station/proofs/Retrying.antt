@@ -104,7 +104,8 @@ any_listed reads commands b [] = b
 any_listed reads commands b (r ∷ rs) = any_listed reads commands ((if nat_eq r.turn.link 0 then false else b) || is_listed reads commands r) rs
 
 -- what two lists of records list is what the second does after the first
-any_append : (reads : Asked → List ℕ → Reading) (commands : List Task) (xs ys : List Record) (b : Bool) → any_listed reads commands b (xs ++ ys) ≡ any_listed reads commands (any_listed reads commands b xs) ys
+any_append : (reads : Asked → List ℕ → Reading) (commands : List Task) (xs ys : List Record) (b : Bool)
+    → any_listed reads commands b (xs ++ ys) ≡ any_listed reads commands (any_listed reads commands b xs) ys
 any_append reads commands [] ys b = refl
 any_append reads commands (x ∷ xs) ys b = any_append reads commands xs ys ((if nat_eq x.turn.link 0 then false else b) || is_listed reads commands x)
 
@@ -154,7 +155,8 @@ stays_listed reads commands (r ∷ rs) all = by_test (λ b. stays_listed reads c
   is_first n t = grind (arith, nat_tests, t)
 
   -- the lemma above, whether the first record begins an attempt
-  by_test : (Bool → any_listed reads commands true rs ≡ true) → (first : Bool) → nat_eq r.turn.link 0 ≡ first → any_listed reads commands ((if first then false else true) || is_listed reads commands r) rs ≡ true
+  by_test : (Bool → any_listed reads commands true rs ≡ true) → (first : Bool) → nat_eq r.turn.link 0 ≡ first
+      → any_listed reads commands ((if first then false else true) || is_listed reads commands r) rs ≡ true
   by_test ih true t = absurd (all.0 (is_first r.turn.link t))
   by_test ih false t = ih true
 
@@ -301,7 +303,8 @@ module _ (plan : Plan) (commands : List Task) (scope : Scope) where
     by_list (task ∷ others) = asks_so task.deadline task.command.target (call_at task s.progress.moment.utc) (Some (mark_setup commands s.progress)) s refl k
 
   -- the end of a command that isn't sent is named, whatever its code
-  unsent_named : (again : Again) (call : Asked) (b : Bool) → is_named again None (if b then Missed else Skipped) ≡ is_named again (code_said scope.reads call (if b then Missed else Skipped)) (if b then Missed else Skipped)
+  unsent_named : (again : Again) (call : Asked) (b : Bool)
+      → is_named again None (if b then Missed else Skipped) ≡ is_named again (code_said scope.reads call (if b then Missed else Skipped)) (if b then Missed else Skipped)
   unsent_named again call true = refl
   unsent_named again call false = refl
 
@@ -332,7 +335,8 @@ module _ (plan : Plan) (commands : List Task) (scope : Scope) where
   moved_so actions.Prepare s act some k = let n = setup_so s k in record { reads = n.reads; marks = n.marks; records = n.records; listed = n.listed }
   moved_so actions.Send s (Cut bytes count) some k = let n = next_so s some.0 k in record { reads = n.reads; marks = n.marks; records = n.records; listed = n.listed }
   moved_so actions.Send s act some k = let n = next_so s some.0 k in record { reads = n.reads; marks = n.marks; records = n.records; listed = n.listed }
-  moved_so actions.Flush s (Cut bytes count) some k = let n = asks_so plan.deadline 0 (Table NullProc) None s tt k in record { reads = n.reads; marks = n.marks; records = n.records; listed = n.listed }
+  moved_so actions.Flush s (Cut bytes count) some k = let n = asks_so plan.deadline 0
+      (Table NullProc) None s tt k in record { reads = n.reads; marks = n.marks; records = n.records; listed = n.listed }
   moved_so actions.Flush s act some k = let n = asks_so plan.deadline 0 (Table NullProc) None s tt k in record { reads = n.reads; marks = n.marks; records = n.records; listed = n.listed }
   moved_so actions.Skip s (Told m) some k =
       let left = drop (place_next commands s.progress) commands in
@@ -351,7 +355,8 @@ module _ (plan : Plan) (commands : List Task) (scope : Scope) where
     listed = k.listed ∙ sym (ap (any_listed scope.reads commands false) (append-nil s.records));
   }
   moved_so (actions.Read until) s (Gave bytes m) some k =
-      let n = came_so (is_heard s.progress.phase) s.progress.word bytes (with_moment m (with_progress (told m) s)) (record { reads = k.reads; marks = k.marks; records = k.records; listed = k.listed }) in
+      let n = came_so (is_heard s.progress.phase) s.progress.word bytes (with_moment m (with_progress (told m) s))
+          (record { reads = k.reads; marks = k.marks; records = k.records; listed = k.listed }) in
       record { reads = n.reads; marks = n.marks; records = n.records; listed = n.listed }
   moved_so (actions.Read until) s act some k = record { reads = k.reads; marks = k.marks; records = k.records; listed = k.listed }
   moved_so next s act some k = subst Keeps (sym (moved_changed plan commands next s act)) (record { reads = k.reads; marks = k.marks; records = k.records; listed = k.listed })
@@ -403,7 +408,8 @@ module _ (plan : Plan) (commands : List Task) (scope : Scope) where
       (λ above. others ∙ ap (λ (n : ℕ). others_in (drop n commands)) at, λ none. absurd (omega (arith, at, none, some, within)))
 
   -- `Follows` holds after attempts that are left out
-  follows_past : (p q : Progress) → q.unsent ≡ p.unsent - p.next_others → q.next_others ≡ others_behind p.next_others commands p → 0 < p.unsent → 0 < p.next_others → p.unsent ≤ length commands - plan.setup → Follows q
+  follows_past : (p q : Progress) → q.unsent ≡ p.unsent - p.next_others → q.next_others ≡ others_behind p.next_others commands p → 0 < p.unsent → 0 < p.next_others
+      → p.unsent ≤ length commands - plan.setup → Follows q
   follows_past p q unsent others some more within =
       let at : drop (place_next commands p + p.next_others) commands ≡ drop (place_next commands q) commands =
       drop_past commands p.unsent p.next_others (omega (arith, within)) ∙ ap (λ (n : ℕ). drop (length commands - n) commands) (sym unsent) in
@@ -418,7 +424,8 @@ module _ (plan : Plan) (commands : List Task) (scope : Scope) where
   far next s act = (moved plan commands next (with_progress turned s) act).progress
 
   -- `Follows` is preserved by an act of each action
-  moved_follows : (next : Action) (s : Model) (w : Waiting) (act : Act) → IsFor plan s.progress w next → s.progress.unsent ≤ length commands - plan.setup → Follows s.progress → Follows (far next s act)
+  moved_follows : (next : Action) (s : Model) (w : Waiting) (act : Act) → IsFor plan s.progress w next → s.progress.unsent ≤ length commands - plan.setup → Follows s.progress
+      → Follows (far next s act)
   moved_follows actions.Begin s w (Told m) needs within h = follows_begun (far actions.Begin s (Told m)) refl refl
   moved_follows actions.Send s w (Cut bytes n) needs within h =
       let t = with_progress turned s in
@@ -446,12 +453,14 @@ module _ (plan : Plan) (commands : List Task) (scope : Scope) where
       (λ above. sym (ap others_in (none_behind commands)), λ none. refl) acts runs
 
   -- what has to hold if this action is next holds of the station after these acts
-  needs_of : (acts : List Act) (next : Action) → action_at plan (stood plan commands scope acts) ≡ next → IsFor plan (stood plan commands scope acts).progress (waiting_of (stood plan commands scope acts)) next
+  needs_of : (acts : List Act) (next : Action) → action_at plan (stood plan commands scope acts) ≡ next
+      → IsFor plan (stood plan commands scope acts).progress (waiting_of (stood plan commands scope acts)) next
   needs_of acts next is =
       let s = stood plan commands scope acts in subst (λ (o : Action). IsFor plan s.progress (waiting_of s) o) is (action_for plan s.progress (waiting_of s))
 
   -- the law of further attempts that are sent
-  goes_again : (acts : List Act) → Runs plan commands (opening plan scope) acts → action_at plan (stood plan commands scope acts) ≡ actions.Send → IsFurtherAttempt plan commands (stood plan commands scope acts)
+  goes_again : (acts : List Act) → Runs plan commands (opening plan scope) acts → action_at plan (stood plan commands scope acts) ≡ actions.Send
+      → IsFurtherAttempt plan commands (stood plan commands scope acts)
       → (commands_in (stood plan commands scope acts).marks ≡ 0) × HasListed scope.reads commands (stood plan commands scope acts).records
   goes_again acts runs is further = by_may (needs_of acts actions.Send is).6 where
     -- the station as it is

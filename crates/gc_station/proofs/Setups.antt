@@ -154,7 +154,8 @@ all_sent commands p [] = refl
 all_sent commands p (task ∷ others) = refl
 
 -- records that are of no setup, between others and the outstanding commands, add none
-between_none : (rs news : List Record) (ms : List (Option Mark)) → of_setup (map of_record news) ≡ [] → of_setup (map of_record (rs ++ news) ++ of_marks ms) ≡ of_setup (map of_record rs ++ of_marks ms)
+between_none : (rs news : List Record) (ms : List (Option Mark)) → of_setup (map of_record news) ≡ []
+    → of_setup (map of_record (rs ++ news) ++ of_marks ms) ≡ of_setup (map of_record rs ++ of_marks ms)
 between_none rs news ms none =
     ap (λ xs. of_setup (xs ++ of_marks ms)) (map-append of_record rs news) ∙ setup_append (map of_record rs ++ map of_record news) (of_marks ms)
     ∙ ap (λ xs. xs ++ of_setup (of_marks ms)) (setup_append (map of_record rs) (map of_record news) ∙ ap (λ xs. of_setup (map of_record rs) ++ xs) none ∙ append-nil (of_setup (map of_record rs)))
@@ -186,7 +187,8 @@ module _ (plan : Plan) (commands : List Task) where
   setup_moved action.Skip s (Told m) fine is =
       let p = turned s.progress in
       let left = drop (place_next commands p) commands in
-      between_none s.records (skips_first p m (mark_next plan commands p) left) s.marks (none_skipped p m (mark_next plan commands p) left (some_cycle s fine is.2)) ∙ sym (append-nil (of_setup (row_of s)))
+      between_none s.records (skips_first p m (mark_next plan commands p) left) s.marks (none_skipped p m (mark_next plan commands p) left (some_cycle s fine is.2)) ∙ sym
+          (append-nil (of_setup (row_of s)))
   setup_moved action.Skip s act fine is = between_none s.records [] s.marks refl ∙ sym (append-nil (of_setup (row_of s)))
   setup_moved action.ReadClock s act fine is = ap of_setup (row_kept plan commands action.ReadClock (with_progress turned s) act tt) ∙ sym (append-nil (of_setup (row_of s)))
   setup_moved action.Renew s act fine is = ap of_setup (row_kept plan commands action.Renew (with_progress turned s) act tt) ∙ sym (append-nil (of_setup (row_of s)))

@@ -198,7 +198,8 @@ kept_marks plan commands s t true e goes begins fine =
       negated false e = refl
 
 -- a read that gave bytes does what `Settling` says
-gave_settles : (plan : Plan) (commands : List Task) (s t u : Model) → Invariant plan commands s → Invariant plan commands u → Hears plan s t → Grew s.records u.records → u.progress ≡ t.progress → row_of u ≡ row_of s
+gave_settles : (plan : Plan) (commands : List Task) (s t u : Model) → Invariant plan commands s → Invariant plan commands u → Hears plan s t → Grew s.records u.records
+    → u.progress ≡ t.progress → row_of u ≡ row_of s
     → (commands_in u.marks ≡ commands_in t.marks) ⊎ (commands_in s.marks ≡ 0) → Settling plan s u
 gave_settles plan commands s t u fine fine' h grew same row kept =
     settling_by plan s u (commands_in t.marks) (commands_in s.marks) grew (same_out plan commands s u fine fine' row) kept
@@ -273,7 +274,8 @@ trying_on plan commands scope tries tries' up up' acts act took counted settles 
     }
 
 -- `Trying` starts again with a read that settled a command, which gives all tries back
-trying_anew : (plan : Plan) (commands : List Task) (scope : Scope) (tries : ℕ) (up : Bool) (acts : List Act) (bytes : List ℕ) (m : Moment) → tries ≡ plan.retries → (stood plan commands scope (acts ++ Gave bytes m ∷ [])).progress.preparing ≡ false
+trying_anew : (plan : Plan) (commands : List Task) (scope : Scope) (tries : ℕ) (up : Bool) (acts : List Act) (bytes : List ℕ) (m : Moment) → tries ≡ plan.retries
+    → (stood plan commands scope (acts ++ Gave bytes m ∷ [])).progress.preparing ≡ false
     → (stood plan commands scope (acts ++ Gave bytes m ∷ [])).records ≢ (stood plan commands scope acts).records → Trying plan commands scope tries up (acts ++ Gave bytes m ∷ [])
 trying_anew plan commands scope tries up acts bytes m all done settled = record {
   before = acts ++ Gave bytes m ∷ [];
@@ -518,7 +520,8 @@ stop_tried plan commands scope acts last why runs stop tried ending = by_decided
 
   -- if no try was left before the last act, all tries are used up
   used : (Quits (action_at plan s) → ⊥) → s.progress.tries ≡ 0 → AllTried plan commands scope (acts ++ last ∷ [])
-  used never none = all_tried plan commands scope acts last ending (counted never) (subst (λ n. Trying plan commands scope n (is_up s.progress.phase) acts) none (try_stood plan commands scope acts split.0 goes))
+  used never none = all_tried plan commands scope acts last ending (counted never)
+      (subst (λ n. Trying plan commands scope n (is_up s.progress.phase) acts) none (try_stood plan commands scope acts split.0 goes))
 
   -- the last act ended a connection or could make none, so no try was left
   by_decided : Decided plan s (after plan commands s last).progress.phase why last → AllTried plan commands scope (acts ++ last ∷ [])

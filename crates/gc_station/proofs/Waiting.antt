@@ -34,7 +34,8 @@ pub record Marked (plan : Plan) (commands : List Task) (scope : Scope) (acts : L
 
 -- the request p that waits at the place `at`, with this id and mark, was put among these acts; `number` acts came before it,
 -- and `Stays` holds of the acts after it, by whether p has timed out and its deadline
-pub record WasAsked (plan : Plan) (commands : List Task) (scope : Scope) (acts : List Act) (Stays : Bool → ℕ → List Act → Type 0) (number at with_id : ℕ) (p : Pending Asked) (mark : Option Mark) : Type 0 where
+pub record WasAsked (plan : Plan) (commands : List Task) (scope : Scope) (acts : List Act) (Stays : Bool → ℕ → List Act → Type 0) (number at with_id : ℕ) (p : Pending Asked)
+    (mark : Option Mark) : Type 0 where
   pub before : List Act
   pub request : Act
   pub between : List Act
@@ -305,7 +306,8 @@ stays_behind act now on past true d xs (inr reached) = past_here d xs act (past 
 stays_behind act now on past false d xs both = all_append (IsBefore d) xs (act ∷ []) both.0 (on d both.1, tt)
 
 -- the outstanding requests as `WaitsAt` says wait as `Waits` says after the act that reads the moment
-pub behind_moment : (plan : Plan) (commands : List Task) (scope : Scope) (acts : List Act) (act : Act) (client : ById Asked) (now next count : ℕ) (ps : List (Pending Asked)) (marks : List (Option Mark))
+pub behind_moment : (plan : Plan) (commands : List Task) (scope : Scope) (acts : List Act) (act : Act) (client : ById Asked) (now next count : ℕ) (ps : List (Pending Asked))
+    (marks : List (Option Mark))
     → ((d : ℕ) → now < d → IsBefore d act) → ((d : ℕ) → d ≤ now → IsPast d act)
     → Rows (WaitsAt plan commands scope acts client now next count) 0 0 ps marks → Rows (Waits plan commands scope (acts ++ act ∷ []) next count) 0 0 ps marks
 behind_moment plan commands scope acts act client now next count ps marks on past all =

@@ -77,8 +77,10 @@ first_sent next_is_chained behind mark [] s = refl
 first_sent next_is_chained behind mark (task ∷ others) s = refl
 
 -- the model that sent the next command, by its fields (`sending`), is that after the act that sends
-pub is_sent : (plan : Plan) (commands : List Task) (s : Model) → sending plan commands s ≡ with_progress (sent (is_chained_behind_next commands s.progress) (others_behind_next commands s.progress)) (asks_next plan commands s)
-is_sent plan commands s = first_sent (is_chained_behind_next commands s.progress) (others_behind_next commands s.progress) (mark_next plan commands s.progress) (drop (place_next commands s.progress) commands) s
+pub is_sent : (plan : Plan) (commands : List Task) (s : Model)
+    → sending plan commands s ≡ with_progress (sent (is_chained_behind_next commands s.progress) (others_behind_next commands s.progress)) (asks_next plan commands s)
+is_sent plan commands s = first_sent (is_chained_behind_next commands s.progress) (others_behind_next commands s.progress) (mark_next plan commands s.progress)
+    (drop (place_next commands s.progress) commands) s
 
 -- the model that sent the next command of the setup, by its fields
 abbrev pub preparing : Plan → List Task → Model → Model
@@ -229,7 +231,8 @@ Behind plan commands P ReadClock s =
     ((m : Moment) → P (Told m) (with_moment m (with_progress (λ p. reckoned_early plan (commands_in s.marks) (told m p)) s))) × ((n : ℕ) → P Untold (with_progress (failing cause.Clock) s))
 Behind plan commands P Renew s = ((m : Moment) → P (Told m) (with_moment m
     (with_progress (λ p. reckoned_early plan 0 (renewed plan m p)) s))) × ((n : ℕ) → P Untold (with_progress (failing cause.Clock) s))
-Behind plan commands P Begin s = ((m : Moment) → P (Told m) (with_moment m (with_progress (begun plan (cycle_length plan commands) m) s))) × ((n : ℕ) → P Untold (with_progress (failing cause.Clock) s))
+Behind plan commands P Begin s = ((m : Moment) → P (Told m) (with_moment m (with_progress (begun plan (cycle_length plan commands) m) s)))
+    × ((n : ℕ) → P Untold (with_progress (failing cause.Clock) s))
 Behind plan commands P Open s = ((m : Moment) → P Opened (with_progress opened s)) × ((n : ℕ) → P Unopened (with_progress (again plan (commands_in s.marks) cause.Open) s))
 Behind plan commands P Clear s = Putting P (requests_out plan commands s.progress) (10 ∷ []) (with_progress cleared s)
 Behind plan commands P Ask s = Putting P (requests_out plan commands s.progress) (null_text s.progress.word) (with_progress (null_sent plan) s)
@@ -237,7 +240,8 @@ Behind plan commands P Prepare s = Putting P (requests_out plan commands s.progr
 Behind plan commands P Send s = Putting P (requests_out plan commands s.progress) (first_text s.progress.moment.utc s.client (drop (place_next commands s.progress) commands)) (sending plan commands s)
 Behind plan commands P Skip s =
     ((m : Moment) → P (Told m) (with_moment m (with_progress (λ p. reckoned_early plan (commands_in s.marks)
-    (skipped (is_chained_behind_next commands s.progress) (others_behind_next commands s.progress) m p)) (with_listed (skip_listed plan commands s (Told m)) (with_records (skips plan commands s.progress (Told m)) s)))))
+    (skipped (is_chained_behind_next commands s.progress) (others_behind_next commands s.progress) m p)) (with_listed (skip_listed plan commands s (Told m))
+        (with_records (skips plan commands s.progress (Told m)) s)))))
     × ((n : ℕ) → P Untold (with_progress (failing cause.Clock) (with_records [] s)))
 Behind plan commands P Pass s = ((m : Moment) → P (Told m) (after_pass plan commands s (Told m))) × ((n : ℕ) → P Untold (with_progress (failing cause.Clock) s))
 Behind plan commands P Flush s = Putting P (requests_out plan commands s.progress) (request_text s.client (Table NullProc)) (with_progress asking (asks_null plan s))

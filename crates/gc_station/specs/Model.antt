@@ -434,7 +434,8 @@ moved plan commands Open s act = after_open plan s act
 moved plan commands Clear s act = after_put (requests_out plan commands s.progress) (with_progress cleared) s act
 moved plan commands Ask s act = after_put (requests_out plan commands s.progress) (with_progress (null_sent plan)) s act
 moved plan commands Prepare s act = after_put (requests_out plan commands s.progress) (λ (s : Model). with_progress (setup_sent plan) (asks_setup plan commands s)) s act
-moved plan commands Send s act = after_put (requests_out plan commands s.progress) (λ (s : Model). with_progress (sent (is_chained_behind_next commands s.progress) (others_behind_next commands s.progress)) (asks_next plan commands s)) s act
+moved plan commands Send s act = after_put (requests_out plan commands s.progress)
+    (λ (s : Model). with_progress (sent (is_chained_behind_next commands s.progress) (others_behind_next commands s.progress)) (asks_next plan commands s)) s act
 moved plan commands Skip s act =
     after_clock (λ m p. reckoned_early plan (commands_in s.marks) (skipped (is_chained_behind_next commands s.progress) (others_behind_next commands s.progress) m p))
     (with_listed (skip_listed plan commands s act) (with_records (skips plan commands s.progress act) s)) act

@@ -88,7 +88,8 @@ abbrev pub reached : {State : Type 0} → Ends State → State → Asked → Lis
 reached ends state asked one other = record { reached = course WINDOW begun (steps_among (events_over WINDOW ends (before state) (runs asked one other))); rest = []; left = the_word }
 
 -- all premises of the laws hold of these calls at once; both commands are answered, and the first answer was made on executing its request
-pub record AreInField {State : Type 0} (ends : Ends State) (Good : State → Type 0) (kept : State → Option KeptReply) (state : State) (replies : List (List ℕ)) (second : Step) (asked : Asked) (one other : List ℕ) : Type 0 where
+pub record AreInField {State : Type 0} (ends : Ends State) (Good : State → Type 0) (kept : State → Option KeptReply) (state : State) (replies : List (List ℕ)) (second : Step)
+    (asked : Asked) (one other : List ℕ) : Type 0 where
   pub is : IsAnInstrument ends Good kept
   pub width : IsWidth WINDOW
   pub follows : CallsReach WINDOW opened (calls replies second one other) (reached ends state asked one other)

@@ -36,13 +36,15 @@ returns-in_default-clause-does g c =
           let listed = skip_listed plan commands s (Told m) in
           let is = stands.progress in
           let same = ap (λ (x : Station). x.progress) c.in_default.ensures.after ∙ is in
-          let here_stands : Refines mid (with_listed listed (with_records rs s)) = skipped_stands old mid s rs (listed_behind old.listed (mark_next plan commands p).expected None (if p.missed then Missed else Skipped)) listed stands
+          let here_stands : Refines mid (with_listed listed (with_records rs s)) = skipped_stands old mid s rs
+              (listed_behind old.listed (mark_next plan commands p).expected None (if p.missed then Missed else Skipped)) listed stands
           (λ b. skips_unwell b p m (mark_next plan commands p) (drop (place_next commands p) commands) here.0 here.1 here.2)
           (λ are. ap (λ b. listed_behind b (mark_next plan commands p).expected None (if p.missed then Missed else Skipped)) (stands.listed are)
           ∙ ap (λ (x : Progress). listed_behind s.listed (mark_next plan commands x).expected None (if x.missed then Missed else Skipped)) is)
           c.in_default.ensures.after in
           let rs' = ap (λ (x : Progress). skips plan commands x (Told m)) is in
-          let there : Refines mid (with_listed listed (with_records (skips plan commands q (Told m)) s)) = subst (λ (xs : List Record). Refines mid (with_listed listed (with_records xs s))) rs' here_stands in
+          let there : Refines mid (with_listed listed (with_records (skips plan commands q (Told m)) s)) = subst
+              (λ (xs : List Record). Refines mid (with_listed listed (with_records xs s))) rs' here_stands in
           let waiting = c.commands-waiting.ensures ∙ ap commands_in there.marks in
           let progress =
           c.reckon_early.ensures ∙ ap (λ n. reckoned_early plan n c.skip.new.self) waiting
