@@ -30,7 +30,8 @@ use Rattle.gc_field.proofs.Instruments.{alike_is, exchange_of}
 use Rattle.gc_field.proofs.Moving.{Both, both_all, first_reply, IsOwn, IsVouchedFor, AreOn, are_on_later, vouched_for, whole_all}
 use Rattle.gc_field.proofs.Possible.{possible_behind, possible_front}
 use Rattle.gc_field.proofs.Seen.{same_all}
-use Rattle.gc_field.proofs.Vouched.{IsNear, KeptIs, True, Vouched}
+use Rattle.gc_field.proofs.KeptReplies.{KeptIs}
+use Rattle.gc_field.proofs.Vouched.{IsNear, True, Vouched}
 
 -- The course of a client, after what was sent and settled before.
 

@@ -15,7 +15,8 @@ use Rattle.gc_field.specs.Instrument.{IsAnInstrument, all_known}
 use Rattle.gc_field.proofs.Answered.{AllSo, IsSo, all_so_get}
 use Rattle.gc_field.proofs.BeginLists.{each_both}
 use Rattle.gc_field.proofs.Once.{known_not}
-use Rattle.gc_field.proofs.Vouched.{IsDealt, KeptIs, True, Vouched}
+use Rattle.gc_field.proofs.KeptReplies.{IsDealt, KeptIs}
+use Rattle.gc_field.proofs.Vouched.{True, Vouched}
 
 -- all moves ask only what is known, if all is
 pub asks_all : {State : Type 0} (ms : List (Move State)) → AsksOnly all_known ms

@@ -24,7 +24,8 @@ use Rattle.gc_field.specs.Instrument.{IsAnInstrumentFor, KeepsItsOwn, KeepsItsRe
 use Rattle.gc_field.proofs.Answered.{AllSo, IsSo, all_so_get}
 use Rattle.gc_field.specs.Once.{ActsOnce, IsInOrder}
 use Rattle.gc_field.proofs.Once.{IsUnknown, acts_once, once_few, climbing_first, order_few, ordered_first, true_is_not}
-use Rattle.gc_field.proofs.Vouched.{IsVouched, Vouched, kept_one, True, IsOn, true_requested, true_down, true_line, true_started, true_changed}
+use Rattle.gc_field.proofs.KeptReplies.{IsVouched, kept_one, IsOn}
+use Rattle.gc_field.proofs.Vouched.{Vouched, True, true_requested, true_down, true_line, true_started, true_changed}
 
 module _ {State : Type 0} (width : ℕ) (narrow : width ≤ 7) (ends : Ends State) (Good : State → Type 0) (ex : IsExchange ends Good) (kept : State → Option KeptReply) where
   -- the world of ids and the world of numbers agree, and the latter is sound: its line keeps order, with ids that belong to its

@@ -2,100 +2,38 @@
 -- one has a later place or cycle; and the commands of a chain are requests of one part. An act is one call on the link, with
 -- its result. A mark says which command a request is of, or `None` of a null procedure. Places, parts and requests count from
 -- 0. `Back` says of an earlier command that it was sent, was answered well, and is of the part that still goes on.
-use Rattle.std.proofs.Common.{◌≡◌, ◌⊎◌, inl, inr, ℕ, zero, suc, ◌+◌, ◌-◌, ◌<◌, ◌≤◌, ◌&&◌, ◌||◌, Bool, true, false, not, List, [], ◌∷◌, ◌++◌, length, drop, Option, Some, nat_eq, if◌then◌else◌, refl, sym, ◌∙◌, ap, subst, arith, append_assoc}
+use Rattle.std.proofs.Common.{◌≡◌, ◌⊎◌, inl, inr, ℕ, zero, suc, ◌+◌, ◌-◌, ◌<◌, ◌≤◌, Bool, true, false, List, [], ◌∷◌, ◌++◌, length, drop, Option, Some, if◌then◌else◌, refl, sym, ◌∙◌, ap, subst, arith, append_assoc}
 use Rattle.std.specs.Prelude.{slice_get, unwrap_or}
-use Rattle.std.proofs.lemmas.List.{length-append, length-drop}
+use Rattle.std.proofs.lemmas.List.{length-drop}
 use Rattle.gc_texts.specs.declared.tasks.Task.{Task}
 use Rattle.gc_station.specs.declared.mark.Mark.{Mark}
 use Rattle.gc_station.specs.declared.plan.Plan.{Plan}
 use Rattle.gc_station.specs.declared.progress.Action.{Action}
 use Rattle.gc_station.specs.declared.progress.Action.TheVariants.{Prepare, Send}
-use Rattle.gc_station.specs.declared.progress.Phase.TheVariants as phase
-use Rattle.gc_station.specs.declared.progress.Progress.{Progress}
 use Rattle.gc_links.specs.Acts.{Act, Put, Cut}
 use Rattle.gc_station.specs.Chains.{IsLinked}
-use Rattle.gc_station.specs.Deciding.{has_begun, is_up}
+use Rattle.gc_station.specs.Deciding.{has_begun}
 use Rattle.gc_station.specs.EachOnce.{IsFurther}
 use Rattle.gc_station.specs.Links.{AreChained, IsBefore, IsAnsweredBack, ChainsStay, MarksGoOn, parts}
-use Rattle.gc_station.specs.Parts.{Part, nothing, joined, asking_first, doing, beginning, acting, ends_part, in_front, parts_of, mark_of}
-use Rattle.gc_station.specs.Progressing.{begun, is_over, is_over_in}
-use Rattle.gc_station.specs.Reasons.{IsFor}
+use Rattle.gc_station.specs.Parts.{Part, joined, asking_first, doing, beginning, acting, ends_part, in_front, parts_of, mark_of}
+use Rattle.gc_station.specs.Progressing.{begun}
 use Rattle.gc_station.specs.Records.{Record}
 use Rattle.gc_station.specs.Runs.{stood}
 use Rattle.gc_station.specs.Scopes.{Scope}
 use Rattle.gc_station.specs.Qualities.{IsOfQuality, accepted_at}
-use Rattle.gc_station.specs.Model.{Model, Performs, Puts, Runs, opening, action_at, waiting_of, place_next, cycles_begun, cycle_out, expected_first, mark_next, first_text, after, after_all}
+use Rattle.gc_station.specs.Model.{Model, Puts, Runs, opening, action_at, place_next, cycles_begun, cycle_out, expected_first, mark_next, after, after_all}
 use Rattle.gc_texts.specs.Endings.{Answered}
 use Rattle.gc_texts.specs.Qualities.{is_good}
 use Rattle.gc_texts.specs.declared.quality.Quality.{Quality}
 use Rattle.gc_catalogue.specs.declared.answer.Answer.{Answer}
 use Rattle.gc_station.proofs.Chaining.{StaysBegun, PreparesNothing, prepares_none, chain_whole}
 use Rattle.gc_station.proofs.EachRun.{fine_stood}
-use Rattle.gc_station.proofs.Facts.{action_for}
 use Rattle.gc_station.proofs.Outs.{of_a_cycle, send_cycle, send_place, sends_of_cycle}
 use Rattle.gc_station.proofs.Further.{send_goes_on}
 use Rattle.gc_station.proofs.Going.{after_all-append, runs_behind}
-use Rattle.gc_station.proofs.Turns.{over_stays}
-use Rattle.gc_station.proofs.SentAt.{some_is, none_is_not, get_behind, fronts, records_stay, SentAt, joined_length, sent_at, act_head, act_tail}
-
--- The parts of a front of acts.
-
--- the first parts are the front of the second ones: as many or fewer, and the last of them has no more requests than its
--- counterpart, in which it may go on
-abbrev IsFront : List Part → List Part → Type 0
-IsFront [] qs = ⊥
-IsFront (p ∷ ps) [] = ⊥
-IsFront (p ∷ []) (q ∷ qs) = length p.marks ≤ length q.marks
-IsFront (p ∷ next ∷ ps) (q ∷ qs) = IsFront (next ∷ ps) qs
-
--- with one act more before both, parts that are a front of others still are
-front_more : (p : Part) (b : Bool) (ps qs : List Part) → IsFront ps qs → IsFront (in_front p b ps) (in_front p b qs)
-front_more p b [] qs h = absurd h
-front_more p true (x ∷ ps) [] h = absurd h
-front_more p false (x ∷ ps) [] h = absurd h
-front_more p true (x ∷ ps) (y ∷ qs) h = h
-front_more p false (x ∷ []) (y ∷ qs) h =
-    let a : length (p.marks ++ x.marks) ≡ length p.marks + length x.marks = length-append p.marks x.marks in
-    let b : length (p.marks ++ y.marks) ≡ length p.marks + length y.marks = length-append p.marks y.marks in
-    omega (arith, a, b, h)
-front_more p false (x ∷ next ∷ ps) (y ∷ qs) h = h
-
--- the part in which nothing happens is a front of any parts to which an act was added
-front_none : (p : Part) (b : Bool) (ps : List Part) → IsFront (nothing ∷ []) (in_front p b ps)
-front_none p true ps = omega arith
-front_none p false [] = omega arith
-front_none p false (q ∷ ps) = omega arith
-
--- the parts of the first acts are a front of the parts of all
-front_parts : (plan : Plan) (commands : List Task) (s : Model) (xs ys : List Act) → IsFront (parts_of plan commands s xs) (parts_of plan commands s (xs ++ ys))
-front_parts plan commands s [] [] = omega arith
-front_parts plan commands s [] (act ∷ ys) = front_none (acting plan commands s (action_at plan s) act) (ends_part plan commands s act) (parts_of plan commands (after plan commands s act) ys)
-front_parts plan commands s (act ∷ xs) ys =
-    front_more (acting plan commands s (action_at plan s) act) (ends_part plan commands s act) (parts_of plan commands (after plan commands s act) xs)
-    (parts_of plan commands (after plan commands s act) (xs ++ ys))
-    (front_parts plan commands (after plan commands s act) xs ys)
-
--- the last part of a front, at place j, comes before the last part of the whole, at place i; or it is the same one, with no more
--- requests
-front_last : (ps qs : List Part) (j i : ℕ) (p q : Part) → IsFront ps qs → length ps ≡ suc j → length qs ≡ suc i → slice_get ps j ≡ Some p
-    → slice_get qs i ≡ Some q → (j < i) ⊎ ((j ≡ i) × (length p.marks ≤ length q.marks))
-front_last [] qs j i p q h a b e f = absurd h
-front_last (x ∷ ps) [] j i p q h a b e f = absurd h
-front_last (x ∷ []) (y ∷ qs) zero zero p q h a b e f = inr (
-  refl,
-  subst
-      (λ (z : Part). length z.marks ≤ length q.marks) (some_is x p e) (subst (λ (z : Part). length x.marks ≤ length z.marks) (some_is y q f) h),
-)
-front_last (x ∷ []) (y ∷ qs) zero (suc i) p q h a b e f = inl (omega arith)
-front_last (x ∷ []) (y ∷ qs) (suc j) i p q h a b e f = absurd (omega (arith, a))
-front_last (x ∷ next ∷ ps) (y ∷ qs) zero i p q h a b e f = absurd (omega (arith, a))
-front_last (x ∷ next ∷ ps) (y ∷ []) (suc j) i p q h a b e f = absurd h
-front_last (x ∷ next ∷ ps) (y ∷ z ∷ qs) (suc j) zero p q h a b e f = absurd (omega (arith, b))
-front_last (x ∷ next ∷ ps) (y ∷ z ∷ qs) (suc j) (suc i) p q h a b e f =
-    elim (front_last (next ∷ ps) (z ∷ qs) j i p q h (omega (arith, a)) (omega (arith, b)) e f) [
-      | inl l ↦ inl (omega (arith, l))
-      | inr r ↦ inr (ap suc r.0, r.1)
-    ]
+use Rattle.gc_station.proofs.SentAt.{some_is, none_is_not, get_behind, fronts, records_stay, SentAt, sent_at, act_head, act_tail}
+use Rattle.gc_station.proofs.OnePart.{runs_front, needs_send, puts_text, same_part}
+use Rattle.gc_station.proofs.PartFronts.{IsFront, front_parts, front_last}
 
 -- The commands go on.
 
@@ -159,80 +97,6 @@ marks_go_on plan commands scope acts runs i j m n p q a b e f g h l above below 
     let y_is = of_a_cycle plan commands (stood plan commands scope y.before) (action_at plan (stood plan commands scope y.before)) b y.its below in
     subst (λ (u : Mark). IsBefore u.cycle u.place b.cycle b.place) (sym x_is.1)
     (subst (λ (u : Mark). IsBefore at_x.cycle at_x.place u.cycle u.place) (sym y_is.1) (further_than plan commands scope acts i j m n a b l x x_is.0 y))
-
--- While a station doesn't resynchronize, all its acts are of one part.
-
--- the first acts of a run are a run
-runs_front : (plan : Plan) (commands : List Task) (s : Model) (xs ys : List Act) → Runs plan commands s (xs ++ ys) → Runs plan commands s xs
-runs_front plan commands s [] ys h = tt
-runs_front plan commands s (act ∷ xs) ys h = (h.0, runs_front plan commands (after plan commands s act) xs ys h.1)
-
--- if a run isn't over after acts, it isn't before them, as no act follows a run that is over
-goes_on : (plan : Plan) (commands : List Task) (u : Model) (acts : List Act) (b : Bool) → is_over u.progress ≡ b → Runs plan commands u acts
-    → is_over (after_all plan commands u acts).progress ≡ false → is_over u.progress ≡ false
-goes_on plan commands u acts false e runs end = e
-goes_on plan commands u [] true e runs end = end
-goes_on plan commands u (act ∷ acts) true e runs end = absurd (over_stays plan commands u act e runs.0)
-
--- if the station has synchronized after an act, and the run isn't over, the act ends no part
-neither : (begun later over : Bool) → later ≡ true → over ≡ false → (begun && (not later || over)) ≡ false
-neither true true over a o = o
-neither true false over a o = cc
-neither false later over a o = refl
-
--- acts after each of which the station has synchronized are one part, if the run isn't over
-single : (plan : Plan) (commands : List Task) (s : Model) (acts : List Act) → Runs plan commands s acts → StaysBegun plan commands s acts
-    → is_over (after_all plan commands s acts).progress ≡ false → length (parts_of plan commands s acts) ≡ 1
-single plan commands s [] runs keeps end = refl
-single plan commands s (act ∷ acts) runs keeps end =
-    let u = after plan commands s act in
-    let p = acting plan commands s (action_at plan s) act in
-    let over = goes_on plan commands u acts (is_over u.progress) refl runs.1 end in
-    let ends : ends_part plan commands s act ≡ false = neither (has_begun s.progress) (has_begun u.progress) (is_over u.progress) keeps.0 over in
-    subst (λ b. length (in_front p b (parts_of plan commands u acts)) ≡ 1) (sym ends) (joined_length p (parts_of plan commands u acts) 0 (single plan commands u acts runs.1 keeps.1 end))
-
--- lists of as many parts stay so with one act more before both
-front_length : (p : Part) (b : Bool) (ps qs : List Part) → length ps ≡ length qs → length (in_front p b ps) ≡ length (in_front p b qs)
-front_length p true ps qs e = ap suc e
-front_length p false [] [] e = refl
-front_length p false [] (y ∷ qs) e = absurd (omega (arith, e))
-front_length p false (x ∷ ps) [] e = absurd (omega (arith, e))
-front_length p false (x ∷ ps) (y ∷ qs) e = e
-
--- acts that are one part add no part to those of the acts before them: they go on in the last one
-parts_more : (plan : Plan) (commands : List Task) (s : Model) (xs ys : List Act) → length (parts_of plan commands (after_all plan commands s xs) ys) ≡ 1
-    → length (parts_of plan commands s (xs ++ ys)) ≡ length (parts_of plan commands s xs)
-parts_more plan commands s [] ys one = one
-parts_more plan commands s (act ∷ xs) ys one =
-    front_length (acting plan commands s (action_at plan s) act) (ends_part plan commands s act)
-    (parts_of plan commands (after plan commands s act) (xs ++ ys)) (parts_of plan commands (after plan commands s act) xs)
-    (parts_more plan commands (after plan commands s act) xs ys one)
-
--- in the phase `Ready` the run isn't over
-over_ready : (p : Progress) → p.phase ≡ phase.Ready → is_over p ≡ false
-over_ready p is = ap (λ at. is_over_in at || (not (is_up at) && nat_eq p.turns 0)) is
-
--- if a command is next, the conditions of `Send` hold
-needs_send : (plan : Plan) (s : Model) → action_at plan s ≡ Send → IsFor plan s.progress (waiting_of s) Send
-needs_send plan s is = subst (λ (o : Action). IsFor plan s.progress (waiting_of s) o) is (action_for plan s.progress (waiting_of s))
-
--- an act that sends puts the line of the next command
-puts_text : (commands : List Task) (plan : Plan) (s : Model) (act : Act) → action_at plan s ≡ Send → Performs commands s (action_at plan s) act
-    → Puts (first_text s.progress.moment.utc s.client (drop (place_next commands s.progress) commands)) act
-puts_text commands plan s act is obeys = subst (λ (o : Action). Performs commands s o act) is obeys
-
--- a request and the acts after it, in which the station doesn't resynchronize, are of one part
-same_part : (plan : Plan) (commands : List Task) (scope : Scope) (before between : List Act) (request : Act)
-    → Runs plan commands (opening plan scope) (before ++ request ∷ between) → action_at plan (stood plan commands scope before) ≡ Send
-    → StaysBegun plan commands (stood plan commands scope before) (request ∷ between)
-    → action_at plan (stood plan commands scope (before ++ request ∷ between)) ≡ Send
-    → length (parts plan commands scope (before ++ request ∷ between)) ≡ length (parts plan commands scope before)
-same_part plan commands scope before between request runs sends keeps next =
-    let s = stood plan commands scope before in
-    let on = runs_behind plan commands (opening plan scope) before (request ∷ between) runs in
-    let last = over_ready (stood plan commands scope (before ++ request ∷ between)).progress (needs_send plan (stood plan commands scope (before ++ request ∷ between)) next).0 in
-    let end = subst (λ (t : Model). is_over t.progress ≡ false) (after_all-append plan commands (opening plan scope) before (request ∷ between)) last in
-    parts_more plan commands (opening plan scope) before (request ∷ between) (single plan commands s (request ∷ between) on keeps end)
 
 -- The mark of a request.
 

@@ -19,7 +19,7 @@ use Rattle.gc_station.specs.Scopes.{Scope}
 use Rattle.gc_station.specs.Model.{Model, opening, action_at, waiting_of, mark_setup, with_progress, Performs, moved, after, after_all, Runs}
 use Rattle.gc_station.specs.Setups.{Dispatch, of_record, of_mark, of_marks, sent_as, StaysUp, ArePrepared, NoneBeforeTheSetUp, SetUpInOrder}
 use Rattle.gc_station.proofs.Always.{always, progress_behind}
-use Rattle.gc_station.proofs.Chaining.{stays_open}
+use Rattle.gc_station.proofs.ChainSteps.{stays_open}
 use Rattle.gc_station.proofs.EachRun.{fine_stood}
 use Rattle.gc_station.proofs.Facts.{action_for}
 use Rattle.gc_station.proofs.Going.{after_all-append}
