@@ -24,6 +24,7 @@ use Rattle.gc_field.proofs.BeginIds.{Sent, Begins, IsClean, aged, begun_anew, id
 use Rattle.gc_field.proofs.BeginKilled.{begins_anew, behind_one, under_way}
 use Rattle.gc_field.proofs.BeginLists.{each_append, each_front, each_without, each_doubled}
 use Rattle.gc_field.proofs.BeginSound.{the_word_begins_cleanly}
+use Rattle.gc_field.proofs.Once.{true_is_not}
 
 -- Lists.
 
@@ -87,10 +88,6 @@ same_left (asked ∷ rest) None h = ap (λ b. left_by_one b asked rest) (ne_eqb 
 none_left : (left : List ℕ) → left_by left None ≡ left
 none_left [] = refl
 none_left (asked ∷ rest) = refl
-
--- true isn't false
-true_is_not : true ≡ false → ⊥
-true_is_not e = cc
 
 -- One state shows another.
 

@@ -9,6 +9,7 @@ use Rattle.gc_world.specs.Order.{Each}
 use Rattle.gc_field.specs.World.{without, doubled}
 use Rattle.gc_field.proofs.BeginLists.{each_more, each_append, each_without, each_doubled, pairs_without, pairs_doubled, pairs_push, pairs_of_each}
 use Rattle.gc_field.proofs.BeginWords.{Has, has_behind, has_twice, stands_more, never, not_over}
+use Rattle.gc_field.proofs.Once.{true_is_not}
 
 -- The invariant.
 
@@ -59,13 +60,9 @@ pub record IsLine (z : ℕ) (left : List ℕ) (line : List Sent) : Type 0 where
 
 -- The ids of the old lines.
 
--- true isn't false
-neither : true ≡ false → ⊥
-neither e = cc
-
 -- if the front line is own, and those after it have no old ids, there are no old ids
 none_if : (b : Bool) (i : ℕ) (ids : List ℕ) → b ≡ false → ids ≡ [] → old_if b i ids ≡ []
-none_if true i ids e f = absurd (neither e)
+none_if true i ids e f = absurd (true_is_not e)
 none_if false i ids e f = f
 
 -- if there are no old ids, the front line is own, and those after it have no old ids

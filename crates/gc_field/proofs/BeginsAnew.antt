@@ -7,7 +7,7 @@ use Rattle.gc_catalogue.specs.declared.asked.Asked.TheVariants.{Table}
 use Rattle.gc_catalogue.specs.declared.call.Call.TheVariants.{InstrumentNo}
 use Rattle.gc_client.specs.declared.window.TheConstants.{WINDOW}
 use Rattle.gc_texts.specs.Nears.{is_elsewhere}
-use Rattle.gc_station.specs.Beginnings.{IsAnew}
+use Rattle.gc_station.specs.Beginnings.{IsResynchronizing}
 use Rattle.gc_station.specs.Parts as part
 use Rattle.gc_station.specs.Parts.{Part, parts_of}
 use Rattle.gc_station.specs.Model.{Runs, after_all, opening}
@@ -64,7 +64,7 @@ anew_runs =
     (refl, (tt, (tt, (refl, (tt, (tt, (refl, (tt, (tt, (refl, (tt, (tt, (refl, (tt, (tt, (refl, (tt, (tt, (refl, (tt, (tt, (refl, tt))))))))))))))))))))))
 
 -- after the acts until seven requests have timed out, the next act is one at which the station resynchronizes
-begins_anew : IsAnew plan commands scope given_up (Told (at 115))
+begins_anew : IsResynchronizing plan commands scope given_up (Told (at 115))
 unfolding is_elsewhere header_at reply_at digits
 begins_anew = record { renews = refl; moment = at 115; told = refl; seven = refl; given_up = refl; word = refl; client = refl }
 

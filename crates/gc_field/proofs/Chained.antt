@@ -21,7 +21,7 @@ use Rattle.gc_station.specs.Answers.{answer_of}
 use Rattle.gc_station.specs.Parts as part
 use Rattle.gc_station.specs.Parts.{Part, AreOf, mark_of}
 use Rattle.gc_station.specs.Records.{Record}
-use Rattle.gc_station.specs.Runs.{stood}
+use Rattle.gc_station.specs.Runs.{state_after}
 use Rattle.gc_station.specs.Scopes.{Scope}
 use Rattle.gc_station.specs.Model.{Runs, opening}
 use Rattle.gc_station.proofs.Booking.{of_length}
@@ -38,7 +38,7 @@ use Rattle.gc_field.specs.Chains.{AreExecutedInChain, IsChainedTo, IsExecutedInC
 use Rattle.gc_field.specs.Field.{Move, Sends, Tells, Comes, Foreign, OnLine, Anew, Changes, Joins, ArePossible, seen}
 use Rattle.gc_field.specs.Instrument.{IsAnInstrument}
 use Rattle.gc_field.specs.Laws.{asked}
-use Rattle.gc_station.specs.Links.{AreChained, IsBefore, IsAnsweredBack, ChainsStay, MarksGoOn, RecordsStay, parts}
+use Rattle.gc_station.specs.Links.{AreChained, IsBefore, IsAnsweredEarlier, ChainsStay, MarksGoOn, RecordsStay, parts}
 use Rattle.gc_field.specs.Runs.{IsInField, IsItsOwn, IsOwnAnswer, AreSentAs, own_sent, own_settled, world}
 use Rattle.gc_field.specs.Shown.{AreShownAs, Stretch, shown, stretches}
 use Rattle.gc_field.proofs.InTime.{clean_of, front_nil}
@@ -297,13 +297,13 @@ module _ {State : Type 0} (ends : Ends State) (Good : State → Type 0) (kept : 
   -- chain is settled, with the answer that its record has
   settled_there : (before : List Act) (u : UnderWay State) (rs : List (Run State)) → IsInField ends Good kept plan commands scope before u rs
       → (i n cycle a : ℕ) (first : Part) → slice_get (parts plan commands scope before) i ≡ Some first → length first.marks ≡ n
-      → (back : IsAnsweredBack plan commands scope before first cycle a) → 0 < cycle → (t : Stretch State) × (slice_get (stretches ends u rs) i ≡ Some t) × (length (own_sent ends t) ≡ n)
+      → (back : IsAnsweredEarlier plan commands scope before first cycle a) → 0 < cycle → (t : Stretch State) × (slice_get (stretches ends u rs) i ≡ Some t) × (length (own_sent ends t) ≡ n)
       × (slice_get (own_settled ends t) back.m ≡ Some (record { target = back.answer.command.target; call = back.answer.command.call; outcome = Answered back.line }))
   settled_there before u rs h i n cycle a first of_first count back many =
       let ss = stretches ends u rs in
       let f = run_faithful ends Good kept is plan commands scope before u rs h in
       let o = all_at (IsOwnAnswer ends Good kept commands (parts plan commands scope before) ss)
-      (stood plan commands scope before).records back.k back.answer f.own back.among back.line (ap answer_of back.answered) in
+      (state_after plan commands scope before).records back.k back.answer f.own back.among back.line (ap answer_of back.answered) in
       let at = own_place before h.runs i back.m first back.expected back.answer ss back.line of_first back.mark (subst (λ c. 0 < c) (sym back.own_cycle) many) o in
       let of_ss : slice_get ss i ≡ Some o.stretch = subst (λ k. slice_get ss k ≡ Some o.stretch) at.0 o.of_stretches in
       let size : length first.marks ≡ length (own_sent ends o.stretch) =
@@ -330,7 +330,7 @@ module _ {State : Type 0} (ends : Ends State) (Good : State → Type 0) (kept : 
   chained_to : (acts : List Act) (v : UnderWay State) (rs : List (Run State)) → IsInField ends Good kept plan commands scope acts v rs
       → (b : Record) (line : List ℕ) (u : IsItsOwn ends Good kept commands (parts plan commands scope acts) (stretches ends v rs) b line) (a : ℕ)
       → 0 < b.cycle → plan.setup ≤ a → a < b.place → AreChained commands a b.place
-      → IsChainedTo ends Good kept scope.reads commands (parts plan commands scope acts) (stretches ends v rs) (stood plan commands scope acts).records a b line
+      → IsChainedTo ends Good kept scope.reads commands (parts plan commands scope acts) (stretches ends v rs) (state_after plan commands scope acts).records a b line
   chained_to acts v rs h b line u a many low less chained =
       let ss = stretches ends v rs in
       let sent = stay plan commands scope acts h.runs u.k u.m u.part (mark_of u.expected b) u.of_parts u.mark many in
@@ -363,8 +363,8 @@ module _ {State : Type 0} (ends : Ends State) (Good : State → Type 0) (kept : 
       record {
         k = back.k;
         record_a = back.answer;
-        among = ap (λ l. slice_get (stood plan commands scope l).records back.k) sent.order ∙ ap (λ l. slice_get l back.k) grown.1
-            ∙ in_more (stood plan commands scope sent.before).records grown.0 back.k back.answer back.among;
+        among = ap (λ l. slice_get (state_after plan commands scope l).records back.k) sent.order ∙ ap (λ l. slice_get l back.k) grown.1
+            ∙ in_more (state_after plan commands scope sent.before).records grown.0 back.k back.answer back.among;
         cycle = same_cycle;
         place = back.own_place;
         line_a = back.line;
@@ -406,4 +406,4 @@ module _ {State : Type 0} (ends : Ends State) (Good : State → Type 0) (kept : 
   chains_executed acts u rs h =
       all_so (IsOwnAnswer ends Good kept commands (parts plan commands scope acts) (stretches ends u rs)) (IsExecutedInChain ends Good kept plan commands scope acts u rs)
       (λ b own line a answered many low less chained. chained_to acts u rs h b line (own line answered) a many low less chained)
-      (stood plan commands scope acts).records (run_faithful ends Good kept is plan commands scope acts u rs h).own
+      (state_after plan commands scope acts).records (run_faithful ends Good kept is plan commands scope acts u rs h).own

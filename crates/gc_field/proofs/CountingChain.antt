@@ -27,10 +27,7 @@ use Rattle.gc_field.specs.Shown.{AreShownAs, shown}
 use Rattle.gc_field.specs.Begin.{begins}
 use Rattle.gc_field.specs.Witness.{begun_with, eight, plan, plan_of}
 use Rattle.gc_field.proofs.Witness.{asked_each, one_part, run_on, units}
-
--- true isn't false
-true_is_not : true ≡ false → ⊥
-true_is_not e = cc
+use Rattle.gc_field.proofs.Once.{true_is_not}
 
 -- each reply of the counting instrument has its request's id
 reads : (s : Counter) (id : ℕ) (o : Option ℕ) → id < 8 → heard (counted_or s id o).reply ≡ Some id

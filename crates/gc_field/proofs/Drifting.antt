@@ -19,10 +19,7 @@ use Rattle.gc_field.specs.Field.{seen}
 use Rattle.gc_field.specs.Shown.{AreShownAs, shown}
 use Rattle.gc_station.specs.Parts as part
 use Rattle.gc_field.proofs.Witness.{asked_each, one_part, run_on, units}
-
--- true isn't false
-true_is_not : true ≡ false → ⊥
-true_is_not e = cc
+use Rattle.gc_field.proofs.Once.{true_is_not}
 
 -- `drifting` is an instrument
 is : IsAnInstrument drifting AnyState nothing

@@ -16,7 +16,7 @@ use Rattle.gc_field.proofs.Answered.{AllSo, IsSo, all_so_get}
 use Rattle.gc_field.proofs.BeginLists.{each_both}
 use Rattle.gc_field.proofs.Once.{known_not}
 use Rattle.gc_field.proofs.KeptReplies.{IsDealt, KeptIs}
-use Rattle.gc_field.proofs.Vouched.{True, Vouched}
+use Rattle.gc_field.proofs.Vouched.{AllVouched, Vouched}
 
 -- all moves ask only what is known, if all is
 pub asks_all : {State : Type 0} (ms : List (Move State)) → AsksOnly all_known ms
@@ -70,15 +70,15 @@ abbrev pub AnyLine : ℕ → Asked → List ℕ → Type 0
 AnyLine n call line = Unit {0}
 
 module _ {State : Type 0} (width : ℕ) (narrow : width ≤ 7) (ends : Ends State) (Good : State → Type 0) (kept : State → Option KeptReply) (keeper : IsAnInstrument ends Good kept) (low : ℕ) where
-  -- `True`, with all requests excepted
+  -- `AllVouched`, with all requests excepted
   abbrev pub TrueOfNone : World (ByNumber Asked) State → Type 0
-  TrueOfNone w = True width narrow is_of_table ends Good kept keeper low EachOne ⊥ AnyLine w
+  TrueOfNone w = AllVouched width narrow is_of_table ends Good kept keeper low EachOne ⊥ AnyLine w
 
-  -- `True`, with all requests excepted but m
+  -- `AllVouched`, with all requests excepted but m
   abbrev pub TrueOfOne : (ℕ → Asked → List ℕ → Type 0) → ℕ → World (ByNumber Asked) State → Type 0
-  TrueOfOne M m w = True width narrow is_of_table ends Good kept keeper low (AllBut m) ⊥ M w
+  TrueOfOne M m w = AllVouched width narrow is_of_table ends Good kept keeper low (AllBut m) ⊥ M w
 
-  -- before request m is sent, nothing is of it: so `True` holds with all requests excepted but m, if m is near the last call of
+  -- before request m is sent, nothing is of it: so `AllVouched` holds with all requests excepted but m, if m is near the last call of
   -- the table
   pub renewed : (M : ℕ → Asked → List ℕ → Type 0) (m : ℕ) (w : World (ByNumber Asked) State) → Sound width ends Good w → (t : TrueOfNone w) → length w.wire.sent ≡ m → m ≤ t.table + 7
       → TrueOfOne M m w

@@ -23,6 +23,7 @@ use Rattle.gc_world.proofs.Handing.{exchange}
 use Rattle.gc_world.proofs.Options.{some_is}
 use Rattle.gc_field.specs.Instrument.{IsAnInstrument, IsAnInstrumentFor, KeepingNothingSuffices, KeepsItsOwn, TreatsRawsAlike, all_known}
 use Rattle.gc_field.specs.Laws.{SimulatorIsAnInstrument, kept_of}
+use Rattle.gc_field.proofs.Once.{true_is_not}
 
 -- an instrument meets what the proofs of the world ask of one, `IsExchange`
 pub exchange_of : {State : Type 0} (ends : Ends State) (Good : State → Type 0) (kept : State → Option KeptReply) → IsAnInstrument ends Good kept → IsExchange ends Good
@@ -48,10 +49,6 @@ alike_is e Good kept is alike =
     }
 
 -- The simulator.
-
--- true isn't false
-true_is_not : true ≡ false → ⊥
-true_is_not e = cc
 
 -- if the kept line for an id is this one (`kept_line`), this line is kept, with that id
 kept_own : (k : Option KeptReply) (id : ℕ) (line : List ℕ) → kept_line k (Some id) ≡ Some line → k ≡ Some (record { id = id; line = line })

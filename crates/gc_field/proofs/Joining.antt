@@ -19,12 +19,12 @@ use Rattle.gc_station.specs.declared.plan.Plan.{Plan}
 use Rattle.gc_station.specs.Behind.{IsNearTheTable}
 use Rattle.gc_links.specs.Acts.{Act}
 use Rattle.gc_station.specs.Answers.{answer_of}
-use Rattle.gc_station.specs.Beginnings.{left_behind}
+use Rattle.gc_station.specs.Beginnings.{unanswered_after}
 use Rattle.gc_station.specs.Begun.{AreBegun, heard_in}
 use Rattle.gc_station.specs.Marks.{record_of, records_of}
 use Rattle.gc_station.specs.Parts.{Part, joined, AreOf, parts_of, went_out, sent_with, sent_of, timeless}
 use Rattle.gc_station.specs.Records.{Record}
-use Rattle.gc_station.specs.Runs.{stood}
+use Rattle.gc_station.specs.Runs.{state_after}
 use Rattle.gc_station.specs.Model.{Model, opening}
 use Rattle.gc_station.proofs.Asked.{parts_begun}
 use Rattle.gc_station.proofs.GoesBehind.{behind_the_table}
@@ -56,7 +56,8 @@ use Rattle.gc_field.proofs.Meant.{are_meant}
 use Rattle.gc_field.proofs.Safe.{goes_out}
 use Rattle.gc_field.proofs.Shown.{left_is}
 use Rattle.gc_field.proofs.Unbegun.{faithful_none}
-use Rattle.gc_field.proofs.Among.{among_settled, true_is_not, among_late, asked_at, all_append, get_drop, map_drop}
+use Rattle.gc_field.proofs.Among.{among_settled, among_late, asked_at, all_append, get_drop, map_drop}
+use Rattle.gc_field.proofs.Once.{true_is_not}
 
 module _ {State : Type 0} (ends : Ends State) (Good : State → Type 0) (kept : State → Option KeptReply) (is : IsAnInstrument ends Good kept) where
   -- One part.
@@ -120,8 +121,8 @@ module _ {State : Type 0} (ends : Ends State) (Good : State → Type 0) (kept : 
   AllFit _ _ = ⊥
 
   -- the ids that are left of a run's word are those that its part leaves
-  left_so : (u : UnderWay State) (r : Run State) (p : Part) → shown ends r.turns (begins u) ≡ p.turns → (stood_by 7 ends u r).left ≡ left_behind the_word (heard_in p.turns)
-  left_so u r p e = left_is ends r.turns (begins u) ∙ ap (λ l. left_behind the_word (heard_in l)) e
+  left_so : (u : UnderWay State) (r : Run State) (p : Part) → shown ends r.turns (begins u) ≡ p.turns → (stood_by 7 ends u r).left ≡ unanswered_after the_word (heard_in p.turns)
+  left_so u r p e = left_is ends r.turns (begins u) ∙ ap (λ l. unanswered_after the_word (heard_in l)) e
 
   -- the parts of a run in the field fit the stretches
   pub all_fit : (ps : List Part) (rs : List (Run State)) (u : UnderWay State) → AreLines Good u → (IsSubsequence the_word (ids_under_way u) → ⊥)
@@ -525,7 +526,7 @@ module _ {State : Type 0} (ends : Ends State) (Good : State → Type 0) (kept : 
       let fit = all_fitting plan commands scope acts u rs h in
       let on = follows plan commands scope.reads start acts refl (fine_opening plan commands scope) h.runs in
       all_safe commands ps ss (λ i p e front later target call deadline mark. behind_the_table plan commands scope acts h.runs i p e front later target call deadline mark) fit.0
-      (sent_all scope.reads commands ps ss [] (stood plan commands scope acts) fit.0 on)
+      (sent_all scope.reads commands ps ss [] (state_after plan commands scope acts) fit.0 on)
 
   -- a run in the field is faithful
   pub run_faithful : (plan : Plan) (commands : List Task) (scope : Scope) (acts : List Act) (u : UnderWay State) (rs : List (Run State))
@@ -534,7 +535,7 @@ module _ {State : Type 0} (ends : Ends State) (Good : State → Type 0) (kept : 
       let start = opening plan scope in
       let ps = parts_of plan commands start acts in
       let ss = stretches ends u rs in
-      let end = stood plan commands scope acts in
+      let end = state_after plan commands scope acts in
       let fine = fine_opening plan commands scope in
       let fit = all_fitting plan commands scope acts u rs h in
       let on = follows plan commands scope.reads start acts refl fine h.runs in

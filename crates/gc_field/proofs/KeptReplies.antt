@@ -11,7 +11,7 @@ use Rattle.gc_world.specs.Record.{IsReplyTo}
 use Rattle.gc_field.specs.World.{Request, Sent, Numbered, Ends, World}
 use Rattle.gc_world.proofs.Booked.{Has}
 use Rattle.gc_world.proofs.Rows.{each_more}
-use Rattle.gc_field.proofs.Once.{IsUnknown}
+use Rattle.gc_field.proofs.Once.{IsUnknown, true_is_not}
 
 -- no request in flight has a number below that of the front one
 pub rising_each : (low : ℕ) (xs : List (Numbered Request)) → Rising low (numbers xs) → Each (λ x. low ≤ x.number + 1) xs
@@ -22,10 +22,6 @@ rising_each low (x ∷ xs) h = (h.0, each_more (λ y. x.number + 1 ≤ y.number 
 pub rising_tail : (low n : ℕ) (xs ys : List ℕ) → Rising low (xs ++ n ∷ ys) → (low ≤ n + 1) × Rising (n + 1) ys
 rising_tail low n [] ys h = h
 rising_tail low n (x ∷ xs) ys h = let r = rising_tail (x + 1) n xs ys h.1 in (omega (arith, h.0, r.0), r.1)
-
--- true isn't false
-pub true_is_not : true ≡ false → ⊥
-true_is_not e = cc
 
 -- What is kept.
 

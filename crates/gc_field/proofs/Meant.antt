@@ -9,7 +9,7 @@ use Rattle.gc_station.specs.declared.plan.Plan.{Plan}
 use Rattle.gc_links.specs.Acts.{Act, Told, Untold, Put, Cut, Gave, Silent, Ended, Broke, Closed, Opened, Unopened}
 use Rattle.gc_station.specs.Deciding.{has_begun}
 use Rattle.gc_station.specs.Parts.{Part, Asks, Hears, beginning, doing, hearing, nothing, only_turns, putting}
-use Rattle.gc_station.specs.Model.{Model, action_at, is_heard, lines_behind, null_text, Performs, after, Runs}
+use Rattle.gc_station.specs.Model.{Model, action_at, is_heard, lines_completed, null_text, Performs, after, Runs}
 use Rattle.gc_station.proofs.Asked.{none_doing, steps_none, turns_gave, turns_plain, word_after}
 use Rattle.gc_station.proofs.Booking.{sending_of, sends_with_room}
 use Rattle.gc_station.proofs.EachRun.{fine_after}
@@ -43,7 +43,7 @@ gave_means client false rest behind piece m e = inr (record { lines = refl; rest
 
 -- what a piece of bytes that came means while a station synchronizes: its lines if it is heard (`h`); nothing if it is
 -- discarded. `rest` and `behind` are as in `gave_means`
-taken : (h : Bool) (rest behind piece : List ℕ) (m : Moment) → behind ≡ left_of h rest (Gave piece m) → IsTaken rest piece (if h then map Hears (lines_behind rest piece) else []) behind
+taken : (h : Bool) (rest behind piece : List ℕ) (m : Moment) → behind ≡ left_of h rest (Gave piece m) → IsTaken rest piece (if h then map Hears (lines_completed rest piece) else []) behind
 taken true rest behind piece m e = inl (refl, e)
 taken false rest behind piece m e = inr (refl, e)
 

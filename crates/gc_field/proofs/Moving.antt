@@ -25,7 +25,7 @@ use Rattle.gc_field.proofs.Answered.{AllSo, IsSo, all_so_get}
 use Rattle.gc_field.specs.Once.{ActsOnce, IsInOrder}
 use Rattle.gc_field.proofs.Once.{IsUnknown, acts_once, once_few, climbing_first, order_few, ordered_first, true_is_not}
 use Rattle.gc_field.proofs.KeptReplies.{IsVouched, kept_one, IsOn}
-use Rattle.gc_field.proofs.Vouched.{Vouched, True, true_requested, true_down, true_line, true_started, true_changed}
+use Rattle.gc_field.proofs.Vouched.{Vouched, AllVouched, true_requested, true_down, true_line, true_started, true_changed}
 
 module _ {State : Type 0} (width : ℕ) (narrow : width ≤ 7) (ends : Ends State) (Good : State → Type 0) (ex : IsExchange ends Good) (kept : State → Option KeptReply) where
   -- the world of ids and the world of numbers agree, and the latter is sound: its line keeps order, with ids that belong to its
@@ -134,9 +134,9 @@ module _ {State : Type 0} (width : ℕ) (ends : Ends State) (M : ℕ → Asked �
 
 module _ {State : Type 0} (width : ℕ) (narrow : width ≤ 7) (knows : Asked → Bool) (ends : Ends State) (Good : State → Type 0) (ex : IsExchange ends Good)
     (kept : State → Option KeptReply) (keeper : IsAnInstrumentFor ends Good kept knows) (low : ℕ) (E : ℕ → Type 0) (Plain : Type 0) (M : ℕ → Asked → List ℕ → Type 0) where
-  -- the invariant `True` of `Vouched`, for these parameters: each reply in flight and each answer was made for its own request
+  -- the invariant `AllVouched` of `Vouched`, for these parameters: each reply in flight and each answer was made for its own request
   abbrev pub Trusted : World (ByNumber Asked) State → Type 0
-  Trusted w = True width narrow knows ends Good kept keeper low E Plain M w
+  Trusted w = AllVouched width narrow knows ends Good kept keeper low E Plain M w
 
   -- the line is vouched for as a reply to request n, or request n is one of those that are excepted
   abbrev Vouches : (w : World (ByNumber Asked) State) → Trusted w → ℕ → List ℕ → Type 0

@@ -21,6 +21,7 @@ use Rattle.gc_field.specs.Laws.{WasExecuted}
 use Rattle.gc_field.specs.Needed.{Keeper, IsAllNeeded, InOrder, value, refusal, kept, keeper, held, again_or, refuses_or, answers_in, deals_anew, refuses_raws, sound, forgets, comes_twice}
 use Rattle.gc_field.specs.Once.{ActsOnce}
 use Rattle.gc_field.specs.World.{Sent}
+use Rattle.gc_field.proofs.Once.{true_is_not}
 
 -- where n is held for an id, the reply with that id and n is kept
 pub kept_own : (k : Keeper) (id n : ℕ) → held k id ≡ Some n → kept k ≡ Some (record { id = id; line = value id n })
@@ -37,10 +38,6 @@ reads_value id n small = ap id_in (reply_back (record { rc_com = 0; id = Some id
 -- a reply that refuses has its id
 reads_refusal : (id : ℕ) → id < 8 → heard (refusal id) ≡ Some id
 reads_refusal id small = ap id_in (reply_back (record { rc_com = 3081; id = Some id; rc = 0; params = [] }) (record { rc_com = lit< tt; id = small; rc = lit< tt }))
-
--- true isn't false
-true_is_not : true ≡ false → ⊥
-true_is_not e = cc
 
 -- the reply of `again_or` has its request's id
 again_reads : (k : Keeper) (id : ℕ) (o : Option ℕ) → id < 8 → heard (again_or id k o).reply ≡ Some id

@@ -25,7 +25,7 @@ use Rattle.gc_texts.specs.declared.tasks.Task.{Task}
 use Rattle.gc_station.specs.Links.{ChainsStay, MarksGoOn, RecordsStay, parts}
 use Rattle.gc_station.specs.Parts.{IsOf}
 use Rattle.gc_station.specs.Records.{Record}
-use Rattle.gc_station.specs.Runs.{stood}
+use Rattle.gc_station.specs.Runs.{state_after}
 use Rattle.gc_station.specs.Scopes.{Scope}
 use Rattle.gc_station.specs.declared.plan.Plan.{Plan}
 use Rattle.gc_station.proofs.Booking.{of_at}
@@ -46,6 +46,7 @@ use Rattle.gc_field.specs.Shown.{Stretch, stretches}
 use Rattle.gc_field.proofs.Chained.{chains_executed, sent_at}
 use Rattle.gc_field.proofs.Instruments.{simulator}
 use Rattle.gc_field.proofs.Joining.{run_faithful}
+use Rattle.gc_field.proofs.Once.{true_is_not}
 
 -- What executing a call makes of the simulator.
 
@@ -53,10 +54,6 @@ use Rattle.gc_field.proofs.Joining.{run_faithful}
 exec_bare : (s : State) (asked : Asked) → behind_call (bare s) asked ≡ bare (behind_call s asked)
 exec_bare s (Table c) = ap (λ (x : Executed). x.state) (executes_apart s None c)
 exec_bare s (Raw raw) = refl
-
--- true isn't false
-true_is_not : true ≡ false → ⊥
-true_is_not e = cc
 
 -- if the simulator sends a line again, its state stays as it was
 handed_same : (s : State) (id : ℕ) (c : Call) (o : Option (List ℕ)) → kept_line s.kept (Some id) ≡ o → (calls.handed s id c).executed ≡ false → (calls.handed s id c).state ≡ s
@@ -202,7 +199,7 @@ module _ (plan : Plan) (commands : List Task) (scope : Scope) (acts : List Act) 
   ss = stretches ends u rs
 
   module _ (b : Record) (line : List ℕ) (a : ℕ) (h : IsChainedTo ends IsFittingState kept_of scope.reads commands (parts plan commands scope acts) ss
-      (stood plan commands scope acts).records a b line) (still : AreStill commands a b.place) where
+      (state_after plan commands scope acts).records a b line) (still : AreStill commands a b.place) where
     -- a request between those of the chain's two commands turns no telescope, by its mark: it is a null procedure, or for a
     -- command between them
     still_by : (x : ℕ) (r : Sent) (o : Option _) (above : h.m < x) (under : x < h.n) → slice_get h.part.marks x ≡ Some o → (y : Wanted Asked) → asked r ≡ y → IsOf commands o y → turns r.call ≡ false
@@ -229,7 +226,7 @@ module _ (plan : Plan) (commands : List Task) (scope : Scope) (acts : List Act) 
         still_at (k - 8) r (omega (arith, above)) (omega (arith, above, under)) (get_own 8 (k - 8) k (world ends h.stretch).wire.sent r (omega (arith, above)) got)
 
     -- if nothing disturbs the simulator between the two executions, the telescope points as the earlier one left it
-    pointed_there : IsUndisturbed h.executed.between → IsMeasuredWhereItPointed scope.reads commands (parts plan commands scope acts) ss (stood plan commands scope acts).records a b line h
+    pointed_there : IsUndisturbed h.executed.between → IsMeasuredWhereItPointed scope.reads commands (parts plan commands scope acts) ss (state_after plan commands scope acts).records a b line h
     pointed_there quiet =
         let x = h.executed in
         let s = (behind ends h.stretch x.first.front).state in
@@ -254,9 +251,9 @@ module _ (plan : Plan) (commands : List Task) (scope : Scope) (acts : List Act) 
 
   -- if the laws of stations `ChainsStay`, `MarksGoOn` and `RecordsStay` hold, each record of a run over the simulator is
   -- `IsPointedInChain`
-  pub pointed : ChainsStay → MarksGoOn → RecordsStay → AllByRecursion (IsPointedInChain plan commands scope acts u rs) (stood plan commands scope acts).records
+  pub pointed : ChainsStay → MarksGoOn → RecordsStay → AllByRecursion (IsPointedInChain plan commands scope acts u rs) (state_after plan commands scope acts).records
   pointed stay go_on records_stay =
       all_so (IsExecutedInChain ends IsFittingState kept_of plan commands scope acts u rs) (IsPointedInChain plan commands scope acts u rs)
       (λ b h line a answered many low less chained. let c = h line a answered many low less chained in (c, λ still quiet. pointed_there b line a c still quiet))
-      (stood plan commands scope acts).records
+      (state_after plan commands scope acts).records
       (chains_executed ends IsFittingState kept_of simulator.is stay go_on records_stay plan commands scope acts u rs field)

@@ -28,6 +28,7 @@ use Rattle.gc_scenes.specs.declared.rules.Fault.{Fault}
 use Rattle.gc_scenes.specs.declared.rules.Scripted.{Scripted}
 use Rattle.gc_field.specs.Instrument.{KeepsItsOwn}
 use Rattle.gc_field.specs.SceneField.{scene_handed, scene_ends, scene_kept, KeepsAReply, IsHeard, SceneIsAnInstrument}
+use Rattle.gc_field.proofs.Once.{true_is_not}
 
 -- equal numbers within `Some` are equal
 some_number : (a b : ℕ) → Some a ≡ Some b → a ≡ b
@@ -36,10 +37,6 @@ some_number a b e = cc
 -- equal outcomes within `Some` are equal
 some_played : (a b : Played) → Some a ≡ Some b → a ≡ b
 some_played a b e = cc
-
--- false isn't true
-never : true ≡ false → ⊥
-never e = cc
 
 -- if the kept line for an id is this one, this line is kept, with that id
 kept_own : (k : Option KeptReply) (id : ℕ) (line : List ℕ) → kept_line k (Some id) ≡ Some line → k ≡ Some (record { id = id; line = line })
@@ -85,7 +82,7 @@ played_does s id known p None again small code =
     let line = line_of id p in
     record {
       reads = λ good. line_heard id p small code;
-      repeats = λ not. absurd (never not);
+      repeats = λ not. absurd (true_is_not not);
       keeps = inl (own_or_none p.state.repeats id line p.state.base.kept);
       good = λ good. kept_heard p.state.repeats id line p.state.base.kept (line_heard id p small code);
     }
@@ -128,7 +125,7 @@ raw_by : (s : SceneState) (id rpc : ℕ) (o : Option Played) → id < 8 → ((p 
 raw_by s id rpc (Some p) small code = played_does s id false p (again_for s (Some id)) refl small (code p refl)
 raw_by s id rpc None small code = record {
   reads = λ good. ap id_in (reply_back (record { rc_com = 3081; id = Some id; rc = 0; params = [] }) (record { rc_com = lit< tt; id = small; rc = lit< tt }));
-  repeats = λ not. absurd (never not);
+  repeats = λ not. absurd (true_is_not not);
   keeps = inr (refl, refl);
   good = λ good. good;
 }

@@ -3,7 +3,7 @@
 -- request has that is executed. The client is the one that is given the number of each reply's request: `count` of its requests
 -- are settled, and the id of request n is n - `since`, modulo 8. After a request that `knows` names the instrument keeps its
 -- own reply to that, or nothing; after another one it may keep what it kept: so what it keeps is a reply to `table`, the last
--- such request that it was handed, or to a later request. `True` is the invariant of a world: each reply in flight, the kept
+-- such request that it was handed, or to a later request. `AllVouched` is the invariant of a world: each reply in flight, the kept
 -- reply and each answer was made so.
 use Rattle.std.proofs.Common.{◌≡◌, ℕ, ◌+◌, ◌-◌, ◌%◌, ◌<◌, ◌≤◌, ◌⊎◌, inl, inr, Bool, true, false, List, [], ◌∷◌, ◌++◌, length, drop, Option, Some, None, refl, sym, ◌∙◌, ap, subst, arith, ltb, eqb}
 use Rattle.std.proofs.lemmas.List.{length_push}
@@ -25,8 +25,8 @@ use Rattle.gc_world.proofs.Sound.{IsGoing, Sound}
 use Rattle.gc_field.specs.Field.{IsOfLine}
 use Rattle.gc_field.specs.Instrument.{IsAnInstrumentFor, KeepsItsReply}
 use Rattle.gc_field.proofs.Answered.{AllSo, all_so_more, all_so_append, all_so_settle}
-use Rattle.gc_field.proofs.Once.{IsClimbing, IsIdle, IsOrdered, IsUnknown, climbing_started, climbing_acted, climbing_handed, climbing_sent, known_not, ordered_acted, ordered_handed, unknown_more, why_acted}
-use Rattle.gc_field.proofs.KeptReplies.{rising_each, rising_tail, true_is_not, IsKept, KeptIs, kept_more, kept_still, newest, newest_up, newest_low, IsDealt, newest_dealt, kept_handed, IsVouched, IsOn}
+use Rattle.gc_field.proofs.Once.{IsClimbing, IsIdle, IsOrdered, IsUnknown, climbing_started, climbing_acted, climbing_handed, climbing_sent, known_not, ordered_acted, ordered_handed, unknown_more, why_acted, true_is_not}
+use Rattle.gc_field.proofs.KeptReplies.{rising_each, rising_tail, IsKept, KeptIs, kept_more, kept_still, newest, newest_up, newest_low, IsDealt, newest_dealt, kept_handed, IsVouched, IsOn}
 
 module _ {State : Type 0} (width : ℕ) (narrow : width ≤ 7) (knows : Asked → Bool) (ends : Ends State) (Good : State → Type 0)
     (kept : State → Option KeptReply) (keeper : IsAnInstrumentFor ends Good kept knows) (low : ℕ) (E : ℕ → Type 0) (Plain : Type 0) (M : ℕ → Asked → List ℕ → Type 0) where
@@ -65,7 +65,7 @@ module _ {State : Type 0} (width : ℕ) (narrow : width ≤ 7) (knows : Asked �
 
   -- the invariant, over the fields of a world: each reply in flight, the kept reply `k`, and each answer is vouched for;
   -- executions are in order, and each request acts once to which the instrument keeps its reply
-  pub record IsTrue (since count : ℕ) (sent : List Sent) (executed starts : List ℕ) (made : List (Numbered (List ℕ))) (settled : List (Settlement Asked))
+  pub record AllVouchedIn (since count : ℕ) (sent : List Sent) (executed starts : List ℕ) (made : List (Numbered (List ℕ))) (settled : List (Settlement Asked))
       (up : List (Numbered Request)) (down : List (Numbered (List ℕ))) (k : Option KeptReply) : Type 0 where
     -- the number of the last request that the instrument was handed is one less than this
     pub top : ℕ
@@ -86,14 +86,14 @@ module _ {State : Type 0} (width : ℕ) (narrow : width ≤ 7) (knows : Asked �
     pub once : (keeps : Asked → Bool) → KeepsItsReply ends Good kept keeps → IsClimbing keeps ((top - 1 - since) % 8) top sent executed starts k
 
   -- the invariant of a world
-  abbrev pub True : World (ByNumber Asked) State → Type 0
-  True w = IsTrue w.client.since w.client.count w.wire.sent w.wire.executed w.wire.starts w.wire.made w.wire.settled w.wire.up w.wire.down (kept w.wire.state)
+  abbrev pub AllVouched : World (ByNumber Asked) State → Type 0
+  AllVouched w = AllVouchedIn w.client.since w.client.count w.wire.sent w.wire.executed w.wire.starts w.wire.made w.wire.settled w.wire.up w.wire.down (kept w.wire.state)
 
-  -- `IsTrue` is preserved if a request is sent, which is known if all have to be
+  -- `AllVouchedIn` is preserved if a request is sent, which is known if all have to be
   true_sent : (since count : ℕ) (sent : List Sent) (executed starts : List ℕ) (made : List (Numbered (List ℕ))) (settled : List (Settlement Asked))
       (up : List (Numbered Request)) (down : List (Numbered (List ℕ))) (k : Option KeptReply) (target id : ℕ) (call : Asked) → id < 8 → (Plain → knows call ≡ true)
-      → IsTrue since count sent executed starts made settled up down k
-      → IsTrue since count (sent ++ record { target = target; call = call; line = asked_line (Some id) call } ∷ []) executed starts made settled
+      → AllVouchedIn since count sent executed starts made settled up down k
+      → AllVouchedIn since count (sent ++ record { target = target; call = call; line = asked_line (Some id) call } ∷ []) executed starts made settled
       (up ++ record { number = length sent; line = record { id = id; call = call } } ∷ []) down k
   true_sent since count sent executed starts made settled up down k target id call digit plain h =
       let r : Sent = record { target = target; call = call; line = asked_line (Some id) call } in
@@ -122,15 +122,15 @@ module _ {State : Type 0} (width : ℕ) (narrow : width ≤ 7) (knows : Asked �
       near_sent r plain (inl n) = inl (n.0, n.1, each_append (λ (r : Sent). knows r.call ≡ true) sent (r ∷ []) n.2 (plain n.0, tt))
       near_sent r plain (inr n) = inr n
 
-  -- `True` is preserved if the client sends a request
+  -- `AllVouched` is preserved if the client sends a request
   true_send : (w : World (ByNumber Asked) State) (target : ℕ) (call : Asked) (deadline : ℕ) (full : Bool) (x : Sending (ByNumber Asked)) → (Plain → knows call ≡ true)
-      → number_send w.client target call deadline full ≡ Some x → True w → True (requested w target call (Some x))
+      → number_send w.client target call deadline full ≡ Some x → AllVouched w → AllVouched (requested w target call (Some x))
   true_send w target call deadline true x plain e h = cc
   true_send w target call deadline false x plain e h =
       let c = w.client in
       let id = (length c.requests - c.since) % 8 in
       let y : Sending (ByNumber Asked) = record { id = id; client = record { count = c.count; requests = c.requests ++ pending_of target call deadline ∷ []; since = c.since } } in
-      subst (λ z. True (requested w target call (Some z))) (some_is y x e)
+      subst (λ z. AllVouched (requested w target call (Some z))) (some_is y x e)
       (true_sent c.since c.count w.wire.sent w.wire.executed w.wire.starts w.wire.made w.wire.settled w.wire.up w.wire.down (kept w.wire.state) target id call (omega arith) plain h)
 
   -- A request that reaches the instrument.
@@ -160,8 +160,8 @@ module _ {State : Type 0} (width : ℕ) (narrow : width ≤ 7) (knows : Asked �
   near_of sent top table n few (inl h) = inr (omega (arith, few, h.1))
   near_of sent top table n few (inr f) = f n
 
-  -- what `True` says of the front request, x
-  record IsFront (w : World (ByNumber Asked) State) (h : True w) (x : Numbered Request) (known : Bool) : Type 0 where
+  -- what `AllVouched` says of the front request, x
+  record IsFront (w : World (ByNumber Asked) State) (h : AllVouched w) (x : Numbered Request) (known : Bool) : Type 0 where
     recent : w.client.since ≤ x.number
     sent : x.number < length w.wire.sent
     id : x.line.id ≡ (x.number - w.client.since) % 8
@@ -175,7 +175,7 @@ module _ {State : Type 0} (width : ℕ) (narrow : width ≤ 7) (knows : Asked �
 
   -- each front request is so
   front_is : (w : World (ByNumber Asked) State) (x : Numbered Request) (rest : List (Numbered Request)) (known : Bool) → w.wire.up ≡ x ∷ rest → knows x.line.call ≡ known → Sound width ends Good w
-      → (h : True w) → IsFront w h x known
+      → (h : AllVouched w) → IsFront w h x known
   front_is w x rest known q is s h =
       let c = w.client in
       let g = (subst (λ l. Each (IsGoing c.since (length c.requests)) l) q s.going).0 in
@@ -194,15 +194,15 @@ module _ {State : Type 0} (width : ℕ) (narrow : width ≤ 7) (knows : Asked �
         all = λ every. sym is ∙ sym (ap knows o.call) ∙ each_get (λ (r : Sent). knows r.call ≡ true) w.wire.sent x.number o.request every o.found;
       }
 
-  -- `IsTrue` is preserved if the front request, x, is handed to the instrument, if what it sends is vouched for, and the executions
+  -- `AllVouchedIn` is preserved if the front request, x, is handed to the instrument, if what it sends is vouched for, and the executions
   -- are in order and act once
   true_on : (w : World (ByNumber Asked) State) (x : Numbered Request) (rest : List (Numbered Request)) (known : Bool) (line executed : List ℕ) (after : Option KeptReply) → w.wire.up ≡ x ∷ rest
-      → (h : True w) → IsFront w h x known → Sound width ends Good w → ((i : ℕ) → Has i w.wire.executed → Has i executed)
+      → (h : AllVouched w) → IsFront w h x known → Sound width ends Good w → ((i : ℕ) → Has i w.wire.executed → Has i executed)
       → ((after ≡ None) ⊎ (after ≡ Some (record { id = x.line.id; line = line }))) ⊎ ((known ≡ false) × (after ≡ kept w.wire.state))
       → E x.number ⊎ IsVouched ends Good M w.wire.sent executed (w.wire.made ++ record { number = x.number; line = line } ∷ []) x.number line
       → IsOrdered (x.number + 1) executed
       → ((keeps : Asked → Bool) → KeepsItsReply ends Good kept keeps → IsClimbing keeps ((x.number + 1 - 1 - w.client.since) % 8) (x.number + 1) w.wire.sent executed w.wire.starts after)
-      → IsTrue w.client.since w.client.count w.wire.sent executed w.wire.starts (w.wire.made ++ record { number = x.number; line = line } ∷ []) w.wire.settled rest
+      → AllVouchedIn w.client.since w.client.count w.wire.sent executed w.wire.starts (w.wire.made ++ record { number = x.number; line = line } ∷ []) w.wire.settled rest
       (w.wire.down ++ record { number = x.number; line = line } ∷ []) after
   true_on w x rest known line executed after q h front s lasts now new order once =
       let c = w.client in
@@ -239,7 +239,7 @@ module _ {State : Type 0} (width : ℕ) (narrow : width ≤ 7) (knows : Asked �
       }
 
   -- if the front request isn't executed, the line that is sent again is vouched for as its reply, or the request is excepted
-  again_own : (w : World (ByNumber Asked) State) (x : Numbered Request) (known : Bool) (line : List ℕ) (k : Option KeptReply) → (h : True w) → IsFront w h x known → kept w.wire.state ≡ k
+  again_own : (w : World (ByNumber Asked) State) (x : Numbered Request) (known : Bool) (line : List ℕ) (k : Option KeptReply) → (h : AllVouched w) → IsFront w h x known → kept w.wire.state ≡ k
       → k ≡ Some (record { id = x.line.id; line = line })
       → E x.number ⊎ IsVouched ends Good M w.wire.sent w.wire.executed (w.wire.made ++ record { number = x.number; line = line } ∷ []) x.number line
   again_own w x known line None h front ke e = absurd (none_is_not (record { id = x.line.id; line = line }) e)
@@ -269,10 +269,10 @@ module _ {State : Type 0} (width : ℕ) (narrow : width ≤ 7) (knows : Asked �
       )
   held_by w x hd keeps false e is handed good since own o = inl (o.request, o.found, ap keeps o.call ∙ e)
 
-  -- `True` is preserved if the front request isn't executed, and the kept line is sent again for it
+  -- `AllVouched` is preserved if the front request isn't executed, and the kept line is sent again for it
   true_again : (w : World (ByNumber Asked) State) (x : Numbered Request) (rest : List (Numbered Request)) (hd : Handed State) (known : Bool) → w.wire.up ≡ x ∷ rest
       → ends.handed w.wire.state x.line.id x.line.call ≡ hd → knows x.line.call ≡ known → kept w.wire.state ≡ Some (record { id = x.line.id; line = hd.reply }) → AfterIs w x hd known
-      → Sound width ends Good w → True w → True (on_wire w (replied w.wire x.number rest (record hd { executed = false })))
+      → Sound width ends Good w → AllVouched w → AllVouched (on_wire w (replied w.wire x.number rest (record hd { executed = false })))
   true_again w x rest hd known q is what same now s h =
       let c = w.client in
       let v = w.wire in
@@ -286,7 +286,7 @@ module _ {State : Type 0} (width : ℕ) (narrow : width ≤ 7) (knows : Asked �
   -- if the front request is executed, it isn't one to which the instrument keeps its reply; or nothing was executed since the
   -- last start, or it is later than all that were handed before, and its reply is kept
   acted_by : (w : World (ByNumber Asked) State) (x : Numbered Request) (hd : Handed State) (known : Bool) (keeps : Asked → Bool) (b : Bool) → keeps x.line.call ≡ b
-      → KeepsItsReply ends Good kept keeps → ends.handed w.wire.state x.line.id x.line.call ≡ hd → hd.executed ≡ true → Good w.wire.state → (h : True w) → IsFront w h x known
+      → KeepsItsReply ends Good kept keeps → ends.handed w.wire.state x.line.id x.line.call ≡ hd → hd.executed ≡ true → Good w.wire.state → (h : AllVouched w) → IsFront w h x known
       → IsUnknown keeps w.wire.sent x.number
       ⊎ ((IsIdle w.wire.executed w.wire.starts ⊎ (h.top ≤ x.number)) × (kept hd.state ≡ Some (record { id = x.line.id; line = hd.reply }))
       × (x.line.id ≡ (x.number + 1 - 1 - w.client.since) % 8))
@@ -302,10 +302,10 @@ module _ {State : Type 0} (width : ℕ) (narrow : width ≤ 7) (knows : Asked �
       )
   acted_by w x hd known keeps false e k is exe good h front = inl (front.of.request, front.of.found, ap keeps front.of.call ∙ e)
 
-  -- `True` is preserved if the front request is executed
+  -- `AllVouched` is preserved if the front request is executed
   true_new : (w : World (ByNumber Asked) State) (x : Numbered Request) (rest : List (Numbered Request)) (hd : Handed State) (known : Bool) → w.wire.up ≡ x ∷ rest
       → ends.handed w.wire.state x.line.id x.line.call ≡ hd → knows x.line.call ≡ known → hd.executed ≡ true → M x.number x.line.call hd.reply → AfterIs w x hd known
-      → Sound width ends Good w → True w → True (on_wire w (replied w.wire x.number rest (record hd { executed = true })))
+      → Sound width ends Good w → AllVouched w → AllVouched (on_wire w (replied w.wire x.number rest (record hd { executed = true })))
   true_new w x rest hd known q is what exe on now s h =
       let c = w.client in
       let v = w.wire in
@@ -333,10 +333,10 @@ module _ {State : Type 0} (width : ℕ) (narrow : width ≤ 7) (knows : Asked �
       (λ keeps k. climbing_acted keeps ((h.top - 1 - c.since) % 8) ((n + 1 - 1 - c.since) % 8) h.top n v.sent v.executed v.starts (kept v.state) (kept hd.state)
       (record { id = x.line.id; line = hd.reply }) front.top (acted_by w x hd known keeps (keeps x.line.call) refl k is exe s.good h front) (h.once keeps k))
 
-  -- `True` is preserved if the front request is handed to the instrument, whether that executes the request (`b`) or not
+  -- `AllVouched` is preserved if the front request is handed to the instrument, whether that executes the request (`b`) or not
   true_handed : (w : World (ByNumber Asked) State) (x : Numbered Request) (rest : List (Numbered Request)) (hd : Handed State) (b : Bool) → w.wire.up ≡ x ∷ rest
       → ends.handed w.wire.state x.line.id x.line.call ≡ hd → hd.executed ≡ b → (hd.executed ≡ true → M x.number x.line.call hd.reply)
-      → Sound width ends Good w → True w → True (on_wire w (replied w.wire x.number rest (record hd { executed = b })))
+      → Sound width ends Good w → AllVouched w → AllVouched (on_wire w (replied w.wire x.number rest (record hd { executed = b })))
   true_handed w x rest hd b q is exe on s h = chosen b exe where
     small : x.line.id < 8
     small = (subst (λ l. Each (IsOf written w.wire.sent) l) q h.lines).0.small
@@ -352,14 +352,14 @@ module _ {State : Type 0} (width : ℕ) (narrow : width ≤ 7) (knows : Asked �
         subst (λ (k : Handed State). k.executed ≡ false → kept w.wire.state ≡ Some (record { id = x.line.id; line = k.reply })) is
         (keeper.repeats w.wire.state x.line.id x.line.call s.good small) not
 
-    chosen : (b : Bool) → hd.executed ≡ b → True (on_wire w (replied w.wire x.number rest (record hd { executed = b })))
+    chosen : (b : Bool) → hd.executed ≡ b → AllVouched (on_wire w (replied w.wire x.number rest (record hd { executed = b })))
     chosen false not = true_again w x rest hd (knows x.line.call) q is refl (same not) now s h
     chosen true exe = true_new w x rest hd (knows x.line.call) q is refl exe (on exe) now s h
 
-  -- `True` is preserved if the front reply comes, be its request settled already (`old`) or not
+  -- `AllVouched` is preserved if the front reply comes, be its request settled already (`old`) or not
   true_reply : (w : World (ByNumber Asked) State) (x : Numbered (List ℕ)) (rest : List (Numbered (List ℕ))) (old : Bool) → ltb x.number w.client.count ≡ old
-      → w.wire.down ≡ x ∷ rest → length w.wire.settled ≡ w.client.count → True w
-      → True (with_settled (record w.wire { down = rest }) (number_reply w.client x old))
+      → w.wire.down ≡ x ∷ rest → length w.wire.settled ≡ w.client.count → AllVouched w
+      → AllVouched (with_settled (record w.wire { down = rest }) (number_reply w.client x old))
   true_reply w x rest true t e s h =
       let v = w.wire in
       let P = Vouched v.sent v.executed v.made h.table in
@@ -408,8 +408,8 @@ module _ {State : Type 0} (width : ℕ) (narrow : width ≤ 7) (knows : Asked �
         once = h.once;
       }
 
-  -- `True` is preserved if the instrument starts again, whatever is in flight
-  pub true_started : (w : World (ByNumber Asked) State) (b : Bool) → Good w.wire.state → True w → True (on_wire w (started ends w.wire b))
+  -- `AllVouched` is preserved if the instrument starts again, whatever is in flight
+  pub true_started : (w : World (ByNumber Asked) State) (b : Bool) → Good w.wire.state → AllVouched w → AllVouched (on_wire w (started ends w.wire b))
   true_started w false good h = h
   true_started w true good h =
       let v = w.wire in
@@ -433,8 +433,8 @@ module _ {State : Type 0} (width : ℕ) (narrow : width ≤ 7) (knows : Asked �
             climbing_started keeps ((h.top - 1 - w.client.since) % 8) h.top v.sent v.executed v.starts (kept v.state) (kept (ends.restarted v.state)) (keeper.starts v.state good) (h.once keeps k);
       }
 
-  -- `True` is preserved if the instrument's state changes by itself
-  pub true_changed : (w : World (ByNumber Asked) State) (state : State) → kept state ≡ kept w.wire.state → True w → True (on_wire w (record w.wire { state = state }))
+  -- `AllVouched` is preserved if the instrument's state changes by itself
+  pub true_changed : (w : World (ByNumber Asked) State) (state : State) → kept state ≡ kept w.wire.state → AllVouched w → AllVouched (on_wire w (record w.wire { state = state }))
   true_changed w state same h =
       let v = w.wire in
       record {
@@ -455,10 +455,10 @@ module _ {State : Type 0} (width : ℕ) (narrow : width ≤ 7) (knows : Asked �
         once = λ keeps k. subst (λ o. IsClimbing keeps ((h.top - 1 - w.client.since) % 8) h.top v.sent v.executed v.starts o) (sym same) (h.once keeps k);
       }
 
-  -- `True` is preserved if the lines in flight change, if those that are in flight now still have what the invariant says of each
-  true_queues : (w : World (ByNumber Asked) State) (up : List (Numbered Request)) (down : List (Numbered (List ℕ))) (h : True w)
+  -- `AllVouched` is preserved if the lines in flight change, if those that are in flight now still have what the invariant says of each
+  true_queues : (w : World (ByNumber Asked) State) (up : List (Numbered Request)) (down : List (Numbered (List ℕ))) (h : AllVouched w)
       → Each (λ x. h.top ≤ x.number + 1) up → Each (IsOf written w.wire.sent) up → Each (λ x. x.number < h.top) down
-      → Each (λ x. Vouched w.wire.sent w.wire.executed w.wire.made h.table x.number x.line) down → True (on_wire w (record w.wire { up = up; down = down }))
+      → Each (λ x. Vouched w.wire.sent w.wire.executed w.wire.made h.table x.number x.line) down → AllVouched (on_wire w (record w.wire { up = up; down = down }))
   true_queues w up down h a l b c = record {
     top = h.top;
     table = h.table;
@@ -477,48 +477,48 @@ module _ {State : Type 0} (width : ℕ) (narrow : width ≤ 7) (knows : Asked �
     once = h.once;
   }
 
-  -- `True` is preserved by a step that does nothing but count itself
-  true_idle : (w : World (ByNumber Asked) State) → True w → True (on_wire w (idle w.wire))
+  -- `AllVouched` is preserved by a step that does nothing but count itself
+  true_idle : (w : World (ByNumber Asked) State) → AllVouched w → AllVouched (on_wire w (idle w.wire))
   true_idle w h = h
 
   -- A move of the line, and a reply that comes.
 
-  -- `True` is preserved if the front request reaches the instrument, if `IsOn` holds of it
+  -- `AllVouched` is preserved if the front request reaches the instrument, if `IsOn` holds of it
   pub true_up : (w : World (ByNumber Asked) State) (q : List (Numbered Request)) → w.wire.up ≡ q
-      → ((x : Numbered Request) (rest : List (Numbered Request)) → q ≡ x ∷ rest → IsOn ends M w x) → Sound width ends Good w → True w
-      → True (on_wire w (up_delivered ends w.wire q))
+      → ((x : Numbered Request) (rest : List (Numbered Request)) → q ≡ x ∷ rest → IsOn ends M w x) → Sound width ends Good w → AllVouched w
+      → AllVouched (on_wire w (up_delivered ends w.wire q))
   true_up w [] e on s h = true_idle w h
   true_up w (x ∷ rest) e on s h =
       true_handed w x rest (ends.handed w.wire.state x.line.id x.line.call) (ends.handed w.wire.state x.line.id x.line.call).executed e refl refl (on x rest refl) s h
 
-  -- `True` is preserved if the front reply comes
-  pub true_down : (w : World (ByNumber Asked) State) (q : List (Numbered (List ℕ))) → w.wire.down ≡ q → Sound width ends Good w → True w → True (down_delivered (by_numbers width) w q)
+  -- `AllVouched` is preserved if the front reply comes
+  pub true_down : (w : World (ByNumber Asked) State) (q : List (Numbered (List ℕ))) → w.wire.down ≡ q → Sound width ends Good w → AllVouched w → AllVouched (down_delivered (by_numbers width) w q)
   true_down w [] e s h = true_idle w h
   true_down w (x ∷ rest) e s h = true_reply w x rest (ltb x.number w.client.count) refl e s.booked h
 
-  -- `True` is preserved by a loss or a repeat of a request in flight; if there is none at that place (`b` is false), nothing happens
-  true_with_up : (w : World (ByNumber Asked) State) (up : List (Numbered Request)) (b : Bool) (h : True w)
-      → Each (λ x. h.top ≤ x.number + 1) up → Each (IsOf written w.wire.sent) up → True (on_wire w (with_up w.wire up b))
+  -- `AllVouched` is preserved by a loss or a repeat of a request in flight; if there is none at that place (`b` is false), nothing happens
+  true_with_up : (w : World (ByNumber Asked) State) (up : List (Numbered Request)) (b : Bool) (h : AllVouched w)
+      → Each (λ x. h.top ≤ x.number + 1) up → Each (IsOf written w.wire.sent) up → AllVouched (on_wire w (with_up w.wire up b))
   true_with_up w up false h a l = true_idle w h
   true_with_up w up true h a l = true_queues w up w.wire.down h a l h.below h.coming
 
-  -- `True` is preserved by a loss or a repeat of a reply in flight; if there is none at that place (`b` is false), nothing happens
-  true_with_down : (w : World (ByNumber Asked) State) (down : List (Numbered (List ℕ))) (b : Bool) (h : True w)
+  -- `AllVouched` is preserved by a loss or a repeat of a reply in flight; if there is none at that place (`b` is false), nothing happens
+  true_with_down : (w : World (ByNumber Asked) State) (down : List (Numbered (List ℕ))) (b : Bool) (h : AllVouched w)
       → Each (λ x. x.number < h.top) down → Each (λ x. Vouched w.wire.sent w.wire.executed w.wire.made h.table x.number x.line) down
-      → True (on_wire w (with_down w.wire down b))
+      → AllVouched (on_wire w (with_down w.wire down b))
   true_with_down w down false h l c = true_idle w h
   true_with_down w down true h l c = true_queues w w.wire.up down h h.above h.lines l c
 
-  -- `True` is preserved by a send, refused or not
+  -- `AllVouched` is preserved by a send, refused or not
   pub true_requested : (w : World (ByNumber Asked) State) (target : ℕ) (call : Asked) (deadline : ℕ) (o : Option (Sending (ByNumber Asked))) → (Plain → knows call ≡ true)
-      → (by_numbers width).send w.client target call deadline ≡ o → True w → True (requested w target call o)
+      → (by_numbers width).send w.client target call deadline ≡ o → AllVouched w → AllVouched (requested w target call o)
   true_requested w target call deadline None plain e h = h
   true_requested w target call deadline (Some x) plain e h = true_send w target call deadline (eqb (length w.client.requests - w.client.count) width) x plain e h
 
-  -- `True` is preserved by a step of the line
+  -- `AllVouched` is preserved by a step of the line
   pub true_line : (w : World (ByNumber Asked) State) (step : Step) → IsOfLine step
-      → ((x : Numbered Request) (rest : List (Numbered Request)) → step ≡ Up_deliver → w.wire.up ≡ x ∷ rest → IsOn ends M w x) → Sound width ends Good w → True w
-      → True (happens ends (by_numbers width) w step)
+      → ((x : Numbered Request) (rest : List (Numbered Request)) → step ≡ Up_deliver → w.wire.up ≡ x ∷ rest → IsOn ends M w x) → Sound width ends Good w → AllVouched w
+      → AllVouched (happens ends (by_numbers width) w step)
   true_line w (Send target call deadline) p on s h = absurd p
   true_line w Up_deliver p on s h = true_up w w.wire.up refl (λ x rest e. on x rest refl e) s h
   true_line w (Up_lose k) p on s h = true_with_up w (without k w.wire.up) (ltb k (length w.wire.up)) h (each_without _ k w.wire.up h.above) (each_without _ k w.wire.up h.lines)

@@ -14,10 +14,10 @@ use Rattle.gc_texts.specs.Endings as end
 use Rattle.gc_texts.specs.declared.quality.Quality.TheVariants.{Fine}
 use Rattle.gc_station.specs.declared.plan.Plan.{Plan}
 use Rattle.gc_links.specs.Acts.{Act, Told, Put, Gave, Silent, Closed}
-use Rattle.gc_station.specs.Beginnings.{IsAnew}
+use Rattle.gc_station.specs.Beginnings.{IsResynchronizing}
 use Rattle.gc_station.specs.Progressing.{is_over}
 use Rattle.gc_station.specs.Records.{Record}
-use Rattle.gc_station.specs.Runs.{stood}
+use Rattle.gc_station.specs.Runs.{state_after}
 use Rattle.gc_station.specs.Scopes.{Scope}
 use Rattle.gc_field.specs.Plain.{plain_task, plain_turn}
 use Rattle.gc_field.specs.World.{Up_deliver, Up_lose}
@@ -178,9 +178,9 @@ records =
 pub record IsAnsweredAnew : Type 0 where
   pub is : IsAnInstrument counting AnyState kept_by
   pub field : IsInField counting AnyState kept_by plan commands scope acts before runs
-  pub over : is_over (stood plan commands scope acts).progress ≡ true
-  pub begins_anew : IsAnew plan commands scope given_up (Told (at 115))
+  pub over : is_over (state_after plan commands scope acts).progress ≡ true
+  pub begins_anew : IsResynchronizing plan commands scope given_up (Told (at 115))
   pub up : left.up ≡ record { id = 6; call = Table InstrumentNo } ∷ []
   pub down : left.down ≡ first ∷ []
-  pub written : (stood plan commands scope acts).records ≡ records
+  pub written : (state_after plan commands scope acts).records ≡ records
   pub made_on : WasMadeOn WINDOW counting from moves_anew 8 (Table InstrumentNo) answer

@@ -16,7 +16,7 @@ use Rattle.gc_texts.specs.declared.quality.Quality.TheVariants.{Fine}
 use Rattle.gc_links.specs.Acts.{Act, Told, Put, Gave, Closed}
 use Rattle.gc_station.specs.Links.{AreChained}
 use Rattle.gc_station.specs.Records.{Record}
-use Rattle.gc_station.specs.Runs.{stood}
+use Rattle.gc_station.specs.Runs.{state_after}
 use Rattle.gc_station.specs.Scopes.{Scope}
 use Rattle.gc_field.specs.Plain.{plain_task, plain_turn}
 use Rattle.gc_field.specs.Simulator.{ends}
@@ -150,7 +150,7 @@ runs = record { turns = eight; moves = moves } ∷ record { turns = []; moves = 
 -- the telescope points if the first pointed it
 pub record IsPointedInField : Type 0 where
   pub field : IsInField ends IsFittingState kept_of plan commands scope acts before runs
-  pub records : (stood plan commands scope acts).records ≡ records_with first second third
+  pub records : (state_after plan commands scope acts).records ≡ records_with first second third
   pub chained : AreChained commands 0 2
   pub still : AreStill commands 0 2
   pub undisturbed : IsUndisturbed moves

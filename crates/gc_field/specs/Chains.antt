@@ -20,7 +20,7 @@ use Rattle.gc_station.specs.Links.{AreChained}
 use Rattle.gc_station.specs.Parts.{Part, mark_of, parts_of}
 use Rattle.gc_station.specs.Qualities.{IsOfQuality, accepted_at}
 use Rattle.gc_station.specs.Records.{Record}
-use Rattle.gc_station.specs.Runs.{stood}
+use Rattle.gc_station.specs.Runs.{state_after}
 use Rattle.gc_station.specs.Scopes.{Scope}
 use Rattle.gc_station.specs.Model.{opening}
 use Rattle.gc_station.specs.declared.plan.Plan.{Plan}
@@ -155,11 +155,11 @@ module _ {State : Type 0} (ends : Ends State) (Good : State → Type 0) (kept : 
   abbrev pub IsExecutedInChain : Plan → List Task → Scope → List Act → UnderWay State → List (Run State) → Record → Type 0
   IsExecutedInChain plan commands scope acts u rs b =
       (line : List ℕ) (a : ℕ) → answer_of b.end ≡ Some line → 0 < b.cycle → plan.setup ≤ a → a < b.place → AreChained commands a b.place
-      → IsChainedTo scope.reads commands (parts_of plan commands (opening plan scope) acts) (stretches ends u rs) (stood plan commands scope acts).records a b line
+      → IsChainedTo scope.reads commands (parts_of plan commands (opening plan scope) acts) (stretches ends u rs) (state_after plan commands scope acts).records a b line
 
   -- each record of a run is `IsExecutedInChain`
   abbrev pub AreExecutedInChain : Plan → List Task → Scope → List Act → UnderWay State → List (Run State) → Type 0
-  AreExecutedInChain plan commands scope acts u rs = AllByRecursion (IsExecutedInChain plan commands scope acts u rs) (stood plan commands scope acts).records
+  AreExecutedInChain plan commands scope acts u rs = AllByRecursion (IsExecutedInChain plan commands scope acts u rs) (state_after plan commands scope acts).records
 
 -- each record is `IsExecutedInChain`: for any instrument, every plan, all commands, every run of the station, and all that the line and the
 -- instrument may do meanwhile

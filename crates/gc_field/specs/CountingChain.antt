@@ -8,7 +8,7 @@ use Rattle.gc_instrument.specs.Replying.{Handed}
 use Rattle.gc_instrument.specs.State.{KeptReply}
 use Rattle.gc_links.specs.Acts.{Act}
 use Rattle.gc_station.specs.Links.{AreChained}
-use Rattle.gc_station.specs.Runs.{stood}
+use Rattle.gc_station.specs.Runs.{state_after}
 use Rattle.gc_field.specs.World.{Ends}
 use Rattle.gc_field.specs.ChainWitness.{points, reads_all, commands, scope, acts_with, moves_with, records_with}
 use Rattle.gc_field.specs.Begin.{UnderWay, begins, leaves, none_under_way, turned}
@@ -97,7 +97,7 @@ pub record IsCountedInField : Type 0 where
   pub keeps : KeepsItsReply counting AnyState kept_by all_known
   pub effect : HasEffect counting bare counts
   pub field : IsInField counting AnyState kept_by plan commands scope acts before runs
-  pub records : (stood plan commands scope acts).records ≡ records_with first second third
+  pub records : (state_after plan commands scope acts).records ≡ records_with first second third
   pub chained : AreChained commands 0 2
   pub undisturbed : IsUndisturbed moves
   pub first_made_on : WasMadeOn WINDOW counting stretch.from moves 8 points first

@@ -20,7 +20,7 @@ use Rattle.gc_texts.specs.declared.quality.Quality.TheVariants.{Fine}
 use Rattle.gc_station.specs.declared.plan.Plan.{Plan}
 use Rattle.gc_links.specs.Acts.{Act, Told, Put, Gave, Silent, Broke, Closed, Opened}
 use Rattle.gc_station.specs.Progressing.{is_over}
-use Rattle.gc_station.specs.Runs.{stood}
+use Rattle.gc_station.specs.Runs.{state_after}
 use Rattle.gc_station.specs.Scopes.{Scope}
 use Rattle.gc_field.specs.Plain.{plain_task, plain_turn}
 use Rattle.gc_field.specs.World.{Ends, Up_deliver, Down_lose}
@@ -146,9 +146,9 @@ runs raw = record { turns = turns; moves = moves raw } ∷ record { turns = []; 
 pub record IsAnsweredByDrifting (raw : RawCall) : Type 0 where
   pub is : IsAnInstrument drifting AnyState nothing
   pub field : IsInField drifting AnyState nothing plan (commands raw) scope (acts raw) (none_under_way 5) (runs raw)
-  pub over : is_over (stood plan (commands raw) scope (acts raw)).progress ≡ true
+  pub over : is_over (state_after plan (commands raw) scope (acts raw)).progress ≡ true
   pub records :
-      (stood plan (commands raw) scope (acts raw)).records
+      (state_after plan (commands raw) scope (acts raw)).records
       ≡ record { sent = Some 220; utc = 360; cycle = 1; place = 0; turn = plain_turn; command = record { target = 7; call = Table InstrumentNo }; end = end.Lost }
       ∷ record { sent = Some 320; utc = 360; cycle = 1; place = 1; turn = plain_turn; command = record { target = 8; call = Raw raw }; end = end.Answered Fine (Some Nothing) answer }
       ∷ []

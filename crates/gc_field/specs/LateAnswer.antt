@@ -11,7 +11,7 @@ use Rattle.gc_texts.specs.Endings as end
 use Rattle.gc_texts.specs.declared.quality.Quality.TheVariants.{Fine}
 use Rattle.gc_links.specs.Acts.{Act, Told, Put, Gave, Silent, Closed}
 use Rattle.gc_station.specs.Progressing.{is_over}
-use Rattle.gc_station.specs.Runs.{stood}
+use Rattle.gc_station.specs.Runs.{state_after}
 use Rattle.gc_field.specs.Plain.{plain_task, plain_turn}
 use Rattle.gc_field.specs.Simulator.{ends}
 use Rattle.gc_field.specs.World.{Up_deliver}
@@ -89,9 +89,9 @@ from = leaves (turned ends eight (begins before))
 -- answer; and each of these lines was made on executing its own request
 pub record IsLateInField : Type 0 where
   pub field : IsInField ends IsFittingState kept_of plan commands scope acts before runs
-  pub over : is_over (stood plan commands scope acts).progress ≡ true
+  pub over : is_over (state_after plan commands scope acts).progress ≡ true
   pub records :
-      (stood plan commands scope acts).records
+      (state_after plan commands scope acts).records
       ≡ record { sent = Some 15; utc = 120; cycle = 1; place = 0; turn = plain_turn; command = record { target = 7; call = Table InstrumentNo }; end = end.Late }
       ∷ record { sent = Some 115; utc = 125; cycle = 1; place = 1; turn = plain_turn; command = record { target = 8; call = Table InstrumentNo }; end = end.Answered Fine (Some (Long (pos 123456))) answer }
       ∷ []

@@ -11,7 +11,7 @@ use Rattle.gc_client.specs.OneForOne.{Step, Send, Hear, Expire, goes}
 use Rattle.gc_client.specs.Rule.{ById, Sending, sends}
 use Rattle.gc_links.specs.declared.link.Moment.{Moment}
 use Rattle.gc_links.specs.Acts.{Act, Told, Untold, Put, Cut, Gave, Silent, Ended, Broke, Closed, Opened, Unopened}
-use Rattle.gc_station.specs.Model.{lines_behind}
+use Rattle.gc_station.specs.Model.{lines_completed}
 
 -- these bytes are the line of a request that the client sends by this step
 pub record IsRequest (client : ById Asked) (bytes : List ℕ) (steps : List (Step Asked)) : Type 0 where
@@ -32,7 +32,7 @@ IsPut client bytes steps = ((bytes ≡ 10 ∷ []) × (steps ≡ [])) ⊎ IsReque
 -- out; then each line that the piece completes is heard. `before` and `behind` are the bytes since the last line feed, before
 -- the piece and after it
 pub record IsHeard (before piece : List ℕ) (m : Moment) (steps : List (Step Asked)) (behind : List ℕ) : Type 0 where
-  pub lines : steps ≡ Expire m.elapsed ∷ map Hear (lines_behind before piece)
+  pub lines : steps ≡ Expire m.elapsed ∷ map Hear (lines_completed before piece)
   pub rest : behind ≡ rest_behind before piece
 
 -- what a piece that is discarded means, as while a connection is drained: the moment is read, and it is as if the piece had

@@ -17,7 +17,7 @@ use Rattle.gc_station.specs.Answers.{answer_of}
 use Rattle.gc_station.specs.Links.{AreChained}
 use Rattle.gc_station.specs.Parts.{Part, parts_of}
 use Rattle.gc_station.specs.Records.{Record}
-use Rattle.gc_station.specs.Runs.{stood}
+use Rattle.gc_station.specs.Runs.{state_after}
 use Rattle.gc_station.specs.Scopes.{Scope}
 use Rattle.gc_station.specs.Model.{opening}
 use Rattle.gc_station.specs.declared.plan.Plan.{Plan}
@@ -71,16 +71,16 @@ pub record IsMeasuredWhereItPointed (reads : Asked → List ℕ → Reading) (co
 abbrev pub IsPointedInChain : Plan → List Task → Scope → List Act → UnderWay State → List (Run State) → Record → Type 0
 IsPointedInChain plan commands scope acts u rs b =
     (line : List ℕ) (a : ℕ) → answer_of b.end ≡ Some line → 0 < b.cycle → plan.setup ≤ a → a < b.place → AreChained commands a b.place
-    → (h : IsChainedTo ends IsFittingState kept_of scope.reads commands (parts_of plan commands (opening plan scope) acts) (stretches ends u rs) (stood plan commands scope acts).records a b line)
+    → (h : IsChainedTo ends IsFittingState kept_of scope.reads commands (parts_of plan commands (opening plan scope) acts) (stretches ends u rs) (state_after plan commands scope acts).records a b line)
     × (AreStill commands a b.place → IsUndisturbed h.executed.between
-    → IsMeasuredWhereItPointed scope.reads commands (parts_of plan commands (opening plan scope) acts) (stretches ends u rs) (stood plan commands scope acts).records a b line h)
+    → IsMeasuredWhereItPointed scope.reads commands (parts_of plan commands (opening plan scope) acts) (stretches ends u rs) (state_after plan commands scope acts).records a b line h)
 
 -- each record is `IsPointedInChain`: for every plan, all commands, every run of the station over the simulator, and all that the line and
 -- the simulator may do meanwhile
 abbrev pub ChainsAreMeasuredWhereTheyPointed : Type 0
 ChainsAreMeasuredWhereTheyPointed =
     (plan : Plan) (commands : List Task) (scope : Scope) (acts : List Act) (u : UnderWay State) (rs : List (Run State)) → IsInField ends IsFittingState kept_of plan commands scope acts u rs →
-    AllByRecursion (IsPointedInChain plan commands scope acts u rs) (stood plan commands scope acts).records
+    AllByRecursion (IsPointedInChain plan commands scope acts u rs) (state_after plan commands scope acts).records
 
 -- executing a call of the table makes of the simulator's state what the execution table says, apart from the reply that is kept; another
 -- request changes nothing

@@ -17,7 +17,7 @@ use Rattle.gc_texts.specs.Endings as end
 use Rattle.gc_station.specs.declared.plan.Plan.{Plan}
 use Rattle.gc_links.specs.Acts.{Act}
 use Rattle.gc_station.specs.Answers.{answer_of}
-use Rattle.gc_station.specs.Beginnings.{left_behind}
+use Rattle.gc_station.specs.Beginnings.{unanswered_after}
 use Rattle.gc_station.specs.Begun.{AreBegun, heard_in}
 use Rattle.gc_station.specs.Deciding.{has_begun}
 use Rattle.gc_station.specs.EachOnce.{EachOnce}
@@ -25,7 +25,7 @@ use Rattle.gc_station.specs.Marks.{records_of}
 use Rattle.gc_station.specs.Parts.{Part, AreOf, acting, mark_of, parts_of, sent_at, sent_of, timeless}
 use Rattle.gc_station.specs.Records.{Record}
 use Rattle.gc_station.specs.Requests.{asked_at}
-use Rattle.gc_station.specs.Runs.{stood}
+use Rattle.gc_station.specs.Runs.{state_after}
 use Rattle.gc_station.specs.Model.{Model, opening, action_at, after, Runs}
 use Rattle.gc_station.specs.Scopes.{Scope}
 use Rattle.gc_field.specs.Simulator.{ends}
@@ -93,7 +93,7 @@ module _ {State : Type 0} (ends : Ends State) where
 -- (`true`) the part has steps of the client, as `Means` says: a request that is sent is one whose line the bytes are
 abbrev pub IsMeant : Bool → Model → Act → Part → Model → Type 0
 IsMeant true s act p t = (p.turns ≡ []) × Means s.client s.rest act p.steps t.rest
-IsMeant false s act p t = (p.steps ≡ []) × MeansTurns s.progress.word s.rest act p.turns t.rest × (t.progress.word ≡ left_behind s.progress.word (heard_in p.turns))
+IsMeant false s act p t = (p.steps ≡ []) × MeansTurns s.progress.word s.rest act p.turns t.rest × (t.progress.word ≡ unanswered_after s.progress.word (heard_in p.turns))
 
 -- each act of a run means what the parts of the run count for it (`acting`)
 abbrev pub AreMeant : Plan → List Task → Model → List Act → Type 0
@@ -173,16 +173,16 @@ module _ {State : Type 0} (ends : Ends State) (Good : State → Type 0) (kept : 
     -- and if it has begun, it has begun cleanly: no request from before is in flight, nor a reply to one
     pub clean : AreOwn WINDOW ends Good kept u rs
     -- its own: the answer of each record was made on executing the request of that very cycle and place
-    pub own : AllByRecursion (IsOwnAnswer commands (parts_of plan commands (opening plan scope) acts) (stretches ends u rs)) (stood plan commands scope acts).records
+    pub own : AllByRecursion (IsOwnAnswer commands (parts_of plan commands (opening plan scope) acts) (stretches ends u rs)) (state_after plan commands scope acts).records
     -- and if a reply came too late, the instrument dealt with the request all the same
-    pub late : AllByRecursion (IsDealtWith commands (parts_of plan commands (opening plan scope) acts) (stretches ends u rs)) (stood plan commands scope acts).records
+    pub late : AllByRecursion (IsDealtWith commands (parts_of plan commands (opening plan scope) acts) (stretches ends u rs)) (state_after plan commands scope acts).records
     -- one for one: the records and what is outstanding are the commands sent, and those recorded without being sent, in order,
     -- each once
     pub one_for_one : EachOnce plan commands scope acts
     -- the requests of the stretches are these commands, and null procedures; and the records, but for those of commands that weren't sent, are
     -- how they ended there, answered, late or lost
     pub sent : AreSentAs ends commands (parts_of plan commands (opening plan scope) acts) (stretches ends u rs)
-    pub written : map timeless (sent_of (stood plan commands scope acts).records) ≡ written_over ends scope.reads (parts_of plan commands (opening plan scope) acts) (stretches ends u rs)
+    pub written : map timeless (sent_of (state_after plan commands scope acts).records) ≡ written_over ends scope.reads (parts_of plan commands (opening plan scope) acts) (stretches ends u rs)
     -- the turns and steps of a run are what its acts are to a synchronization and to a client: the bytes that are sent are the
     -- lines of these requests
     pub meant : AreMeant plan commands (opening plan scope) acts

@@ -15,7 +15,7 @@ use Rattle.gc_links.specs.declared.link.Moment.{Moment}
 use Rattle.gc_station.specs.declared.plan.Plan.{Plan}
 use Rattle.gc_links.specs.Acts.{Act, Told, Put, Gave, Closed, Opened}
 use Rattle.gc_station.specs.Progressing.{is_over}
-use Rattle.gc_station.specs.Runs.{stood}
+use Rattle.gc_station.specs.Runs.{state_after}
 use Rattle.gc_station.specs.Scopes.{Scope}
 use Rattle.gc_field.specs.Plain.{plain_task, plain_turn}
 use Rattle.gc_field.specs.Simulator.{ends}
@@ -119,9 +119,9 @@ runs = record { turns = turns; moves = moves } ∷ record { turns = []; moves = 
 -- the command's request
 pub record IsAnsweredInField : Type 0 where
   pub field : IsInField ends IsFittingState kept_of plan commands scope acts before runs
-  pub over : is_over (stood plan commands scope acts).progress ≡ true
+  pub over : is_over (state_after plan commands scope acts).progress ≡ true
   pub records :
-      (stood plan commands scope acts).records
+      (state_after plan commands scope acts).records
       ≡ record { sent = Some 15; utc = 20; cycle = 1; place = 0; turn = plain_turn; command = record { target = 7; call = Table InstrumentNo }; end = end.Answered Fine (Some (Long (pos 123456))) answer } ∷ []
   pub made_on : WasMadeOn WINDOW ends (leaves (turned ends turns (begins before))) moves 8 (Table InstrumentNo) answer
 

@@ -1,5 +1,5 @@
 -- What a station does with the tasks of a text, what it writes of them, and how its end is reported: this project's own. An
--- apostrophe (as in acts') marks what holds at the end, in place of at the start. A `Turn` is what was seen of link and sink
+-- apostrophe (as in acts') marks what holds at the end, in place of at the start. A `Snapshot` is what was seen of link and sink
 -- before one act.
 use Rattle.std.specs.Prelude.{◌≡◌, ℕ, Bool, true, ◌⊎◌, List, [], ◌++◌, if◌then◌else◌, Option, Result, Ok, Err, codes}
 use Rattle.std.specs.Fmt.{decimal}
@@ -15,7 +15,7 @@ use Rattle.gc_measuring.specs.declared.stop.Stop.{Stop}
 use Rattle.gc_measuring.specs.declared.stop.Stop.TheVariants.{Text, Empty, Line, Run}
 use Rattle.gc_lines.specs.Ports.{TakesFront}
 use Rattle.gc_links.specs.Acts.{Act}
-use Rattle.gc_station.specs.Keeping.{Turn, KeepsUp, closing_at}
+use Rattle.gc_station.specs.Keeping.{Snapshot, KeepsUp, closing_at}
 use Rattle.gc_station.specs.Records.{Record}
 use Rattle.gc_station.specs.Runs.{Ran, LastsBut}
 use Rattle.gc_station.specs.Scopes.{ForReadings}
@@ -48,7 +48,7 @@ pub record Places : Type 0 where
   pub acts : Option (List Act)
   pub taken : Option (List ℕ)
   pub messages : Option (List ℕ)
-  pub turns : List Turn
+  pub turns : List Snapshot
 
 -- the sink failed before the records: it took some of the first bytes of what is to be there, not all, and nothing else was
 -- done
@@ -81,7 +81,7 @@ RunsCourse course acts acts' taken taken' end = ForReadings (λ reads.
 
 -- at each act of a run over these tasks, all that the acts before it settled was recorded, and lasted (`KeepsUp`). `seen` and
 -- `seen'` are the turns before the run and after it
-abbrev pub CourseKeepsUp : Course → Option (List Act) → Option (List Act) → Option (List ℕ) → List Turn → List Turn → Result Tally RunFault → Type 0
+abbrev pub CourseKeepsUp : Course → Option (List Act) → Option (List Act) → Option (List ℕ) → List Snapshot → List Snapshot → Result Tally RunFault → Type 0
 CourseKeepsUp course acts acts' taken seen seen' end = ForReadings (λ reads.
     KeepsUp course.plan course.tasks (record { turns = course.turns; reads = reads }) (text_in course.layout course.names) acts acts' taken seen seen' (closing_at end))
 

@@ -18,7 +18,7 @@ use Rattle.gc_lines.specs.declared.ports.Source.{Ghosts as Source}
 use Rattle.gc_lines.specs.declared.ports.Sink.{Ghosts as Sink}
 use Rattle.gc_links.specs.Acts.{Act}
 use Rattle.gc_links.specs.declared.telling.Telling.{Telling}
-use Rattle.gc_station.specs.Keeping.{Turn}
+use Rattle.gc_station.specs.Keeping.{Snapshot}
 use Rattle.gc_station.specs.Runs.{FailsAtOutput}
 use Rattle.gc_station.specs.declared.tally.Tally.{Tally}
 use Rattle.gc_texts.specs.WholeTexts.{input_of}
@@ -27,7 +27,7 @@ use Rattle.gc_texts.specs.declared.fault.RunFault.TheVariants.{Log}
 
 -- what is seen of a station's ports: of its streams by the ghost members of their traits, the acts that its link recorded, and
 -- what was seen at each of them
-abbrev pub places_of : {S K E : Type 0} → Source S → Sink K → (E → Option (List ℕ)) → Streams S K E → Option (List Act) → List Turn → Places
+abbrev pub places_of : {S K E : Type 0} → Source S → Sink K → (E → Option (List ℕ)) → Streams S K E → Option (List Act) → List Snapshot → Places
 places_of source sink shown streams acts turns =
     record { input = input_of source streams.input; acts = acts; taken = sink.taken streams.output; messages = shown streams.messages; turns = turns }
 
@@ -39,7 +39,7 @@ acts_of (Some link) = Some link.history.acts
 -- a text was refused, or its commands were measured, over a link that recorded these acts, with what was seen at each; and the
 -- status and the messages report how that ended. `between` are the messages before this report
 pub record TellsMeasuring {S K E : Type 0} (source : Source S) (sink : Sink K) (lasts : K → Bool) (shown : E → Option (List ℕ)) (station : Settings)
-    (acts acts' : Option (List Act)) (turns turns' : List Turn) (old new : Streams S K E) (status : ℕ) : Type 0 where
+    (acts acts' : Option (List Act)) (turns turns' : List Snapshot) (old new : Streams S K E) (status : ℕ) : Type 0 where
   pub end : Result Tally Stop
   pub between : E
   pub measured : MeasuresGiven station (places_of source sink shown old acts turns) (places_of source sink shown (record new { messages = between }) acts' turns') end
@@ -50,7 +50,7 @@ pub record TellsMeasuring {S K E : Type 0} (source : Source S) (sink : Sink K) (
 -- a source gave a text to its end, and the run over its commands is done, or its end was asked for, over a link that recorded
 -- these acts
 pub record MeasuresAll {S K E : Type 0} (source : Source S) (sink : Sink K) (shown : E → Option (List ℕ)) (station : Settings)
-    (acts acts' : Option (List Act)) (turns turns' : List Turn) (old new : Streams S K E) : Type 0 where
+    (acts acts' : Option (List Act)) (turns turns' : List Snapshot) (old new : Streams S K E) : Type 0 where
   pub between : E
   pub is : IsMeasured station (places_of source sink shown old acts turns) (places_of source sink shown (record new { messages = between }) acts' turns')
 
@@ -59,14 +59,14 @@ abbrev pub CannotBegin : Bool → RunFault → Type 0
 CannotBegin has_log fault = IsWithoutLink fault ⊎ ((has_log ≡ true) × (fault ≡ Log))
 
 -- a run didn't begin, and then there was no link, and nothing was read or written
-abbrev pub IsUnbegun : {S K E : Type 0} → Bool → Streams S K E → Streams S K E → Option (List Act) → List Turn → List Turn → Result Tally Stop → Type 0
+abbrev pub IsUnbegun : {S K E : Type 0} → Bool → Streams S K E → Streams S K E → Option (List Act) → List Snapshot → List Snapshot → Result Tally Stop → Type 0
 IsUnbegun has_log old new acts turns turns' end = (fault : RunFault) × (end ≡ Err (Run fault)) × CannotBegin has_log fault
     × (new.input ≡ old.input) × (new.output ≡ old.output) × (new.messages ≡ old.messages) × (acts ≡ None) × (turns' ≡ turns)
 
 -- a text was refused, or its commands were measured, by these acts, which the link recorded from none on, with what was seen at
 -- each. All records last; nothing is said of that if the text was refused or the sink failed
 pub record MeasuresFromNone {S K E : Type 0} (source : Source S) (sink : Sink K) (lasts : K → Bool) (shown : E → Option (List ℕ)) (station : Settings)
-    (old new : Streams S K E) (acts : Option (List Act)) (turns turns' : List Turn) (end : Result Tally Stop) : Type 0 where
+    (old new : Streams S K E) (acts : Option (List Act)) (turns turns' : List Snapshot) (end : Result Tally Stop) : Type 0 where
   pub told : List Act
   pub is : acts ≡ Some told
   pub measured : MeasuresBegun station (places_of source sink shown old (Some []) turns) (places_of source sink shown new (Some told) turns') end
@@ -76,7 +76,7 @@ pub record MeasuresFromNone {S K E : Type 0} (source : Source S) (sink : Sink K)
 -- report how it ended, and then whether the log was lost. `between` are the messages before the report of the end, and `behind`
 -- those after it
 pub record TellsRun {S K E : Type 0} (source : Source S) (sink : Sink K) (lasts : K → Bool) (shown : E → Option (List ℕ)) (has_log : Bool) (station : Settings)
-    (old new : Streams S K E) (acts : Option (List Act)) (turns turns' : List Turn) (status : ℕ) : Type 0 where
+    (old new : Streams S K E) (acts : Option (List Act)) (turns turns' : List Snapshot) (status : ℕ) : Type 0 where
   pub end : Result Tally Stop
   pub between : E
   pub behind : E
@@ -91,7 +91,7 @@ pub record TellsRun {S K E : Type 0} (source : Source S) (sink : Sink K) (lasts 
 -- a source gave a text to its end, and the run over its commands is done, or its end was asked for, by these acts, which its
 -- link recorded from none on
 abbrev pub MeasuresAllFromNone : {S K E : Type 0} → Source S → Sink K → (E → Option (List ℕ)) → Settings → Streams S K E → Streams S K E → Option (List Act)
-    → List Turn → List Turn → Type 0
+    → List Snapshot → List Snapshot → Type 0
 MeasuresAllFromNone source sink shown station old new acts turns turns' =
     (told : List Act) × (acts ≡ Some told) × ((run : ℕ) × MeasuresAll source sink shown (begun_at run station) (Some []) (Some told) turns turns' old new)
 
@@ -115,7 +115,7 @@ pub record IsFiled {S F K E : Type 0} (sink : Sink F) (old new : Streams S K E) 
 -- a run that appends to a file is reported after what was written of the file's opening, and the file has the rows of what was measured.
 -- `old` and `new` are the streams of the run's caller; `begun` and `ended` are the run's own, with the file as output (`IsFiled`)
 pub record TellsAppended {S F K E : Type 0} (source : Source S) (sink : Sink F) (lasts : F → Bool) (shown : E → Option (List ℕ)) (has_log : Bool) (station : Settings)
-    (old new : Streams S K E) (file : Option F) (acts : Option (List Act)) (turns turns' : List Turn) (status : ℕ) : Type 0 where
+    (old new : Streams S K E) (file : Option F) (acts : Option (List Act)) (turns turns' : List Snapshot) (status : ℕ) : Type 0 where
   pub begun : Streams S F E
   pub ended : Streams S F E
   pub filed : IsFiled sink old new begun ended file
@@ -124,7 +124,7 @@ pub record TellsAppended {S F K E : Type 0} (source : Source S) (sink : Sink F) 
 -- a source gave a text to its end, and the run over its commands is done, or its end was asked for, which appended to a file. `old` and `new` are the streams of
 -- the run's caller; `begun` and `ended` are the run's own, with the file as output (`IsFiled`)
 pub record AppendsAll {S F K E : Type 0} (source : Source S) (sink : Sink F) (shown : E → Option (List ℕ)) (station : Settings)
-    (old new : Streams S K E) (file : Option F) (acts : Option (List Act)) (turns turns' : List Turn) : Type 0 where
+    (old new : Streams S K E) (file : Option F) (acts : Option (List Act)) (turns turns' : List Snapshot) : Type 0 where
   pub begun : Streams S F E
   pub ended : Streams S F E
   pub filed : IsFiled sink old new begun ended file

@@ -15,13 +15,13 @@ use Rattle.gc_client.specs.Rule.{ById, id_in}
 use Rattle.gc_client.specs.declared.window.TheConstants.{WINDOW}
 use Rattle.gc_texts.specs.Nears.{is_elsewhere}
 use Rattle.gc_links.specs.Acts.{Act, Told}
-use Rattle.gc_station.specs.Beginnings.{IsAnew}
+use Rattle.gc_station.specs.Beginnings.{IsResynchronizing}
 use Rattle.gc_station.specs.Links.{AreChained}
 use Rattle.gc_station.specs.Model.{Runs, expected_first, opening}
 use Rattle.gc_station.specs.Parts as part
 use Rattle.gc_station.specs.Parts.{Part, nothing, parts_of}
 use Rattle.gc_station.specs.Records.{Record, texts_of}
-use Rattle.gc_station.specs.Runs.{RanTo, stood}
+use Rattle.gc_station.specs.Runs.{RanTo, state_after}
 use Rattle.gc_station.specs.Scopes.{AreReadings, Scope}
 use Rattle.gc_station.specs.Tallies.{tally_of}
 use Rattle.gc_station.specs.declared.cause.Cause.TheVariants.{Done}
@@ -39,10 +39,7 @@ use Rattle.gc_field.proofs.Witness.{asked_each, run_on, units}
 use Rattle.gc_promise.specs.Eventful.{IsEventful, acts, anew_acts, anew_turns, before, begins_acts, begins_turns, breaks_acts, breaks_moves}
 use Rattle.gc_promise.specs.Eventful.{chain_acts, chain_moves, commands, first_stretch, front, last_stretch, left, plan, pointed, records, reporting, runs, scope, tally}
 use Rattle.gc_promise.proofs.TrueReadings.{patched, patched_same}
-
--- true isn't false
-true_is_not : true ≡ false → ⊥
-true_is_not e = cc
+use Rattle.gc_field.proofs.Once.{true_is_not}
 
 -- `reporting` is an instrument
 is : IsAnInstrument reporting AnyState instrument.nothing
@@ -171,7 +168,7 @@ module _ (reads : Asked → List ℕ → Reading) where
 
   -- after the earlier acts, the later ones are a run
   abbrev RunsBehind : List Act → List Act → Type 0
-  RunsBehind earlier later = Runs plan commands (stood plan commands told earlier) later
+  RunsBehind earlier later = Runs plan commands (state_after plan commands told earlier) later
 
   -- the acts until the second connection is made are a run
   begins_runs : RunsBehind [] (take 16 begins_acts)
@@ -228,11 +225,11 @@ module _ (reads : Asked → List ℕ → Reading) where
       run_on plan commands (opening plan told) front (anew_acts ++ chain_acts)
       (run_on plan commands (opening plan told) begins_acts breaks_acts
       (run_on plan commands (opening plan told) (take 16 begins_acts) (drop 16 begins_acts) begins_runs answers_eight)
-      (run_on plan commands (stood plan commands told begins_acts) (take 8 breaks_acts) (drop 8 breaks_acts) breaks_runs gives_up_runs))
-      (run_on plan commands (stood plan commands told front) anew_acts chain_acts
-      (run_on plan commands (stood plan commands told front) (take 16 anew_acts) (drop 16 anew_acts) anew_runs answers_six)
-      (run_on plan commands (stood plan commands told (front ++ anew_acts)) (take 9 chain_acts) (drop 9 chain_acts) misses_runs
-      (run_on plan commands (stood plan commands told (front ++ (anew_acts ++ take 9 chain_acts))) (take 14 (drop 9 chain_acts)) (drop 23 chain_acts) answers_runs late_runs)))
+      (run_on plan commands (state_after plan commands told begins_acts) (take 8 breaks_acts) (drop 8 breaks_acts) breaks_runs gives_up_runs))
+      (run_on plan commands (state_after plan commands told front) anew_acts chain_acts
+      (run_on plan commands (state_after plan commands told front) (take 16 anew_acts) (drop 16 anew_acts) anew_runs answers_six)
+      (run_on plan commands (state_after plan commands told (front ++ anew_acts)) (take 9 chain_acts) (drop 9 chain_acts) misses_runs
+      (run_on plan commands (state_after plan commands told (front ++ (anew_acts ++ take 9 chain_acts))) (take 14 (drop 9 chain_acts)) (drop 23 chain_acts) answers_runs late_runs)))
 
   -- the parts of the run are these
   parts_are : parts_of plan commands (opening plan told) acts ≡ all_parts
@@ -240,12 +237,12 @@ module _ (reads : Asked → List ℕ → Reading) where
   parts_are = refl
 
   -- the records of the run are these
-  written : (stood plan commands told acts).records ≡ records
+  written : (state_after plan commands told acts).records ≡ records
   unfolding is_elsewhere is_near header_at reply_at digits rounded
   written = refl
 
   -- the station resynchronizes where seven requests have timed out
-  begins_anew : IsAnew plan commands told front (Told (at 345))
+  begins_anew : IsResynchronizing plan commands told front (Told (at 345))
   unfolding is_elsewhere is_near header_at reply_at digits rounded
   begins_anew = record { renews = refl; moment = at 345; told = refl; seven = refl; given_up = refl; word = refl; client = refl }
 

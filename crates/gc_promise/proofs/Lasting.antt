@@ -19,7 +19,7 @@ use Rattle.gc_messages.specs.Following.{bytes_in}
 use Rattle.gc_station.specs.Keeping.{KeepsUp, closing_at}
 use Rattle.gc_station.specs.Records.{Record}
 use Rattle.gc_station.specs.Runs as runs
-use Rattle.gc_station.specs.Runs.{stood}
+use Rattle.gc_station.specs.Runs.{state_after}
 use Rattle.gc_station.specs.Scopes.{Scope, AreReadings}
 use Rattle.gc_messages.specs.declared.following.Followed.{Followed}
 use Rattle.gc_station.specs.declared.tally.Tally.{Tally}
@@ -128,7 +128,7 @@ module _ {R : Type 0} (m : Moment R) (is : IsMoment m) (reads : Asked → List �
 
   -- the rows of what any acts settle end in a line feed, unless there is none
   rows_whole : (acts : List Act) → whole (rows_by m.run.course reads acts) ≡ rows_by m.run.course reads acts
-  rows_whole acts = texts_whole text (text_whole m.run.course.layout m.run.course.names) (stood m.run.course.plan m.run.course.tasks scope acts).records
+  rows_whole acts = texts_whole text (text_whole m.run.course.layout m.run.course.names) (state_after m.run.course.plan m.run.course.tasks scope acts).records
 
   -- The file.
 

@@ -36,7 +36,7 @@ use Rattle.gc_rows.proofs.Columns.{reply_columns}
 use Rattle.gc_rows.proofs.JsonLines.{front_of, reads_as}
 use Rattle.gc_rows.proofs.Members.{are_members}
 use Rattle.gc_links.specs.Acts.{Act}
-use Rattle.gc_station.specs.Answers.{answer_of, IsTrueRecord}
+use Rattle.gc_station.specs.Answers.{answer_of, AnswerIsJustified}
 use Rattle.gc_station.specs.Model.{opening}
 use Rattle.gc_station.specs.Parts.{Part, parts_of}
 use Rattle.gc_station.specs.Qualities.{IsAsListed, IsOfQuality, accepted_at, answer_in}
@@ -143,7 +143,7 @@ module _ {State : Type 0} (ends : Ends State) (kept : State → Option KeptReply
       }
 
   -- the object of a record is its own, by what is known of the record
-  object_own : IsOwnAnswer ends AnyState kept course.tasks ps ss r → IsTrueRecord course.plan course.tasks (scope_of course reads) acts r → IsAsListed reads course.tasks r → IsOfItsTask course.tasks r
+  object_own : IsOwnAnswer ends AnyState kept course.tasks ps ss r → AnswerIsJustified course.plan course.tasks (scope_of course reads) acts r → IsAsListed reads course.tasks r → IsOfItsTask course.tasks r
       → IsOwn ends AnyState kept true at course.tasks ps ss r
   object_own own came listed of =
       let word = member_outcome when text r.command r.end in
@@ -232,7 +232,7 @@ module _ {State : Type 0} (ends : Ends State) (kept : State → Option KeptReply
         own =
             object_own ends kept course reads are acts parts over r
             (all_written (IsOwnAnswer ends AnyState kept course.tasks parts over) (records_in course reads acts) written others order faithful.own n r got)
-            (all_written (IsTrueRecord course.plan course.tasks (scope_of course reads) acts) (records_in course reads acts) written others order
+            (all_written (AnswerIsJustified course.plan course.tasks (scope_of course reads) acts) (records_in course reads acts) written others order
             (answers_true course.plan course.tasks (scope_of course reads) acts there.runs) n r got)
             (all_written (λ (x : Record). IsAsListed reads course.tasks x) (records_in course reads acts) written others order
             (as_listed course.plan course.tasks (scope_of course reads) acts) n r got)

@@ -21,7 +21,7 @@ use Rattle.gc_rows.specs.declared.when.When.{When}
 use Rattle.gc_rows.proofs.Columns.{reply_columns}
 use Rattle.gc_rows.proofs.Rows.{read_back}
 use Rattle.gc_links.specs.Acts.{Act}
-use Rattle.gc_station.specs.Answers.{answer_of, IsTrueRecord}
+use Rattle.gc_station.specs.Answers.{answer_of, AnswerIsJustified}
 use Rattle.gc_station.specs.Parts.{Part}
 use Rattle.gc_station.specs.Records.{Record}
 use Rattle.gc_station.specs.Scopes.{Scope}
@@ -111,7 +111,7 @@ says layout columns names r line answered reply =
 module _ {State : Type 0} (ends : Ends State) (kept : State → Option KeptReply) (layout : Layout) (columns : Bool) (names : List Name) (form : layout.form ≡ table columns)
     (plan : Plan) (commands : List Task) (scope : Scope) (acts : List Act) (ps : List Part) (ss : List (Stretch State)) where
   -- if a record is an answer, its row is its own
-  one : (r : Record) → IsOwnAnswer ends AnyState kept commands ps ss r → IsTrueRecord plan commands scope acts r → IsOwnRow ends AnyState kept layout names commands ps ss r
+  one : (r : Record) → IsOwnAnswer ends AnyState kept commands ps ss r → AnswerIsJustified plan commands scope acts r → IsOwnRow ends AnyState kept layout names commands ps ss r
   one r own came line answered =
       let true_one = came line answered in
       let fields = fields_of layout columns names r in
@@ -127,7 +127,7 @@ module _ {State : Type 0} (ends : Ends State) (kept : State → Option KeptReply
       }
 
   -- the rows of all of these records are their own, if the records are answers
-  each : (records : List Record) → AllByRecursion (IsOwnAnswer ends AnyState kept commands ps ss) records → AllByRecursion (IsTrueRecord plan commands scope acts) records
+  each : (records : List Record) → AllByRecursion (IsOwnAnswer ends AnyState kept commands ps ss) records → AllByRecursion (AnswerIsJustified plan commands scope acts) records
       → AllByRecursion (IsOwnRow ends AnyState kept layout names commands ps ss) records
   each [] own came = tt
   each (r ∷ records) own came = (one r own.0 came.0, each records own.1 came.1)

@@ -27,7 +27,7 @@ use Rattle.gc_rows.specs.declared.record.Form.{Form}
 use Rattle.gc_rows.specs.declared.when.When.{When}
 use Rattle.gc_rows.proofs.Columns.{reply_columns}
 use Rattle.gc_links.specs.Acts.{Act}
-use Rattle.gc_station.specs.Answers.{answer_of, IsTrueRecord}
+use Rattle.gc_station.specs.Answers.{answer_of, AnswerIsJustified}
 use Rattle.gc_station.specs.Model.{opening}
 use Rattle.gc_station.specs.Parts.{Part, parts_of}
 use Rattle.gc_station.specs.Qualities.{IsAsListed, IsOfQuality, accepted_at, answer_in}
@@ -221,7 +221,7 @@ module _ {State : Type 0} (ends : Ends State) (kept : State → Option KeptReply
         }
 
     -- the row of a record is its own, by what is known of the record
-    row_own : IsOwnAnswer ends AnyState kept course.tasks ps ss r → IsTrueRecord course.plan course.tasks (scope_of course reads) acts r → IsAsListed reads course.tasks r → IsOfItsTask course.tasks r
+    row_own : IsOwnAnswer ends AnyState kept course.tasks ps ss r → AnswerIsJustified course.plan course.tasks (scope_of course reads) acts r → IsAsListed reads course.tasks r → IsOfItsTask course.tasks r
         → IsOwn ends AnyState kept columns (at r) course.tasks ps ss r
     row_own own came listed of =
         let word = under_outcome when text r.command r.end columns in
@@ -286,7 +286,7 @@ module _ {State : Type 0} (ends : Ends State) (kept : State → Option KeptReply
       let faithful = run_faithful ends AnyState kept is course.plan course.tasks (scope_of course reads) acts u rs there in
       row_own ends kept course reads are acts parts over columns r
       (all_written (IsOwnAnswer ends AnyState kept course.tasks parts over) (records_in course reads acts) written others order faithful.own n r at)
-      (all_written (IsTrueRecord course.plan course.tasks (scope_of course reads) acts) (records_in course reads acts) written others order
+      (all_written (AnswerIsJustified course.plan course.tasks (scope_of course reads) acts) (records_in course reads acts) written others order
       (answers_true course.plan course.tasks (scope_of course reads) acts there.runs) n r at)
       (all_written (λ (x : Record). IsAsListed reads course.tasks x) (records_in course reads acts) written others order
       (as_listed course.plan course.tasks (scope_of course reads) acts) n r at)

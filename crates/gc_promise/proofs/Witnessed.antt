@@ -8,7 +8,7 @@ use Rattle.gc_catalogue.specs.declared.asked.Asked.{Asked}
 use Rattle.gc_rows.specs.declared.record.Form.{Form}
 use Rattle.gc_rows.specs.declared.record.Form.TheVariants.{Json}
 use Rattle.gc_texts.specs.Stamps.{days_after}
-use Rattle.gc_station.specs.Keeping.{Turn}
+use Rattle.gc_station.specs.Keeping.{Snapshot}
 use Rattle.gc_station.specs.declared.cause.Cause.TheVariants.{Done}
 use Rattle.gc_station.specs.Model.{opening}
 use Rattle.gc_station.specs.Parts.{parts_of}
@@ -35,7 +35,7 @@ abbrev AreOwn : (Asked → List ℕ → Reading) → List Record → Type 0
 AreOwn reads = AllByRecursion (IsOwnRow reporting AnyState nothing in_a_table [] commands (parts_of plan commands (opening plan (scope reads)) acts) (stretches reporting before runs))
 
 -- what is seen at each of its acts, where its records are written in this form
-abbrev turns_in : Form → List Turn
+abbrev turns_in : Form → List Snapshot
 turns_in form = turns (text_in (layout_in form) [])
 
 -- in each form, the run is one as a station's contract has it

@@ -27,11 +27,11 @@ use Rattle.gc_texts.specs.declared.quality.Quality.TheVariants.{Fine}
 use Rattle.gc_texts.specs.declared.tasks.Task.{Task}
 use Rattle.gc_texts.specs.declared.turn.Turn as command
 use Rattle.gc_links.specs.Acts.{Act, Told, Put, Cut, Gave, Silent, Ended, Broke, Closed, Opened, Unopened}
-use Rattle.gc_station.specs.Beginnings.{IsAnew}
+use Rattle.gc_station.specs.Beginnings.{IsResynchronizing}
 use Rattle.gc_station.specs.Links.{AreChained}
 use Rattle.gc_station.specs.Progressing.{is_over}
 use Rattle.gc_station.specs.Records.{Record}
-use Rattle.gc_station.specs.Runs.{stood}
+use Rattle.gc_station.specs.Runs.{state_after}
 use Rattle.gc_station.specs.Scopes.{Scope}
 use Rattle.gc_station.specs.Tallies.{tally_of}
 use Rattle.gc_station.specs.declared.plan.Plan.{Plan}
@@ -479,8 +479,8 @@ connections (_ ∷ acts) = connections acts
 pub record IsEventful (reads : Asked → List ℕ → Reading) : Type 0 where
   pub is : IsAnInstrument reporting AnyState nothing
   pub field : IsInField reporting AnyState nothing plan commands (scope reads) acts before runs
-  pub over : is_over (stood plan commands (scope reads) acts).progress ≡ true
-  pub written : (stood plan commands (scope reads) acts).records ≡ records
+  pub over : is_over (state_after plan commands (scope reads) acts).progress ≡ true
+  pub written : (state_after plan commands (scope reads) acts).records ≡ records
   -- commands end in each of the seven ways
   pub counted : tally_of records ≡ tally
   -- command 1 is sent only once command 0 was answered well
@@ -488,7 +488,7 @@ pub record IsEventful (reads : Asked → List ℕ → Reading) : Type 0 where
   -- a reply is lost: in the first cycle, too, the instrument made this line on executing the request of command 0
   pub made : WasMadeOn WINDOW reporting first_stretch.from first_stretch.moves 8 points pointed
   -- the station resynchronizes where seven requests wait that have all timed out. Two requests and a reply are in flight then
-  pub begins_anew : IsAnew plan commands (scope reads) front (Told (at 345))
+  pub begins_anew : IsResynchronizing plan commands (scope reads) front (Told (at 345))
   pub up : left.up ≡ record { id = 6; call = Table InstrumentNo } ∷ record { id = 0; call = Table NullProc } ∷ []
   pub down : left.down ≡ codes "%R1P,0,2:0,27" ∷ []
   -- the instrument starts again in the third cycle, after five executions

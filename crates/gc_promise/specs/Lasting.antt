@@ -15,9 +15,9 @@ use Rattle.gc_lines.specs.declared.ports.Sink.{Ghosts as Sink}
 use Rattle.gc_messages.specs.Following.{bytes_in}
 use Rattle.gc_messages.specs.declared.following.Followed.{Followed}
 use Rattle.gc_messages.specs.declared.streams.Streams.{Streams}
-use Rattle.gc_station.specs.Keeping.{Turn}
+use Rattle.gc_station.specs.Keeping.{Snapshot}
 use Rattle.gc_station.specs.Records.{texts_of}
-use Rattle.gc_station.specs.Runs.{stood}
+use Rattle.gc_station.specs.Runs.{state_after}
 use Rattle.gc_station.specs.Scopes.{AreReadings}
 use Rattle.gc_station.specs.declared.tally.Tally.{Tally}
 use Rattle.gc_measuring.specs.Measuring.{Places, Course, text_in, RunsBehind}
@@ -52,7 +52,7 @@ pub record IsRunOfFile {R : Type 0} (run : RunOfFile R) : Type 0 where
 -- whether the run keeps a log
 abbrev pub AppendsAreRuns : {S R : Type 0} → Source S → Sink (Followed R) → Type 0 → Type 0 → Type 0
 AppendsAreRuns {S = S} {R = R} source sink K E = (lasts : Followed R → Bool) (shown : E → Option (List ℕ)) (has_log : Bool) (station : Settings)
-    (old new : Streams S K E) (file : Followed R) (acts : Option (List Act)) (turns turns' : List Turn) (status : ℕ)
+    (old new : Streams S K E) (file : Followed R) (acts : Option (List Act)) (turns turns' : List Snapshot) (status : ℕ)
     → TellsAppended source sink lasts shown has_log station old new (Some file) acts turns turns' status
     → (turns' ≡ turns)
     ⊎ ((run : RunOfFile R) × IsRunOfFile run × (run.file ≡ file) × (acts ≡ Some run.told) × (run.old.turns ≡ turns) × (run.new.turns ≡ turns'))
@@ -61,7 +61,7 @@ AppendsAreRuns {S = S} {R = R} source sink K E = (lasts : Followed R → Bool) (
 -- file as it was then, and the calls that this file had had by the moment, since it was opened
 pub record Moment (R : Type 0) : Type 0 where
   pub run : RunOfFile R
-  pub turn : Turn
+  pub turn : Snapshot
   pub done : List Act
   pub was : Followed R
   pub calls : List Step
@@ -69,8 +69,8 @@ pub record Moment (R : Type 0) : Type 0 where
 -- the moment's turn was seen at an act of the run. The acts of `done` were done then, and the file was as `was` has it, opened so that it
 -- syncs
 pub record IsSeen {R : Type 0} (m : Moment R) : Type 0 where
-  pub earlier : List Turn
-  pub later : List Turn
+  pub earlier : List Snapshot
+  pub later : List Snapshot
   pub among : m.run.new.turns ≡ m.run.old.turns ++ (earlier ++ m.turn ∷ later)
   pub done : m.turn.acts ≡ Some m.done
   pub taken : m.turn.taken ≡ Some (bytes_in m.was)
@@ -95,7 +95,7 @@ pub record IsMoment {R : Type 0} (m : Moment R) : Type 0 where
 -- the rows of all records that these acts settle, in order, as the run writes them
 abbrev pub rows_by : Course → (Asked → List ℕ → Reading) → List Act → List ℕ
 rows_by course reads acts =
-    texts_of (text_in course.layout course.names) (stood course.plan course.tasks (record { turns = course.turns; reads = reads }) acts).records
+    texts_of (text_in course.layout course.names) (state_after course.plan course.tasks (record { turns = course.turns; reads = reads }) acts).records
 
 -- `left` has the rows that are left of a run, after a moment. `settled`: the rows that the run had written by the moment's act,
 -- into this file and into others before it, are those of all records that the acts of `done` settled. `has`: all that this file

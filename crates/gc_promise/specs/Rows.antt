@@ -22,7 +22,7 @@ use Rattle.gc_station.specs.Answers.{answer_of}
 use Rattle.gc_station.specs.Model.{opening}
 use Rattle.gc_station.specs.Parts.{Part, parts_of}
 use Rattle.gc_station.specs.Records.{Record}
-use Rattle.gc_station.specs.Runs.{stood}
+use Rattle.gc_station.specs.Runs.{state_after}
 use Rattle.gc_station.specs.Scopes.{Scope}
 use Rattle.gc_station.specs.declared.plan.Plan.{Plan}
 use Rattle.gc_words.specs.declared.layout.Layout.{Layout}
@@ -77,4 +77,4 @@ RowsAreTheirOwn State =
     (ends : Ends State) (kept : State → Option KeptReply) → IsAnInstrument ends AnyState kept →
     (layout : Layout) (columns : Bool) (names : List Name) → layout.form ≡ table columns →
     (plan : Plan) (commands : List Task) (scope : Scope) (acts : List Act) (u : UnderWay State) (rs : List (Run State)) → IsInField ends AnyState kept plan commands scope acts u rs →
-    AllByRecursion (IsOwnRow ends AnyState kept layout names commands (parts_of plan commands (opening plan scope) acts) (stretches ends u rs)) (stood plan commands scope acts).records
+    AllByRecursion (IsOwnRow ends AnyState kept layout names commands (parts_of plan commands (opening plan scope) acts) (stretches ends u rs)) (state_after plan commands scope acts).records

@@ -16,7 +16,7 @@ use Rattle.gc_links.specs.Acts.{Act}
 use Rattle.gc_station.specs.Model.{opening}
 use Rattle.gc_station.specs.Parts.{Part, parts_of}
 use Rattle.gc_station.specs.Records.{Record}
-use Rattle.gc_station.specs.Runs.{stood}
+use Rattle.gc_station.specs.Runs.{state_after}
 use Rattle.gc_station.specs.Scopes.{Scope, AreReadings}
 use Rattle.gc_station.specs.declared.tally.Tally.{Tally}
 use Rattle.gc_words.specs.declared.layout.Layout.{Layout}
@@ -44,7 +44,7 @@ acts_measured _ told = told
 
 -- the records of a run by these acts
 abbrev pub records_in : Course → (Asked → List ℕ → Reading) → List Act → List Record
-records_in course reads acts = (stood course.plan course.tasks (scope_of course reads) acts).records
+records_in course reads acts = (state_after course.plan course.tasks (scope_of course reads) acts).records
 
 -- What a sink took.
 

@@ -5,7 +5,7 @@ use Rattle.gc_catalogue.specs.declared.asked.Asked.{Asked}
 use Rattle.gc_rows.specs.declared.record.Form.{Form}
 use Rattle.gc_rows.specs.declared.record.Form.TheVariants.{Csv, Json}
 use Rattle.gc_links.specs.Acts.{Act}
-use Rattle.gc_station.specs.Keeping.{Turn}
+use Rattle.gc_station.specs.Keeping.{Snapshot}
 use Rattle.gc_station.specs.Model.{opening}
 use Rattle.gc_station.specs.Parts.{parts_of}
 use Rattle.gc_station.specs.Records.{Record, texts_of}
@@ -58,7 +58,7 @@ taken form = texts_of (text_in (layout_in form) []) records
 
 -- the ports of a station whose link recorded these acts, whose sink took these bytes, and with these turns, what was seen at
 -- each act
-abbrev pub places : List Act → List ℕ → List Turn → Places
+abbrev pub places : List Act → List ℕ → List Snapshot → Places
 places told taken turns =
     record { input = record { remaining = None; reads = 0; ended = true; failed = false }; acts = Some told; taken = Some taken; messages = None; turns = turns }
 
@@ -92,4 +92,4 @@ module _ (reads : Asked → List ℕ → Reading) where
 -- the run is one as a station's contract has it: its link recorded these acts, and its sink took the texts of its records
 pub record SomeRowIsItsOwn : Type 0 where
   pub own : ForReadings HasOwnRows
-  pub measured : (form : Form) → (turns : List Turn) × RunsBehind (course form) (places [] [] []) (places acts (taken form) turns) (Ok tally)
+  pub measured : (form : Form) → (turns : List Snapshot) × RunsBehind (course form) (places [] [] []) (places acts (taken form) turns) (Ok tally)

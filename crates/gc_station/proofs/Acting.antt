@@ -22,17 +22,18 @@ use Rattle.gc_station.specs.declared.progress.Waiting.{Waiting}
 use Rattle.gc_links.specs.Acts.{Act, Told, Cut, Gave, Silent, Ended, Broke, Opened}
 use Rattle.gc_station.specs.Deciding.{is_up, is_past, is_quiet}
 use Rattle.gc_station.specs.Marks.{commands_in}
-use Rattle.gc_station.specs.Progressing.{told, failing, again, is_finished, is_spared, lines_asked, quieted, drained, time_passed, silent, is_idle, closed}
-use Rattle.gc_station.specs.Model.{Model, with_progress, with_moment, with_rest, waiting_of, line_came, lines_came, lines_behind, came, is_heard, reckoned, piece_at, after_clock, after_put, after_open, after_read, after_close}
+use Rattle.gc_station.specs.Progressing.{moment_noted, failing, after_failure, is_finished, is_spared, lines_asked, quieted, drained, time_passed, silent, is_idle, closed}
+use Rattle.gc_station.specs.Model.{Model, with_progress, with_moment, with_rest, waiting_of, line_came, lines_came, lines_completed, after_piece, is_heard, reckoned, piece_at, after_clock, after_put, after_open, after_read, after_close}
 use Rattle.gc_station.proofs.Invariant.{is_bare, is_done, says_done}
-use Rattle.gc_station.proofs.Midway.{Placed, SoundAt, PlacedAt, Mid, clash, sound_moment, sound_settles}
+use Rattle.gc_station.proofs.Midway.{Placed, SoundAt, PlacedAt, Mid, sound_moment, sound_settles}
 use Rattle.gc_station.proofs.Walk.{asked_along, closed_along}
+use Rattle.gc_station.proofs.Ticking.{not_both}
 
 -- the phase after a failure for `why`, closing if there is a connection (`up`) and over if there is none, is `Placed`, unless
 -- `why` is `Done`
 fail_placed : (p : Progress) (rest : List ℕ) (marks : List (Option Mark)) (why : Cause) (up : Bool) → is_done why ≡ false → Placed (if up then Closing why else Over why) p.left p.unsent rest marks
-fail_placed p rest marks why true other = record { empty = λ e. cc; finished = λ e. absurd (clash (is_done why) e other) }
-fail_placed p rest marks why false other = record { empty = λ e. cc; finished = λ e. absurd (clash (is_done why) e other) }
+fail_placed p rest marks why true other = record { empty = λ e. cc; finished = λ e. absurd (not_both (is_done why) e other) }
+fail_placed p rest marks why false other = record { empty = λ e. cc; finished = λ e. absurd (not_both (is_done why) e other) }
 
 -- a failure preserves the weaker record, unless the run fails for being done
 pub mid_fail : (plan : Plan) (commands : List Task) (s : Model) (why : Cause) → is_done why ≡ false → Mid plan commands s → Mid plan commands (with_progress (failing why) s)
@@ -59,7 +60,7 @@ again_placed : (why : Cause) (left unsent : ℕ) (rest : List ℕ) (marks : List
     → Placed (if done then Over cause.Done else if some then Pausing else Over why) left unsent rest marks
 again_placed why left unsent rest marks true some other none finished = record { empty = λ e. cc; finished = λ e. let it = finished refl in (it.0, it.1, inl refl) }
 again_placed why left unsent rest marks false true other none finished = record { empty = λ e. none; finished = λ e. cc }
-again_placed why left unsent rest marks false false other none finished = record { empty = λ e. cc; finished = λ e. absurd (clash (is_done why) e other) }
+again_placed why left unsent rest marks false false other none finished = record { empty = λ e. cc; finished = λ e. absurd (not_both (is_done why) e other) }
 
 -- if a run is finished no cycle and no command is left
 all_sent : (n : ℕ) (p : Progress) → is_finished n p ≡ true → (p.left ≡ 0) × (p.unsent ≡ 0)
@@ -71,7 +72,7 @@ all_sent n p e = three (nat_eq p.left 0) (nat_eq p.unsent 0) (nat_eq n 0) e refl
   three false b c e x y = cc
 
 -- if no bytes of a line are kept, the progress after a lost connection or a failed attempt, not for `Done`, is `PlacedAt`
-placed_again : (plan : Plan) (n : ℕ) (why : Cause) (p : Progress) (rest : List ℕ) (marks : List (Option Mark)) → is_done why ≡ false → rest ≡ [] → PlacedAt (again plan n why p) rest marks
+placed_again : (plan : Plan) (n : ℕ) (why : Cause) (p : Progress) (rest : List ℕ) (marks : List (Option Mark)) → is_done why ≡ false → rest ≡ [] → PlacedAt (after_failure plan n why p) rest marks
 placed_again plan n why p rest marks other none = again_placed why p.left p.unsent rest marks (is_finished n p) (is_spared plan why p || nat_lt 0 p.tries) other none (all_sent n p)
 
 -- an attempt to connect preserves the weaker record
@@ -145,28 +146,28 @@ listen_asked plan commands s lines l =
     record { sound = it.0; is_ready = it.1 }
 
 -- a piece that is heard preserves `Listening`
-listen_came : (plan : Plan) (commands : List Task) (s : Model) (word piece : List ℕ) → Listening plan commands s → Listening plan commands (came true word piece s)
-listen_came plan commands s [] piece l = listen_lines plan commands (with_rest (rest_behind s.rest piece) s) (lines_behind s.rest piece) (record { sound = l.sound; is_ready = l.is_ready })
-listen_came plan commands s (asked ∷ others) piece l = listen_asked plan commands (with_rest (rest_behind s.rest piece) s) (lines_behind s.rest piece)
+listen_came : (plan : Plan) (commands : List Task) (s : Model) (word piece : List ℕ) → Listening plan commands s → Listening plan commands (after_piece true word piece s)
+listen_came plan commands s [] piece l = listen_lines plan commands (with_rest (rest_behind s.rest piece) s) (lines_completed s.rest piece) (record { sound = l.sound; is_ready = l.is_ready })
+listen_came plan commands s (asked ∷ others) piece l = listen_asked plan commands (with_rest (rest_behind s.rest piece) s) (lines_completed s.rest piece)
     (record { sound = l.sound; is_ready = l.is_ready })
 
 -- counting what a piece settled preserves the weaker record, where lines are heard
 reckoned_ready : (plan : Plan) (commands : List Task) (s : Model) (until : Until) (before : ℕ) → Listening plan commands s → Mid plan commands (reckoned plan until before s)
 reckoned_ready plan commands s until before l =
-    (l.sound, record { empty = λ e. absurd (clash (is_bare s.progress.phase) e (ap is_bare l.is_ready)); finished = λ e. absurd (clash (says_done s.progress.phase) e (ap says_done l.is_ready)) })
+    (l.sound, record { empty = λ e. absurd (not_both (is_bare s.progress.phase) e (ap is_bare l.is_ready)); finished = λ e. absurd (not_both (says_done s.progress.phase) e (ap says_done l.is_ready)) })
 
 -- a piece that was counted preserves the weaker record, heard or not
 reckoned_came : (plan : Plan) (commands : List Task) (s : Model) (until : Until) (before : ℕ) (h : Bool) (word piece : List ℕ) → is_heard s.progress.phase ≡ h
-    → Mid plan commands s → Mid plan commands (reckoned plan until before (came h word piece s))
+    → Mid plan commands s → Mid plan commands (reckoned plan until before (after_piece h word piece s))
 reckoned_came plan commands s until before true word piece is mid =
-    reckoned_ready plan commands (came true word piece s) until before (listen_came plan commands s word piece (record { sound = mid.0; is_ready = heard_ready s.progress.phase is }))
+    reckoned_ready plan commands (after_piece true word piece s) until before (listen_came plan commands s word piece (record { sound = mid.0; is_ready = heard_ready s.progress.phase is }))
 reckoned_came plan commands s until before false word piece is mid = (mid.0, record { empty = mid.1.empty; finished = mid.1.finished })
 
 -- a piece preserves the weaker record, whether it is heard or discarded
 pub mid_piece : (plan : Plan) (commands : List Task) (s : Model) (until : Until) (piece : List ℕ) (m : Moment) → Mid plan commands s → Mid plan commands (piece_at plan until piece m s)
 mid_piece plan commands s until piece m mid =
-    reckoned_came plan commands (with_moment m (with_progress (told m) s)) until (commands_in s.marks) (is_heard s.progress.phase) s.progress.word piece refl
-    (mid_moment plan commands (with_progress (told m) s) m mid)
+    reckoned_came plan commands (with_moment m (with_progress (moment_noted m) s)) until (commands_in s.marks) (is_heard s.progress.phase) s.progress.word piece refl
+    (mid_moment plan commands (with_progress (moment_noted m) s) m mid)
 
 -- Nothing came.
 

@@ -6,7 +6,7 @@ use Rattle.gc_station.specs.declared.plan.Plan.{Plan}
 use Rattle.gc_station.specs.declared.progress.Progress.{Progress}
 use Rattle.gc_links.specs.Acts.{Act}
 use Rattle.gc_station.specs.Progressing.{turned}
-use Rattle.gc_station.specs.Runs.{stood}
+use Rattle.gc_station.specs.Runs.{state_after}
 use Rattle.gc_station.specs.Scopes.{Scope}
 use Rattle.gc_station.specs.Model.{Model, opening, action_at, with_progress, Performs, moved, after, after_all, Runs}
 use Rattle.gc_station.proofs.Counts.{ended_progress}
@@ -42,8 +42,8 @@ module _ (plan : Plan) (commands : List Task) where
 -- the progress after one act more is what `moved` makes of it: the loss of what is outstanding, at the end of the act, changes
 -- no progress
 pub progress_behind : (plan : Plan) (commands : List Task) (scope : Scope) (done : List Act) (act : Act)
-    → (stood plan commands scope (done ++ act ∷ [])).progress ≡ (moved plan commands (action_at plan (stood plan commands scope done))
-    (with_progress turned (stood plan commands scope done)) act).progress
+    → (state_after plan commands scope (done ++ act ∷ [])).progress ≡ (moved plan commands (action_at plan (state_after plan commands scope done))
+    (with_progress turned (state_after plan commands scope done)) act).progress
 progress_behind plan commands scope done act =
-    let s = stood plan commands scope done in
+    let s = state_after plan commands scope done in
     ap (λ (x : Model). x.progress) (after_all-append plan commands (opening plan scope) done (act ∷ [])) ∙ ended_progress (moved plan commands (action_at plan s) (with_progress turned s) act)

@@ -13,13 +13,13 @@ use Rattle.gc_station.specs.declared.mark.Mark.{Mark}
 use Rattle.gc_station.specs.declared.plan.Plan.{Plan}
 use Rattle.gc_station.specs.declared.progress.Action.{Action}
 use Rattle.gc_station.specs.declared.progress.Action.TheVariants as action
-use Rattle.gc_station.specs.Beginnings.{heard_at, left_behind}
+use Rattle.gc_station.specs.Beginnings.{lines_heard_at, unanswered_after}
 use Rattle.gc_station.specs.Begun.{AreBegun, heard_in}
 use Rattle.gc_station.specs.Deciding.{has_begun, is_none_left}
 use Rattle.gc_station.specs.Parts as part
 use Rattle.gc_station.specs.Parts.{Part, acting, beginning, doing, ends_part, in_front, joined, nothing, parts_of}
 use Rattle.gc_station.specs.Progressing.{is_over, loses_all}
-use Rattle.gc_station.specs.Model.{Performs, Runs, Model, after, is_heard, lines_behind, mark_next, action_at, place_next, mark_setup}
+use Rattle.gc_station.specs.Model.{Performs, Runs, Model, after, is_heard, lines_completed, mark_next, action_at, place_next, mark_setup}
 use Rattle.gc_station.proofs.Beginnings.{word_after as word_left, word_anew}
 use Rattle.gc_station.proofs.Turns.{over_stays}
 use Rattle.gc_station.proofs.Words.{left_none}
@@ -33,7 +33,7 @@ heard_append (part.Asks ∷ xs) ys = heard_append xs ys
 heard_append (part.Hears line ∷ xs) ys = ap (λ l. line ∷ l) (heard_append xs ys)
 
 -- what two lists of lines leave of a word is what the second leaves of what the first left
-pub left_append : (word : List ℕ) (xs ys : List (List ℕ)) → left_behind word (xs ++ ys) ≡ left_behind (left_behind word xs) ys
+pub left_append : (word : List ℕ) (xs ys : List (List ℕ)) → unanswered_after word (xs ++ ys) ≡ unanswered_after (unanswered_after word xs) ys
 left_append word [] ys = refl
 left_append word (line ∷ xs) ys = left_append (left_by word (heard line)) xs ys
 
@@ -56,17 +56,17 @@ module _ (plan : Plan) (commands : List Task) where
   heard_piece false lines = refl
 
   -- the lines that a station hears by an act while it begins are those that the act brings
-  heard_by : (s : Model) (o : Action) (act : Act) → Performs commands s o act → heard_in (beginning s o act).turns ≡ heard_at s act
+  heard_by : (s : Model) (o : Action) (act : Act) → Performs commands s o act → heard_in (beginning s o act).turns ≡ lines_heard_at s act
   heard_by s action.Ask (Put bytes) obeys = refl
   heard_by s action.Ask (Cut bytes count) obeys = refl
-  heard_by s (action.Read until) (Gave piece m) obeys = heard_piece (is_heard s.progress.phase) (lines_behind s.rest piece)
+  heard_by s (action.Read until) (Gave piece m) obeys = heard_piece (is_heard s.progress.phase) (lines_completed s.rest piece)
   heard_by s (action.Close why) (Gave piece m) obeys = cc
   heard_by s o (Gave piece m) obeys = absurd obeys
   heard_by s o act obeys = refl
 
   -- the turns of a piece, while the station synchronizes, are its lines if it is heard, and none if it is discarded
   pub turns_gave : (s : Model) (o : Action) (piece : List ℕ) (m : Moment) → Performs commands s o (Gave piece m)
-      → (beginning s o (Gave piece m)).turns ≡ (if is_heard s.progress.phase then map part.Hears (lines_behind s.rest piece) else [])
+      → (beginning s o (Gave piece m)).turns ≡ (if is_heard s.progress.phase then map part.Hears (lines_completed s.rest piece) else [])
   turns_gave s (action.Read until) piece m obeys = refl
   turns_gave s (action.Close why) piece m obeys = cc
   turns_gave s o piece m obeys = absurd obeys
@@ -87,8 +87,8 @@ module _ (plan : Plan) (commands : List Task) where
 
   -- after an act while the station synchronizes, the ids that are left are those that the lines of the act leave
   pub word_after : (s : Model) (act : Act) → Performs commands s (action_at plan s) act → has_begun s.progress ≡ false
-      → (after plan commands s act).progress.word ≡ left_behind s.progress.word (heard_in (beginning s (action_at plan s) act).turns)
-  word_after s act obeys begins = word_left plan commands s act obeys begins ∙ ap (λ l. left_behind s.progress.word l) (sym (heard_by s (action_at plan s) act obeys))
+      → (after plan commands s act).progress.word ≡ unanswered_after s.progress.word (heard_in (beginning s (action_at plan s) act).turns)
+  word_after s act obeys begins = word_left plan commands s act obeys begins ∙ ap (λ l. unanswered_after s.progress.word l) (sym (heard_by s (action_at plan s) act obeys))
 
   -- Each part begins first.
 
@@ -117,12 +117,12 @@ FirstHasNone [] = Unit {0}
 FirstHasNone (p ∷ ps) = p.turns ≡ []
 
 -- what two lists of turns leave of a word is what the second leaves of what the first left
-left_both : (word : List ℕ) (xs ys : List part.Turn) → left_behind word (heard_in (xs ++ ys)) ≡ left_behind (left_behind word (heard_in xs)) (heard_in ys)
-left_both word xs ys = ap (λ l. left_behind word l) (heard_append xs ys) ∙ left_append word (heard_in xs) (heard_in ys)
+left_both : (word : List ℕ) (xs ys : List part.Turn) → unanswered_after word (heard_in (xs ++ ys)) ≡ unanswered_after (unanswered_after word (heard_in xs)) (heard_in ys)
+left_both word xs ys = ap (λ l. unanswered_after word l) (heard_append xs ys) ∙ left_append word (heard_in xs) (heard_in ys)
 
 -- if the part p of an act of a synchronization is joined to the front of the first part: the parts then have begun from `word`
 -- (`AreBegun`), if without p they have begun from the ids that the lines of p leave of `word`
-begun_on : (word : List ℕ) (p : Part) (ps : List Part) → p.steps ≡ [] → AreBegun (left_behind word (heard_in p.turns)) ps → AreBegun word (in_front p false ps)
+begun_on : (word : List ℕ) (p : Part) (ps : List Part) → p.steps ≡ [] → AreBegun (unanswered_after word (heard_in p.turns)) ps → AreBegun word (in_front p false ps)
 begun_on word p [] e h = inl e
 begun_on word p (q ∷ []) e (inl f) = inl (nil_both p.steps q.steps e f)
 begun_on word p (q ∷ []) e (inr f) = inr (left_both word p.turns q.turns ∙ f)

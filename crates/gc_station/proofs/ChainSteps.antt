@@ -12,7 +12,7 @@ use Rattle.gc_station.specs.declared.progress.Progress.{Progress}
 use Rattle.gc_links.specs.Acts.{Act, Told, Cut, Opened}
 use Rattle.gc_station.specs.Quiet.{KeepsOpen}
 use Rattle.gc_station.specs.Progressing.{failing}
-use Rattle.gc_station.specs.Model.{Model, requests_out, Performs, waiting_of, is_chained_behind_next, is_chained_behind, with_rest, moved, cycle_length}
+use Rattle.gc_station.specs.Model.{Model, requests_out, Performs, waiting_of, is_chained_after_next, is_chained_after, with_rest, moved, cycle_length}
 use Rattle.gc_station.proofs.Walk.{closed_along, is_prepared, is_sent, moved_changed, walk}
 
 -- What an act does to the place in a cycle, and to the chain that is there.
@@ -39,12 +39,12 @@ pub record Anew (count : ℕ) (q : Progress) : Type 0 where
   pub chain_unbroken : q.chain_unbroken ≡ false
 
 -- q has the further attempts of a chain left out that the next command of p begins; the next one of q waits as
--- `is_chained_behind` says
+-- `is_chained_after` says
 pub record Past (commands : List Task) (p q : Progress) : Type 0 where
   pub left : q.left ≡ p.left
   pub unsent : q.unsent ≡ p.unsent - p.next_others
   pub missed : q.missed ≡ p.missed
-  pub is_bound : q.next_is_chained ≡ is_chained_behind p.next_others commands p
+  pub is_bound : q.next_is_chained ≡ is_chained_after p.next_others commands p
   pub chain_unbroken : q.chain_unbroken ≡ false
 
 -- what an act of an action does to the fields on chains, from p to q: it leaves them, breaks the chain, goes on to the next
@@ -52,8 +52,8 @@ pub record Past (commands : List Task) (p q : Progress) : Type 0 where
 abbrev pub Steps : Plan → List Task → Action → Progress → Progress → Type 0
 Steps plan commands Begin p q = Still p q ⊎ Anew (cycle_length plan commands) q
 Steps plan commands Renew p q = Still p q ⊎ (Still p q × (q.chain_unbroken ≡ false))
-Steps plan commands Send p q = Next (is_chained_behind_next commands p) p q
-Steps plan commands Skip p q = Still p q ⊎ (Next (is_chained_behind_next commands p) p q × (q.chain_unbroken ≡ false))
+Steps plan commands Send p q = Next (is_chained_after_next commands p) p q
+Steps plan commands Skip p q = Still p q ⊎ (Next (is_chained_after_next commands p) p q × (q.chain_unbroken ≡ false))
 Steps plan commands Pass p q = Still p q ⊎ Past commands p q
 Steps plan commands Prepare p q = Still p q × (q.chain_unbroken ≡ false)
 Steps plan commands (Close why) p q = Still p q × (q.chain_unbroken ≡ false)
@@ -92,10 +92,10 @@ moved_steps plan commands Prepare s (Cut bytes n) =
 moved_steps plan commands Prepare s act =
     subst (λ (x : Model). Still s.progress x.progress × (x.progress.chain_unbroken ≡ false)) (is_prepared plan commands s) (broken s.progress _ refl refl refl refl refl)
 moved_steps plan commands Send s (Cut bytes n) =
-    subst (λ (x : Model). Next (is_chained_behind_next commands s.progress) s.progress (failing (cause.Write (requests_out plan commands s.progress) n) x.progress)) (is_sent plan commands s)
+    subst (λ (x : Model). Next (is_chained_after_next commands s.progress) s.progress (failing (cause.Write (requests_out plan commands s.progress) n) x.progress)) (is_sent plan commands s)
     (record { left = refl; unsent = refl; missed = refl; is_bound = refl })
 moved_steps plan commands Send s act =
-    subst (λ (x : Model). Next (is_chained_behind_next commands s.progress) s.progress x.progress) (is_sent plan commands s) (record { left = refl; unsent = refl; missed = refl; is_bound = refl })
+    subst (λ (x : Model). Next (is_chained_after_next commands s.progress) s.progress x.progress) (is_sent plan commands s) (record { left = refl; unsent = refl; missed = refl; is_bound = refl })
 moved_steps plan commands Skip s (Told m) = inr (record { left = refl; unsent = refl; missed = refl; is_bound = refl }, refl)
 moved_steps plan commands Skip s act = inl (still s.progress _ refl refl refl refl refl)
 moved_steps plan commands Pass s (Told m) = inr (record { left = refl; unsent = refl; missed = refl; is_bound = refl; chain_unbroken = refl })

@@ -16,19 +16,19 @@ use Rattle.gc_station.specs.declared.progress.Action.TheVariants.{Begin, Renew, 
 use Rattle.gc_station.specs.declared.progress.Progress.{Progress}
 use Rattle.gc_station.specs.declared.progress.Waiting.{Waiting}
 use Rattle.gc_links.specs.Acts.{Act, Told}
-use Rattle.gc_station.specs.Answers.{IsTrueRecord, answer_of}
+use Rattle.gc_station.specs.Answers.{AnswerIsJustified, answer_of}
 use Rattle.gc_station.specs.Chains.{IsChained, IsLinked}
 use Rattle.gc_station.specs.Deciding.{has_begun}
 use Rattle.gc_station.specs.EachOnce.{Parted, Request, of_record, of_task, requests, sent_by, still_waiting, of_text, in_text}
 use Rattle.gc_station.specs.Marks.{commands_in, is_well, last_well}
 use Rattle.gc_station.specs.Qualities.{IsAsListed}
 use Rattle.gc_station.specs.Quiet.{KeepsOpen}
-use Rattle.gc_station.specs.Progressing.{turned, begun}
+use Rattle.gc_station.specs.Progressing.{turned, cycle_begun}
 use Rattle.gc_station.specs.Reasons.{IsFor, MayGo}
 use Rattle.gc_station.specs.Records.{Record}
-use Rattle.gc_station.specs.Runs.{stood}
+use Rattle.gc_station.specs.Runs.{state_after}
 use Rattle.gc_station.specs.Scopes.{Scope}
-use Rattle.gc_station.specs.Model.{Model, Performs, Runs, opening, action_at, waiting_of, place_next, cycles_begun, is_chained, is_chained_behind_next, ended, with_progress, moved, after, after_all, cycle_length}
+use Rattle.gc_station.specs.Model.{Model, Performs, Runs, opening, action_at, waiting_of, place_next, cycles_begun, is_chained, is_chained_after_next, ended, with_progress, moved, after, after_all, cycle_length}
 use Rattle.gc_station.proofs.Answers.{answers_true}
 use Rattle.gc_station.proofs.Counts.{ended_progress, ended_passes}
 use Rattle.gc_station.proofs.Each.{each_settled, sent_next}
@@ -39,11 +39,11 @@ use Rattle.gc_station.proofs.Facts.{or_true, action_for}
 use Rattle.gc_station.proofs.Invariant.{Invariant}
 use Rattle.gc_station.proofs.Going.{after_all-append}
 use Rattle.gc_station.proofs.Lists.{all_append}
-use Rattle.gc_station.proofs.Midway.{clash}
 use Rattle.gc_station.proofs.Nearly.{as_listed}
 use Rattle.gc_station.proofs.Walk.{moved_changed}
 use Rattle.gc_station.proofs.Words.{begun_kept}
 use Rattle.gc_station.proofs.ChainSteps.{Still, Next, Anew, Past, Steps, broken, moved_steps, stays_open}
+use Rattle.gc_station.proofs.Ticking.{not_both}
 
 -- What every run keeps of the chain where it is.
 
@@ -76,22 +76,22 @@ record Whole (plan : Plan) (commands : List Task) (scope : Scope) (acts : List A
   request : Act
   between : List Act
   order : acts ≡ before ++ request ∷ between
-  sends : action_at plan (stood plan commands scope before) ≡ Send
-  cycle : cycles_begun plan p ≡ cycles_begun plan (stood plan commands scope before).progress
-  place : place_next commands p ≡ place_next commands (stood plan commands scope before).progress + 1
+  sends : action_at plan (state_after plan commands scope before) ≡ Send
+  cycle : cycles_begun plan p ≡ cycles_begun plan (state_after plan commands scope before).progress
+  place : place_next commands p ≡ place_next commands (state_after plan commands scope before).progress + 1
   stays : AllByRecursion KeepsOpen between
   begun : has_begun p ≡ true
-  passes : (stood plan commands scope acts).passes ≡ (stood plan commands scope before).passes
-  keeps : StaysBegun plan commands (stood plan commands scope before) (request ∷ between)
-  cycles : PreparesNothing plan commands (stood plan commands scope before) (request ∷ between)
+  passes : (state_after plan commands scope acts).passes ≡ (state_after plan commands scope before).passes
+  keeps : StaysBegun plan commands (state_after plan commands scope before) (request ∷ between)
+  cycles : PreparesNothing plan commands (state_after plan commands scope before) (request ∷ between)
 
 -- if all acts (`all`) are `before` and then `behind`, and the station has synchronized after all of them, it has begun after
 -- `behind`, counted from the model after `before`
 begun_there : (plan : Plan) (commands : List Task) (scope : Scope) (before behind all : List Act) (q : Progress) → all ≡ before ++ behind
-    → (stood plan commands scope all).progress ≡ q → has_begun q ≡ true
-    → has_begun (after_all plan commands (stood plan commands scope before) behind).progress ≡ true
-begun_there plan commands scope before behind all q action there begun =
-    ap (λ (x : Model). has_begun x.progress) (sym (ap (stood plan commands scope) action ∙ after_all-append plan commands (opening plan scope) before behind)) ∙ ap has_begun there ∙ begun
+    → (state_after plan commands scope all).progress ≡ q → has_begun q ≡ true
+    → has_begun (after_all plan commands (state_after plan commands scope before) behind).progress ≡ true
+begun_there plan commands scope before behind all q action there cycle_begun =
+    ap (λ (x : Model). has_begun x.progress) (sym (ap (state_after plan commands scope) action ∙ after_all-append plan commands (opening plan scope) before behind)) ∙ ap has_begun there ∙ cycle_begun
 
 -- the two fields on chains of p are true after these acts: `next_is_chained` is what the text says of the next command, or true
 -- in a missed cycle; and if `chain_unbroken` is true, `Whole` holds
@@ -100,24 +100,24 @@ record Chain (plan : Plan) (commands : List Task) (scope : Scope) (acts : List A
   chain_unbroken : p.chain_unbroken ≡ true → Whole plan commands scope acts p
 
 -- from one model to another nothing is left out, or no chain goes on there
-abbrev Keeps : Model → Model → Type 0
-Keeps s t = (t.passes ≡ s.passes) ⊎ (t.progress.chain_unbroken ≡ false)
+abbrev LeavesNothingOut : Model → Model → Type 0
+LeavesNothingOut s t = (t.passes ≡ s.passes) ⊎ (t.progress.chain_unbroken ≡ false)
 
 -- no act passes commands over, but one after which no chain goes on
-moved_keeps : (plan : Plan) (commands : List Task) (action : Action) (s : Model) (act : Act) → Keeps s (moved plan commands action s act)
+moved_keeps : (plan : Plan) (commands : List Task) (action : Action) (s : Model) (act : Act) → LeavesNothingOut s (moved plan commands action s act)
 moved_keeps plan commands Pass s (Told m) = inr refl
 moved_keeps plan commands Pass s act = inl refl
 moved_keeps plan commands action s act = inl (ap (λ (x : Model). x.passes) (moved_changed plan commands action s act))
 
 -- nothing that is left out since: if the chain goes on, no act passes commands over
-still_passes : (s t : Model) (before : List Request) → Keeps s t → t.progress.chain_unbroken ≡ true → s.passes ≡ before → t.passes ≡ before
+still_passes : (s t : Model) (before : List Request) → LeavesNothingOut s t → t.progress.chain_unbroken ≡ true → s.passes ≡ before → t.passes ≡ before
 still_passes s t before (inl same) e is = same ∙ is
-still_passes s t before (inr none) e is = absurd (clash t.progress.chain_unbroken e none)
+still_passes s t before (inr none) e is = absurd (not_both t.progress.chain_unbroken e none)
 
 -- `Chain` is preserved by an act that leaves these fields and doesn't close the connection
 chain_still : (plan : Plan) (commands : List Task) (scope : Scope) (acts : List Act) (act : Act) (p q : Progress)
-    → (stood plan commands scope (acts ++ act ∷ [])).progress ≡ q → Still p q → (has_begun p ≡ true → q.chain_unbroken ≡ true → has_begun q ≡ true)
-    → Keeps (stood plan commands scope acts) (stood plan commands scope (acts ++ act ∷ [])) → KeepsOpen act → (action_at plan (stood plan commands scope acts) ≡ Prepare → ⊥)
+    → (state_after plan commands scope (acts ++ act ∷ [])).progress ≡ q → Still p q → (has_begun p ≡ true → q.chain_unbroken ≡ true → has_begun q ≡ true)
+    → LeavesNothingOut (state_after plan commands scope acts) (state_after plan commands scope (acts ++ act ∷ [])) → KeepsOpen act → (action_at plan (state_after plan commands scope acts) ≡ Prepare → ⊥)
     → Chain plan commands scope acts p → Chain plan commands scope (acts ++ act ∷ []) q
 chain_still plan commands scope acts act p q there k begins keeps stays other h =
     let place_is : place_next commands q ≡ place_next commands p = ap (λ (n : ℕ). length commands - n) k.unsent in
@@ -128,7 +128,7 @@ chain_still plan commands scope acts act p q there k begins keeps stays other h 
       chain_unbroken = λ e.
           let w = h.chain_unbroken (k.chain_unbroken e) in
           let order = ap (λ xs. xs ++ act ∷ []) w.order ∙ append_assoc w.before (w.request ∷ w.between) (act ∷ []) in
-          let begun = begins w.begun e in
+          let cycle_begun = begins w.begun e in
           record {
             before = w.before;
             request = w.request;
@@ -138,17 +138,17 @@ chain_still plan commands scope acts act p q there k begins keeps stays other h 
             cycle = ap (λ (n : ℕ). plan.cycles - n) k.left ∙ w.cycle;
             place = place_is ∙ w.place;
             stays = all_append KeepsOpen w.between (act ∷ []) w.stays (stays, tt);
-            begun = begun;
-            passes = still_passes (stood plan commands scope acts) (stood plan commands scope (acts ++ act ∷ [])) (stood plan commands scope w.before).passes keeps
+            begun = cycle_begun;
+            passes = still_passes (state_after plan commands scope acts) (state_after plan commands scope (acts ++ act ∷ [])) (state_after plan commands scope w.before).passes keeps
                 (ap (λ (x : Progress). x.chain_unbroken) there ∙ e) w.passes;
             keeps =
-                stays_more plan commands (stood plan commands scope w.before) (w.request ∷ w.between) act w.keeps
-                (begun_there plan commands scope w.before (w.request ∷ (w.between ++ act ∷ [])) (acts ++ act ∷ []) q order there begun);
+                stays_more plan commands (state_after plan commands scope w.before) (w.request ∷ w.between) act w.keeps
+                (begun_there plan commands scope w.before (w.request ∷ (w.between ++ act ∷ [])) (acts ++ act ∷ []) q order there cycle_begun);
             cycles =
                 let back = after_all-append plan commands (opening plan scope) w.before (w.request ∷ w.between) in
-                let here : after_all plan commands (stood plan commands scope w.before) (w.request ∷ w.between)
-                    ≡ stood plan commands scope acts = sym back ∙ ap (stood plan commands scope) (sym w.order) in
-                prepares_none plan commands (stood plan commands scope w.before) (w.request ∷ w.between) (act ∷ []) w.cycles
+                let here : after_all plan commands (state_after plan commands scope w.before) (w.request ∷ w.between)
+                    ≡ state_after plan commands scope acts = sym back ∙ ap (state_after plan commands scope) (sym w.order) in
+                prepares_none plan commands (state_after plan commands scope w.before) (w.request ∷ w.between) (act ∷ []) w.cycles
                 (subst (λ (x : Model). PreparesNothing plan commands x (act ∷ [])) (sym here) (other, tt));
           };
     }
@@ -162,14 +162,14 @@ chain_closed plan commands scope acts all p q k broken h =
       next_is_chained = λ above.
           k.next_is_chained ∙ h.next_is_chained (subst (λ (n : ℕ). plan.setup < n) place_is above) ∙ ap (λ (b : Bool). b || is_chained (drop (place_next commands p) commands)) (sym k.missed)
           ∙ ap (λ (n : ℕ). q.missed || is_chained (drop n commands)) (sym place_is);
-      chain_unbroken = λ e. absurd (clash q.chain_unbroken e broken);
+      chain_unbroken = λ e. absurd (not_both q.chain_unbroken e broken);
     }
 
 -- `Chain` holds at the beginning of a cycle
 chain_anew : (plan : Plan) (commands : List Task) (scope : Scope) (acts : List Act) (q : Progress) → Anew (cycle_length plan commands) q → Chain plan commands scope acts q
 chain_anew plan commands scope acts q a =
     let none : place_next commands q ≤ plan.setup = omega (arith, a.unsent) in
-    record { next_is_chained = λ above. absurd (omega (arith, none, above)); chain_unbroken = λ e. absurd (clash q.chain_unbroken e a.chain_unbroken) }
+    record { next_is_chained = λ above. absurd (omega (arith, none, above)); chain_unbroken = λ e. absurd (not_both q.chain_unbroken e a.chain_unbroken) }
 
 -- if one command less is left, the next one is one place further on
 next_place : (commands : List Task) (p q : Progress) → q.unsent ≡ p.unsent - 1 → 0 < p.unsent → p.unsent ≤ length commands → place_next commands q ≡ place_next commands p + 1
@@ -177,17 +177,17 @@ next_place commands p q less some within = omega (arith, less, some, within)
 
 -- after a command that was sent or left out, `next_is_chained` is what the text says of the next command, or true in a missed
 -- cycle
-next_bound : (commands : List Task) (p q : Progress) → Next (is_chained_behind_next commands p) p q → place_next commands q ≡ place_next commands p + 1
+next_bound : (commands : List Task) (p q : Progress) → Next (is_chained_after_next commands p) p q → place_next commands q ≡ place_next commands p + 1
     → q.next_is_chained ≡ (q.missed || is_chained (drop (place_next commands q) commands))
 next_bound commands p q n at =
     n.is_bound ∙ ap (λ (b : Bool). b || is_chained (drop (place_next commands p + 1) commands)) (sym n.missed) ∙ ap (λ (k : ℕ). q.missed || is_chained (drop k commands)) (sym at)
 
 -- `Chain` holds after a command that isn't sent
-chain_skipped : (plan : Plan) (commands : List Task) (scope : Scope) (acts : List Act) (p q : Progress) → Next (is_chained_behind_next commands p) p q
+chain_skipped : (plan : Plan) (commands : List Task) (scope : Scope) (acts : List Act) (p q : Progress) → Next (is_chained_after_next commands p) p q
     → q.chain_unbroken ≡ false → 0 < p.unsent → p.unsent ≤ length commands → Chain plan commands scope acts q
 chain_skipped plan commands scope acts p q n broken some within =
     let at = next_place commands p q n.unsent some within in
-    record { next_is_chained = λ above. next_bound commands p q n at; chain_unbroken = λ e. absurd (clash q.chain_unbroken e broken) }
+    record { next_is_chained = λ above. next_bound commands p q n at; chain_unbroken = λ e. absurd (not_both q.chain_unbroken e broken) }
 
 -- `Chain` holds after the further attempts of a chain are left out
 chain_past : (plan : Plan) (commands : List Task) (scope : Scope) (acts : List Act) (p q : Progress) → Past commands p q → p.unsent ≤ length commands → Chain plan commands scope acts q
@@ -197,15 +197,15 @@ chain_past plan commands scope acts p q k within =
           k.is_bound ∙ ap (λ (b : Bool). b || is_chained (drop (place_next commands p + p.next_others) commands)) (sym k.missed)
           ∙ ap (λ (xs : List Task). q.missed || is_chained xs) (drop_past commands p.unsent p.next_others within)
           ∙ ap (λ (n : ℕ). q.missed || is_chained (drop (length commands - n) commands)) (sym k.unsent);
-      chain_unbroken = λ e. absurd (clash q.chain_unbroken e k.chain_unbroken);
+      chain_unbroken = λ e. absurd (not_both q.chain_unbroken e k.chain_unbroken);
     }
 
 -- `Chain` holds after a command that is sent
 chain_sent : (plan : Plan) (commands : List Task) (scope : Scope) (acts : List Act) (act : Act) (p q : Progress)
-    → p ≡ turned (stood plan commands scope acts).progress → (stood plan commands scope (acts ++ act ∷ [])).progress ≡ q
-    → action_at plan (stood plan commands scope acts) ≡ Send → (q.chain_unbroken ≡ true → has_begun q ≡ true)
-    → Next (is_chained_behind_next commands p) p q → 0 < p.unsent → p.unsent ≤ length commands
-    → Keeps (stood plan commands scope acts) (stood plan commands scope (acts ++ act ∷ [])) → Chain plan commands scope (acts ++ act ∷ []) q
+    → p ≡ turned (state_after plan commands scope acts).progress → (state_after plan commands scope (acts ++ act ∷ [])).progress ≡ q
+    → action_at plan (state_after plan commands scope acts) ≡ Send → (q.chain_unbroken ≡ true → has_begun q ≡ true)
+    → Next (is_chained_after_next commands p) p q → 0 < p.unsent → p.unsent ≤ length commands
+    → LeavesNothingOut (state_after plan commands scope acts) (state_after plan commands scope (acts ++ act ∷ [])) → Chain plan commands scope (acts ++ act ∷ []) q
 chain_sent plan commands scope acts act p q here there is begins n some within keeps =
     let at = next_place commands p q n.unsent some within in
     record {
@@ -220,7 +220,7 @@ chain_sent plan commands scope acts act p q here there is begins n some within k
         place = at ∙ ap (λ (x : Progress). place_next commands x + 1) here;
         stays = tt;
         begun = begins e;
-        passes = still_passes (stood plan commands scope acts) (stood plan commands scope (acts ++ act ∷ [])) (stood plan commands scope acts).passes keeps
+        passes = still_passes (state_after plan commands scope acts) (state_after plan commands scope (acts ++ act ∷ [])) (state_after plan commands scope acts).passes keeps
             (ap (λ (x : Progress). x.chain_unbroken) there ∙ e) refl;
         keeps = (begun_there plan commands scope acts (act ∷ []) (acts ++ act ∷ []) q refl there (begins e), tt);
         cycles = (λ prepares. let both : Send ≡ Prepare = sym is ∙ prepares in cc, tt);
@@ -229,58 +229,58 @@ chain_sent plan commands scope acts act p q here there is begins n some within k
 
 -- `Chain` is preserved by an act of any action
 chain_moved : (plan : Plan) (commands : List Task) (scope : Scope) (acts : List Act) (act : Act) (action : Action) (w : Waiting) (q : Progress)
-    → Invariant plan commands (stood plan commands scope acts)
-    → action_at plan (stood plan commands scope acts) ≡ action → IsFor plan (stood plan commands scope acts).progress w action → Performs commands (stood plan commands scope acts) action act
-    → (stood plan commands scope (acts ++ act ∷ [])).progress ≡ q → (has_begun (stood plan commands scope acts).progress ≡ true → q.chain_unbroken ≡ true → has_begun q ≡ true)
-    → Steps plan commands action (turned (stood plan commands scope acts).progress) q
-    → Keeps (stood plan commands scope acts) (stood plan commands scope (acts ++ act ∷ []))
-    → Chain plan commands scope acts (turned (stood plan commands scope acts).progress) → Chain plan commands scope (acts ++ act ∷ []) q
+    → Invariant plan commands (state_after plan commands scope acts)
+    → action_at plan (state_after plan commands scope acts) ≡ action → IsFor plan (state_after plan commands scope acts).progress w action → Performs commands (state_after plan commands scope acts) action act
+    → (state_after plan commands scope (acts ++ act ∷ [])).progress ≡ q → (has_begun (state_after plan commands scope acts).progress ≡ true → q.chain_unbroken ≡ true → has_begun q ≡ true)
+    → Steps plan commands action (turned (state_after plan commands scope acts).progress) q
+    → LeavesNothingOut (state_after plan commands scope acts) (state_after plan commands scope (acts ++ act ∷ []))
+    → Chain plan commands scope acts (turned (state_after plan commands scope acts).progress) → Chain plan commands scope (acts ++ act ∷ []) q
 chain_moved plan commands scope acts act Begin w q fine is needs o at begins (inl k) keeps h =
-    chain_still plan commands scope acts act _ q at k begins keeps (stays_open plan commands Begin (stood plan commands scope acts) act o (λ why e. cc))
+    chain_still plan commands scope acts act _ q at k begins keeps (stays_open plan commands Begin (state_after plan commands scope acts) act o (λ why e. cc))
     (λ e. let both : Begin ≡ Prepare = sym is ∙ e in cc) h
 chain_moved plan commands scope acts act Begin w q fine is needs o at begins (inr a) keeps h = chain_anew plan commands scope (acts ++ act ∷ []) q a
 chain_moved plan commands scope acts act Renew w q fine is needs o at begins (inl k) keeps h =
-    chain_still plan commands scope acts act _ q at k begins keeps (stays_open plan commands Renew (stood plan commands scope acts) act o (λ why e. cc))
+    chain_still plan commands scope acts act _ q at k begins keeps (stays_open plan commands Renew (state_after plan commands scope acts) act o (λ why e. cc))
     (λ e. let both : Renew ≡ Prepare = sym is ∙ e in cc) h
 chain_moved plan commands scope acts act Renew w q fine is needs o at begins (inr k) keeps h = chain_closed plan commands scope acts (acts ++ act ∷ []) _ q k.0 k.1 h
 chain_moved plan commands scope acts act Send w q fine is needs o at begins n keeps h =
-    chain_sent plan commands scope acts act (turned (stood plan commands scope acts).progress) q refl at is (begins needs.1) n needs.2 (omega (arith, fine.unsent)) keeps
+    chain_sent plan commands scope acts act (turned (state_after plan commands scope acts).progress) q refl at is (begins needs.1) n needs.2 (omega (arith, fine.unsent)) keeps
 chain_moved plan commands scope acts act Skip w q fine is needs o at begins (inl k) keeps h =
-    chain_still plan commands scope acts act _ q at k begins keeps (stays_open plan commands Skip (stood plan commands scope acts) act o (λ why e. cc))
+    chain_still plan commands scope acts act _ q at k begins keeps (stays_open plan commands Skip (state_after plan commands scope acts) act o (λ why e. cc))
     (λ e. let both : Skip ≡ Prepare = sym is ∙ e in cc) h
 chain_moved plan commands scope acts act Skip w q fine is needs o at begins (inr n) keeps h =
-    chain_skipped plan commands scope (acts ++ act ∷ []) (turned (stood plan commands scope acts).progress) q n.0 n.1 needs.2 (omega (arith, fine.unsent))
+    chain_skipped plan commands scope (acts ++ act ∷ []) (turned (state_after plan commands scope acts).progress) q n.0 n.1 needs.2 (omega (arith, fine.unsent))
 chain_moved plan commands scope acts act Pass w q fine is needs o at begins (inl k) keeps h =
-    chain_still plan commands scope acts act _ q at k begins keeps (stays_open plan commands Pass (stood plan commands scope acts) act o (λ why e. cc))
+    chain_still plan commands scope acts act _ q at k begins keeps (stays_open plan commands Pass (state_after plan commands scope acts) act o (λ why e. cc))
     (λ e. let both : Pass ≡ Prepare = sym is ∙ e in cc) h
 chain_moved plan commands scope acts act Pass w q fine is needs o at begins (inr k) keeps h =
-    chain_past plan commands scope (acts ++ act ∷ []) (turned (stood plan commands scope acts).progress) q k (omega (arith, fine.unsent))
+    chain_past plan commands scope (acts ++ act ∷ []) (turned (state_after plan commands scope acts).progress) q k (omega (arith, fine.unsent))
 chain_moved plan commands scope acts act Prepare w q fine is needs o at begins k keeps h = chain_closed plan commands scope acts (acts ++ act ∷ []) _ q k.0 k.1 h
 chain_moved plan commands scope acts act (Close why) w q fine is needs o at begins k keeps h = chain_closed plan commands scope acts (acts ++ act ∷ []) _ q k.0 k.1 h
 chain_moved plan commands scope acts act (Stop why) w q fine is needs o at begins k keeps h = absurd o
 chain_moved plan commands scope acts act next w q fine is needs o at begins k keeps h =
-    chain_still plan commands scope acts act _ q at k begins keeps (stays_open plan commands next (stood plan commands scope acts) act o (λ why e. cc))
+    chain_still plan commands scope acts act _ q at k begins keeps (stays_open plan commands next (state_after plan commands scope acts) act o (λ why e. cc))
     (λ e. let both : next ≡ Prepare = sym is ∙ e in cc) h
 
--- what is lost after an act leaves `Keeps`
-kept_ended : (s t : Model) → Keeps s t → Keeps s (ended t)
+-- what is lost after an act leaves `LeavesNothingOut`
+kept_ended : (s t : Model) → LeavesNothingOut s t → LeavesNothingOut s (ended t)
 kept_ended s t (inl same) = inl (ended_passes t ∙ same)
 kept_ended s t (inr none) = inr (ap (λ (p : Progress). p.chain_unbroken) (ended_progress t) ∙ none)
 
 -- `Chain` is preserved by all acts of a run
-chain_along : (plan : Plan) (commands : List Task) (scope : Scope) (done acts : List Act) → Runs plan commands (stood plan commands scope done) acts
-    → Chain plan commands scope done (stood plan commands scope done).progress
-    → Chain plan commands scope (done ++ acts) (stood plan commands scope (done ++ acts)).progress
-chain_along plan commands scope done [] runs h = subst (λ (xs : List Act). Chain plan commands scope xs (stood plan commands scope xs).progress) (sym (all_of done)) h where
+chain_along : (plan : Plan) (commands : List Task) (scope : Scope) (done acts : List Act) → Runs plan commands (state_after plan commands scope done) acts
+    → Chain plan commands scope done (state_after plan commands scope done).progress
+    → Chain plan commands scope (done ++ acts) (state_after plan commands scope (done ++ acts)).progress
+chain_along plan commands scope done [] runs h = subst (λ (xs : List Act). Chain plan commands scope xs (state_after plan commands scope xs).progress) (sym (all_of done)) h where
   -- nothing appended changes no list
   all_of : (xs : List Act) → xs ++ [] ≡ xs
   all_of [] = refl
   all_of (x ∷ xs) = ap (λ ys. x ∷ ys) (all_of xs)
 chain_along plan commands scope done (act ∷ acts) runs h =
-    let s = stood plan commands scope done in
+    let s = state_after plan commands scope done in
     let t = moved plan commands (action_at plan s) (with_progress turned s) act in
     let next = after_all-append plan commands (opening plan scope) done (act ∷ []) in
-    let far : (stood plan commands scope (done ++ act ∷ [])).progress ≡ t.progress = ap (λ (x : Model). x.progress) next ∙ ended_progress t in
+    let far : (state_after plan commands scope (done ++ act ∷ [])).progress ≡ t.progress = ap (λ (x : Model). x.progress) next ∙ ended_progress t in
     let at_turn : Chain plan commands scope done (turned s.progress) = record {
       next_is_chained = h.next_is_chained;
       chain_unbroken = λ e.
@@ -302,10 +302,10 @@ chain_along plan commands scope done (act ∷ acts) runs h =
     } in
     let one = chain_moved plan commands scope done act (action_at plan s) (waiting_of s) t.progress (fine_stood plan commands scope done) refl (action_for plan s.progress (waiting_of s)) runs.0 far
     (begun_kept plan commands s (action_at plan s) act runs.0) (moved_steps plan commands (action_at plan s) (with_progress turned s) act)
-    (subst (λ (x : Model). Keeps s x) (sym next) (kept_ended s t (moved_keeps plan commands (action_at plan s) (with_progress turned s) act))) at_turn in
+    (subst (λ (x : Model). LeavesNothingOut s x) (sym next) (kept_ended s t (moved_keeps plan commands (action_at plan s) (with_progress turned s) act))) at_turn in
     let here = subst (λ (p : Progress). Chain plan commands scope (done ++ act ∷ []) p) (sym far) one in
     let goes_on = subst (λ (x : Model). Runs plan commands x acts) (sym next) runs.1 in
-    subst (λ (xs : List Act). Chain plan commands scope xs (stood plan commands scope xs).progress) (append_assoc done (act ∷ []) acts)
+    subst (λ (xs : List Act). Chain plan commands scope xs (state_after plan commands scope xs).progress) (append_assoc done (act ∷ []) acts)
     (chain_along plan commands scope (done ++ act ∷ []) acts goes_on here)
 
 -- if none is unsent, no command is left
@@ -318,15 +318,15 @@ none_behind commands = let at : length commands - 0 ≡ length commands = omega 
 
 -- `Chain` holds after every run
 chain_stood : (plan : Plan) (commands : List Task) (scope : Scope) (acts : List Act) → Runs plan commands (opening plan scope) acts
-    → Chain plan commands scope acts (stood plan commands scope acts).progress
+    → Chain plan commands scope acts (state_after plan commands scope acts).progress
 chain_stood plan commands scope acts runs = chain_along plan commands scope [] acts runs (record { next_is_chained = λ above. sym (ap is_chained (none_behind commands)); chain_unbroken = λ e. cc })
 
 -- after every run, if the next command isn't the first of its cycle, it counts as chained as the text says, or in a missed
 -- cycle
 pub bound_stood : (plan : Plan) (commands : List Task) (scope : Scope) (acts : List Act) → Runs plan commands (opening plan scope) acts
-    → plan.setup < place_next commands (stood plan commands scope acts).progress
-    → (stood plan commands scope acts).progress.next_is_chained
-    ≡ ((stood plan commands scope acts).progress.missed || is_chained (drop (place_next commands (stood plan commands scope acts).progress) commands))
+    → plan.setup < place_next commands (state_after plan commands scope acts).progress
+    → (state_after plan commands scope acts).progress.next_is_chained
+    ≡ ((state_after plan commands scope acts).progress.missed || is_chained (drop (place_next commands (state_after plan commands scope acts).progress) commands))
 bound_stood plan commands scope acts runs above = (chain_stood plan commands scope acts runs).next_is_chained above
 
 -- What the last record says.
@@ -378,11 +378,11 @@ all_last P [] x all = all.0
 all_last P (y ∷ xs) x all = all_last P xs x all.1
 
 -- the commands that had their turn, with the next one after them, are those that had their turn one place later
-last_sent : (plan : Plan) (commands : List Task) (begun place : ℕ) (left : List Task) → drop place commands ≡ left → 0 < length left → 0 < begun
+last_sent : (plan : Plan) (commands : List Task) (cycle_begun place : ℕ) (left : List Task) → drop place commands ≡ left → 0 < length left → 0 < cycle_begun
     → plan.setup ≤ place
-    → (task : Task) × (sent_by plan.setup commands begun place ++ requests begun place (of_task task ∷ []) ≡ sent_by plan.setup commands begun (place + 1))
-last_sent plan commands begun place [] at some many within = absurd (omega (arith, some))
-last_sent plan commands begun place (task ∷ others) at some many within = (task, sent_next plan.setup commands begun place task others at within many)
+    → (task : Task) × (sent_by plan.setup commands cycle_begun place ++ requests cycle_begun place (of_task task ∷ []) ≡ sent_by plan.setup commands cycle_begun (place + 1))
+last_sent plan commands cycle_begun place [] at some many within = absurd (omega (arith, some))
+last_sent plan commands cycle_begun place (task ∷ others) at some many within = (task, sent_next plan.setup commands cycle_begun place task others at within many)
 
 -- a request of this very place isn't before it
 not_in_front : (cycle place : ℕ) (r : Request) → r.cycle ≡ cycle → r.place ≡ place → IsInFront cycle place r → ⊥
@@ -392,13 +392,13 @@ not_in_front cycle place r at is (inr same) = omega (arith, same.1, is)
 -- if a chained command is to be sent, `IsLinked` holds: the command before it was sent and was answered well, and the station
 -- has synchronized after each act since, none of which sends a command of the setup
 pub chain_whole : (plan : Plan) (commands : List Task) (scope : Scope) (acts : List Act) → Runs plan commands (opening plan scope) acts
-    → action_at plan (stood plan commands scope acts) ≡ Send → IsChained plan commands (stood plan commands scope acts)
-    → (l : IsLinked plan commands scope acts) × StaysBegun plan commands (stood plan commands scope l.before) (l.request ∷ l.between)
-    × PreparesNothing plan commands (stood plan commands scope l.before) (l.request ∷ l.between)
+    → action_at plan (state_after plan commands scope acts) ≡ Send → IsChained plan commands (state_after plan commands scope acts)
+    → (l : IsLinked plan commands scope acts) × StaysBegun plan commands (state_after plan commands scope l.before) (l.request ∷ l.between)
+    × PreparesNothing plan commands (state_after plan commands scope l.before) (l.request ∷ l.between)
 chain_whole plan commands scope acts runs is chained = of_may needs.4 where
   -- the station as it is
   s : Model
-  s = stood plan commands scope acts
+  s = state_after plan commands scope acts
 
   -- its fields on chains are true
   h : Chain plan commands scope acts s.progress
@@ -419,10 +419,10 @@ chain_whole plan commands scope acts runs is chained = of_may needs.4 where
   -- the command before the next one, if no command waits: `Whole` says that it was sent, and `Last` that the last record was
   -- answered well; that record is its own, so `IsLinked` holds of it
   of_last : commands_in s.marks ≡ 0 → s.progress.chain_unbroken ≡ true → Last s.records → Whole plan commands scope acts s.progress
-      → (l : IsLinked plan commands scope acts) × StaysBegun plan commands (stood plan commands scope l.before) (l.request ∷ l.between)
-      × PreparesNothing plan commands (stood plan commands scope l.before) (l.request ∷ l.between)
+      → (l : IsLinked plan commands scope acts) × StaysBegun plan commands (state_after plan commands scope l.before) (l.request ∷ l.between)
+      × PreparesNothing plan commands (state_after plan commands scope l.before) (l.request ∷ l.between)
   of_last settled it l w =
-      let b = stood plan commands scope w.before in
+      let b = state_after plan commands scope w.before in
       let before = fine_stood plan commands scope w.before in
       let asked = subst (λ (o : Action). IsFor plan b.progress (waiting_of b) o) w.sends (action_for plan b.progress (waiting_of b)) in
       let some = asked.2 in
@@ -453,8 +453,8 @@ chain_whole plan commands scope acts runs is chained = of_may needs.4 where
       let ends : of_text commands (map of_record l.earlier) ++ in_text commands (of_record l.answer) ∷ [] ≡ kept.0 ++ one ∷ [] =
       sym (listed_last commands (map of_record l.earlier) (of_record l.answer) of_a_cycle) ∙ ap (of_text commands) (sym listed_all) ∙ kept.1 in
       let own = end_same (of_text commands (map of_record l.earlier)) kept.0 (in_text commands (of_record l.answer)) one ends in
-      let true_one = all_last (IsTrueRecord plan commands scope acts) l.earlier l.answer
-      (subst (λ (rs : List Record). AllByRecursion (IsTrueRecord plan commands scope acts) rs) l.last (answers_true plan commands scope acts runs)) in
+      let true_one = all_last (AnswerIsJustified plan commands scope acts) l.earlier l.answer
+      (subst (λ (rs : List Record). AllByRecursion (AnswerIsJustified plan commands scope acts) rs) l.last (answers_true plan commands scope acts runs)) in
       let listed = all_last (λ (r : Record). IsAsListed scope.reads commands r) l.earlier l.answer
       (subst (λ (rs : List Record). AllByRecursion (λ (r : Record). IsAsListed scope.reads commands r) rs) l.last (as_listed plan commands scope acts)) in
       let linked : IsLinked plan commands scope acts = record {
@@ -483,12 +483,12 @@ chain_whole plan commands scope acts runs is chained = of_may needs.4 where
 
   -- the lemma above, if the next command may be sent (`MayGo`): as it is chained, that is because the one before it was
   -- answered well
-  of_may : MayGo s.progress (waiting_of s) → (l : IsLinked plan commands scope acts) × StaysBegun plan commands (stood plan commands scope l.before) (l.request ∷ l.between)
-      × PreparesNothing plan commands (stood plan commands scope l.before) (l.request ∷ l.between)
-  of_may (inl free) = absurd (clash s.progress.next_is_chained next_is_chained free)
+  of_may : MayGo s.progress (waiting_of s) → (l : IsLinked plan commands scope acts) × StaysBegun plan commands (state_after plan commands scope l.before) (l.request ∷ l.between)
+      × PreparesNothing plan commands (state_after plan commands scope l.before) (l.request ∷ l.between)
+  of_may (inl free) = absurd (not_both s.progress.next_is_chained next_is_chained free)
   of_may (inr it) = of_last it.0 it.2 (last_of s.records it.1) (h.chain_unbroken it.2)
 
 -- a chained command is sent only after the answer of the one before it
 pub chain_kept : (plan : Plan) (commands : List Task) (scope : Scope) (acts : List Act) → Runs plan commands (opening plan scope) acts
-    → action_at plan (stood plan commands scope acts) ≡ Send → IsChained plan commands (stood plan commands scope acts) → IsLinked plan commands scope acts
+    → action_at plan (state_after plan commands scope acts) ≡ Send → IsChained plan commands (state_after plan commands scope acts) → IsLinked plan commands scope acts
 chain_kept plan commands scope acts runs is chained = (chain_whole plan commands scope acts runs is chained).0

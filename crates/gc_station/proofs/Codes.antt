@@ -26,6 +26,7 @@ use Rattle.gc_station.specs.Codes.{WellIsAnAcceptedCode}
 use Rattle.gc_station.specs.Qualities.{GoodIsAnAnswer}
 use Rattle.gc_station.specs.Marks.{value_as, warned_as, refused_as, answer_as, end_of, is_well}
 use Rattle.gc_station.specs.Scopes.{AreReadings}
+use Rattle.gc_station.proofs.Ticking.{not_both}
 
 -- a reply with a communication code other than 0 says that fault, whatever was asked
 pub com_fault_is : (asked : Asked) (r : ReplyFields) → (r.rc_com ≡ 0 → ⊥) → IsAskedReading asked r (reading.ComFault r.rc_com)
@@ -36,10 +37,6 @@ com_fault_is (Raw raw) r other = (other, refl)
 pub refused_is : (asked : Asked) (r : ReplyFields) → r.rc_com ≡ 0 → (r.rc ≡ 0 → ⊥) → IsAskedReading asked r (reading.Refused r.rc)
 refused_is (Table call) r none other = (none, other, refl)
 refused_is (Raw raw) r none other = (none, other, refl)
-
--- a test isn't true and false
-apart : (b : Bool) → b ≡ true → b ≡ false → ⊥
-apart b e f = let both : true ≡ false = sym e ∙ f in cc
 
 -- a command whose reply is an answer of a good quality is answered well exactly if it wasn't measured elsewhere
 value_well : (q : Quality) → is_good q ≡ true → (said : Answer) (line : List ℕ) (away : Bool) → is_well (value_as q away said line) ≡ not away
@@ -87,14 +84,14 @@ module _ (reads : Asked → List ℕ → Reading) (expected : Expected) (call : 
   com_zero : is_well (end_of reads expected call (Answered line)) ≡ true → r.rc_com ≡ 0
   com_zero well = elim (eqb_tells r.rc_com 0) as (λ _. r.rc_com ≡ 0) [
     | inl same ↦ same.1
-    | inr other ↦ absurd (apart _ well (ap is_well (ended (reading.ComFault r.rc_com) (says (reading.ComFault r.rc_com) (com_fault_is call r other.1)))))
+    | inr other ↦ absurd (not_both _ well (ap is_well (ended (reading.ComFault r.rc_com) (says (reading.ComFault r.rc_com) (com_fault_is call r other.1)))))
   ]
 
   -- a command that is refused, and is answered well nevertheless, was refused with an accepted code
   accepted_one : (b : Bool) → are_accepted expected.accepted r.rc ≡ b → reads call line ≡ reading.Refused r.rc → is_well (end_of reads expected call (Answered line)) ≡ true
       → are_accepted expected.accepted r.rc ≡ true
   accepted_one true e said well = e
-  accepted_one false e said well = absurd (apart _ well (refused_unwell r.rc said e))
+  accepted_one false e said well = absurd (not_both _ well (refused_unwell r.rc said e))
 
   -- a command is answered well only if the return code of its reply is 0 or an accepted one
   rc_zero : r.rc_com ≡ 0 → is_well (end_of reads expected call (Answered line)) ≡ true → (r.rc ≡ 0) ⊎ (are_accepted expected.accepted r.rc ≡ true)

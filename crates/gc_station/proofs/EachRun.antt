@@ -22,20 +22,21 @@ use Rattle.gc_links.specs.Acts.{Act, Told}
 use Rattle.gc_station.specs.Deciding.{later, has_begun, is_up}
 use Rattle.gc_station.specs.EachOnce.{EachOnce, Parted, Request, still_waiting, sent_by, of_record, all_cycles, of_text}
 use Rattle.gc_station.specs.Marks.{commands_in}
-use Rattle.gc_station.specs.Progressing.{turned, told, skipped_at, reckoned_early, begun, skipped, passed, cleared, asking, null_sent, renewed, sent, is_over, is_over_in, setup_sent}
+use Rattle.gc_station.specs.Progressing.{turned, moment_noted, skipped_at, reckoned_early, cycle_begun, skipped, attempts_left_out, cleared, asking, null_sent, renewed, sent, is_over, is_over_in, setup_sent}
 use Rattle.gc_station.specs.Reasons.{IsFor}
 use Rattle.gc_station.specs.Records.{Record}
-use Rattle.gc_station.specs.Runs.{stood}
+use Rattle.gc_station.specs.Runs.{state_after}
 use Rattle.gc_station.specs.Tasked.{CommandsAreTheirTasks}
 use Rattle.gc_texts.specs.Endings.{Skipped, Missed}
-use Rattle.gc_station.specs.Model.{Model, opening, action_at, waiting_of, place_next, expected_first, mark_next, with_progress, asks_null, asks_first, asks_next, is_chained_behind_next, others_behind_next, is_chained_behind, others_behind, passes_next, with_passes, with_listed, skip_listed, after_pass, with_records, skips, skips_first, after_clock, moved, after, after_all, cycle_length, mark_setup, asks_or_null, asks_setup}
+use Rattle.gc_station.specs.Model.{Model, opening, action_at, waiting_of, place_next, expected_first, mark_next, with_progress, asks_null, asks_first, asks_next, is_chained_after_next, others_after_next, is_chained_after, others_after, passes_next, with_passes, with_listed, skip_listed, after_pass, with_records, skips, skips_first, after_clock, moved, after, after_all, cycle_length, mark_setup, asks_or_null, asks_setup}
 use Rattle.gc_station.proofs.Acting.{mid_fail, mid_moment, mid_clock, mid_put, mid_open, mid_close, mid_read}
 use Rattle.gc_station.proofs.Each.{each_empty, sent_whole}
 use Rattle.gc_station.proofs.Facts.{action_for}
 use Rattle.gc_station.proofs.Invariant.{Invariant, is_bare, says_done}
-use Rattle.gc_station.proofs.Midway.{Placed, Mid, mid_of, clash, sound_null, sound_sent, sound_skipped, sound_passed, sound_begun, fine_ended, sound_prepared}
+use Rattle.gc_station.proofs.Midway.{Placed, Mid, mid_of, sound_null, sound_sent, sound_skipped, sound_passed, sound_begun, fine_ended, sound_prepared}
 use Rattle.gc_station.proofs.Tasked.{at_place, unsent_end}
 use Rattle.gc_station.specs.Scopes.{Scope}
+use Rattle.gc_station.proofs.Ticking.{not_both}
 
 -- no records after the others preserve the weaker record
 mid_nothing : (plan : Plan) (commands : List Task) (s : Model) → Mid plan commands s → Mid plan commands (with_records [] s)
@@ -43,11 +44,11 @@ mid_nothing plan commands s mid = subst (λ (rs : List Record). Mid plan command
 
 -- the phase `Ready` is `Placed`: it says nothing of the counts, the kept bytes and the marks
 going_placed : (phase : Phase) (left unsent : ℕ) (rest : List ℕ) (marks : List (Option Mark)) → phase ≡ Ready → Placed phase left unsent rest marks
-going_placed phase left unsent rest marks is = record { empty = λ e. absurd (clash (is_bare phase) e (ap is_bare is)); finished = λ e. absurd (clash (says_done phase) e (ap says_done is)) }
+going_placed phase left unsent rest marks is = record { empty = λ e. absurd (not_both (is_bare phase) e (ap is_bare is)); finished = λ e. absurd (not_both (says_done phase) e (ap says_done is)) }
 
 -- the beginning of a cycle preserves the weaker record
 mid_begun : (plan : Plan) (commands : List Task) (s : Model) (m : Moment) → s.progress.phase ≡ Ready → s.progress.unsent ≡ 0 → commands_in s.marks ≡ 0 → 0 < s.progress.left → Mid plan commands s
-    → Mid plan commands (with_progress (begun plan (cycle_length plan commands) m) s)
+    → Mid plan commands (with_progress (cycle_begun plan (cycle_length plan commands) m) s)
 mid_begun plan commands s m is none settled some mid =
     let p = s.progress in (
       sound_begun plan commands p.left p.unsent s.client s.marks s.records s.passes none some mid.0,
@@ -58,7 +59,7 @@ mid_begun plan commands s m is none settled some mid =
 mid_cleared : (plan : Plan) (commands : List Task) (s : Model) → s.progress.phase ≡ Clearing → Mid plan commands s → Mid plan commands (with_progress cleared s)
 mid_cleared plan commands s is mid = (mid.0, by_word (has_begun s.progress)) where
   -- the lemma above, whether the station has synchronized (`true`) or begins
-  by_word : (begun : Bool) → Placed (if begun then Draining else Ready) s.progress.left s.progress.unsent s.rest s.marks
+  by_word : (cycle_begun : Bool) → Placed (if cycle_begun then Draining else Ready) s.progress.left s.progress.unsent s.rest s.marks
   by_word true = record { empty = λ e. mid.1.empty (ap is_bare is); finished = λ e. cc }
   by_word false = record { empty = λ e. cc; finished = λ e. cc }
 
@@ -139,7 +140,7 @@ mid_pass : (plan : Plan) (commands : List Task) (s : Model) (act : Act) → s.pr
 mid_pass plan commands s (Told m) is some mid =
     let p = s.progress in
     let n = p.next_others in
-    mid_moment plan commands (with_progress (λ q. reckoned_early plan (commands_in s.marks) (passed (is_chained_behind n commands p) (others_behind n commands p) m q))
+    mid_moment plan commands (with_progress (λ q. reckoned_early plan (commands_in s.marks) (attempts_left_out (is_chained_after n commands p) (others_after n commands p) m q))
     (with_passes (passes_next plan commands p) s)) m (
       sound_passed plan commands p.left p.unsent n s.client s.marks s.records s.passes some mid.0,
       going_placed p.phase p.left (p.unsent - n) s.rest s.marks is,
@@ -157,13 +158,13 @@ close_done plan commands s w why fine for_it is = cc
 pub mid_moved : (plan : Plan) (commands : List Task) (s : Model) (action : Action) (act : Act) → Invariant plan commands s → IsFor plan s.progress (waiting_of s) action
     → Mid plan commands (moved plan commands action (with_progress turned s) act)
 mid_moved plan commands s action.ReadClock act fine is =
-    let t = with_progress turned s in mid_clock plan commands (λ m p. reckoned_early plan (commands_in t.marks) (told m p)) t act (mid_of plan commands s fine) (λ m. mid_of plan commands s fine)
+    let t = with_progress turned s in mid_clock plan commands (λ m p. reckoned_early plan (commands_in t.marks) (moment_noted m p)) t act (mid_of plan commands s fine) (λ m. mid_of plan commands s fine)
 mid_moved plan commands s action.Renew act fine is =
     let t = with_progress turned s in mid_clock plan commands (λ m p. reckoned_early plan 0 (renewed plan m p)) t act (mid_of plan commands s fine) (λ m. mid_of plan commands s fine)
 mid_moved plan commands s action.Begin act fine is =
     let t = with_progress turned s in
     let mid = mid_of plan commands s fine in
-    mid_clock plan commands (begun plan (cycle_length plan commands)) t act mid (λ m. mid_begun plan commands t m is.0 is.2 is.3 is.4 mid)
+    mid_clock plan commands (cycle_begun plan (cycle_length plan commands)) t act mid (λ m. mid_begun plan commands t m is.0 is.2 is.3 is.4 mid)
 mid_moved plan commands s action.Open act fine is = mid_open plan commands (with_progress turned s) act is (mid_of plan commands s fine)
 mid_moved plan commands s action.Clear act fine is =
     let t = with_progress turned s in mid_put plan commands _ (with_progress cleared) t act (mid_cleared plan commands t is (mid_of plan commands s fine))
@@ -175,12 +176,12 @@ mid_moved plan commands s action.Prepare act fine is =
     (mid_prepares plan commands t (drop t.progress.prepared commands) refl is.0 is.3.1 (mid_of plan commands s fine))
 mid_moved plan commands s action.Send act fine is =
     let t = with_progress turned s in
-    mid_put plan commands _ (λ (x : Model). with_progress (sent (is_chained_behind_next commands x.progress) (others_behind_next commands x.progress)) (asks_next plan commands x)) t act
-    (mid_sent plan commands (is_chained_behind_next commands t.progress) (others_behind_next commands t.progress) t is.0 is.2 is.3.1 (mid_of plan commands s fine))
+    mid_put plan commands _ (λ (x : Model). with_progress (sent (is_chained_after_next commands x.progress) (others_after_next commands x.progress)) (asks_next plan commands x)) t act
+    (mid_sent plan commands (is_chained_after_next commands t.progress) (others_after_next commands t.progress) t is.0 is.2 is.3.1 (mid_of plan commands s fine))
 mid_moved plan commands s action.Skip act fine is =
     let t = with_progress turned s in
-    let next_is_chained = is_chained_behind_next commands t.progress in
-    mid_skip plan commands next_is_chained (others_behind_next commands t.progress) t act is.0 is.2 is.3 (mid_of plan commands s fine)
+    let next_is_chained = is_chained_after_next commands t.progress in
+    mid_skip plan commands next_is_chained (others_after_next commands t.progress) t act is.0 is.2 is.3 (mid_of plan commands s fine)
 mid_moved plan commands s action.Pass act fine is = mid_pass plan commands (with_progress turned s) act is.0 is.2 (mid_of plan commands s fine)
 mid_moved plan commands s action.Flush act fine is =
     let t = with_progress turned s in
@@ -220,7 +221,7 @@ fine_opening plan commands scope =
     }
 
 -- what every run keeps holds after all acts
-pub fine_stood : (plan : Plan) (commands : List Task) (scope : Scope) (acts : List Act) → Invariant plan commands (stood plan commands scope acts)
+pub fine_stood : (plan : Plan) (commands : List Task) (scope : Scope) (acts : List Act) → Invariant plan commands (state_after plan commands scope acts)
 fine_stood plan commands scope acts = fine_all plan commands (opening plan scope) acts (fine_opening plan commands scope)
 
 -- if a run stops no act follows
@@ -257,7 +258,7 @@ stopped plan commands s why fine stop =
 -- the records and the outstanding commands are the commands that had their turn, after any acts
 pub each_once : (plan : Plan) (commands : List Task) (scope : Scope) (acts : List Act) → EachOnce plan commands scope acts
 each_once plan commands scope acts =
-    let s = stood plan commands scope acts in
+    let s = state_after plan commands scope acts in
     let fine = fine_stood plan commands scope acts in
     record {
       each = fine.each;

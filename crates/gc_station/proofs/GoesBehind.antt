@@ -20,18 +20,18 @@ use Rattle.gc_station.specs.declared.progress.Progress.{Progress}
 use Rattle.gc_station.specs.Behind.{IsNearTheTable, CommandsGoOutBehindTheTable}
 use Rattle.gc_station.specs.Deciding.{has_begun, is_none_left}
 use Rattle.gc_station.specs.Parts.{Part, joined, putting, asking_first, hearing, doing, beginning, acting, in_front, parts_of, asking_or_null}
-use Rattle.gc_station.specs.Progressing.{one_more, turned, told, time_passed, loses_all}
+use Rattle.gc_station.specs.Progressing.{one_more, turned, moment_noted, time_passed, loses_all}
 use Rattle.gc_station.specs.Reasons.{IsFor}
-use Rattle.gc_station.specs.Model.{Model, opening, action_at, waiting_of, place_next, mark_next, is_heard, with_progress, with_moment, with_rest, line_came, lines_came, lines_behind, came, moved, losing, after, Performs, Runs, mark_setup}
+use Rattle.gc_station.specs.Model.{Model, opening, action_at, waiting_of, place_next, mark_next, is_heard, with_progress, with_moment, with_rest, line_came, lines_came, lines_completed, after_piece, moved, losing, after, Performs, Runs, mark_setup}
 use Rattle.gc_station.proofs.Behind.{behind_by, Counts, counts_steps, near_so, reached, get_behind, course_append}
 use Rattle.gc_station.proofs.Booking.{client_after, sent_by, course_sent, course_client, sent_append, of_length}
 use Rattle.gc_station.proofs.Counts.{losing_progress}
 use Rattle.gc_station.proofs.EachRun.{fine_after, fine_opening}
 use Rattle.gc_station.proofs.Facts.{action_for}
 use Rattle.gc_station.proofs.Invariant.{Invariant}
-use Rattle.gc_station.proofs.Midway.{clash}
 use Rattle.gc_station.proofs.Parting.{Leads, leads, keeps_action}
 use Rattle.gc_station.proofs.Walk.{quieted_along, closed_along, walk}
+use Rattle.gc_station.proofs.Ticking.{not_both}
 
 -- What an act does.
 
@@ -41,9 +41,9 @@ lines_counted s [] = refl
 lines_counted s (line ∷ others) = lines_counted (line_came s line) others
 
 -- a piece does what the steps do that hear its lines
-came_counted : (h : Bool) (word piece : List ℕ) (s : Model) → is_none_left word ≡ true → (came h word piece s).progress.behind ≡ behind_by s.client s.progress.behind (hearing h s.rest piece)
+came_counted : (h : Bool) (word piece : List ℕ) (s : Model) → is_none_left word ≡ true → (after_piece h word piece s).progress.behind ≡ behind_by s.client s.progress.behind (hearing h s.rest piece)
 came_counted true (asked ∷ others) piece s begun = cc
-came_counted true [] piece s begun = lines_counted (with_rest (rest_behind s.rest piece) s) (lines_behind s.rest piece)
+came_counted true [] piece s begun = lines_counted (with_rest (rest_behind s.rest piece) s) (lines_completed s.rest piece)
 came_counted false word piece s begun = refl
 
 -- the first of some commands is one request more
@@ -67,7 +67,7 @@ module _ (plan : Plan) (commands : List Task) where
   counted s action.Renew (Told m) fine is obeys begun still = cc
   counted s action.Renew Untold fine is obeys begun still = refl
   counted s action.Renew act fine is obeys begun still = absurd obeys
-  counted s action.Ask act fine is obeys begun still = absurd (clash (has_begun s.progress) begun is.1)
+  counted s action.Ask act fine is obeys begun still = absurd (not_both (has_begun s.progress) begun is.1)
   counted s action.Prepare act fine is obeys begun still =
       let one = setup_counted plan s.client s.progress.behind s.progress.moment.elapsed (mark_setup commands s.progress) (drop s.progress.prepared commands) in
       walk plan commands (IsCounted action.Prepare s) action.Prepare (with_progress turned s) act obeys (λ m. one, λ n. one)
@@ -78,7 +78,7 @@ module _ (plan : Plan) (commands : List Task) where
       walk plan commands (IsCounted action.Send s) action.Send (with_progress turned s) act obeys (λ m. one, λ n. one)
   counted s (action.Read until) act fine is obeys begun still =
       walk plan commands (IsCounted (action.Read until) s) (action.Read until) (with_progress turned s) act obeys (
-        λ bytes m. came_counted (is_heard s.progress.phase) s.progress.word bytes (with_moment m (with_progress (told m) (with_progress turned s))) begun,
+        λ bytes m. came_counted (is_heard s.progress.phase) s.progress.word bytes (with_moment m (with_progress (moment_noted m) (with_progress turned s))) begun,
         λ m. quieted_along (λ (q : Progress). q.behind ≡ s.progress.behind) plan s.progress.phase (time_passed until m (turned s.progress)) refl refl refl,
         refl,
         refl,
@@ -111,7 +111,7 @@ hears_nothing (line ∷ others) = (tt, hears_nothing others)
 
 -- a piece that is heard, or discarded, sends nothing
 hearing_nothing : (h : Bool) (rest piece : List ℕ) → AllByRecursion SendsNothing (hearing h rest piece)
-hearing_nothing true rest piece = hears_nothing (lines_behind rest piece)
+hearing_nothing true rest piece = hears_nothing (lines_completed rest piece)
 hearing_nothing false rest piece = tt
 
 -- before the only step there is none
@@ -349,7 +349,7 @@ module _ (plan : Plan) (commands : List Task) (s : Model) (act : Act) (done : Li
       let still = not_lost t.progress l in
       front_near plan commands s o act done fine its obeys client counts ps
       (next (done ++ part.steps) (ap (λ (x : Model). x.client) same ∙ sym part_client)
-      (λ e. absurd (clash (has_begun t.progress) still (ap (λ (x : Model). has_begun x.progress) (sym same) ∙ e)))
+      (λ e. absurd (not_both (has_begun t.progress) still (ap (λ (x : Model). has_begun x.progress) (sym same) ∙ e)))
       (subst (λ (x : Model). Counts (reached (done ++ part.steps)) x.progress.behind) (sym same)
       (subst (λ (n : ℕ). Counts (reached (done ++ part.steps)) n) (sym (part_counted w still)) (counts_steps done part.steps s.progress.behind counts))))
   by_case false all w l next =

@@ -15,7 +15,7 @@ use Rattle.gc_station.specs.declared.station.Station.{Station}
 use Rattle.gc_links.specs.Acts.{Act, Closed, Tells}
 use Rattle.gc_station.specs.Progressing.{turned, loses_all}
 use Rattle.gc_station.specs.Records.{Record, texts_of}
-use Rattle.gc_station.specs.Runs.{stood, BrokeAt, LeftAt}
+use Rattle.gc_station.specs.Runs.{state_after, BrokeAt, LeftAt}
 use Rattle.gc_station.specs.Model.{Model, opening, action_at, Performs, after, after_all, moved, ended, Runs, with_progress}
 use Rattle.gc_station.specs.Stations.{waiting_in, Refines, Took, Makes, Breaks, Made, ComesTo, stepped, OnCall, seen}
 use Rattle.gc_station.specs.Deciding.{action_of}
@@ -120,8 +120,8 @@ pub record Went (plan : Plan) (commands : List Task) (scope : Scope) (text : Rec
   pub acts : List Act
   pub tells : Tells told told' acts
   pub runs : Runs plan commands (opening plan scope) acts
-  pub stands : Refines station (stood plan commands scope acts)
-  pub took : Appends taken taken' (texts_of text (stood plan commands scope acts).records)
+  pub stands : Refines station (state_after plan commands scope acts)
+  pub took : Appends taken taken' (texts_of text (state_after plan commands scope acts).records)
 
 -- a link that recorded nothing more recorded no acts
 pub tells_none : (a : Option (List Act)) → Tells a a []
@@ -148,7 +148,7 @@ went_kept plan commands scope text told told' taken taken' taken'' station keeps
   tells = w.tells;
   runs = w.runs;
   stands = w.stands;
-  took = Appends-kept taken taken' taken'' (texts_of text (stood plan commands scope w.acts).records) w.took keeps;
+  took = Appends-kept taken taken' taken'' (texts_of text (state_after plan commands scope w.acts).records) w.took keeps;
 }
 
 -- `Went` is preserved if a book took nothing more
@@ -187,11 +187,11 @@ runs-append plan commands s (x ∷ xs) ys p q = (p.0, runs-append plan commands 
 abbrev pub went_on : (plan : Plan) (commands : List Task) (scope : Scope) (text : Record → List ℕ) (told told' told'' : Option (List Act))
     (taken taken' taken'' : Option (List ℕ)) (station new : Station) (action : Action)
     → (w : Went plan commands scope text told told' taken taken' station)
-    → action ≡ action_at plan (stood plan commands scope w.acts)
+    → action ≡ action_at plan (state_after plan commands scope w.acts)
     → Makes commands action (stepped plan commands action) (seen told' text taken' station) (seen told'' text taken'' new)
     → AreReadings scope.reads → Went plan commands scope text told told'' taken taken'' new
 went_on plan commands scope text told told' told'' taken taken' taken'' station new action w is makes are =
-    let s = stood plan commands scope w.acts in
+    let s = state_after plan commands scope w.acts in
     let one = makes.goes s taken w.stands (λ ok. w.took) in
     let same = stepped_reads plan commands action s makes.act ∙ stood_reads plan commands scope w.acts in
     let took = one.2 (are_same (stepped plan commands action s makes.act).reads scope.reads same are) in
@@ -209,12 +209,12 @@ went_on plan commands scope text told told' told'' taken taken' taken'' station 
 pub went_wrong : (plan : Plan) (commands : List Task) (scope : Scope) (text : Record → List ℕ) (told told' told'' told''' : Option (List Act))
     (taken taken' taken'' : Option (List ℕ)) (station : Station) (action : Action)
     → (w : Went plan commands scope text told told' taken taken' station)
-    → action ≡ action_at plan (stood plan commands scope w.acts)
+    → action ≡ action_at plan (state_after plan commands scope w.acts)
     → Breaks commands action (stepped plan commands action) (seen told' text taken' station) told'' taken''
     → Tells told'' told''' (Closed ∷ [])
     → AreReadings scope.reads → BrokeAt plan commands scope text told told''' taken taken''
 went_wrong plan commands scope text told told' told'' told''' taken taken' taken'' station action w is breaks closed are =
-    let s = stood plan commands scope w.acts in
+    let s = state_after plan commands scope w.acts in
     let one = breaks.goes s taken w.stands (λ ok. w.took) in
     let same = stepped_reads plan commands action s breaks.act ∙ stood_reads plan commands scope w.acts in
     let took = one.1 (are_same (stepped plan commands action s breaks.act).reads scope.reads same are) in

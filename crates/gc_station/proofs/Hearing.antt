@@ -33,11 +33,11 @@ use Rattle.gc_station.specs.declared.progress.Until.{Until}
 use Rattle.gc_station.specs.declared.progress.Waiting.{Waiting}
 use Rattle.gc_station.specs.declared.station.Station.{Station}
 use Rattle.gc_station.specs.Attempts.{listed_by}
-use Rattle.gc_station.specs.Marks.{commands_in, records_of, last_well, fresh_behind}
+use Rattle.gc_station.specs.Marks.{commands_in, records_of, last_well, fresh_after}
 use Rattle.gc_station.specs.Deciding.{is_none_left}
-use Rattle.gc_station.specs.Progressing.{caught_up, noted, gave, reckoned_early, again, closed, lines_asked, line_asked}
+use Rattle.gc_station.specs.Progressing.{caught_up, line_noted, bytes_noted, reckoned_early, after_failure, closed, lines_asked, line_asked}
 use Rattle.gc_station.specs.Records.{Record, texts_of, WritesPart, WritesAll}
-use Rattle.gc_station.specs.Model.{Model, line_came, lines_came, lines_behind, with_rest, with_progress, with_moment, waiting_of, settles, piece_came, piece_asked, came}
+use Rattle.gc_station.specs.Model.{Model, line_came, lines_came, lines_completed, with_rest, with_progress, with_moment, waiting_of, settles, piece_came, piece_asked, after_piece}
 use Rattle.gc_station.specs.Stations.{waiting_in, Refines, Took, TookPart, ComesTo}
 use Rattle.gc_station.specs.Scopes.{AreReadings}
 use Rattle.gc_station.specs.Tallies.{nothing_yet, tallied}
@@ -84,13 +84,13 @@ pub frame_first : (s : Model) (left later rest : List ℕ) (frame : Frame)
     → piece_came left s ≡ piece_came later (lines_came (with_rest rest s) (option_to_list (line_in frame)))
 frame_first s left later rest frame seen rests =
     let line = option_to_list (line_in frame) in
-    let lines : lines_behind s.rest left ≡ line ++ lines_behind rest later = ap (filter_map line_in) seen ∙ lines_split frame (frames_behind rest later) in
+    let lines : lines_completed s.rest left ≡ line ++ lines_completed rest later = ap (filter_map line_in) seen ∙ lines_split frame (frames_behind rest later) in
     let end = rest_behind rest later in
     ap (λ xs. lines_came (with_rest (rest_behind s.rest left) s) xs) lines
-    ∙ ap (λ r. lines_came (with_rest r s) (line ++ lines_behind rest later)) rests
-    ∙ lines_came-append (with_rest end s) line (lines_behind rest later)
-    ∙ ap (λ x. lines_came x (lines_behind rest later)) (lines_rest (with_rest rest s) end line)
-    ∙ sym (ap (λ r. lines_came (with_rest (rest_behind r later) (lines_came (with_rest rest s) line)) (lines_behind r later)) (rest_kept rest line)) where
+    ∙ ap (λ r. lines_came (with_rest r s) (line ++ lines_completed rest later)) rests
+    ∙ lines_came-append (with_rest end s) line (lines_completed rest later)
+    ∙ ap (λ x. lines_came x (lines_completed rest later)) (lines_rest (with_rest rest s) end line)
+    ∙ sym (ap (λ r. lines_came (with_rest (rest_behind r later) (lines_came (with_rest rest s) line)) (lines_completed r later)) (rest_kept rest line)) where
       -- lines that are heard leave the bytes since the last line feed
       rest_kept : (rest : List ℕ) (line : List (List ℕ)) → (lines_came (with_rest rest s) line).rest ≡ rest
       rest_kept rest line = ap (λ (x : Model). x.rest) (lines_rest s rest line)
@@ -117,8 +117,8 @@ hearing_part text start taken taken' station s piece left used frame kept h t pa
     let mid = lines_came (with_rest t.now h.now) (option_to_list (line_in frame)) in
     let later = drop used left in
     let whole : piece_came later mid ≡ piece_came piece s = sym (frame_first h.now left later t.now frame t.seen t.rests) ∙ h.goes in
-    let more = lines_records (with_rest (rest_behind mid.rest later) mid) (lines_behind mid.rest later) in
-    let same : mid.reads ≡ (piece_came piece s).reads = sym (lines_reads (with_rest (rest_behind mid.rest later) mid) (lines_behind mid.rest later)) ∙ ap (λ (x : Model). x.reads) whole in
+    let more = lines_records (with_rest (rest_behind mid.rest later) mid) (lines_completed mid.rest later) in
+    let same : mid.reads ≡ (piece_came piece s).reads = sym (lines_reads (with_rest (rest_behind mid.rest later) mid) (lines_completed mid.rest later)) ∙ ap (λ (x : Model). x.reads) whole in
     let all = part_grows text h.now.records mid.records (piece_came later mid).records start taken' more (part (are_same mid.reads (piece_came piece s).reads same are)) in
     part_grew text s.records h.now.records (piece_came piece s).records start taken' h.grown
     (subst (λ (x : Model). WritesPart text h.now.records x.records start taken') whole all)
@@ -217,7 +217,7 @@ Lists mid new xs = (reads : Asked → List ℕ → Reading) → AreReadings read
 -- between these two stations `fresh` becomes the moment read last, if a command of these settlements was answered well
 abbrev pub Freshens : Station → Station → List (Settlement Asked) → Type 0
 Freshens mid new xs = (reads : Asked → List ℕ → Reading) → AreReadings reads
-    → new.fresh ≡ fresh_behind mid.progress.moment.elapsed mid.fresh (records_of reads mid.progress.moment.utc mid.marks.items xs)
+    → new.fresh ≡ fresh_after mid.progress.moment.elapsed mid.fresh (records_of reads mid.progress.moment.utc mid.marks.items xs)
 
 -- if the records of settlements were written, the station is as the model after them
 pub settles_ok : (text : Record → List ℕ) (old mid new : Station) (s : Model) (x : Settled Asked (ById Asked)) (xs : List (Settlement Asked)) (n : ℕ) (start taken' : Option (List ℕ))
@@ -242,9 +242,9 @@ settles_ok text old mid new s x xs n start taken' stands between e many paired w
             ∙ sym (last-append false s.records added) ∙ ap (λ rs. last_well false (s.records ++ rs)) records;
         listed = λ are. lists s.reads are ∙ ap (λ b. listed_by s.reads b mid.marks.items xs) (between.listed ∙ stands.listed are)
             ∙ ap (λ (ms : List (Option Mark)). listed_by s.reads s.listed ms xs) (ap (λ ms. ms.items) between.marks ∙ stands.marks) ∙ ap (listed_by s.reads s.listed s.marks) e;
-        fresh = λ are. freshens s.reads are ∙ ap (λ f. fresh_behind mid.progress.moment.elapsed f added) (between.fresh ∙ stands.fresh are)
-            ∙ ap (λ (p : Progress). fresh_behind p.moment.elapsed s.fresh added) (between.progress ∙ stands.progress)
-            ∙ ap (fresh_behind s.progress.moment.elapsed s.fresh) records;
+        fresh = λ are. freshens s.reads are ∙ ap (λ f. fresh_after mid.progress.moment.elapsed f added) (between.fresh ∙ stands.fresh are)
+            ∙ ap (λ (p : Progress). fresh_after p.moment.elapsed s.fresh added) (between.progress ∙ stands.progress)
+            ∙ ap (fresh_after s.progress.moment.elapsed s.fresh) records;
       },
       λ are. subst (λ (rs : List Record). Appends start taken' (texts_of text (s.records ++ rs))) records (wrote are),
     )
@@ -277,9 +277,9 @@ tells_more (Some a) (Some b) None xs ys p q = absurd q
 tells_more (Some a) (Some b) (Some c) xs ys p q = q ∙ ap (λ zs. zs ++ ys) p ∙ append_assoc a xs ys
 
 -- a station that noted whether a line was a reply is as the model that noted it
-pub with_noted : (mid : Station) (p : Progress) (b b' : Bool) (s : Model) → Refines mid s → b ≡ b' → p ≡ noted b mid.progress → Refines (record mid { progress = p }) (with_progress (noted b') s)
+pub with_noted : (mid : Station) (p : Progress) (b b' : Bool) (s : Model) → Refines mid s → b ≡ b' → p ≡ line_noted b mid.progress → Refines (record mid { progress = p }) (with_progress (line_noted b') s)
 with_noted mid p b b' s stands e is = record {
-  progress = is ∙ ap (λ t. noted t mid.progress) e ∙ ap (noted b') stands.progress;
+  progress = is ∙ ap (λ t. line_noted t mid.progress) e ∙ ap (line_noted b') stands.progress;
   ids = stands.ids;
   width = stands.width;
   marks = stands.marks;
@@ -335,13 +335,13 @@ commands_same station s stands = ap commands_in stands.marks
 
 -- what a piece settled is counted alike from equal progresses, where as many requests and commands are outstanding
 pub reckoned_same : (plan : Plan) (until : Until) (b b' : ℕ) (w w' : Waiting) (p p' : Progress) → b ≡ b' → w.all ≡ w'.all → w.commands ≡ w'.commands → p ≡ p'
-    → reckoned_early plan w.commands (gave plan until b w p) ≡ reckoned_early plan w'.commands (gave plan until b' w' p')
+    → reckoned_early plan w.commands (bytes_noted plan until b w p) ≡ reckoned_early plan w'.commands (bytes_noted plan until b' w' p')
 reckoned_same plan until b b' w w' p p' eb ea ec ep =
     ap (λ x. early x w.all w.commands p) eb ∙ ap (λ x. early b' x w.commands p) ea ∙ ap (λ x. early b' w'.all x p) ec ∙ ap (λ x. early b' w'.all w'.commands x) ep where
       -- the progress once what a piece settled was counted, by how many commands were outstanding before the piece, and how
       -- many requests and commands are outstanding after it
       early : ℕ → ℕ → ℕ → Progress → Progress
-      early before all commands p = reckoned_early plan commands (gave plan until before (record { all = all; current = 0; commands = commands; well = false; listed = false; fresh = 0 }) p)
+      early before all commands p = reckoned_early plan commands (bytes_noted plan until before (record { all = all; current = 0; commands = commands; well = false; listed = false; fresh = 0 }) p)
 
 -- a close makes equal progresses of equal ones, where as many commands are outstanding
 pub closed_same : (plan : Plan) (w w' : Waiting) (why : Cause) (p p' : Progress) → w.commands ≡ w'.commands → p ≡ p' → closed plan w why p ≡ closed plan w' why p'
@@ -353,7 +353,7 @@ closed_same plan w w' why p p' ec ep = kept why ∙ ap (closed plan w' why) ep w
   kept cause.Turns = refl
   kept cause.Stale = refl
   kept cause.Stopped = refl
-  kept why = ap (λ n. again plan n why p) ec
+  kept why = ap (λ n. after_failure plan n why p) ec
 
 -- While the station synchronizes.
 
@@ -375,10 +375,10 @@ pub asked_first : (s : Model) (left later rest : List ℕ) (frame : Frame)
     → piece_asked left s ≡ piece_asked later (with_progress (λ p. lines_asked p (option_to_list (line_in frame))) (with_rest rest s))
 asked_first s left later rest frame seen rests =
     let line = option_to_list (line_in frame) in
-    let lines : lines_behind s.rest left ≡ line ++ lines_behind rest later = ap (filter_map line_in) seen ∙ lines_split frame (frames_behind rest later) in
-    ap (λ r. shown r (lines_asked s.progress (lines_behind s.rest left))) rests
+    let lines : lines_completed s.rest left ≡ line ++ lines_completed rest later = ap (filter_map line_in) seen ∙ lines_split frame (frames_behind rest later) in
+    ap (λ r. shown r (lines_asked s.progress (lines_completed s.rest left))) rests
     ∙ ap (λ xs. shown (rest_behind rest later) (lines_asked s.progress xs)) lines
-    ∙ ap (shown (rest_behind rest later)) (lines_asked-append s.progress line (lines_behind rest later)) where
+    ∙ ap (shown (rest_behind rest later)) (lines_asked-append s.progress line (lines_completed rest later)) where
       -- the model s with these bytes kept of a line, and this progress
       shown : List ℕ → Progress → Model
       shown r p = record s { rest = r; progress = p }
@@ -411,11 +411,11 @@ asking_on station station' s piece left used frame kept h t is =
     }
 
 -- where null procedures of the synchronization are left unanswered, the synchronization hears a piece that is heard
-pub came_asked : (word piece : List ℕ) (s : Model) → is_none_left word ≡ false → came true word piece s ≡ piece_asked piece s
+pub came_asked : (word piece : List ℕ) (s : Model) → is_none_left word ≡ false → after_piece true word piece s ≡ piece_asked piece s
 came_asked [] piece s e = cc
 came_asked (asked ∷ others) piece s e = refl
 
 -- if none is left unanswered, the client hears a piece that is heard
-pub came_begun : (word piece : List ℕ) (s : Model) → is_none_left word ≡ true → came true word piece s ≡ piece_came piece s
+pub came_begun : (word piece : List ℕ) (s : Model) → is_none_left word ≡ true → after_piece true word piece s ≡ piece_came piece s
 came_begun [] piece s e = refl
 came_begun (asked ∷ others) piece s e = cc

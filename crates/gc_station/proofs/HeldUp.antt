@@ -29,10 +29,10 @@ use Rattle.gc_station.specs.declared.progress.Waiting.{Waiting}
 use Rattle.gc_station.specs.Behind.{AreOfTable, TheTableIsNeverHeldUp}
 use Rattle.gc_station.specs.Deciding.{has_begun, is_none_left, action_room, action_waiting, width_of}
 use Rattle.gc_station.specs.Parts.{putting, asking_first, hearing, doing, beginning, acting, asking_or_null}
-use Rattle.gc_station.specs.Progressing.{one_more, turned, told, time_passed, is_over, loses_all}
+use Rattle.gc_station.specs.Progressing.{one_more, turned, moment_noted, time_passed, is_over, loses_all}
 use Rattle.gc_station.specs.Reasons.{IsFor}
-use Rattle.gc_station.specs.Runs.{stood}
-use Rattle.gc_station.specs.Model.{Model, opening, action_at, waiting_of, place_next, mark_next, is_tables, ends_with_table, is_heard, with_progress, with_moment, with_rest, lines_behind, came, moved, losing, after, Performs, mark_setup}
+use Rattle.gc_station.specs.Runs.{state_after}
+use Rattle.gc_station.specs.Model.{Model, opening, action_at, waiting_of, place_next, mark_next, is_tables, ends_with_table, is_heard, with_progress, with_moment, with_rest, lines_completed, after_piece, moved, losing, after, Performs, mark_setup}
 use Rattle.gc_station.proofs.Always.{always}
 use Rattle.gc_station.proofs.Behind.{behind_by, behind_step}
 use Rattle.gc_station.proofs.Booking.{stepped, client_after}
@@ -42,11 +42,11 @@ use Rattle.gc_station.proofs.Facts.{action_for}
 use Rattle.gc_station.proofs.GoesBehind.{counted}
 use Rattle.gc_station.proofs.Invariant.{Invariant}
 use Rattle.gc_station.proofs.Meets.{settle_length}
-use Rattle.gc_station.proofs.Midway.{clash}
 use Rattle.gc_station.proofs.Parting.{leads, keeps_action}
 use Rattle.gc_station.proofs.Turns.{over_stays}
 use Rattle.gc_station.proofs.Walk.{asked_along, quieted_along, closed_along, walk}
 use Rattle.gc_station.proofs.Words.{renews_only}
+use Rattle.gc_station.proofs.Ticking.{not_both}
 
 -- Lists.
 
@@ -163,7 +163,7 @@ hears_tables (line ∷ others) = (tt, hears_tables others)
 
 -- a piece that is heard, or discarded, sends nothing
 hearing_tables : (h : Bool) (rest piece : List ℕ) → AllByRecursion SendsTables (hearing h rest piece)
-hearing_tables true rest piece = hears_tables (lines_behind rest piece)
+hearing_tables true rest piece = hears_tables (lines_completed rest piece)
 hearing_tables false rest piece = tt
 
 -- if a task asks for a call of the table, it does so at any moment
@@ -216,24 +216,24 @@ module _ (plan : Plan) (commands : List Task) (all : AreOfTable commands) where
   NoneBehind act t = t.progress.behind ≡ 0
 
   -- a piece that is heard while the station synchronizes, or discarded, leaves nothing after
-  came_none : (h : Bool) (word piece : List ℕ) (s : Model) → is_none_left word ≡ false → s.progress.behind ≡ 0 → (came h word piece s).progress.behind ≡ 0
+  came_none : (h : Bool) (word piece : List ℕ) (s : Model) → is_none_left word ≡ false → s.progress.behind ≡ 0 → (after_piece h word piece s).progress.behind ≡ 0
   came_none true [] piece s begins e = cc
-  came_none true (asked ∷ others) piece s begins e = asked_along (λ (q : Progress). q.behind ≡ 0) (λ q line e. e) s.progress (lines_behind s.rest piece) e
+  came_none true (asked ∷ others) piece s begins e = asked_along (λ (q : Progress). q.behind ≡ 0) (λ q line e. e) s.progress (lines_completed s.rest piece) e
   came_none false word piece s begins e = e
 
   -- while the station synchronizes, an act leaves nothing after
   none_behind : (s : Model) (o : Action) (act : Act) → IsFor plan s.progress (waiting_of s) o → Performs commands s o act → has_begun s.progress ≡ false → s.progress.behind ≡ 0
       → NoneBehind act (moved plan commands o (with_progress turned s) act)
-  none_behind s action.Renew act is obeys begins e = absurd (clash (has_begun s.progress) is.1 begins)
-  none_behind s action.Begin act is obeys begins e = absurd (clash (has_begun s.progress) is.1 begins)
-  none_behind s action.Prepare act is obeys begins e = absurd (clash (has_begun s.progress) is.1 begins)
-  none_behind s action.Send act is obeys begins e = absurd (clash (has_begun s.progress) is.1 begins)
-  none_behind s action.Skip act is obeys begins e = absurd (clash (has_begun s.progress) is.1 begins)
-  none_behind s action.Flush act is obeys begins e = absurd (clash (has_begun s.progress) is.1 begins)
+  none_behind s action.Renew act is obeys begins e = absurd (not_both (has_begun s.progress) is.1 begins)
+  none_behind s action.Begin act is obeys begins e = absurd (not_both (has_begun s.progress) is.1 begins)
+  none_behind s action.Prepare act is obeys begins e = absurd (not_both (has_begun s.progress) is.1 begins)
+  none_behind s action.Send act is obeys begins e = absurd (not_both (has_begun s.progress) is.1 begins)
+  none_behind s action.Skip act is obeys begins e = absurd (not_both (has_begun s.progress) is.1 begins)
+  none_behind s action.Flush act is obeys begins e = absurd (not_both (has_begun s.progress) is.1 begins)
   none_behind s action.Ask act is obeys begins e = walk plan commands NoneBehind action.Ask (with_progress turned s) act obeys (λ m. refl, λ n. refl)
   none_behind s (action.Read until) act is obeys begins e =
       walk plan commands NoneBehind (action.Read until) (with_progress turned s) act obeys (
-        λ bytes m. came_none (is_heard s.progress.phase) s.progress.word bytes (with_moment m (with_progress (told m) (with_progress turned s))) begins e,
+        λ bytes m. came_none (is_heard s.progress.phase) s.progress.word bytes (with_moment m (with_progress (moment_noted m) (with_progress turned s))) begins e,
         λ m. quieted_along (λ (q : Progress). q.behind ≡ 0) plan s.progress.phase (time_passed until m (turned s.progress)) e e e,
         e,
         e,
@@ -247,9 +247,9 @@ module _ (plan : Plan) (commands : List Task) (all : AreOfTable commands) where
 
   -- if the station resynchronizes, nothing is after
   renewed_none : (s : Model) (o : Action) (act : Act) (m : Moment) → o ≡ action.Renew → act ≡ Told m → (moved plan commands o (with_progress turned s) act).progress.behind ≡ 0
-  renewed_none s o act m is told =
+  renewed_none s o act m is moment_noted =
       ap (λ (x : Action). (moved plan commands x (with_progress turned s) act).progress.behind) is
-      ∙ ap (λ (x : Act). (moved plan commands action.Renew (with_progress turned s) x).progress.behind) told
+      ∙ ap (λ (x : Act). (moved plan commands action.Renew (with_progress turned s) x).progress.behind) moment_noted
 
   -- where what is outstanding isn't lost, the client is as before
   kept_client : (t : Model) → has_begun t.progress ≡ true → is_over t.progress ≡ false → (losing (loses_all t.progress) t).client ≡ t.client
@@ -352,9 +352,9 @@ sends_on plan p w o e = by_test (nat_lt p.behind WINDOW) refl where
 -- the law: a text without procedures of one's own is never held up
 pub never_held_up : TheTableIsNeverHeldUp
 never_held_up plan commands scope acts runs all begun going =
-    let s = stood plan commands scope acts in
+    let s = state_after plan commands scope acts in
     let free : Free plan commands all s = always plan commands (opening plan scope) (λ (done : List Act) (t : Model). Free plan commands all t)
-    (λ done act before obeys h. free_after plan commands all (stood plan commands scope done) act (fine_stood plan commands scope done) obeys h)
+    (λ done act before obeys h. free_after plan commands all (state_after plan commands scope done) act (fine_stood plan commands scope done) obeys h)
     (record { begins = λ e. refl; level = λ e f. cc }) acts runs in
     let level = free.level begun going in
     (level.same, sends_on plan s.progress (waiting_of s) action.Send level.same, sends_on plan s.progress (waiting_of s) action.Prepare level.same)

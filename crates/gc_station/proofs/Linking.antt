@@ -14,11 +14,11 @@ use Rattle.gc_links.specs.Acts.{Act, Put, Cut}
 use Rattle.gc_station.specs.Chains.{IsLinked}
 use Rattle.gc_station.specs.Deciding.{has_begun}
 use Rattle.gc_station.specs.EachOnce.{IsFurther}
-use Rattle.gc_station.specs.Links.{AreChained, IsBefore, IsAnsweredBack, ChainsStay, MarksGoOn, parts}
+use Rattle.gc_station.specs.Links.{AreChained, IsBefore, IsAnsweredEarlier, ChainsStay, MarksGoOn, parts}
 use Rattle.gc_station.specs.Parts.{Part, joined, asking_first, doing, beginning, acting, ends_part, in_front, parts_of, mark_of}
-use Rattle.gc_station.specs.Progressing.{begun}
+use Rattle.gc_station.specs.Progressing.{cycle_begun}
 use Rattle.gc_station.specs.Records.{Record}
-use Rattle.gc_station.specs.Runs.{stood}
+use Rattle.gc_station.specs.Runs.{state_after}
 use Rattle.gc_station.specs.Scopes.{Scope}
 use Rattle.gc_station.specs.Qualities.{IsOfQuality, accepted_at}
 use Rattle.gc_station.specs.Model.{Model, Puts, Runs, opening, action_at, place_next, cycles_begun, cycle_out, expected_first, mark_next, after, after_all}
@@ -46,11 +46,11 @@ apart i j m n (inr l) (inr k) = let less : m < n = l.1 in let le : n ≤ m = k.1
 
 module _ (plan : Plan) (commands : List Task) (scope : Scope) where
   -- after a send, and at least one act, the station is further than before it
-  further_on : (xs ys more : List Act) → action_at plan (stood plan commands scope xs) ≡ Send → ys ≡ xs ++ more → (more ≡ [] → ⊥)
-      → IsFurther plan commands (stood plan commands scope xs) (stood plan commands scope ys)
+  further_on : (xs ys more : List Act) → action_at plan (state_after plan commands scope xs) ≡ Send → ys ≡ xs ++ more → (more ≡ [] → ⊥)
+      → IsFurther plan commands (state_after plan commands scope xs) (state_after plan commands scope ys)
   further_on xs ys [] sends e some = absurd (some refl)
   further_on xs ys (act ∷ more) sends e some =
-      subst (λ l. IsFurther plan commands (stood plan commands scope xs) (stood plan commands scope l)) (sym e) (send_goes_on plan commands scope xs more act sends)
+      subst (λ l. IsFurther plan commands (state_after plan commands scope xs) (state_after plan commands scope l)) (sym e) (send_goes_on plan commands scope xs more act sends)
 
   -- of two commands that were sent (x before y, in the order of parts and requests), the second one did so at least one act
   -- later
@@ -83,8 +83,8 @@ module _ (plan : Plan) (commands : List Task) (scope : Scope) where
 
   -- of two commands that were sent, as above, the second one is of a later place or cycle
   further_than : (acts : List Act) (i j m n : ℕ) (a b : Mark) → IsBefore i m j n → (x : SentAt plan commands (opening plan scope) acts i m a)
-      → action_at plan (stood plan commands scope x.before) ≡ Send → (y : SentAt plan commands (opening plan scope) acts j n b)
-      → IsFurther plan commands (stood plan commands scope x.before) (stood plan commands scope y.before)
+      → action_at plan (state_after plan commands scope x.before) ≡ Send → (y : SentAt plan commands (opening plan scope) acts j n b)
+      → IsFurther plan commands (state_after plan commands scope x.before) (state_after plan commands scope y.before)
   further_than acts i j m n a b l x sends y = let h = goes_before acts i j m n a b l x y in further_on x.before y.before h.0 sends h.1 h.2
 
 -- the law: of two commands of cycles that are sent, the later one is of a later place in its cycle, or of a later cycle
@@ -92,9 +92,9 @@ pub marks_go_on : MarksGoOn
 marks_go_on plan commands scope acts runs i j m n p q a b e f g h l above below =
     let x = sent_at plan commands (opening plan scope) acts i m p a e g in
     let y = sent_at plan commands (opening plan scope) acts j n q b f h in
-    let at_x = mark_next plan commands (stood plan commands scope x.before).progress in
-    let x_is = of_a_cycle plan commands (stood plan commands scope x.before) (action_at plan (stood plan commands scope x.before)) a x.its above in
-    let y_is = of_a_cycle plan commands (stood plan commands scope y.before) (action_at plan (stood plan commands scope y.before)) b y.its below in
+    let at_x = mark_next plan commands (state_after plan commands scope x.before).progress in
+    let x_is = of_a_cycle plan commands (state_after plan commands scope x.before) (action_at plan (state_after plan commands scope x.before)) a x.its above in
+    let y_is = of_a_cycle plan commands (state_after plan commands scope y.before) (action_at plan (state_after plan commands scope y.before)) b y.its below in
     subst (λ (u : Mark). IsBefore u.cycle u.place b.cycle b.place) (sym x_is.1)
     (subst (λ (u : Mark). IsBefore at_x.cycle at_x.place u.cycle u.place) (sym y_is.1) (further_than plan commands scope acts i j m n a b l x x_is.0 y))
 
@@ -108,8 +108,8 @@ asked_mark now mark (task ∷ others) some = refl
 -- the part of an act that puts bytes if a command is next has the mark of that command
 put_asks : (plan : Plan) (commands : List Task) (s : Model) (act : Act) (bytes : List ℕ) → Puts bytes act → has_begun s.progress ≡ true → 0 < length (drop (place_next commands s.progress) commands)
     → slice_get (acting plan commands s Send act).marks 0 ≡ Some (Some (mark_next plan commands s.progress))
-put_asks plan commands s act bytes puts begun some = subst (λ (b : Bool). slice_get
-    (if b then doing plan commands s Send act else beginning s Send act).marks 0 ≡ Some (Some (mark_next plan commands s.progress))) (sym begun)
+put_asks plan commands s act bytes puts cycle_begun some = subst (λ (b : Bool). slice_get
+    (if b then doing plan commands s Send act else beginning s Send act).marks 0 ≡ Some (Some (mark_next plan commands s.progress))) (sym cycle_begun)
     (by_act act puts) where
       -- the lemma above, by how the act puts the bytes: whole or in part
       by_act : (a : Act) → Puts bytes a → slice_get (doing plan commands s Send a).marks 0 ≡ Some (Some (mark_next plan commands s.progress))
@@ -186,7 +186,7 @@ not_further c p d q (inr l) e f = let less : p < q = l.1 in omega (arith, less, 
 module _ (plan : Plan) (commands : List Task) (scope : Scope) where
   -- the model after these acts
   abbrev at : List Act → Model
-  at acts = stood plan commands scope acts
+  at acts = state_after plan commands scope acts
 
   -- a command is sent once: two fronts of a run after which the same command is to be sent are the same
   same_send : (acts xs us ys vs : List Act) → acts ≡ xs ++ us → acts ≡ ys ++ vs → action_at plan (at xs) ≡ Send → action_at plan (at ys) ≡ Send
@@ -255,10 +255,10 @@ module _ (plan : Plan) (commands : List Task) (scope : Scope) where
   one_back acts a runs next place l keeps cycles =
       let t = l.in_time in
       let b = at l.before in
-      let begun = (fine_stood plan commands scope l.before).begun (needs_send plan b l.sends).2 in
+      let cycle_begun = (fine_stood plan commands scope l.before).begun (needs_send plan b l.sends).2 in
       let own : l.answer.cycle ≡ cycles_begun plan b.progress = l.own_cycle in
       let its : l.answer.cycle ≡ cycle_out plan (at t.before) = t.cycle in
-      let sends = sends_of_cycle plan (at t.before) t.sends (omega (arith, own, its, begun)) in
+      let sends = sends_of_cycle plan (at t.before) t.sends (omega (arith, own, its, cycle_begun)) in
       let one : t.before ≡ l.before = same_send acts t.before _ l.before (l.request ∷ l.between) t.order l.order sends l.sends
       (sym (send_cycle plan (at t.before) sends) ∙ sym t.cycle ∙ l.own_cycle) (sym (send_place plan commands (at t.before) sends) ∙ sym t.place ∙ l.own_place) in
       let utc : l.answer.sent ≡ Some (at l.before).progress.moment.utc = t.sent ∙ ap (λ xs. Some (at xs).progress.moment.utc) one in
@@ -380,10 +380,10 @@ module _ (plan : Plan) (commands : List Task) (scope : Scope) where
         | inr it ↦ absurd (no_prepare (at h.start) (h.act ∷ h.rest) more.0 q.rest q.act h.cycles rest (ap (action_at plan) (sym there) ∙ it.0))
       ]
 
-  -- where `Back` holds of a command, `IsAnsweredBack` does: its request is one of the last part
+  -- where `Back` holds of a command, `IsAnsweredEarlier` does: its request is one of the last part
   in_part : (acts : List Act) (i cycle a : ℕ) (first : Part) → Runs plan commands (opening plan scope) acts
       → slice_get (parts plan commands scope acts) i ≡ Some first → length (parts plan commands scope acts) ≡ suc i → Back acts cycle a
-      → IsAnsweredBack plan commands scope acts first cycle a
+      → IsAnsweredEarlier plan commands scope acts first cycle a
   in_part acts i cycle a first runs of_parts last h =
       let s = at h.start in
       let on = runs_behind plan commands (opening plan scope) h.start (h.act ∷ h.rest) (subst (λ xs. Runs plan commands (opening plan scope) xs) h.order runs) in
@@ -422,9 +422,9 @@ pub chains_stay : ChainsStay
 chains_stay plan commands scope acts runs i n part mark e f above =
     let x = sent_at plan commands (opening plan scope) acts i n part mark e f in
     let runs_there = runs_front plan commands (opening plan scope) x.before (x.act ∷ x.rest) (subst (λ xs. Runs plan commands (opening plan scope) xs) x.order runs) in
-    let is = of_a_cycle plan commands (stood plan commands scope x.before) (action_at plan (stood plan commands scope x.before)) mark x.its above in
-    let cycle : mark.cycle ≡ cycles_begun plan (stood plan commands scope x.before).progress = ap (λ (k : Mark). k.cycle) is.1 in
-    let place : mark.place ≡ place_next commands (stood plan commands scope x.before).progress = ap (λ (k : Mark). k.place) is.1 in
+    let is = of_a_cycle plan commands (state_after plan commands scope x.before) (action_at plan (state_after plan commands scope x.before)) mark x.its above in
+    let cycle : mark.cycle ≡ cycles_begun plan (state_after plan commands scope x.before).progress = ap (λ (k : Mark). k.cycle) is.1 in
+    let place : mark.place ≡ place_next commands (state_after plan commands scope x.before).progress = ap (λ (k : Mark). k.place) is.1 in
     record {
       before = x.before;
       rest = x.act ∷ x.rest;
@@ -434,7 +434,7 @@ chains_stay plan commands scope acts runs i n part mark e f above =
       last = x.last;
       count = x.count;
       chain = λ a low less chained.
-          subst (λ c. IsAnsweredBack plan commands scope x.before x.first c a) (sym cycle)
-          (in_part plan commands scope x.before i (cycles_begun plan (stood plan commands scope x.before).progress) a x.first runs_there x.of_parts x.last
+          subst (λ c. IsAnsweredEarlier plan commands scope x.before x.first c a) (sym cycle)
+          (in_part plan commands scope x.before i (cycles_begun plan (state_after plan commands scope x.before).progress) a x.first runs_there x.of_parts x.last
           (back_to plan commands scope (mark.place - suc a) a x.before runs_there is.0 (omega (arith, place, less)) low (subst (λ p. AreChained commands a p) place chained)));
     }

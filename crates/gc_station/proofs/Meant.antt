@@ -18,8 +18,8 @@ use Rattle.gc_station.specs.Reasons.{IsFor}
 use Rattle.gc_station.specs.Model.{Model, action_at, waiting_of, place_next, mark_next, request_text, null_text, first_text, Puts, ReadsClock, IsOpening, IsReading, Performs, is_heard, after, mark_setup, text_or_null}
 use Rattle.gc_station.proofs.Facts.{action_for}
 use Rattle.gc_station.proofs.Invariant.{Invariant}
-use Rattle.gc_station.proofs.Midway.{clash}
 use Rattle.gc_station.proofs.Givens.{rest_with, after_rest}
+use Rattle.gc_station.proofs.Ticking.{not_both}
 
 -- the part p is that of a request that is sent, and these bytes are its line
 pub record IsSent (s : Model) (bytes : List ℕ) (p : Part) : Type 0 where
@@ -98,7 +98,7 @@ module _ (plan : Plan) (commands : List Task) where
   put_order : (s : Model) (o : Action) (act : Act) (bytes : List ℕ) → Invariant plan commands s → IsFor plan s.progress (waiting_of s) o
       → Performs commands s o act → put_by act ≡ Some bytes → has_begun s.progress ≡ true → IsPut s bytes (putting plan commands s o)
   put_order s action.Clear act bytes fine is obeys e begun = inl (puts_same (10 ∷ []) bytes act e obeys, refl)
-  put_order s action.Ask act bytes fine is obeys e begun = absurd (clash (has_begun s.progress) begun is.1)
+  put_order s action.Ask act bytes fine is obeys e begun = absurd (not_both (has_begun s.progress) begun is.1)
   put_order s action.Renew act bytes fine is obeys e begun = absurd (never_puts act bytes e (inl obeys))
   put_order s action.Flush act bytes fine is obeys e begun = inr (null_put s bytes is.4.1 (puts_same (request_text s.client (Table NullProc)) bytes act e obeys))
   put_order s action.Prepare act bytes fine is obeys e begun =
@@ -138,9 +138,9 @@ module _ (plan : Plan) (commands : List Task) where
       → put_by act ≡ Some bytes → has_begun s.progress ≡ false → IsAsked s bytes (beginning s o act)
   asked_order s action.Clear act bytes is obeys e begins = inl (puts_same (10 ∷ []) bytes act e obeys, refl)
   asked_order s action.Ask act bytes is obeys e begins = inr (puts_same (null_text s.progress.word) bytes act e obeys, asked_turn s act bytes e)
-  asked_order s action.Flush act bytes is obeys e begins = absurd (clash (has_begun s.progress) is.1 begins)
-  asked_order s action.Prepare act bytes is obeys e begins = absurd (clash (has_begun s.progress) is.1 begins)
-  asked_order s action.Send act bytes is obeys e begins = absurd (clash (has_begun s.progress) is.1 begins)
+  asked_order s action.Flush act bytes is obeys e begins = absurd (not_both (has_begun s.progress) is.1 begins)
+  asked_order s action.Prepare act bytes is obeys e begins = absurd (not_both (has_begun s.progress) is.1 begins)
+  asked_order s action.Send act bytes is obeys e begins = absurd (not_both (has_begun s.progress) is.1 begins)
   asked_order s action.Renew act bytes is obeys e begins = absurd (never_puts act bytes e (inl obeys))
   asked_order s action.ReadClock act bytes is obeys e begins = absurd (never_puts act bytes e (inl obeys))
   asked_order s action.Skip act bytes is obeys e begins = absurd (never_puts act bytes e (inl obeys))

@@ -35,6 +35,7 @@ use Rattle.gc_station.proofs.Each.{each_moment, each_settles, each_null, each_se
 use Rattle.gc_station.proofs.Invariant.{Invariant, is_bare, says_done}
 use Rattle.gc_station.proofs.Lists.{all_append}
 use Rattle.gc_station.proofs.Tasked.{at_place, own_more, own_settled, settled_told, unsent_told}
+use Rattle.gc_station.proofs.Ticking.{not_both}
 
 -- where `left` cycles haven't begun, and `unsent` commands of the present one haven't had their turn: the records, and after
 -- them the outstanding commands, are the commands that had their turn, sent or not, in order. Each request that waits has its
@@ -86,10 +87,6 @@ mid_of plan commands s fine = (
     finished = λ e. let it = fine.finished e in (it.0, it.1, inr it.2);
   },
 )
-
--- a test isn't true and false
-pub clash : (b : Bool) → b ≡ true → b ≡ false → ⊥
-clash b e g = cc
 
 -- What holds of the counts and the records.
 
@@ -319,7 +316,7 @@ kept_for false o e = cc
 -- if the counts are those of a run that is done, as `Placed` has them, and the run isn't over, no command waits
 still_finished : (p : Progress) (marks : List (Option Mark)) → is_over p ≡ false
     → (p.left ≡ 0) × (p.unsent ≡ 0) × ((is_over_in p.phase ≡ true) ⊎ (commands_in marks ≡ 0)) → (p.left ≡ 0) × (p.unsent ≡ 0) × (commands_in marks ≡ 0)
-still_finished p marks not_over (left, unsent, inl over) = absurd (clash (is_over p) (ap (λ b. b || (not (is_up p.phase) && nat_eq p.turns 0)) over) not_over)
+still_finished p marks not_over (left, unsent, inl over) = absurd (not_both (is_over p) (ap (λ b. b || (not (is_up p.phase) && nat_eq p.turns 0)) over) not_over)
 still_finished p marks not_over (left, unsent, inr none) = (left, unsent, none)
 
 -- once all that is outstanding is lost where `loses_all` says so, the weaker record gives the invariant of every run
@@ -359,9 +356,9 @@ fine_losing plan commands s false is (sound, placed) =
       paired = sound.paired;
       window = sound.window;
       digit = sound.digit;
-      begins = λ e. absurd (clash (has_begun p) kept.0 e);
+      begins = λ e. absurd (not_both (has_begun p) kept.0 e);
       rest = placed.empty;
-      over = λ e. absurd (clash (is_over p) e kept.1);
+      over = λ e. absurd (not_both (is_over p) e kept.1);
       finished = λ e. still_finished p s.marks kept.1 (placed.finished e);
       each = sound.each;
       own = sound.own;

@@ -23,15 +23,14 @@ use Rattle.gc_station.specs.declared.progress.Action.TheVariants as actions
 use Rattle.gc_station.specs.declared.progress.Progress.{Progress}
 use Rattle.gc_links.specs.Acts.{Act, Told, Put, Gave, Silent}
 use Rattle.gc_station.specs.Deciding.{has_begun, is_none_left, goes_on, later, patience_of}
-use Rattle.gc_station.specs.Progressing.{turned, told, lines_asked}
+use Rattle.gc_station.specs.Progressing.{turned, moment_noted, lines_asked}
 use Rattle.gc_station.specs.Quiet.{TellsMoment, IsListening, StaysConnected}
 use Rattle.gc_station.specs.Reasons.{IsFor}
-use Rattle.gc_station.specs.Runs.{stood}
+use Rattle.gc_station.specs.Runs.{state_after}
 use Rattle.gc_station.specs.Silences.{latest, IsNoReply, BringsNoReply, IsMute, WentBack, IsMuteFor}
-use Rattle.gc_station.specs.Model.{Model, request_text, null_text, first_text, opening, action_at, waiting_of, with_progress, with_moment, with_rest, lines_came, lines_behind, came, is_heard, place_next, Performs, moved, after, after_all, Runs, text_or_null}
+use Rattle.gc_station.specs.Model.{Model, request_text, null_text, first_text, opening, action_at, waiting_of, with_progress, with_moment, with_rest, lines_came, lines_completed, after_piece, is_heard, place_next, Performs, moved, after, after_all, Runs, text_or_null}
 use Rattle.gc_station.proofs.Always.{always_far}
 use Rattle.gc_station.proofs.Connected.{is_in_use, OnLine, on_line}
-use Rattle.gc_station.proofs.Midway.{clash}
 use Rattle.gc_station.proofs.Since.{Since, since_now, since_on, cut_on}
 use Rattle.gc_station.proofs.EachRun.{fine_stood}
 use Rattle.gc_station.proofs.Facts.{both_true, either_true, or_true, action_for, order_wakes, Awake, Wakes}
@@ -42,6 +41,7 @@ use Rattle.gc_station.proofs.Invariant.{Invariant}
 use Rattle.gc_station.proofs.Walk.{asked_along, came_along}
 use Rattle.gc_station.specs.Scopes.{Scope}
 use Rattle.gc_station.proofs.ReplyLines.{lines_moment, Alive, lines_alive, AliveAsked, asked_alive}
+use Rattle.gc_station.proofs.Ticking.{not_both}
 
 -- whether a reply line is waited for on the connection: the station has synchronized (no id of `word` is left), or a null
 -- procedure was sent on it (`again`), or a request after the last reply line (`asked`)
@@ -89,7 +89,7 @@ module _ (plan : Plan) (commands : List Task) (scope : Scope) where
   -- `start` and `behind`
   abbrev Mutes : Bool → ℕ → ℕ → List Act → Act → List Act → Type 0
   Mutes asked alive now before start behind =
-      TellsMoment alive start × AllByRecursion StaysConnected behind × IsMute plan commands (stood plan commands scope (before ++ start ∷ [])) behind
+      TellsMoment alive start × AllByRecursion StaysConnected behind × IsMute plan commands (state_after plan commands scope (before ++ start ∷ [])) behind
       × Asks asked alive before behind × (latest alive behind ≡ now) × (alive ≤ now)
 
   -- one of these acts begins a silence (`Mutes`). The arguments are `asked`, `alive`, `now` and the acts
@@ -110,17 +110,17 @@ module _ (plan : Plan) (commands : List Task) (scope : Scope) where
   muted_now now acts act tells = muted_from false now acts act tells tt
 
   -- a silence goes on after an act that brings no reply
-  muted_on : (asked : Bool) (alive now : ℕ) (acts : List Act) (act : Act) → StaysConnected act → BringsNoReply (stood plan commands scope acts).rest act
+  muted_on : (asked : Bool) (alive now : ℕ) (acts : List Act) (act : Act) → StaysConnected act → BringsNoReply (state_after plan commands scope acts).rest act
       → ((before behind : List Act) → Asks asked alive before behind → Asks asked alive before (behind ++ act ∷ [])) → alive ≤ latest now (act ∷ []) → IsMuted asked alive now acts
       → IsMuted asked alive (latest now (act ∷ [])) (acts ++ act ∷ [])
   muted_on asked alive now acts act stays none asks least q =
       since_on (Mutes asked alive now) (Mutes asked alive (latest now (act ∷ []))) acts (act ∷ [])
       (λ before start behind order h.
-      let there : stood plan commands scope acts ≡ after_all plan commands (stood plan commands scope (before ++ start ∷ [])) behind =
-      ap (stood plan commands scope) (order ∙ sym (append_assoc before (start ∷ []) behind)) ∙ after_all-append plan commands (opening plan scope) (before ++ start ∷ []) behind in (
+      let there : state_after plan commands scope acts ≡ after_all plan commands (state_after plan commands scope (before ++ start ∷ [])) behind =
+      ap (state_after plan commands scope) (order ∙ sym (append_assoc before (start ∷ []) behind)) ∙ after_all-append plan commands (opening plan scope) (before ++ start ∷ []) behind in (
         h.0,
         all_append StaysConnected behind (act ∷ []) h.1 (stays, tt),
-        mute_more (stood plan commands scope (before ++ start ∷ [])) behind act h.2 (subst (λ (x : Model). BringsNoReply x.rest act) there none),
+        mute_more (state_after plan commands scope (before ++ start ∷ [])) behind act h.2 (subst (λ (x : Model). BringsNoReply x.rest act) there none),
         asks before behind h.3,
         latest_more alive behind act ∙ ap (λ n. latest n (act ∷ [])) h.4,
         least,
@@ -158,7 +158,7 @@ module _ (plan : Plan) (commands : List Task) (scope : Scope) where
   -- a silence goes on after an act that reads a moment, or starts again there if the clock went back
   muted_clock : (asked : Bool) (alive now : ℕ) (m : Moment) (acts : List Act) (act : Act) (b : Bool) → nat_le alive m.elapsed ≡ b → TellsMoment m.elapsed act
       → latest now (act ∷ []) ≡ m.elapsed → StaysConnected act → IsListening act
-      → BringsNoReply (stood plan commands scope acts).rest act → IsMuted asked alive now acts → IsMuted asked (min alive m.elapsed) m.elapsed (acts ++ act ∷ [])
+      → BringsNoReply (state_after plan commands scope acts).rest act → IsMuted asked alive now acts → IsMuted asked (min alive m.elapsed) m.elapsed (acts ++ act ∷ [])
   muted_clock asked alive now m acts act true e tells is stays listens none q =
       let low = leb-true alive m.elapsed e in
       let least : alive ≤ latest now (act ∷ []) = omega (arith, is, low) in
@@ -193,14 +193,14 @@ module _ (plan : Plan) (commands : List Task) (scope : Scope) where
   mute_told : (sought sought' asked : Bool) (alive now : ℕ) (m : Moment) (at : Phase) (acts : List Act) (act : Act)
       → (at ≡ phase.Ready → sought' ≡ true → sought ≡ true) → TellsMoment m.elapsed act → latest now (act ∷ []) ≡ m.elapsed → StaysConnected act
       → IsListening act
-      → BringsNoReply (stood plan commands scope acts).rest act → Mute sought asked alive now at acts → Mute sought' asked (min alive m.elapsed) m.elapsed at (acts ++ act ∷ [])
+      → BringsNoReply (state_after plan commands scope acts).rest act → Mute sought asked alive now at acts → Mute sought' asked (min alive m.elapsed) m.elapsed at (acts ++ act ∷ [])
   mute_told sought sought' asked alive now m phase.Ready acts act back tells is stays listens none q =
       λ so. muted_clock asked alive now m acts act (nat_le alive m.elapsed) refl tells is stays listens none (q (back refl so))
   mute_told sought sought' asked alive now m at acts act back tells is stays listens none q = tt
 
   -- after a piece that is heard a silence goes on, if there is no reply line in it; otherwise one begins at its moment
-  heard_mute : (s : Model) (bytes : List ℕ) (m : Moment) (acts : List Act) (q : Progress) → (stood plan commands scope acts).rest ≡ s.rest → q.moment.elapsed ≡ m.elapsed
-      → (AllByRecursion IsNoReply (lines_behind s.rest bytes) × (q.alive ≡ min s.progress.alive m.elapsed) × (q.asked ≡ s.progress.asked)
+  heard_mute : (s : Model) (bytes : List ℕ) (m : Moment) (acts : List Act) (q : Progress) → (state_after plan commands scope acts).rest ≡ s.rest → q.moment.elapsed ≡ m.elapsed
+      → (AllByRecursion IsNoReply (lines_completed s.rest bytes) × (q.alive ≡ min s.progress.alive m.elapsed) × (q.asked ≡ s.progress.asked)
       × IsMuted s.progress.asked s.progress.alive s.progress.moment.elapsed acts)
       ⊎ ((q.alive ≡ m.elapsed) × (q.asked ≡ false))
       → IsMuted q.asked q.alive q.moment.elapsed (acts ++ Gave bytes m ∷ [])
@@ -212,35 +212,35 @@ module _ (plan : Plan) (commands : List Task) (scope : Scope) where
         (subst (λ c. IsMuted b c q.moment.elapsed (acts ++ Gave bytes m ∷ [])) (sym ea) (subst (λ c. IsMuted b a c (acts ++ Gave bytes m ∷ [])) (sym now) x))
 
     -- the lemma above, by whether a reply line is in the piece
-    by_alive : (AllByRecursion IsNoReply (lines_behind s.rest bytes) × (q.alive ≡ min s.progress.alive m.elapsed) × (q.asked ≡ s.progress.asked)
+    by_alive : (AllByRecursion IsNoReply (lines_completed s.rest bytes) × (q.alive ≡ min s.progress.alive m.elapsed) × (q.asked ≡ s.progress.asked)
         × IsMuted s.progress.asked s.progress.alive s.progress.moment.elapsed acts)
         ⊎ ((q.alive ≡ m.elapsed) × (q.asked ≡ false)) → IsMuted q.asked q.alive q.moment.elapsed (acts ++ Gave bytes m ∷ [])
     by_alive (inl none) =
-        let quiet = subst (λ r. AllByRecursion IsNoReply (lines_behind r bytes)) (sym rest) none.0 in
+        let quiet = subst (λ r. AllByRecursion IsNoReply (lines_completed r bytes)) (sym rest) none.0 in
         carried s.progress.asked (min s.progress.alive m.elapsed) none.2 none.1
         (muted_clock s.progress.asked s.progress.alive s.progress.moment.elapsed m acts (Gave bytes m) (nat_le s.progress.alive m.elapsed) refl refl refl tt tt quiet none.3)
     by_alive (inr reply) = carried false m.elapsed reply.1 reply.0 (muted_now m.elapsed acts (Gave bytes m) refl)
 
   -- a piece leaves the phase and the moment
-  came_moment : (h : Bool) (word bytes : List ℕ) (s : Model) → ((came h word bytes s).progress.phase ≡ s.progress.phase) × ((came h word bytes s).progress.moment ≡ s.progress.moment)
+  came_moment : (h : Bool) (word bytes : List ℕ) (s : Model) → ((after_piece h word bytes s).progress.phase ≡ s.progress.phase) × ((after_piece h word bytes s).progress.moment ≡ s.progress.moment)
   came_moment h word bytes s =
       came_along (λ (t : Model). (t.progress.phase ≡ s.progress.phase) × (t.progress.moment ≡ s.progress.moment)) (λ t line e. e) h word bytes s (refl, refl)
-      (asked_along (λ (q : Progress). (q.phase ≡ s.progress.phase) × (q.moment ≡ s.progress.moment)) (λ q line e. e) s.progress (lines_behind s.rest bytes) (refl, refl)) (refl, refl)
+      (asked_along (λ (q : Progress). (q.phase ≡ s.progress.phase) × (q.moment ≡ s.progress.moment)) (λ q line e. e) s.progress (lines_completed s.rest bytes) (refl, refl)) (refl, refl)
 
   -- `Mute` is preserved by a piece in the phase `Ready`
-  ready_mute : (s : Model) (bytes : List ℕ) (m : Moment) (acts : List Act) (word : List ℕ) → s.progress.word ≡ word → (stood plan commands scope acts).rest ≡ s.rest
+  ready_mute : (s : Model) (bytes : List ℕ) (m : Moment) (acts : List Act) (word : List ℕ) → s.progress.word ≡ word → (state_after plan commands scope acts).rest ≡ s.rest
       → (is_sought s.progress.word s.progress.again s.progress.asked ≡ true → IsMuted s.progress.asked s.progress.alive s.progress.moment.elapsed acts)
-      → (let q = (came true word bytes (with_moment m (with_progress (told m) s))).progress in is_sought q.word q.again q.asked ≡ true
+      → (let q = (after_piece true word bytes (with_moment m (with_progress (moment_noted m) s))).progress in is_sought q.word q.again q.asked ≡ true
       → IsMuted q.asked q.alive q.moment.elapsed (acts ++ Gave bytes m ∷ []))
   ready_mute s bytes m acts [] e rest h so = heard_mute s bytes m acts (lines_came mid lines).progress rest
       (ap (λ (x : Moment). x.elapsed) (lines_moment mid lines)) (by_lines (lines_alive mid lines)) where
         -- the model before the lines: the moment was read, and the bytes after the last line feed are kept
         mid : Model
-        mid = with_rest (rest_behind s.rest bytes) (with_moment m (with_progress (told m) s))
+        mid = with_rest (rest_behind s.rest bytes) (with_moment m (with_progress (moment_noted m) s))
 
         -- the lines of the piece
         lines : List (List ℕ)
-        lines = lines_behind s.rest bytes
+        lines = lines_completed s.rest bytes
 
         -- none of these lines is a reply, and there was a silence before them; or one is, and the line was alive at their moment
         by_lines : Alive mid lines (lines_came mid lines).progress
@@ -253,11 +253,11 @@ module _ (plan : Plan) (commands : List Task) (scope : Scope) where
       (ap (λ (x : Moment). x.elapsed) (came_moment true (first ∷ others) bytes mid).1) (by_lines (asked_alive mid.progress lines)) where
         -- the model before the lines: the moment was read
         mid : Model
-        mid = with_moment m (with_progress (told m) s)
+        mid = with_moment m (with_progress (moment_noted m) s)
 
         -- the lines of the piece
         lines : List (List ℕ)
-        lines = lines_behind s.rest bytes
+        lines = lines_completed s.rest bytes
 
         -- the progress after the lines
         q : Progress
@@ -274,18 +274,18 @@ module _ (plan : Plan) (commands : List Task) (scope : Scope) where
         by_lines (inr now) = inr now
 
   -- `Mute` is preserved by a piece in any phase
-  gave_mute : (s : Model) (bytes : List ℕ) (m : Moment) (at : Phase) (acts : List Act) → s.progress.phase ≡ at → (stood plan commands scope acts).rest ≡ s.rest
+  gave_mute : (s : Model) (bytes : List ℕ) (m : Moment) (at : Phase) (acts : List Act) → s.progress.phase ≡ at → (state_after plan commands scope acts).rest ≡ s.rest
       → Mute (is_sought s.progress.word s.progress.again s.progress.asked) s.progress.asked s.progress.alive s.progress.moment.elapsed at acts
-      → MuteAt (came (is_heard at) s.progress.word bytes (with_moment m (with_progress (told m) s))).progress (acts ++ Gave bytes m ∷ [])
+      → MuteAt (after_piece (is_heard at) s.progress.word bytes (with_moment m (with_progress (moment_noted m) s))).progress (acts ++ Gave bytes m ∷ [])
   gave_mute s bytes m phase.Ready acts is rest h =
-      let q = (came true s.progress.word bytes (with_moment m (with_progress (told m) s))).progress in
+      let q = (after_piece true s.progress.word bytes (with_moment m (with_progress (moment_noted m) s))).progress in
       subst (λ (x : Phase). Mute (is_sought q.word q.again q.asked) q.asked q.alive q.moment.elapsed x (acts ++ Gave bytes m ∷ []))
-      (sym ((came_moment true s.progress.word bytes (with_moment m (with_progress (told m) s))).0 ∙ is))
+      (sym ((came_moment true s.progress.word bytes (with_moment m (with_progress (moment_noted m) s))).0 ∙ is))
       (ready_mute s bytes m acts s.progress.word refl rest h)
   gave_mute s bytes m at acts is rest h =
-      let q = (came (is_heard at) s.progress.word bytes (with_moment m (with_progress (told m) s))).progress in
+      let q = (after_piece (is_heard at) s.progress.word bytes (with_moment m (with_progress (moment_noted m) s))).progress in
       subst (λ (x : Phase). Mute (is_sought q.word q.again q.asked) q.asked q.alive q.moment.elapsed x (acts ++ Gave bytes m ∷ []))
-      (sym ((came_moment (is_heard at) s.progress.word bytes (with_moment m (with_progress (told m) s))).0 ∙ is)) tt
+      (sym ((came_moment (is_heard at) s.progress.word bytes (with_moment m (with_progress (moment_noted m) s))).0 ∙ is)) tt
 
   -- after a request the silence goes on, if a reply line was waited for already (`asked`); otherwise a silence begins with the
   -- moment read last
@@ -324,7 +324,7 @@ module _ (plan : Plan) (commands : List Task) (scope : Scope) where
   cleared_mute : (begun : Bool) (p : Progress) (acts : List Act) → has_begun p ≡ begun
       → Mute (is_sought p.word 0 false) false p.alive p.moment.elapsed (if begun then phase.Draining else phase.Ready) acts
   cleared_mute true p acts e = tt
-  cleared_mute false p acts e = λ so. absurd (clash (is_sought p.word 0 false) so (ap (λ b. b || false) e))
+  cleared_mute false p acts e = λ so. absurd (not_both (is_sought p.word 0 false) so (ap (λ b. b || false) e))
 
   -- `Mute` is preserved if the station resynchronizes: the silence goes on, or begins with the next request
   mute_where : (asked on : Bool) (alive now : ℕ) (at : Phase) (acts : List Act) → Mute (is_sought the_word 0 asked) asked alive now at acts
@@ -335,13 +335,13 @@ module _ (plan : Plan) (commands : List Task) (scope : Scope) where
   mute_where false on alive now at acts q = q
 
   -- what `MuteAt` says holds on after an act of any action that leaves a connection in use
-  mute_line : (next : Action) (s : Model) (acts : List Act) → IsFor plan s.progress (waiting_of s) next → Tells s.progress acts next → (stood plan commands scope acts).rest ≡ s.rest
+  mute_line : (next : Action) (s : Model) (acts : List Act) → IsFor plan s.progress (waiting_of s) next → Tells s.progress acts next → (state_after plan commands scope acts).rest ≡ s.rest
       → MuteAt s.progress acts → OnLine plan commands MuteAt next (with_progress turned s) acts
   mute_line actions.Open s acts needs tells rest q = λ m. tt
   mute_line actions.Clear s acts needs tells rest q = λ m. cleared_mute (has_begun s.progress) s.progress (acts ++ Put (10 ∷ []) ∷ []) refl
   mute_line actions.Renew s acts needs tells rest q =
       let p = s.progress in
-      λ m. mute_where p.asked (goes_on plan (told m p)) (min p.alive m.elapsed) m.elapsed p.phase (acts ++ Told m ∷ [])
+      λ m. mute_where p.asked (goes_on plan (moment_noted m p)) (min p.alive m.elapsed) m.elapsed p.phase (acts ++ Told m ∷ [])
       (told_mute (is_sought the_word 0 p.asked) p m acts (λ ready so. sought_begun p.word p.again p.asked needs.1) q)
   mute_line actions.Ask s acts needs tells rest q =
       let p = s.progress in λ m. asks_mute (is_sought p.word (later p.moment.elapsed plan.deadline) true) p acts (null_text p.word) needs.0 tells q
@@ -371,15 +371,15 @@ module _ (plan : Plan) (commands : List Task) (scope : Scope) where
   tells_in p acts next awake last = tt
 
   -- `MuteAt` holds after every run
-  mute_stood : (acts : List Act) → Runs plan commands (opening plan scope) acts → MuteAt (stood plan commands scope acts).progress acts
+  mute_stood : (acts : List Act) → Runs plan commands (opening plan scope) acts → MuteAt (state_after plan commands scope acts).progress acts
   mute_stood acts runs = always_far plan commands (opening plan scope) MuteAt step tt acts runs where
     -- one act of a run preserves `MuteAt`
     step : (done : List Act) (act : Act) → Runs plan commands (opening plan scope) done
-        → Performs commands (stood plan commands scope done) (action_at plan (stood plan commands scope done)) act
-        → MuteAt (stood plan commands scope done).progress done
-        → MuteAt (moved plan commands (action_at plan (stood plan commands scope done)) (with_progress turned (stood plan commands scope done)) act).progress (done ++ act ∷ [])
+        → Performs commands (state_after plan commands scope done) (action_at plan (state_after plan commands scope done)) act
+        → MuteAt (state_after plan commands scope done).progress done
+        → MuteAt (moved plan commands (action_at plan (state_after plan commands scope done)) (with_progress turned (state_after plan commands scope done)) act).progress (done ++ act ∷ [])
     step done act runs o q =
-        let s = stood plan commands scope done in
+        let s = state_after plan commands scope done in
         let p = s.progress in
         let tells = tells_in p done (action_at plan s) (order_wakes plan p (waiting_of s)) (λ awake. awake_last plan commands scope done runs awake) in
         on_line plan commands MuteAt (λ x acts none. mute_none (is_sought x.word x.again x.asked) x.asked x.alive x.moment.elapsed x.phase acts none)
@@ -407,7 +407,7 @@ module _ (plan : Plan) (commands : List Task) (scope : Scope) where
 
   -- a connection is closed for a dead line only after a silence that was long enough
   pub mute_close : (acts : List Act) → Runs plan commands (opening plan scope) acts
-      → action_at plan (stood plan commands scope acts) ≡ actions.Close cause.Dead → IsMuteFor (patience_of plan) plan commands scope acts
+      → action_at plan (state_after plan commands scope acts) ≡ actions.Close cause.Dead → IsMuteFor (patience_of plan) plan commands scope acts
   mute_close acts runs is = record {
     before = q.before;
     start = q.start;
@@ -422,7 +422,7 @@ module _ (plan : Plan) (commands : List Task) (scope : Scope) where
   } where
     -- the model after the acts
     s : Model
-    s = stood plan commands scope acts
+    s = state_after plan commands scope acts
 
     -- a dead line is no failed call, so the phase hasn't decided the close before
     never : s.progress.phase ≡ phase.Closing cause.Dead → ⊥

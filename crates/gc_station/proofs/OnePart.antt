@@ -11,9 +11,9 @@ use Rattle.gc_links.specs.Acts.{Act}
 use Rattle.gc_station.specs.Deciding.{has_begun, is_up}
 use Rattle.gc_station.specs.Links.{parts}
 use Rattle.gc_station.specs.Parts.{Part, acting, ends_part, in_front, parts_of}
-use Rattle.gc_station.specs.Progressing.{begun, is_over, is_over_in}
+use Rattle.gc_station.specs.Progressing.{cycle_begun, is_over, is_over_in}
 use Rattle.gc_station.specs.Reasons.{IsFor}
-use Rattle.gc_station.specs.Runs.{stood}
+use Rattle.gc_station.specs.Runs.{state_after}
 use Rattle.gc_station.specs.Scopes.{Scope}
 use Rattle.gc_station.specs.Model.{Model, Performs, Puts, Runs, opening, action_at, waiting_of, place_next, first_text, after, after_all}
 use Rattle.gc_station.proofs.Chaining.{StaysBegun}
@@ -37,7 +37,7 @@ goes_on plan commands u [] true e runs end = end
 goes_on plan commands u (act ∷ acts) true e runs end = absurd (over_stays plan commands u act e runs.0)
 
 -- if the station has synchronized after an act, and the run isn't over, the act ends no part
-neither : (begun later over : Bool) → later ≡ true → over ≡ false → (begun && (not later || over)) ≡ false
+neither : (cycle_begun later over : Bool) → later ≡ true → over ≡ false → (cycle_begun && (not later || over)) ≡ false
 neither true true over a o = o
 neither true false over a o = cc
 neither false later over a o = refl
@@ -85,13 +85,13 @@ pub puts_text commands plan s act is obeys = subst (λ (o : Action). Performs co
 
 -- a request and the acts after it, in which the station doesn't resynchronize, are of one part
 pub same_part : (plan : Plan) (commands : List Task) (scope : Scope) (before between : List Act) (request : Act)
-    → Runs plan commands (opening plan scope) (before ++ request ∷ between) → action_at plan (stood plan commands scope before) ≡ Send
-    → StaysBegun plan commands (stood plan commands scope before) (request ∷ between)
-    → action_at plan (stood plan commands scope (before ++ request ∷ between)) ≡ Send
+    → Runs plan commands (opening plan scope) (before ++ request ∷ between) → action_at plan (state_after plan commands scope before) ≡ Send
+    → StaysBegun plan commands (state_after plan commands scope before) (request ∷ between)
+    → action_at plan (state_after plan commands scope (before ++ request ∷ between)) ≡ Send
     → length (parts plan commands scope (before ++ request ∷ between)) ≡ length (parts plan commands scope before)
 same_part plan commands scope before between request runs sends keeps next =
-    let s = stood plan commands scope before in
+    let s = state_after plan commands scope before in
     let on = runs_behind plan commands (opening plan scope) before (request ∷ between) runs in
-    let last = over_ready (stood plan commands scope (before ++ request ∷ between)).progress (needs_send plan (stood plan commands scope (before ++ request ∷ between)) next).0 in
+    let last = over_ready (state_after plan commands scope (before ++ request ∷ between)).progress (needs_send plan (state_after plan commands scope (before ++ request ∷ between)) next).0 in
     let end = subst (λ (t : Model). is_over t.progress ≡ false) (after_all-append plan commands (opening plan scope) before (request ∷ between)) last in
     parts_more plan commands (opening plan scope) before (request ∷ between) (single plan commands s (request ∷ between) on keeps end)

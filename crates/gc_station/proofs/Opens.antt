@@ -13,7 +13,7 @@ use Rattle.gc_station.specs.declared.progress.Action.TheVariants as actions
 use Rattle.gc_links.specs.Acts.{Act, Closed, Unopened}
 use Rattle.gc_station.specs.Deciding.{has_begun, is_up}
 use Rattle.gc_station.specs.Marks.{commands_in}
-use Rattle.gc_station.specs.Progressing.{failing, turned, told, cleared, time_passed, closed}
+use Rattle.gc_station.specs.Progressing.{failing, turned, moment_noted, cleared, time_passed, closed}
 use Rattle.gc_station.specs.Reasons.{IsFor, HasOneFor}
 use Rattle.gc_station.specs.Model.{Model, requests_out, waiting_of, with_progress, with_moment, is_heard, after_open, Performs, moved}
 use Rattle.gc_station.specs.Tries.{ends_in, opens_in}
@@ -86,7 +86,7 @@ counted_moved plan commands actions.Flush s act o needs never =
     walk plan commands (Counts s) actions.Flush (with_progress turned s) act o (λ m. refl, λ n. failed s (cause.Write (requests_out plan commands (turned s.progress)) n))
 counted_moved plan commands (actions.Read until) s act o needs never =
     walk plan commands (Counts s) (actions.Read until) (with_progress turned s) act o (
-      λ bytes m. calm (is_up s.progress.phase) _ (ap is_up (came_phase (is_heard s.progress.phase) s.progress.word bytes (with_moment m (with_progress (told m) (with_progress turned s))))),
+      λ bytes m. calm (is_up s.progress.phase) _ (ap is_up (came_phase (is_heard s.progress.phase) s.progress.word bytes (with_moment m (with_progress (moment_noted m) (with_progress turned s))))),
       λ m. calm (is_up s.progress.phase) _ (quieted_up plan s.progress.phase (time_passed until m (turned s.progress)) refl),
       failed s cause.End,
       failed s cause.Read,

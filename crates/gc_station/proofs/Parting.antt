@@ -22,18 +22,18 @@ use Rattle.gc_station.specs.declared.progress.Until.{Until}
 use Rattle.gc_links.specs.Acts.{Act, Told, Put, Cut, Gave}
 use Rattle.gc_station.specs.Deciding.{later, has_begun, is_none_left}
 use Rattle.gc_station.specs.Parts.{Turn, Part, only_turns, only, nothing, putting, asking, asking_first, hearing, doing, beginning, acting, sent_of, asking_or_null}
-use Rattle.gc_station.specs.Progressing.{told, turned, skipped_at}
+use Rattle.gc_station.specs.Progressing.{moment_noted, turned, skipped_at}
 use Rattle.gc_station.specs.Reasons.{IsFor}
 use Rattle.gc_station.specs.Records.{Record}
 use Rattle.gc_station.specs.declared.mark.Mark.{Mark}
-use Rattle.gc_station.specs.Model.{Model, waiting_of, place_next, mark_next, Performs, with_progress, with_moment, with_rest, asks_null, asks_first, skips, skips_first, line_came, lines_came, lines_behind, is_heard, came, after_read, moved, mark_setup, asks_or_null}
+use Rattle.gc_station.specs.Model.{Model, waiting_of, place_next, mark_next, Performs, with_progress, with_moment, with_rest, asks_null, asks_first, skips, skips_first, line_came, lines_came, lines_completed, is_heard, after_piece, after_read, moved, mark_setup, asks_or_null}
 use Rattle.gc_station.proofs.Tasked.{at_place}
 use Rattle.gc_station.proofs.Booking.{Books, books_turns, sent_both, sent_records, books_both, books_nothing, books_moment, books_line, books_send}
 use Rattle.gc_station.proofs.Facts.{either}
 use Rattle.gc_station.proofs.Invariant.{Invariant}
 use Rattle.gc_station.proofs.Hearing.{hears_paired}
-use Rattle.gc_station.proofs.Midway.{clash}
 use Rattle.gc_station.proofs.Walk.{is_sent, walk, is_prepared}
+use Rattle.gc_station.proofs.Ticking.{not_both}
 
 -- the part p takes the client of one model, with its marks and records, to those of another
 abbrev pub Leads : List Task → Model → Part → Model → Type 0
@@ -63,9 +63,9 @@ module _ (plan : Plan) (commands : List Task) where
       (leads_lines t others (hears_paired s.marks s.client line (heard line) paired))
 
   -- a piece leads on by the steps that hear its lines; by none if it is discarded
-  leads_came : (h : Bool) (word piece : List ℕ) (s : Model) → is_none_left word ≡ true → Paired s → Leads commands s (only (hearing h s.rest piece)) (came h word piece s)
+  leads_came : (h : Bool) (word piece : List ℕ) (s : Model) → is_none_left word ≡ true → Paired s → Leads commands s (only (hearing h s.rest piece)) (after_piece h word piece s)
   leads_came true (asked ∷ others) piece s begun paired = cc
-  leads_came true [] piece s begun paired = leads_lines (with_rest (rest_behind s.rest piece) s) (lines_behind s.rest piece) paired
+  leads_came true [] piece s begun paired = leads_lines (with_rest (rest_behind s.rest piece) s) (lines_completed s.rest piece) paired
   leads_came false word piece s begun paired = books_nothing s.reads commands s.client s.marks (sent_of s.records)
 
   -- if a moment times requests out, each still has a mark
@@ -76,8 +76,8 @@ module _ (plan : Plan) (commands : List Task) where
   leads_gave : (s : Model) (until : Until) (bytes : List ℕ) (m : Moment) → has_begun s.progress ≡ true → Paired s
       → Leads commands s (doing plan commands s (action.Read until) (Gave bytes m)) (after_read plan until (with_progress turned s) (Gave bytes m))
   leads_gave s until bytes m begun paired =
-      let x = with_moment m (with_progress (told m) (with_progress turned s)) in
-      let t = came (is_heard s.progress.phase) s.progress.word bytes x in
+      let x = with_moment m (with_progress (moment_noted m) (with_progress turned s)) in
+      let t = after_piece (is_heard s.progress.phase) s.progress.word bytes x in
       books_both s.reads commands s.client x.client t.client s.marks s.marks t.marks (sent_of s.records) (sent_of s.records) (sent_of t.records)
       (only (Expire m.elapsed ∷ [])) (only (hearing (is_heard s.progress.phase) s.rest bytes))
       (books_moment s.reads commands s.client s.marks (sent_of s.records) m.elapsed)
@@ -138,7 +138,7 @@ module _ (plan : Plan) (commands : List Task) where
       → Leads commands s (doing plan commands s o act) (moved plan commands o (with_progress turned s) act)
   leads_order s action.Open act fine is obeys begun = walk plan commands (LeadsSo action.Open s) action.Open (with_progress turned s) act obeys (λ m. none_booked s, λ n. none_booked s)
   leads_order s action.Clear act fine is obeys begun = walk plan commands (LeadsSo action.Clear s) action.Clear (with_progress turned s) act obeys (λ m. none_booked s, λ n. none_booked s)
-  leads_order s action.Ask act fine is obeys begun = absurd (clash (has_begun s.progress) begun is.1)
+  leads_order s action.Ask act fine is obeys begun = absurd (not_both (has_begun s.progress) begun is.1)
   leads_order s action.Flush act fine is obeys begun = walk plan commands (LeadsSo action.Flush s) action.Flush (with_progress turned s) act obeys (λ m. leads_null s is.4.1, λ n. leads_null s is.4.1)
   leads_order s action.Prepare act fine is obeys begun =
       let prepares = subst (λ (t : Model). Leads commands s (putting plan commands s action.Prepare) t) (sym (is_prepared plan commands (with_progress turned s)))
@@ -172,7 +172,7 @@ module _ (plan : Plan) (commands : List Task) where
 
   -- while the station synchronizes, a piece leaves the client new, and the marks and the records as they are
   keeps_came : (h : Bool) (word piece : List ℕ) (s : Model) → is_none_left word ≡ false → s.client ≡ fresh
-      → ((came h word piece s).client ≡ fresh) × ((came h word piece s).marks ≡ s.marks) × ((came h word piece s).records ≡ s.records)
+      → ((after_piece h word piece s).client ≡ fresh) × ((after_piece h word piece s).marks ≡ s.marks) × ((after_piece h word piece s).records ≡ s.records)
   keeps_came true [] piece s begins new = cc
   keeps_came true (asked ∷ others) piece s begins new = (new, refl, refl)
   keeps_came false word piece s begins new = (new, refl, refl)
@@ -184,18 +184,18 @@ module _ (plan : Plan) (commands : List Task) where
   -- while the station synchronizes, an act of each action leaves the client new, and the marks and the records as they are
   pub keeps_action : (s : Model) (o : Action) (act : Act) → IsFor plan s.progress (waiting_of s) o → Performs commands s o act → has_begun s.progress ≡ false
       → s.client ≡ fresh → Keeps s act (moved plan commands o (with_progress turned s) act)
-  keeps_action s action.Renew act is obeys begins new = absurd (clash (has_begun s.progress) is.1 begins)
-  keeps_action s action.Begin act is obeys begins new = absurd (clash (has_begun s.progress) is.1 begins)
-  keeps_action s action.Prepare act is obeys begins new = absurd (clash (has_begun s.progress) is.1 begins)
-  keeps_action s action.Send act is obeys begins new = absurd (clash (has_begun s.progress) is.1 begins)
-  keeps_action s action.Skip act is obeys begins new = absurd (clash (has_begun s.progress) is.1 begins)
-  keeps_action s action.Pass act is obeys begins new = absurd (clash (has_begun s.progress) is.1 begins)
-  keeps_action s action.Flush act is obeys begins new = absurd (clash (has_begun s.progress) is.1 begins)
+  keeps_action s action.Renew act is obeys begins new = absurd (not_both (has_begun s.progress) is.1 begins)
+  keeps_action s action.Begin act is obeys begins new = absurd (not_both (has_begun s.progress) is.1 begins)
+  keeps_action s action.Prepare act is obeys begins new = absurd (not_both (has_begun s.progress) is.1 begins)
+  keeps_action s action.Send act is obeys begins new = absurd (not_both (has_begun s.progress) is.1 begins)
+  keeps_action s action.Skip act is obeys begins new = absurd (not_both (has_begun s.progress) is.1 begins)
+  keeps_action s action.Pass act is obeys begins new = absurd (not_both (has_begun s.progress) is.1 begins)
+  keeps_action s action.Flush act is obeys begins new = absurd (not_both (has_begun s.progress) is.1 begins)
   keeps_action s action.ReadClock act is obeys begins new = walk plan commands (Keeps s) action.ReadClock (with_progress turned s) act obeys
       (λ m. (new_told s m new, refl, refl), λ n. (new, refl, refl))
   keeps_action s (action.Read until) act is obeys begins new =
       walk plan commands (Keeps s) (action.Read until) (with_progress turned s) act obeys (
-        λ bytes m. keeps_came (is_heard s.progress.phase) s.progress.word bytes (with_moment m (with_progress (told m) (with_progress turned s))) begins (new_told s m new),
+        λ bytes m. keeps_came (is_heard s.progress.phase) s.progress.word bytes (with_moment m (with_progress (moment_noted m) (with_progress turned s))) begins (new_told s m new),
         λ m. (new_told s m new, refl, refl),
         (new, refl, refl),
         (new, refl, refl),

@@ -14,32 +14,32 @@ use Rattle.gc_station.specs.Progressing.{turned, is_over_in, loses_all}
 use Rattle.gc_station.specs.Quiet.{KeepsOpen}
 use Rattle.gc_station.specs.Reasons.{IsFor}
 use Rattle.gc_station.specs.Records.{Record}
-use Rattle.gc_station.specs.Runs.{stood}
+use Rattle.gc_station.specs.Runs.{state_after}
 use Rattle.gc_station.specs.Scopes.{Scope}
 use Rattle.gc_station.specs.Model.{Model, opening, action_at, waiting_of, mark_setup, with_progress, Performs, moved, after, after_all, Runs}
-use Rattle.gc_station.specs.Setups.{Dispatch, of_record, of_mark, of_marks, sent_as, StaysUp, ArePrepared, NoneBeforeTheSetUp, SetUpInOrder}
+use Rattle.gc_station.specs.Setups.{Dispatch, dispatch_of_record, dispatch_of_mark, dispatches_of, sent_as, StaysUp, ArePrepared, NoneBeforeTheSetUp, SetUpInOrder}
 use Rattle.gc_station.proofs.Always.{always, progress_behind}
 use Rattle.gc_station.proofs.ChainSteps.{stays_open}
 use Rattle.gc_station.proofs.EachRun.{fine_stood}
 use Rattle.gc_station.proofs.Facts.{action_for}
 use Rattle.gc_station.proofs.Going.{after_all-append}
-use Rattle.gc_station.proofs.Midway.{clash}
 use Rattle.gc_station.proofs.SentAt.{records_stay}
 use Rattle.gc_station.proofs.Setups.{row_of, row_losing, row_prepared, row_kept, none_marked, prepares, sends_it}
 use Rattle.gc_station.proofs.Turns.{over_stays}
 use Rattle.gc_station.proofs.Walk.{closed_along, is_sent, moved_changed}
 use Rattle.gc_station.proofs.Words.{begun_other}
+use Rattle.gc_station.proofs.Ticking.{not_both}
 
 -- Records.
 
 -- if the commands of some records end with one, the records end with one of that command
-split_last : (rs : List Record) (xs : List Dispatch) (x : Dispatch) → map of_record rs ≡ xs ++ x ∷ [] → (mid : List Record) × (r : Record) × (rs ≡ mid ++ r ∷ []) × (of_record r ≡ x)
+split_last : (rs : List Record) (xs : List Dispatch) (x : Dispatch) → map dispatch_of_record rs ≡ xs ++ x ∷ [] → (mid : List Record) × (r : Record) × (rs ≡ mid ++ r ∷ []) × (dispatch_of_record r ≡ x)
 split_last [] [] x e = cc
 split_last [] (y ∷ xs) x e = cc
-split_last (r ∷ []) [] x e = let same : of_record r ≡ x = cc in ([], r, refl, same)
+split_last (r ∷ []) [] x e = let same : dispatch_of_record r ≡ x = cc in ([], r, refl, same)
 split_last (r ∷ q ∷ rs) [] x e = cc
 split_last (r ∷ rs) (y ∷ xs) x e =
-    let tail : map of_record rs ≡ xs ++ x ∷ [] = ap (drop 1) e in
+    let tail : map dispatch_of_record rs ≡ xs ++ x ∷ [] = ap (drop 1) e in
     let it = split_last rs xs x tail in
     (r ∷ it.0, it.1, ap (λ ys. r ∷ ys) it.2, it.3)
 
@@ -85,7 +85,7 @@ above n some = lt-ltb 0 n some
 module _ (plan : Plan) (commands : List Task) (scope : Scope) where
   -- the model after these acts
   abbrev at : List Act → Model
-  at acts = stood plan commands scope acts
+  at acts = state_after plan commands scope acts
 
   -- after these acts, the first j commands of the setup were answered well, and the one at place j was sent, which is the last
   -- of the row
@@ -101,17 +101,17 @@ module _ (plan : Plan) (commands : List Task) (scope : Scope) where
     more : List Record
     written : (at acts).records ≡ (at before).records ++ more
     xs : List Dispatch
-    row : row_of (at acts) ≡ map of_record (at before).records ++ (xs ++ of_mark (mark_setup commands (at before).progress) ∷ [])
+    row : row_of (at acts) ≡ map dispatch_of_record (at before).records ++ (xs ++ dispatch_of_mark (mark_setup commands (at before).progress) ∷ [])
 
   -- if the last one is settled, and was answered well, one more was
   finish : (j : ℕ) (acts : List Act) → commands_in (at acts).marks ≡ 0 → last_well false (at acts).records ≡ true → Partly j acts → ArePrepared plan commands scope acts (suc j)
   finish j acts none good p place below =
       let s = at acts in
       let old = (at p.before).records in
-      let x = of_mark (mark_setup commands (at p.before).progress) in
-      let all : row_of s ≡ map of_record old ++ map of_record p.more =
-      ap (λ ys. map of_record s.records ++ ys) (none_marked s.marks none) ∙ append-nil (map of_record s.records) ∙ ap (map of_record) p.written ∙ map-append of_record old p.more in
-      let it = split_last p.more p.xs x (cancel (map of_record old) (map of_record p.more) (p.xs ++ x ∷ []) (sym all ∙ p.row)) in
+      let x = dispatch_of_mark (mark_setup commands (at p.before).progress) in
+      let all : row_of s ≡ map dispatch_of_record old ++ map dispatch_of_record p.more =
+      ap (λ ys. map dispatch_of_record s.records ++ ys) (none_marked s.marks none) ∙ append-nil (map dispatch_of_record s.records) ∙ ap (map dispatch_of_record) p.written ∙ map-append dispatch_of_record old p.more in
+      let it = split_last p.more p.xs x (cancel (map dispatch_of_record old) (map dispatch_of_record p.more) (p.xs ++ x ∷ []) (sym all ∙ p.row)) in
       let r : Record = it.1 in
       let written : s.records ≡ old ++ (it.0 ++ r ∷ []) = p.written ∙ ap (λ ys. old ++ ys) it.2 in
       let flat : s.records ≡ (old ++ it.0) ++ r ∷ [] = written ∙ sym (append_assoc old it.0 (r ∷ [])) in
@@ -145,7 +145,7 @@ module _ (plan : Plan) (commands : List Task) (scope : Scope) where
       → has_begun (at (acts ++ act ∷ [])).progress ≡ true → (acts ++ act ∷ [] ≡ before ++ (since ++ act ∷ [])) × StaysUp plan commands (at before) (since ++ act ∷ [])
   since_more acts before since act order stays keeps begun =
       let longer : acts ++ act ∷ [] ≡ before ++ (since ++ act ∷ []) = ap (λ xs. xs ++ act ∷ []) order ∙ append_assoc before since (act ∷ []) in
-      let there = ap (λ (x : Model). has_begun x.progress) (sym (ap (stood plan commands scope) longer ∙ after_all-append plan commands (opening plan scope) before (since ++ act ∷ []))) ∙ begun in
+      let there = ap (λ (x : Model). has_begun x.progress) (sym (ap (state_after plan commands scope) longer ∙ after_all-append plan commands (opening plan scope) before (since ++ act ∷ []))) ∙ begun in
       (longer, stays_more (at before) since act stays keeps there)
 
   -- an act that closes no connection, after which the station is begun, preserves `ArePrepared`
@@ -197,7 +197,7 @@ module _ (plan : Plan) (commands : List Task) (scope : Scope) where
 
   -- a command of the setup that is sent after j that were answered well, and is the last of the row
   partly_sent : (j : ℕ) (acts : List Act) (act : Act) → KeepsOpen act → has_begun (at (acts ++ act ∷ [])).progress ≡ true → action_at plan (at acts) ≡ action.Prepare
-      → (at acts).progress.prepared ≡ j → row_of (at (acts ++ act ∷ [])) ≡ row_of (at acts) ++ of_mark (mark_setup commands (at acts).progress) ∷ [] → ArePrepared plan commands scope acts j
+      → (at acts).progress.prepared ≡ j → row_of (at (acts ++ act ∷ [])) ≡ row_of (at acts) ++ dispatch_of_mark (mark_setup commands (at acts).progress) ∷ [] → ArePrepared plan commands scope acts j
       → Partly j (acts ++ act ∷ [])
   partly_sent j acts act keeps begun sends place longer d =
       let s = at acts in
@@ -214,8 +214,8 @@ module _ (plan : Plan) (commands : List Task) (scope : Scope) where
         stays = (keeps, there, tt);
         more = grew.0;
         written = grew.1;
-        xs = of_marks s.marks;
-        row = longer ∙ append_assoc (map of_record s.records) (of_marks s.marks) (of_mark (mark_setup commands s.progress) ∷ []);
+        xs = dispatches_of s.marks;
+        row = longer ∙ append_assoc (map dispatch_of_record s.records) (dispatches_of s.marks) (dispatch_of_mark (mark_setup commands s.progress) ∷ []);
       }
 
   -- what holds by whether the setup's turn isn't over (`preparing`), and by how many of its commands were sent (`prepared`)
@@ -360,7 +360,7 @@ module _ (plan : Plan) (commands : List Task) (scope : Scope) where
             (stays_open plan commands action.Pass (at acts) act obeys (λ why e. cc)) refl refl refl h
     stands_by action.Skip act is obeys needs h =
         stands_still some within acts act action.Skip is (begins some within acts act action.Skip is obeys (λ e. cc)) (stays_open plan commands action.Skip (at acts) act obeys (λ why e. cc)) refl refl
-        (ap (λ rs. map of_record rs ++ of_marks (at acts).marks) (append-nil (at acts).records)) h
+        (ap (λ rs. map dispatch_of_record rs ++ dispatches_of (at acts).marks) (append-nil (at acts).records)) h
     stands_by action.Renew act is obeys needs h =
         stands_still some within acts act action.Renew is (λ begun. ap has_begun (far some within acts act action.Renew is) ∙ begun)
             (stays_open plan commands action.Renew (at acts) act obeys (λ why e. cc)) refl refl refl h
@@ -386,25 +386,25 @@ module _ (plan : Plan) (commands : List Task) (scope : Scope) where
 -- the law: no command of a cycle is sent before the setup is done
 pub none_before_the_set_up : NoneBeforeTheSetUp
 none_before_the_set_up plan commands scope acts runs is place below =
-    let s = stood plan commands scope acts in
+    let s = state_after plan commands scope acts in
     let needs = subst (λ (o : Action). IsFor plan s.progress (waiting_of s) o) is (action_for plan s.progress (waiting_of s)) in
     let some : 0 < plan.setup = omega (arith, below) in
     let unsent : 0 < s.progress.unsent = needs.2 in
     let within : plan.setup ≤ length commands = let most = (fine_stood plan commands scope acts).unsent in omega (arith, unsent, most) in
     elim (stands plan commands scope some within acts runs) [
-      | inl over ↦ absurd (clash (is_over_in s.progress.phase) over (ap is_over_in needs.0))
+      | inl over ↦ absurd (not_both (is_over_in s.progress.phase) over (ap is_over_in needs.0))
       | inr h ↦ (done_so plan commands scope some s.progress.preparing s.progress.prepared acts h needs.8).1 place below
     ]
 
 -- the law: each command of the setup is sent only after the good answers of those before it
 pub set_up_in_order : SetUpInOrder
 set_up_in_order plan commands scope acts runs within is place below =
-    let s = stood plan commands scope acts in
+    let s = state_after plan commands scope acts in
     let k = s.progress.prepared in
     let needs = subst (λ (o : Action). IsFor plan s.progress (waiting_of s) o) is (action_for plan s.progress (waiting_of s)) in
     let some : 0 < plan.setup = omega (arith, needs.2.1) in
     let preparing : s.progress.preparing ≡ true = first_true s.progress.preparing (not (nat_le plan.setup k && nat_eq (commands_in s.marks) 0 && last_well false s.records)) needs.2.0 in
     elim (stands plan commands scope some within acts runs) [
-      | inl over ↦ absurd (clash (is_over_in s.progress.phase) over (ap is_over_in needs.0))
+      | inl over ↦ absurd (not_both (is_over_in s.progress.phase) over (ap is_over_in needs.0))
       | inr h ↦ next_so plan commands scope s.progress.preparing k acts h preparing needs.2.2 place below
     ]

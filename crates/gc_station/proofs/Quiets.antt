@@ -20,20 +20,20 @@ use Rattle.gc_station.specs.declared.progress.Until.{Until}
 use Rattle.gc_links.specs.Acts.{Act, Told, Put, Gave, Silent, Closed, Opened}
 use Rattle.gc_station.specs.Beginnings.{IsClearedAndQuiet}
 use Rattle.gc_station.specs.Deciding.{has_begun, is_quiet}
-use Rattle.gc_station.specs.Progressing.{turned, told, time_passed, drained}
+use Rattle.gc_station.specs.Progressing.{turned, moment_noted, time_passed, drained}
 use Rattle.gc_station.specs.Quiet.{IsRequest, TellsMoment, IsListening, IsSilent, StaysConnected}
 use Rattle.gc_station.specs.Reasons.{IsFor}
-use Rattle.gc_station.specs.Runs.{stood}
-use Rattle.gc_station.specs.Model.{Model, null_text, request_text, first_text, place_next, opening, action_at, waiting_of, with_progress, with_moment, lines_behind, is_heard, Performs, moved, Runs, text_or_null}
+use Rattle.gc_station.specs.Runs.{state_after}
+use Rattle.gc_station.specs.Model.{Model, null_text, request_text, first_text, place_next, opening, action_at, waiting_of, with_progress, with_moment, lines_completed, is_heard, Performs, moved, Runs, text_or_null}
 use Rattle.gc_station.proofs.Closings.{runs_split}
 use Rattle.gc_station.proofs.Always.{always_far}
 use Rattle.gc_station.proofs.Connected.{is_in_use, OnLine, on_line}
 use Rattle.gc_station.proofs.Facts.{action_for, order_timely, Timely}
 use Rattle.gc_station.proofs.Lists.{all_append, all_on}
-use Rattle.gc_station.proofs.Midway.{clash}
 use Rattle.gc_station.proofs.Since.{Since, since_now, since_on, cut_on}
 use Rattle.gc_station.proofs.Walk.{asked_along, came_along, walk}
 use Rattle.gc_station.specs.Scopes.{Scope}
+use Rattle.gc_station.proofs.Ticking.{not_both}
 
 -- What was done on a connection.
 
@@ -88,7 +88,7 @@ listening_stays act e = absurd e
 module _ (plan : Plan) (commands : List Task) (scope : Scope) where
   -- these acts end with a connection that was made when the station had synchronized (`true`), or while it began (`false`)
   abbrev pub IsOpenedSo : Bool → List Act → Type 0
-  IsOpenedSo begun acts = (before : List Act) × (acts ≡ before ++ Opened ∷ []) × (has_begun (stood plan commands scope before).progress ≡ begun)
+  IsOpenedSo begun acts = (before : List Act) × (acts ≡ before ++ Opened ∷ []) × (has_begun (state_after plan commands scope before).progress ≡ begun)
 
   -- the connection was made while the station synchronized, and cleared by `start`, and then nobody closed it
   abbrev pub Begins : List Act → Act → List Act → Type 0
@@ -142,7 +142,7 @@ module _ (plan : Plan) (commands : List Task) (scope : Scope) where
         behind = b.behind;
         order = cut_on acts b.before o.0 (Opened ∷ []) (b.start ∷ b.behind) b.order o.1 ∙ ap (λ (x : Act). o.0 ++ Opened ∷ x ∷ b.behind) b.holds.1;
         stays = b.holds.2;
-        quiet = λ begun. absurd (clash (has_begun (stood plan commands scope o.0).progress) begun o.2);
+        quiet = λ begun. absurd (not_both (has_begun (state_after plan commands scope o.0).progress) begun o.2);
       }
 
   -- what was done on the connection, by the phase: in `Clearing` it was just made, in `Draining` it is drained, and in `Ready`
@@ -265,11 +265,11 @@ module _ (plan : Plan) (commands : List Task) (scope : Scope) where
   stage_in p at acts is st = subst (λ (x : Phase). Here (has_begun p) p.stale p.since x acts) is st
 
   -- what `Stage` says holds on after an act of any action that leaves a connection in use
-  stage_line : (next : Action) (s : Model) (acts : List Act) → has_begun (stood plan commands scope acts).progress ≡ has_begun s.progress
+  stage_line : (next : Action) (s : Model) (acts : List Act) → has_begun (state_after plan commands scope acts).progress ≡ has_begun s.progress
       → IsFor plan s.progress (waiting_of s) next → Timely s.progress next → HereAt s.progress acts → OnLine plan commands HereAt next (with_progress turned s) acts
   stage_line actions.ReadClock s acts there needs time st =
       let p = s.progress in
-      λ m. stage_on (has_begun p) (has_begun p) p.stale p.since m.elapsed p.phase acts (Told m) tt (λ is now. clash p.stale time now) (draining_told p.stale p.since m acts time) st
+      λ m. stage_on (has_begun p) (has_begun p) p.stale p.since m.elapsed p.phase acts (Told m) tt (λ is now. not_both p.stale time now) (draining_told p.stale p.since m acts time) st
   stage_line actions.Open s acts there needs time st = λ m. (time, (acts, refl, there))
   stage_line actions.Clear s acts there needs time st = λ m. stage_cleared (has_begun s.progress) s.progress.since acts (stage_in s.progress phase.Clearing acts needs st).1
   stage_line (actions.Read until) s acts there needs time st =
@@ -278,11 +278,11 @@ module _ (plan : Plan) (commands : List Task) (scope : Scope) where
       let heard = λ (later : Bool) (bytes : List ℕ) (m : Moment). stage_on begun later p.stale p.since m.elapsed p.phase acts (Gave bytes m) tt (λ is now. time.1 is)
       (λ d. drained_anew p.since m.elapsed acts (Gave bytes m) refl (draining_read p.stale p.since acts time.0 d)) st in (
         λ bytes m.
-            let mid = with_moment m (with_progress (told m) (with_progress turned s)) in
+            let mid = with_moment m (with_progress (moment_noted m) (with_progress turned s)) in
             let always = λ (later : Bool). heard later bytes m in
             came_along (λ (t : Model). HereAt t.progress (acts ++ Gave bytes m ∷ [])) (λ t line on. on) (is_heard p.phase) p.word bytes mid (always begun)
             ((asked_along (λ (q : Progress). (later : Bool) → Here later q.stale q.since q.phase (acts ++ Gave bytes m ∷ [])) (λ q line on. on) mid.progress
-            (lines_behind s.rest bytes) always) _) (always begun),
+            (lines_completed s.rest bytes) always) _) (always begun),
         λ m. (
           stage_on begun begun p.stale p.since (min p.since m.elapsed) p.phase acts (Silent m) tt (λ is now. time.1 is)
               (λ d. silent_on p.since m acts (nat_le p.since m.elapsed) refl (draining_read p.stale p.since acts time.0 d)) st,
@@ -307,15 +307,15 @@ module _ (plan : Plan) (commands : List Task) (scope : Scope) where
   -- Whole runs.
 
   -- `Stage` holds after every run
-  stage_stood : (acts : List Act) → Runs plan commands (opening plan scope) acts → HereAt (stood plan commands scope acts).progress acts
+  stage_stood : (acts : List Act) → Runs plan commands (opening plan scope) acts → HereAt (state_after plan commands scope acts).progress acts
   stage_stood acts runs = always_far plan commands (opening plan scope) HereAt step tt acts runs where
     -- one act of a run preserves `HereAt`
     step : (done : List Act) (act : Act) → Runs plan commands (opening plan scope) done
-        → Performs commands (stood plan commands scope done) (action_at plan (stood plan commands scope done)) act
-        → HereAt (stood plan commands scope done).progress done
-        → HereAt (moved plan commands (action_at plan (stood plan commands scope done)) (with_progress turned (stood plan commands scope done)) act).progress (done ++ act ∷ [])
+        → Performs commands (state_after plan commands scope done) (action_at plan (state_after plan commands scope done)) act
+        → HereAt (state_after plan commands scope done).progress done
+        → HereAt (moved plan commands (action_at plan (state_after plan commands scope done)) (with_progress turned (state_after plan commands scope done)) act).progress (done ++ act ∷ [])
     step done act runs o st =
-        let s = stood plan commands scope done in
+        let s = state_after plan commands scope done in
         let p = s.progress in
         on_line plan commands HereAt (λ q acts none. stage_none (has_begun q) q.stale q.since q.phase acts none) (action_at plan s) s act done o
         (stage_line (action_at plan s) s done refl (action_for plan p (waiting_of s)) (order_timely plan p (waiting_of s)) st)
@@ -344,9 +344,9 @@ asks_not plan commands next s act o other = walk plan commands (λ a (t : Model)
 pub asks_only : (plan : Plan) (commands : List Task) (next : Action) (s : Model) (act : Act) → Performs commands s next act → IsRequest act
     → IsFor plan s.progress (waiting_of s) next → has_begun s.progress ≡ false → next ≡ actions.Ask
 asks_only plan commands actions.Ask s act o asks needs begins = refl
-asks_only plan commands actions.Prepare s act o asks needs begins = absurd (clash (has_begun s.progress) needs.1 begins)
-asks_only plan commands actions.Send s act o asks needs begins = absurd (clash (has_begun s.progress) needs.1 begins)
-asks_only plan commands actions.Flush s act o asks needs begins = absurd (clash (has_begun s.progress) needs.1 begins)
+asks_only plan commands actions.Prepare s act o asks needs begins = absurd (not_both (has_begun s.progress) needs.1 begins)
+asks_only plan commands actions.Send s act o asks needs begins = absurd (not_both (has_begun s.progress) needs.1 begins)
+asks_only plan commands actions.Flush s act o asks needs begins = absurd (not_both (has_begun s.progress) needs.1 begins)
 asks_only plan commands next s act o asks needs begins = absurd (asks_not plan commands next s act o (λ is. cc, λ is. cc, λ is. cc, λ is. cc) asks)
 
 -- if a request is sent, the phase is `Ready`
@@ -362,7 +362,7 @@ asks_there plan commands next s act o asks needs = absurd (asks_not plan command
 pub cleared_and_quiet : (plan : Plan) (commands : List Task) (scope : Scope) (earlier later : List Act) (act : Act)
     → Runs plan commands (opening plan scope) (earlier ++ act ∷ later) → IsRequest act → IsClearedAndQuiet plan commands scope earlier
 cleared_and_quiet plan commands scope earlier later act runs asks =
-    let s = stood plan commands scope earlier in
+    let s = state_after plan commands scope earlier in
     let split = runs_split plan commands (opening plan scope) earlier later act runs in
     let ready = asks_there plan commands (action_at plan s) s act split.1 asks (action_for plan s.progress (waiting_of s)) in
     was_cleared plan commands scope earlier (stage_in plan commands scope s.progress phase.Ready earlier ready (stage_stood plan commands scope earlier split.0))

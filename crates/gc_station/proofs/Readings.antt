@@ -14,7 +14,7 @@ use Rattle.gc_station.specs.declared.plan.Plan.{Plan}
 use Rattle.gc_station.specs.declared.progress.Action.{Action}
 use Rattle.gc_links.specs.Acts.{Act}
 use Rattle.gc_station.specs.Progressing.{turned, loses_all}
-use Rattle.gc_station.specs.Runs.{stood}
+use Rattle.gc_station.specs.Runs.{state_after}
 use Rattle.gc_station.specs.Scopes.{Scope, AreReadings, OneReadingForALine, SomeReadings, ForReadings}
 use Rattle.gc_station.proofs.Walk.{lines_along, moved_changed}
 use Rattle.gc_station.specs.Model.{Model, opening, action_at, with_progress, lines_came, moved, losing, after, after_all}
@@ -44,7 +44,7 @@ all_reads plan commands s [] = refl
 all_reads plan commands s (act ∷ acts) = all_reads plan commands (after plan commands s act) acts ∙ after_reads plan commands s act
 
 -- after any acts replies say what they say in the scope
-pub stood_reads : (plan : Plan) (commands : List Task) (scope : Scope) (acts : List Act) → (stood plan commands scope acts).reads ≡ scope.reads
+pub stood_reads : (plan : Plan) (commands : List Task) (scope : Scope) (acts : List Act) → (state_after plan commands scope acts).reads ≡ scope.reads
 stood_reads plan commands scope acts = all_reads plan commands (opening plan scope) acts
 
 -- a function that equals one that gives readings gives them, too

@@ -14,8 +14,8 @@ use Rattle.gc_client.specs.Rule
 use Rattle.gc_client.specs.Settlements.{settlement_seen}
 use Rattle.gc_station.specs.declared.mark.Mark.{Mark}
 use Rattle.gc_texts.specs.Endings.{End}
-use Rattle.gc_station.specs.Attempts.{code_of, listed_behind, listed_by}
-use Rattle.gc_station.specs.Marks.{commands_in, command_of, end_of, record_of, records_of, is_well, last_well, fresh_behind}
+use Rattle.gc_station.specs.Attempts.{code_of, listed_after, listed_by}
+use Rattle.gc_station.specs.Marks.{commands_in, command_of, end_of, record_of, records_of, is_well, last_well, fresh_after}
 use Rattle.gc_station.specs.Records.{Record, texts_of, WritesPart}
 use Rattle.gc_station.specs.Tallies.{counted_in, tallied}
 use Rattle.gc_station.specs.declared.tally.Counts.{Counts}
@@ -128,7 +128,7 @@ listed-append reads [] (x ∷ xs) ys b = refl
 listed-append reads (mark ∷ marks) [] ys b = refl
 listed-append reads (None ∷ marks) (x ∷ xs) ys b = listed-append reads marks xs ys b
 listed-append reads (Some mark ∷ marks) (x ∷ xs) ys b =
-    listed-append reads marks xs ys (listed_behind b mark.expected (code_of reads x.call x.outcome) (end_of reads mark.expected x.call x.outcome))
+    listed-append reads marks xs ys (listed_after b mark.expected (code_of reads x.call x.outcome) (end_of reads mark.expected x.call x.outcome))
 
 -- what the first i + 1 settlements list is what s does, the one at place i, after the first i, by its mark
 pub listed_more : (reads : Asked → List ℕ → Reading) (a b c : Bool) (marks : List (Option Mark)) (ss : List (Settlement Asked)) (i : ℕ) (s : Settlement Asked) (mark : Option Mark)
@@ -243,16 +243,16 @@ last_more a b c front one next so more is = more ∙ ap (λ x. last_well x one) 
 
 -- when a command was answered well last, among two lists of records that are recorded at one moment, is known from the first
 -- list, and then from the second
-pub fresh-append : (now fresh : ℕ) (xs ys : List Record) → fresh_behind now fresh (xs ++ ys) ≡ fresh_behind now (fresh_behind now fresh xs) ys
+pub fresh-append : (now fresh : ℕ) (xs ys : List Record) → fresh_after now fresh (xs ++ ys) ≡ fresh_after now (fresh_after now fresh xs) ys
 fresh-append now fresh [] ys = refl
 fresh-append now fresh (x ∷ xs) ys = fresh-append now (if is_well x.end then now else fresh) xs ys
 
 -- when a command was answered well last, with the records `next`, is known from those before it, and from those after them
 -- (`one`)
-pub fresh_more : (now a b c : ℕ) (front one next : List Record) → b ≡ fresh_behind now a front → c ≡ fresh_behind now b one
-    → next ≡ front ++ one → c ≡ fresh_behind now a next
+pub fresh_more : (now a b c : ℕ) (front one next : List Record) → b ≡ fresh_after now a front → c ≡ fresh_after now b one
+    → next ≡ front ++ one → c ≡ fresh_after now a next
 fresh_more now a b c front one next so more is =
-    more ∙ ap (λ x. fresh_behind now x one) so ∙ sym (fresh-append now a front one) ∙ sym (ap (fresh_behind now a) is)
+    more ∙ ap (λ x. fresh_after now x one) so ∙ sym (fresh-append now a front one) ∙ sym (ap (fresh_after now a) is)
 
 -- the record of a settlement, with this ending in place of its own
 abbrev pub record_as : ℕ → Mark → Rule.Settlement Asked → End → Record

@@ -27,14 +27,14 @@ use Rattle.gc_station.specs.declared.progress.Waiting.{Waiting}
 use Rattle.gc_station.specs.declared.progress.Action.{Action}
 use Rattle.gc_station.specs.declared.progress.Action.TheVariants as actions
 use Rattle.gc_station.specs.declared.progress.Progress.{Progress}
-use Rattle.gc_station.specs.Attempts.{code_of, listed_behind, listed_by}
+use Rattle.gc_station.specs.Attempts.{code_of, listed_after, listed_by}
 use Rattle.gc_station.specs.Marks.{commands_in, end_of, records_of}
-use Rattle.gc_station.specs.Model.{Model, Runs, opening, action_at, waiting_of, place_next, cycles_begun, cycle_length, mark_next, mark_setup, asks_or_null, asks_setup, expected_first, is_chained, others_in, others_behind_next, others_behind, requests_out, with_progress, with_moment, with_rest, asks, asks_first, line_came, lines_behind, is_heard, came, losing, skips_first, moved, after, after_all}
-use Rattle.gc_station.specs.Progressing.{turned, failing, told, loses_all}
+use Rattle.gc_station.specs.Model.{Model, Runs, opening, action_at, waiting_of, place_next, cycles_begun, cycle_length, mark_next, mark_setup, asks_or_null, asks_setup, expected_first, is_chained, others_in, others_after_next, others_after, requests_out, with_progress, with_moment, with_rest, asks, asks_first, line_came, lines_completed, is_heard, after_piece, losing, skips_first, moved, after, after_all}
+use Rattle.gc_station.specs.Progressing.{turned, failing, moment_noted, loses_all}
 use Rattle.gc_station.specs.Reasons.{IsFor}
 use Rattle.gc_station.specs.Records.{Record}
 use Rattle.gc_station.specs.Retries.{turn_at, rule_at, code_said, HasListed, IsFurtherAttempt, GoesOutAgainForACause, TurnsAreTheTexts}
-use Rattle.gc_station.specs.Runs.{stood}
+use Rattle.gc_station.specs.Runs.{state_after}
 use Rattle.gc_station.specs.Scopes.{Scope}
 use Rattle.gc_station.proofs.Always.{always_far}
 use Rattle.gc_station.proofs.Chaining.{bound_stood, none_behind}
@@ -103,20 +103,20 @@ module _ (plan : Plan) (commands : List Task) (scope : Scope) where
 
   -- a model reads replies as the scope does, each of its marks is `IsPlaced`, each of its records `IsSo`, and its `listed` is what its
   -- records say
-  record Keeps (s : Model) : Type 0 where
+  record KeepsTurns (s : Model) : Type 0 where
     reads : s.reads ≡ scope.reads
     marks : AllByRecursion IsPlaced s.marks
     records : AllByRecursion IsSo s.records
     listed : s.listed ≡ any_listed scope.reads commands false s.records
 
   -- settlements that are recorded keep all records `IsSo`
-  settles_so : (s : Model) (x : List (Rule.Settlement Asked)) → Keeps s → AllByRecursion IsSo (s.records ++ records_of s.reads s.progress.moment.utc s.marks x)
+  settles_so : (s : Model) (x : List (Rule.Settlement Asked)) → KeepsTurns s → AllByRecursion IsSo (s.records ++ records_of s.reads s.progress.moment.utc s.marks x)
   settles_so s x k =
       all_append IsSo s.records _ k.records
       (subst (λ (reads : Asked → List ℕ → Reading). AllByRecursion IsSo (records_of reads s.progress.moment.utc s.marks x)) (sym k.reads) (records_so s.progress.moment.utc s.marks x k.marks))
 
   -- settlements that are recorded keep `listed` what the records say
-  settles_listed : (s : Model) (x : List (Rule.Settlement Asked)) → Keeps s
+  settles_listed : (s : Model) (x : List (Rule.Settlement Asked)) → KeepsTurns s
       → listed_by s.reads s.listed s.marks x ≡ any_listed scope.reads commands false (s.records ++ records_of s.reads s.progress.moment.utc s.marks x)
   settles_listed s x k =
       let utc = s.progress.moment.utc in
@@ -126,43 +126,43 @@ module _ (plan : Plan) (commands : List Task) (scope : Scope) where
       ∙ sym (any_append scope.reads commands s.records (records_of scope.reads utc s.marks x) false)
       ∙ sym (ap (λ (reads : Asked → List ℕ → Reading). any_listed scope.reads commands false (s.records ++ records_of reads utc s.marks x)) k.reads)
 
-  -- `Keeps` is preserved by a line that is heard
-  line_so : (s : Model) (line : List ℕ) → Keeps s → Keeps (line_came s line)
+  -- `KeepsTurns` is preserved by a line that is heard
+  line_so : (s : Model) (line : List ℕ) → KeepsTurns s → KeepsTurns (line_came s line)
   line_so s line k =
       let x = hears s.client line (heard line) in
       record { reads = k.reads; marks = all_drop _ s.marks k.marks; records = settles_so s x.settlements k; listed = settles_listed s x.settlements k }
 
-  -- `Keeps` is preserved by a piece
-  came_so : (b : Bool) (word piece : List ℕ) (s : Model) → Keeps s → Keeps (came b word piece s)
+  -- `KeepsTurns` is preserved by a piece
+  came_so : (b : Bool) (word piece : List ℕ) (s : Model) → KeepsTurns s → KeepsTurns (after_piece b word piece s)
   came_so true (asked ∷ others) piece s k = record { reads = k.reads; marks = k.marks; records = k.records; listed = k.listed }
   came_so true [] piece s k =
-      lines_along Keeps line_so (with_rest (rest_behind s.rest piece) s) (lines_behind s.rest piece) (record { reads = k.reads; marks = k.marks; records = k.records; listed = k.listed })
+      lines_along KeepsTurns line_so (with_rest (rest_behind s.rest piece) s) (lines_completed s.rest piece) (record { reads = k.reads; marks = k.marks; records = k.records; listed = k.listed })
   came_so false word piece s k = k
 
-  -- `Keeps` is preserved by the loss of what is outstanding
-  losing_so : (b : Bool) (s : Model) → Keeps s → Keeps (losing b s)
+  -- `KeepsTurns` is preserved by the loss of what is outstanding
+  losing_so : (b : Bool) (s : Model) → KeepsTurns s → KeepsTurns (losing b s)
   losing_so true s k =
       let x = restarts s.client in record { reads = k.reads; marks = all_drop _ s.marks k.marks; records = settles_so s x.settlements k; listed = settles_listed s x.settlements k }
   losing_so false s k = k
 
-  -- `Keeps` is preserved by a request that is sent, if its mark is `IsPlaced`
-  asks_so : (wait target : ℕ) (call : Asked) (mark : Option Mark) (s : Model) → IsPlaced mark → Keeps s → Keeps (asks wait target call mark s)
+  -- `KeepsTurns` is preserved by a request that is sent, if its mark is `IsPlaced`
+  asks_so : (wait target : ℕ) (call : Asked) (mark : Option Mark) (s : Model) → IsPlaced mark → KeepsTurns s → KeepsTurns (asks wait target call mark s)
   asks_so wait target call mark s placed k = record { reads = k.reads; marks = all_append IsPlaced s.marks _ k.marks (placed, tt); records = k.records; listed = k.listed }
 
-  -- `Keeps` is preserved by the send of the first of these commands, if its mark is `IsPlaced`
-  first_so : (mark : Mark) (left : List Task) (s : Model) → IsPlaced (Some mark) → Keeps s → Keeps (asks_first mark left s)
+  -- `KeepsTurns` is preserved by the send of the first of these commands, if its mark is `IsPlaced`
+  first_so : (mark : Mark) (left : List Task) (s : Model) → IsPlaced (Some mark) → KeepsTurns s → KeepsTurns (asks_first mark left s)
   first_so mark [] s placed k = k
   first_so mark (task ∷ others) s placed k = asks_so task.deadline task.command.target (call_at task mark.sent) (Some mark) s placed k
 
-  -- `Keeps` is preserved by the send of the next command
-  next_so : (s : Model) → 0 < cycles_begun plan s.progress → Keeps s → Keeps (asks_first (mark_next plan commands s.progress) (drop (place_next commands s.progress) commands) s)
+  -- `KeepsTurns` is preserved by the send of the next command
+  next_so : (s : Model) → 0 < cycles_begun plan s.progress → KeepsTurns s → KeepsTurns (asks_first (mark_next plan commands s.progress) (drop (place_next commands s.progress) commands) s)
   next_so s many k = first_so (mark_next plan commands s.progress) (drop (place_next commands s.progress) commands) s (next_placed s.progress many) k
 
-  -- `Keeps` is preserved by the send of the next command of the setup
-  setup_so : (s : Model) → Keeps s → Keeps (asks_setup plan commands s)
+  -- `KeepsTurns` is preserved by the send of the next command of the setup
+  setup_so : (s : Model) → KeepsTurns s → KeepsTurns (asks_setup plan commands s)
   setup_so s k = by_list (drop s.progress.prepared commands) where
     -- the lemma above, whether there is one or not
-    by_list : (left : List Task) → Keeps (asks_or_null plan (mark_setup commands s.progress) left s)
+    by_list : (left : List Task) → KeepsTurns (asks_or_null plan (mark_setup commands s.progress) left s)
     by_list [] = asks_so plan.deadline 0 (Table NullProc) None s tt k
     by_list (task ∷ others) = asks_so task.deadline task.command.target (call_at task s.progress.moment.utc) (Some (mark_setup commands s.progress)) s refl k
 
@@ -179,7 +179,7 @@ module _ (plan : Plan) (commands : List Task) (scope : Scope) where
 
   -- a command that isn't sent lists what its record does
   skips_listed : (b : Bool) (p : Progress) (m : Moment) (left : List Task) → 0 < cycles_begun plan p → 0 < length left
-      → listed_behind b (mark_next plan commands p).expected None (if p.missed then Missed else Skipped) ≡ any_listed scope.reads commands b (skips_first p m (mark_next plan commands p) left)
+      → listed_after b (mark_next plan commands p).expected None (if p.missed then Missed else Skipped) ≡ any_listed scope.reads commands b (skips_first p m (mark_next plan commands p) left)
   skips_listed b p m [] many some = absurd (omega (arith, some))
   skips_listed b p m (task ∷ others) many some =
       let mark = mark_next plan commands p in
@@ -193,8 +193,8 @@ module _ (plan : Plan) (commands : List Task) (scope : Scope) where
   IsThere actions.Skip s = (0 < cycles_begun plan s.progress) × (0 < length (drop (place_next commands s.progress) commands))
   IsThere next s = Unit {0}
 
-  -- `Keeps` is preserved by an act of each action that is next, before what is outstanding is lost
-  moved_so : (next : Action) (s : Model) (act : Act) → IsThere next s → Keeps s → Keeps (moved plan commands next s act)
+  -- `KeepsTurns` is preserved by an act of each action that is next, before what is outstanding is lost
+  moved_so : (next : Action) (s : Model) (act : Act) → IsThere next s → KeepsTurns s → KeepsTurns (moved plan commands next s act)
   moved_so actions.Prepare s (Cut bytes count) some k = let n = setup_so s k in record { reads = n.reads; marks = n.marks; records = n.records; listed = n.listed }
   moved_so actions.Prepare s act some k = let n = setup_so s k in record { reads = n.reads; marks = n.marks; records = n.records; listed = n.listed }
   moved_so actions.Send s (Cut bytes count) some k = let n = next_so s some.0 k in record { reads = n.reads; marks = n.marks; records = n.records; listed = n.listed }
@@ -219,14 +219,14 @@ module _ (plan : Plan) (commands : List Task) (scope : Scope) where
     listed = k.listed ∙ sym (ap (any_listed scope.reads commands false) (append-nil s.records));
   }
   moved_so (actions.Read until) s (Gave bytes m) some k =
-      let n = came_so (is_heard s.progress.phase) s.progress.word bytes (with_moment m (with_progress (told m) s))
+      let n = came_so (is_heard s.progress.phase) s.progress.word bytes (with_moment m (with_progress (moment_noted m) s))
           (record { reads = k.reads; marks = k.marks; records = k.records; listed = k.listed }) in
       record { reads = n.reads; marks = n.marks; records = n.records; listed = n.listed }
   moved_so (actions.Read until) s act some k = record { reads = k.reads; marks = k.marks; records = k.records; listed = k.listed }
-  moved_so next s act some k = subst Keeps (sym (moved_changed plan commands next s act)) (record { reads = k.reads; marks = k.marks; records = k.records; listed = k.listed })
+  moved_so next s act some k = subst KeepsTurns (sym (moved_changed plan commands next s act)) (record { reads = k.reads; marks = k.marks; records = k.records; listed = k.listed })
 
-  -- `Keeps` is preserved by an act
-  after_so : (s : Model) (act : Act) → Invariant plan commands s → Keeps s → Keeps (after plan commands s act)
+  -- `KeepsTurns` is preserved by an act
+  after_so : (s : Model) (act : Act) → Invariant plan commands s → KeepsTurns s → KeepsTurns (after plan commands s act)
   after_so s act fine k =
       let t = moved plan commands (action_at plan s) (with_progress turned s) act in
       losing_so (loses_all t.progress) t (moved_so (action_at plan s) (with_progress turned s) act (there (action_at plan s) (action_for plan s.progress (waiting_of s)))
@@ -244,13 +244,13 @@ module _ (plan : Plan) (commands : List Task) (scope : Scope) where
         there actions.Skip needs = one_left needs.2
         there next needs = tt
 
-  -- `Keeps` is preserved by acts
-  along : (s : Model) (acts : List Act) → Invariant plan commands s → Keeps s → Keeps (after_all plan commands s acts)
+  -- `KeepsTurns` is preserved by acts
+  along : (s : Model) (acts : List Act) → Invariant plan commands s → KeepsTurns s → KeepsTurns (after_all plan commands s acts)
   along s [] fine k = k
   along s (act ∷ acts) fine k = along (after plan commands s act) acts (fine_after plan commands s act fine) (after_so s act fine k)
 
-  -- `Keeps` holds after any acts
-  kept_all : (acts : List Act) → Keeps (stood plan commands scope acts)
+  -- `KeepsTurns` holds after any acts
+  kept_all : (acts : List Act) → KeepsTurns (state_after plan commands scope acts)
   kept_all acts = along (opening plan scope) acts (fine_opening plan commands scope) (record { reads = refl; marks = tt; records = tt; listed = refl })
 
   -- What a progress says of the next command.
@@ -266,13 +266,13 @@ module _ (plan : Plan) (commands : List Task) (scope : Scope) where
       (λ above. others ∙ h.0 (subst (λ (n : ℕ). plan.setup < n) at above) ∙ ap (λ (n : ℕ). others_in (drop n commands)) (sym at), λ none. others ∙ h.1 (subst (λ (n : ℕ). n ≤ plan.setup) at none))
 
   -- `Follows` holds after the next command
-  follows_next : (p q : Progress) → q.unsent ≡ p.unsent - 1 → q.next_others ≡ others_behind_next commands p → 0 < p.unsent → p.unsent ≤ length commands - plan.setup → Follows q
+  follows_next : (p q : Progress) → q.unsent ≡ p.unsent - 1 → q.next_others ≡ others_after_next commands p → 0 < p.unsent → p.unsent ≤ length commands - plan.setup → Follows q
   follows_next p q unsent others some within =
       let at : place_next commands p + 1 ≡ place_next commands q = omega (arith, unsent, some, within) in
       (λ above. others ∙ ap (λ (n : ℕ). others_in (drop n commands)) at, λ none. absurd (omega (arith, at, none, some, within)))
 
   -- `Follows` holds after attempts that are left out
-  follows_past : (p q : Progress) → q.unsent ≡ p.unsent - p.next_others → q.next_others ≡ others_behind p.next_others commands p → 0 < p.unsent → 0 < p.next_others
+  follows_past : (p q : Progress) → q.unsent ≡ p.unsent - p.next_others → q.next_others ≡ others_after p.next_others commands p → 0 < p.unsent → 0 < p.next_others
       → p.unsent ≤ length commands - plan.setup → Follows q
   follows_past p q unsent others some more within =
       let at : drop (place_next commands p + p.next_others) commands ≡ drop (place_next commands q) commands =
@@ -308,28 +308,28 @@ module _ (plan : Plan) (commands : List Task) (scope : Scope) where
       follows_same s.progress (far next s act) (ap (λ (x : Model). x.progress.unsent) is) (ap (λ (x : Model). x.progress.next_others) is) h
 
   -- `Follows` holds after every run
-  follows_stood : (acts : List Act) → Runs plan commands (opening plan scope) acts → Follows (stood plan commands scope acts).progress
+  follows_stood : (acts : List Act) → Runs plan commands (opening plan scope) acts → Follows (state_after plan commands scope acts).progress
   follows_stood acts runs =
       always_far plan commands (opening plan scope) (λ (p : Progress) (done : List Act). Follows p)
       (λ done act runs' o h.
-      let s = stood plan commands scope done in
+      let s = state_after plan commands scope done in
       moved_follows (action_at plan s) s (waiting_of s) act (action_for plan s.progress (waiting_of s)) (fine_stood plan commands scope done).unsent h)
       (λ above. sym (ap others_in (none_behind commands)), λ none. refl) acts runs
 
   -- what has to hold if this action is next holds of the station after these acts
-  needs_of : (acts : List Act) (next : Action) → action_at plan (stood plan commands scope acts) ≡ next
-      → IsFor plan (stood plan commands scope acts).progress (waiting_of (stood plan commands scope acts)) next
+  needs_of : (acts : List Act) (next : Action) → action_at plan (state_after plan commands scope acts) ≡ next
+      → IsFor plan (state_after plan commands scope acts).progress (waiting_of (state_after plan commands scope acts)) next
   needs_of acts next is =
-      let s = stood plan commands scope acts in subst (λ (o : Action). IsFor plan s.progress (waiting_of s) o) is (action_for plan s.progress (waiting_of s))
+      let s = state_after plan commands scope acts in subst (λ (o : Action). IsFor plan s.progress (waiting_of s) o) is (action_for plan s.progress (waiting_of s))
 
   -- the law of further attempts that are sent
-  goes_again : (acts : List Act) → Runs plan commands (opening plan scope) acts → action_at plan (stood plan commands scope acts) ≡ actions.Send
-      → IsFurtherAttempt plan commands (stood plan commands scope acts)
-      → (commands_in (stood plan commands scope acts).marks ≡ 0) × HasListed scope.reads commands (stood plan commands scope acts).records
+  goes_again : (acts : List Act) → Runs plan commands (opening plan scope) acts → action_at plan (state_after plan commands scope acts) ≡ actions.Send
+      → IsFurtherAttempt plan commands (state_after plan commands scope acts)
+      → (commands_in (state_after plan commands scope acts).marks ≡ 0) × HasListed scope.reads commands (state_after plan commands scope acts).records
   goes_again acts runs is further = by_may (needs_of acts actions.Send is).6 where
     -- the station as it is
     s : Model
-    s = stood plan commands scope acts
+    s = state_after plan commands scope acts
 
     -- the law above, by why the command may be sent: it begins a further attempt
     by_may : ((s.progress.next_others ≡ 0) ⊎ ((commands_in s.marks ≡ 0) × (s.listed ≡ true))) → (commands_in s.marks ≡ 0) × HasListed scope.reads commands s.records
@@ -341,14 +341,14 @@ module _ (plan : Plan) (commands : List Task) (scope : Scope) where
   not_both b e g = cc
 
   -- the law of further attempts that are left out
-  passes_over : (acts : List Act) → Runs plan commands (opening plan scope) acts → action_at plan (stood plan commands scope acts) ≡ actions.Pass
-      → IsFurtherAttempt plan commands (stood plan commands scope acts) × (commands_in (stood plan commands scope acts).marks ≡ 0)
-      × ((HasListed scope.reads commands (stood plan commands scope acts).records → ⊥)
-      ⊎ (((stood plan commands scope acts).progress.missed ≡ true) ⊎ (is_chained (drop (place_next commands (stood plan commands scope acts).progress) commands) ≡ true)))
+  passes_over : (acts : List Act) → Runs plan commands (opening plan scope) acts → action_at plan (state_after plan commands scope acts) ≡ actions.Pass
+      → IsFurtherAttempt plan commands (state_after plan commands scope acts) × (commands_in (state_after plan commands scope acts).marks ≡ 0)
+      × ((HasListed scope.reads commands (state_after plan commands scope acts).records → ⊥)
+      ⊎ (((state_after plan commands scope acts).progress.missed ≡ true) ⊎ (is_chained (drop (place_next commands (state_after plan commands scope acts).progress) commands) ≡ true)))
   passes_over acts runs is = ((above, further), needs.3, by_why needs.5) where
     -- the station as it is
     s : Model
-    s = stood plan commands scope acts
+    s = state_after plan commands scope acts
 
     -- what has to hold where attempts are left out
     needs : IsFor plan s.progress (waiting_of s) actions.Pass

@@ -9,7 +9,7 @@ use Rattle.gc_station.specs.declared.progress.Waiting.{Waiting}
 use Rattle.gc_station.specs.Reasons.{IsFor, HasRoom}
 use Rattle.gc_station.specs.Quiet.{IsAsking}
 use Rattle.gc_station.specs.Room.{RequestsHaveRoom}
-use Rattle.gc_station.specs.Runs.{stood}
+use Rattle.gc_station.specs.Runs.{state_after}
 use Rattle.gc_station.specs.Model.{action_at, waiting_of}
 use Rattle.gc_station.proofs.Facts.{action_for}
 
@@ -30,6 +30,6 @@ few plan w room = elim (leb_tells plan.width 0) as (λ _. (w.current ≡ 0) ⊎ 
 -- the law: a request of the client is sent only if there is room
 pub have_room : RequestsHaveRoom
 have_room plan commands scope acts puts =
-    let s = stood plan commands scope acts in
+    let s = state_after plan commands scope acts in
     let room = room_of plan s.progress (waiting_of s) (action_at plan s) puts (action_for plan s.progress (waiting_of s)) in
     (few plan (waiting_of s) room, room.1)

@@ -22,18 +22,19 @@ use Rattle.gc_station.specs.declared.progress.Until.{Until}
 use Rattle.gc_station.specs.Deciding.{later}
 use Rattle.gc_station.specs.EachOnce.{Request, of_record, of_cycles, cycle_with, of_text, in_text}
 use Rattle.gc_station.specs.Marks.{commands_in}
-use Rattle.gc_station.specs.Progressing.{told, turned, loses_all}
+use Rattle.gc_station.specs.Progressing.{moment_noted, turned, loses_all}
 use Rattle.gc_station.specs.Reasons.{IsFor}
-use Rattle.gc_station.specs.Runs.{stood}
+use Rattle.gc_station.specs.Runs.{state_after}
 use Rattle.gc_station.specs.Scopes.{Scope}
-use Rattle.gc_station.specs.Model.{Model, opening, action_at, waiting_of, cycles_begun, place_next, mark_next, Performs, Puts, ReadsClock, IsOpening, Runs, is_heard, asks_first, asks_null, came, line_came, losing, moved, piece_at, with_progress, with_moment, null_text, text_or_null, first_text, request_text}
+use Rattle.gc_station.specs.Model.{Model, opening, action_at, waiting_of, cycles_begun, place_next, mark_next, Performs, Puts, ReadsClock, IsOpening, Runs, is_heard, asks_first, asks_null, after_piece, line_came, losing, moved, piece_at, with_progress, with_moment, null_text, text_or_null, first_text, request_text}
 use Rattle.gc_station.proofs.Always.{always}
 use Rattle.gc_station.proofs.Each.{row, row_moment, row_settles, more_waiting, marked_none, waiting_marked, cycles_append}
 use Rattle.gc_station.proofs.EachRun.{fine_stood}
 use Rattle.gc_station.proofs.Facts.{action_for}
 use Rattle.gc_station.proofs.Invariant.{Invariant}
-use Rattle.gc_station.proofs.Midway.{client_behind, clash}
+use Rattle.gc_station.proofs.Midway.{client_behind}
 use Rattle.gc_station.proofs.Walk.{came_along, closed_along, moved_changed, walk}
+use Rattle.gc_station.proofs.Ticking.{not_both}
 
 -- the row of a model
 abbrev pub row_of : Model → List Request
@@ -46,13 +47,13 @@ row_line s line =
     row_settles s.reads s.progress.moment.utc s.marks s.client.waiting x.client.waiting x.settlements s.records (heard_parts s.client line (heard line))
 
 -- a piece leaves the row, heard or not
-row_came : (h : Bool) (word piece : List ℕ) (s : Model) → row_of (came h word piece s) ≡ row_of s
+row_came : (h : Bool) (word piece : List ℕ) (s : Model) → row_of (after_piece h word piece s) ≡ row_of s
 row_came h word piece s = came_along (λ (t : Model). row_of t ≡ row_of s) (λ t line e. row_line t line ∙ e) h word piece s refl refl refl
 
 -- a read that gave bytes leaves the row
 pub row_gave : (plan : Plan) (until : Until) (s : Model) (bytes : List ℕ) (m : Moment) → row_of (piece_at plan until bytes m s) ≡ row_of s
 row_gave plan until s bytes m =
-    row_came (is_heard s.progress.phase) s.progress.word bytes (with_moment m (with_progress (told m) s)) ∙ row_moment s.marks s.client.waiting s.records m.elapsed
+    row_came (is_heard s.progress.phase) s.progress.word bytes (with_moment m (with_progress (moment_noted m) s)) ∙ row_moment s.marks s.client.waiting s.records m.elapsed
 
 -- the loss of what is outstanding leaves the row
 pub row_losing : (b : Bool) (s : Model) → row_of (losing b s) ≡ row_of s
@@ -161,15 +162,15 @@ module _ (plan : Plan) (commands : List Task) where
       )
   last_moved (action.Close why) s act fine is o h =
       walk plan commands (λ a (u : Model). LastIsOfCycle u) (action.Close why) (with_progress turned s) act o
-      (λ e. absurd (clash _ e (closed_along (λ (q : Progress). q.chain_unbroken ≡ false) plan (waiting_of s) why (turned s.progress) refl refl)))
+      (λ e. absurd (not_both _ e (closed_along (λ (q : Progress). q.chain_unbroken ≡ false) plan (waiting_of s) why (turned s.progress) refl refl)))
   last_moved (action.Stop why) s act fine is o h = absurd o
 
   -- it holds after every run
-  last_stood : (scope : Scope) (acts : List Act) → Runs plan commands (opening plan scope) acts → LastIsOfCycle (stood plan commands scope acts)
+  last_stood : (scope : Scope) (acts : List Act) → Runs plan commands (opening plan scope) acts → LastIsOfCycle (state_after plan commands scope acts)
   last_stood scope acts runs =
       always plan commands (opening plan scope) (λ (xs : List Act) (t : Model). LastIsOfCycle t)
       (λ done act before obeys h.
-      let s = stood plan commands scope done in
+      let s = state_after plan commands scope done in
       let t = moved plan commands (action_at plan s) (with_progress turned s) act in
       let one = last_moved (action_at plan s) s act (fine_stood plan commands scope done) (action_for plan s.progress (waiting_of s)) obeys h in
       kept (row_losing (loses_all t.progress) t) (λ e. one (by_loss (loses_all t.progress) t e))) (λ e. cc) acts runs where
@@ -180,10 +181,10 @@ module _ (plan : Plan) (commands : List Task) where
 
 -- if no command waits and a chain is unbroken, the last record is of a cycle
 pub last_of_cycle : (plan : Plan) (commands : List Task) (scope : Scope) (acts : List Act) → Runs plan commands (opening plan scope) acts
-    → commands_in (stood plan commands scope acts).marks ≡ 0 → (stood plan commands scope acts).progress.chain_unbroken ≡ true → (xs : List Request) (x : Request)
-    → map of_record (stood plan commands scope acts).records ≡ xs ++ x ∷ [] → 0 < x.cycle
+    → commands_in (state_after plan commands scope acts).marks ≡ 0 → (state_after plan commands scope acts).progress.chain_unbroken ≡ true → (xs : List Request) (x : Request)
+    → map of_record (state_after plan commands scope acts).records ≡ xs ++ x ∷ [] → 0 < x.cycle
 last_of_cycle plan commands scope acts runs none whole xs x is =
-    let s = stood plan commands scope acts in
+    let s = state_after plan commands scope acts in
     let all : row_of s ≡ xs ++ x ∷ [] =
     ap (λ ys. map of_record s.records ++ ys) (waiting_marked s.marks s.client.waiting ∙ marked_none s.marks (map of_pending s.client.waiting) none) ∙ append-nil (map of_record s.records) ∙ is in
     subst (λ (n : ℕ). 0 < n) (ap (last_cycle 0) all ∙ last_behind 0 xs x) (last_stood plan commands scope acts runs whole)

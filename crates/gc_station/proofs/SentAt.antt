@@ -15,7 +15,7 @@ use Rattle.gc_station.specs.Links.{RecordsStay}
 use Rattle.gc_station.specs.Parts.{Part, nothing, joined, asking_first, putting, doing, beginning, acting, ends_part, in_front, parts_of, asking_or_null}
 use Rattle.gc_station.specs.Progressing.{turned, loses_all}
 use Rattle.gc_station.specs.Records.{Record}
-use Rattle.gc_station.specs.Runs.{stood}
+use Rattle.gc_station.specs.Runs.{state_after}
 use Rattle.gc_station.proofs.Outs.{SendsIt}
 use Rattle.gc_station.specs.Model.{Model, opening, action_at, place_next, mark_next, with_progress, moved, after, after_all, mark_setup}
 use Rattle.gc_station.proofs.Facts.{either}
@@ -89,7 +89,7 @@ all_grew plan commands s (act ∷ acts) =
 -- the law: the records after some acts stay, before those of the acts that follow
 pub records_stay : RecordsStay
 records_stay plan commands scope before rest =
-    let g = all_grew plan commands (stood plan commands scope before) rest in
+    let g = all_grew plan commands (state_after plan commands scope before) rest in
     (g.0, ap (λ (s : Model). s.records) (after_all-append plan commands (opening plan scope) before rest) ∙ g.1)
 
 -- Which act sends the request of a command.

@@ -18,13 +18,13 @@ use Rattle.gc_station.specs.declared.progress.Progress.{Progress}
 use Rattle.gc_station.specs.declared.progress.Until.{Until}
 use Rattle.gc_station.specs.Deciding.{later}
 use Rattle.gc_station.specs.Marks.{commands_in, records_of}
-use Rattle.gc_station.specs.Progressing.{told, turned, loses_all, next_attempt}
+use Rattle.gc_station.specs.Progressing.{moment_noted, turned, loses_all, next_attempt}
 use Rattle.gc_station.specs.Reasons.{IsFor}
 use Rattle.gc_station.specs.Records.{Record}
-use Rattle.gc_station.specs.Runs.{stood}
+use Rattle.gc_station.specs.Runs.{state_after}
 use Rattle.gc_station.specs.Scopes.{Scope}
-use Rattle.gc_station.specs.Model.{Model, opening, action_at, waiting_of, cycles_begun, place_next, mark_next, mark_setup, is_heard, asks_first, asks_or_null, came, line_came, losing, moved, piece_at, skips_first, with_progress, with_moment, with_rest, after, after_all}
-use Rattle.gc_station.specs.Setups.{Dispatch, of_record, of_mark, of_marks, setup_with, of_setup, sent_first, sent_as, setup_sent_by, EachSetUpOnce, GoOn, AreInOrder, SetUpsGoOn}
+use Rattle.gc_station.specs.Model.{Model, opening, action_at, waiting_of, cycles_begun, place_next, mark_next, mark_setup, is_heard, asks_first, asks_or_null, after_piece, line_came, losing, moved, piece_at, skips_first, with_progress, with_moment, with_rest, after, after_all}
+use Rattle.gc_station.specs.Setups.{Dispatch, dispatch_of_record, dispatch_of_mark, dispatches_of, setup_with, of_setup, sent_first, sent_as, setup_sent_by, EachSetUpOnce, GoOn, AreInOrder, SetUpsGoOn}
 use Rattle.gc_station.proofs.Counts.{ended_progress}
 use Rattle.gc_station.proofs.EachRun.{fine_all, fine_opening, fine_stood, stopped}
 use Rattle.gc_station.proofs.Facts.{action_for}
@@ -35,37 +35,37 @@ use Rattle.gc_station.proofs.Walk.{came_along, closed_along, is_prepared, moved_
 
 -- the row of a model: its records and, after them, the outstanding commands
 abbrev pub row_of : Model → List Dispatch
-row_of s = map of_record s.records ++ of_marks s.marks
+row_of s = map dispatch_of_record s.records ++ dispatches_of s.marks
 
 -- settlements of the oldest requests leave their commands, as records
 settled_row : (reads : Asked → List ℕ → Reading) (utc : ℕ) (ms : List (Option Mark)) (ss : List (Settlement Asked))
-    → map of_record (records_of reads utc ms ss) ++ of_marks (drop (length ss) ms) ≡ of_marks ms
+    → map dispatch_of_record (records_of reads utc ms ss) ++ dispatches_of (drop (length ss) ms) ≡ dispatches_of ms
 settled_row reads utc [] [] = refl
 settled_row reads utc [] (x ∷ ss) = refl
 settled_row reads utc (None ∷ ms) [] = refl
 settled_row reads utc (Some mark ∷ ms) [] = refl
 settled_row reads utc (None ∷ ms) (x ∷ ss) = settled_row reads utc ms ss
-settled_row reads utc (Some mark ∷ ms) (x ∷ ss) = ap (λ xs. of_mark mark ∷ xs) (settled_row reads utc ms ss)
+settled_row reads utc (Some mark ∷ ms) (x ∷ ss) = ap (λ xs. dispatch_of_mark mark ∷ xs) (settled_row reads utc ms ss)
 
 -- they leave the row: their records take the place of the requests
 row_settles : (reads : Asked → List ℕ → Reading) (utc : ℕ) (ms : List (Option Mark)) (ss : List (Settlement Asked)) (rs : List Record)
-    → map of_record (rs ++ records_of reads utc ms ss) ++ of_marks (drop (length ss) ms) ≡ map of_record rs ++ of_marks ms
+    → map dispatch_of_record (rs ++ records_of reads utc ms ss) ++ dispatches_of (drop (length ss) ms) ≡ map dispatch_of_record rs ++ dispatches_of ms
 row_settles reads utc ms ss rs =
-    let left = of_marks (drop (length ss) ms) in
+    let left = dispatches_of (drop (length ss) ms) in
     let news = records_of reads utc ms ss in
-    ap (λ xs. xs ++ left) (map-append of_record rs news) ∙ append_assoc (map of_record rs) (map of_record news) left ∙ ap (λ xs. map of_record rs ++ xs) (settled_row reads utc ms ss)
+    ap (λ xs. xs ++ left) (map-append dispatch_of_record rs news) ∙ append_assoc (map dispatch_of_record rs) (map dispatch_of_record news) left ∙ ap (λ xs. map dispatch_of_record rs ++ xs) (settled_row reads utc ms ss)
 
 -- a line that is heard leaves the row
 row_line : (s : Model) (line : List ℕ) → row_of (line_came s line) ≡ row_of s
 row_line s line = let x = hears s.client line (heard line) in row_settles s.reads s.progress.moment.utc s.marks x.settlements s.records
 
 -- a piece leaves the row, heard or not
-row_came : (h : Bool) (word piece : List ℕ) (s : Model) → row_of (came h word piece s) ≡ row_of s
+row_came : (h : Bool) (word piece : List ℕ) (s : Model) → row_of (after_piece h word piece s) ≡ row_of s
 row_came h word piece s = came_along (λ (t : Model). row_of t ≡ row_of s) (λ t line e. row_line t line ∙ e) h word piece s refl refl refl
 
 -- a read that gave bytes leaves the row
 row_gave : (plan : Plan) (until : Until) (s : Model) (bytes : List ℕ) (m : Moment) → row_of (piece_at plan until bytes m s) ≡ row_of s
-row_gave plan until s bytes m = row_came (is_heard s.progress.phase) s.progress.word bytes (with_moment m (with_progress (told m) s))
+row_gave plan until s bytes m = row_came (is_heard s.progress.phase) s.progress.word bytes (with_moment m (with_progress (moment_noted m) s))
 
 -- the loss of what is outstanding leaves the row
 pub row_losing : (b : Bool) (s : Model) → row_of (losing b s) ≡ row_of s
@@ -73,14 +73,14 @@ row_losing true s = row_settles s.reads s.progress.moment.utc s.marks (map lost 
 row_losing false s = refl
 
 -- the commands of two lists of marks are those of the first list, and after them those of the second
-marks_append : (xs ys : List (Option Mark)) → of_marks (xs ++ ys) ≡ of_marks xs ++ of_marks ys
+marks_append : (xs ys : List (Option Mark)) → dispatches_of (xs ++ ys) ≡ dispatches_of xs ++ dispatches_of ys
 marks_append [] ys = refl
 marks_append (None ∷ xs) ys = marks_append xs ys
-marks_append (Some mark ∷ xs) ys = ap (λ zs. of_mark mark ∷ zs) (marks_append xs ys)
+marks_append (Some mark ∷ xs) ys = ap (λ zs. dispatch_of_mark mark ∷ zs) (marks_append xs ys)
 
 -- one mark more adds its command to the row, after the others
-row_more : (rs : List Record) (ms : List (Option Mark)) (m : Option Mark) → map of_record rs ++ of_marks (ms ++ m ∷ []) ≡ (map of_record rs ++ of_marks ms) ++ of_marks (m ∷ [])
-row_more rs ms m = ap (λ xs. map of_record rs ++ xs) (marks_append ms (m ∷ [])) ∙ sym (append_assoc (map of_record rs) (of_marks ms) (of_marks (m ∷ [])))
+row_more : (rs : List Record) (ms : List (Option Mark)) (m : Option Mark) → map dispatch_of_record rs ++ dispatches_of (ms ++ m ∷ []) ≡ (map dispatch_of_record rs ++ dispatches_of ms) ++ dispatches_of (m ∷ [])
+row_more rs ms m = ap (λ xs. map dispatch_of_record rs ++ xs) (marks_append ms (m ∷ [])) ∙ sym (append_assoc (map dispatch_of_record rs) (dispatches_of ms) (dispatches_of (m ∷ [])))
 
 -- the first of these commands adds itself to the row if it is sent
 first_row : (mark : Mark) (left : List Task) (s : Model) → row_of (asks_first mark left s) ≡ row_of s ++ sent_first mark left
@@ -141,10 +141,10 @@ none_one x many = ap (λ b. setup_with b x []) (not_none x.cycle many) where
 -- a command of a cycle that is sent is none of the setup
 none_sent : (mark : Mark) (left : List Task) → 0 < mark.cycle → of_setup (sent_first mark left) ≡ []
 none_sent mark [] many = refl
-none_sent mark (task ∷ others) many = none_one (of_mark mark) many
+none_sent mark (task ∷ others) many = none_one (dispatch_of_mark mark) many
 
 -- nor is the record of one that isn't sent
-none_skipped : (p : Progress) (m : Moment) (mark : Mark) (left : List Task) → 0 < mark.cycle → of_setup (map of_record (skips_first p m mark left)) ≡ []
+none_skipped : (p : Progress) (m : Moment) (mark : Mark) (left : List Task) → 0 < mark.cycle → of_setup (map dispatch_of_record (skips_first p m mark left)) ≡ []
 none_skipped p m mark [] many = refl
 none_skipped p m mark (task ∷ others) many = none_one (record { cycle = mark.cycle; place = mark.place; attempt = mark.expected.turn.attempt; sent = None }) many
 
@@ -154,15 +154,15 @@ all_sent commands p [] = refl
 all_sent commands p (task ∷ others) = refl
 
 -- records that are of no setup, between others and the outstanding commands, add none
-between_none : (rs news : List Record) (ms : List (Option Mark)) → of_setup (map of_record news) ≡ []
-    → of_setup (map of_record (rs ++ news) ++ of_marks ms) ≡ of_setup (map of_record rs ++ of_marks ms)
+between_none : (rs news : List Record) (ms : List (Option Mark)) → of_setup (map dispatch_of_record news) ≡ []
+    → of_setup (map dispatch_of_record (rs ++ news) ++ dispatches_of ms) ≡ of_setup (map dispatch_of_record rs ++ dispatches_of ms)
 between_none rs news ms none =
-    ap (λ xs. of_setup (xs ++ of_marks ms)) (map-append of_record rs news) ∙ setup_append (map of_record rs ++ map of_record news) (of_marks ms)
-    ∙ ap (λ xs. xs ++ of_setup (of_marks ms)) (setup_append (map of_record rs) (map of_record news) ∙ ap (λ xs. of_setup (map of_record rs) ++ xs) none ∙ append-nil (of_setup (map of_record rs)))
-    ∙ sym (setup_append (map of_record rs) (of_marks ms))
+    ap (λ xs. of_setup (xs ++ dispatches_of ms)) (map-append dispatch_of_record rs news) ∙ setup_append (map dispatch_of_record rs ++ map dispatch_of_record news) (dispatches_of ms)
+    ∙ ap (λ xs. xs ++ of_setup (dispatches_of ms)) (setup_append (map dispatch_of_record rs) (map dispatch_of_record news) ∙ ap (λ xs. of_setup (map dispatch_of_record rs) ++ xs) none ∙ append-nil (of_setup (map dispatch_of_record rs)))
+    ∙ sym (setup_append (map dispatch_of_record rs) (dispatches_of ms))
 
 -- if no mark is of a command, none is outstanding
-pub none_marked : (ms : List (Option Mark)) → commands_in ms ≡ 0 → of_marks ms ≡ []
+pub none_marked : (ms : List (Option Mark)) → commands_in ms ≡ 0 → dispatches_of ms ≡ []
 none_marked [] e = refl
 none_marked (None ∷ ms) e = none_marked ms e
 none_marked (Some mark ∷ ms) e = absurd (omega (arith, e))
@@ -216,7 +216,7 @@ module _ (plan : Plan) (commands : List Task) where
 -- the law: each command of the setup that was sent has one record, or waits; and if the run stopped, none is outstanding
 pub each_set_up_once : (plan : Plan) (commands : List Task) (scope : Scope) (acts : List Act) → EachSetUpOnce plan commands scope acts
 each_set_up_once plan commands scope acts =
-    let s = stood plan commands scope acts in
+    let s = state_after plan commands scope acts in
     let all = setup_from plan commands (opening plan scope) acts (fine_opening plan commands scope) in
     let fine = fine_stood plan commands scope acts in
     record {
@@ -224,10 +224,10 @@ each_set_up_once plan commands scope acts =
       settled = λ why stop.
           let paired : length s.marks ≡ length s.client.waiting = fine.paired in
           let empty : length s.client.waiting ≡ 0 = ap length (stopped plan commands s why fine stop).0 in
-          ap of_setup (sym (append-nil (map of_record s.records)) ∙ ap (λ xs. map of_record s.records ++ xs) (sym (none_left s.marks (omega (arith, paired, empty))))) ∙ all;
+          ap of_setup (sym (append-nil (map dispatch_of_record s.records)) ∙ ap (λ xs. map dispatch_of_record s.records ++ xs) (sym (none_left s.marks (omega (arith, paired, empty))))) ∙ all;
     } where
       -- no mark is of no command
-      none_left : (ms : List (Option Mark)) → length ms ≡ 0 → of_marks ms ≡ []
+      none_left : (ms : List (Option Mark)) → length ms ≡ 0 → dispatches_of ms ≡ []
       none_left [] e = refl
       none_left (m ∷ ms) e = absurd (omega (arith, e))
 
@@ -298,14 +298,14 @@ none_as action.Prepare commands s other = absurd (other refl)
 none_as o commands s other = refl
 
 -- if there is a command, it is sent
-pub sent_some : (mark : Mark) (left : List Task) → 0 < length left → sent_first mark left ≡ of_mark mark ∷ []
+pub sent_some : (mark : Mark) (left : List Task) → 0 < length left → sent_first mark left ≡ dispatch_of_mark mark ∷ []
 sent_some mark [] some = absurd (omega (arith, some))
 sent_some mark (task ∷ others) some = refl
 
 module _ (plan : Plan) (commands : List Task) (within : plan.setup ≤ length commands) where
   -- the command of the setup that is next, as it is sent
   abbrev its : Model → Dispatch
-  its s = of_mark (mark_setup commands s.progress)
+  its s = dispatch_of_mark (mark_setup commands s.progress)
 
   -- if a command of the setup is next, it is in the setup
   below : (s : Model) → action_at plan s ≡ action.Prepare → s.progress.prepared < plan.setup

@@ -12,13 +12,13 @@ use Rattle.gc_station.specs.declared.progress.Progress.{Progress}
 use Rattle.gc_links.specs.Acts.{Act, Told, Gave, Silent}
 use Rattle.gc_station.specs.Closing.{Shows}
 use Rattle.gc_station.specs.Deciding.{is_up, is_past, is_quiet}
-use Rattle.gc_station.specs.Progressing.{turned, told, cleared, quieted, is_idle, drained}
+use Rattle.gc_station.specs.Progressing.{turned, moment_noted, cleared, quieted, is_idle, drained}
 use Rattle.gc_station.specs.Quiet.{TellsMoment}
 use Rattle.gc_station.specs.Reasons.{IsAtItsEnd}
-use Rattle.gc_station.specs.Runs.{stood}
+use Rattle.gc_station.specs.Runs.{state_after}
 use Rattle.gc_station.specs.Scopes.{Scope}
 use Rattle.gc_station.specs.Silences.{latest}
-use Rattle.gc_station.specs.Model.{Model, opening, action_at, waiting_of, with_progress, with_moment, lines_behind, is_heard, Performs, moved, Runs}
+use Rattle.gc_station.specs.Model.{Model, opening, action_at, waiting_of, with_progress, with_moment, lines_completed, is_heard, Performs, moved, Runs}
 use Rattle.gc_station.proofs.Closings.{closing_shown, needs_of}
 use Rattle.gc_station.proofs.Always.{always_far}
 use Rattle.gc_station.proofs.Connected.{is_in_use, OnLine, on_line}
@@ -98,10 +98,10 @@ module _ (plan : Plan) (commands : List Task) where
   fresh_line (actions.Read until) s acts =
       let at = s.progress.phase in (
         λ bytes m.
-            let mid = with_moment m (with_progress (told m) (with_progress turned s)) in
+            let mid = with_moment m (with_progress (moment_noted m) (with_progress turned s)) in
             let here = fresh_told false m.elapsed at acts (Gave bytes m) refl in
             came_along (λ (t : Model). FreshAt t.progress (acts ++ Gave bytes m ∷ [])) (λ t line on. on) (is_heard at) s.progress.word bytes mid here
-            (asked_along (λ (q : Progress). FreshAt q (acts ++ Gave bytes m ∷ [])) (λ q line on. on) mid.progress (lines_behind s.rest bytes) here) here,
+            (asked_along (λ (q : Progress). FreshAt q (acts ++ Gave bytes m ∷ [])) (λ q line on. on) mid.progress (lines_completed s.rest bytes) here) here,
         λ m. (fresh_told false m.elapsed at acts (Silent m) refl, λ draining past. fresh_told false m.elapsed phase.Ready acts (Silent m) refl),
       )
   fresh_line (actions.Close why) s acts = tt
@@ -109,29 +109,29 @@ module _ (plan : Plan) (commands : List Task) where
   fresh_line next s acts = λ m. fresh_told false m.elapsed s.progress.phase acts (Told m) refl
 
   -- `Fresh` holds after every run
-  fresh_stood : (scope : Scope) (acts : List Act) → Runs plan commands (opening plan scope) acts → FreshAt (stood plan commands scope acts).progress acts
+  fresh_stood : (scope : Scope) (acts : List Act) → Runs plan commands (opening plan scope) acts → FreshAt (state_after plan commands scope acts).progress acts
   fresh_stood scope acts runs = always_far plan commands (opening plan scope) FreshAt step tt acts runs where
     -- one act of a run preserves `FreshAt`
     step : (done : List Act) (act : Act) → Runs plan commands (opening plan scope) done
-        → Performs commands (stood plan commands scope done) (action_at plan (stood plan commands scope done)) act
-        → FreshAt (stood plan commands scope done).progress done
-        → FreshAt (moved plan commands (action_at plan (stood plan commands scope done)) (with_progress turned (stood plan commands scope done)) act).progress (done ++ act ∷ [])
+        → Performs commands (state_after plan commands scope done) (action_at plan (state_after plan commands scope done)) act
+        → FreshAt (state_after plan commands scope done).progress done
+        → FreshAt (moved plan commands (action_at plan (state_after plan commands scope done)) (with_progress turned (state_after plan commands scope done)) act).progress (done ++ act ∷ [])
     step done act runs o h =
-        let s = stood plan commands scope done in
+        let s = state_after plan commands scope done in
         on_line plan commands FreshAt (λ p acts none. fresh_none p.stale p.moment.elapsed p.phase acts none) (action_at plan s) s act done o (fresh_line (action_at plan s) s done)
 
   -- where requests may be sent, and the moment was read, the last act read it
-  pub awake_last : (scope : Scope) (acts : List Act) → Runs plan commands (opening plan scope) acts → Awake (stood plan commands scope acts).progress
-      → LastTells (stood plan commands scope acts).progress.moment.elapsed acts
+  pub awake_last : (scope : Scope) (acts : List Act) → Runs plan commands (opening plan scope) acts → Awake (state_after plan commands scope acts).progress
+      → LastTells (state_after plan commands scope acts).progress.moment.elapsed acts
   awake_last scope acts runs awake =
-      let p = (stood plan commands scope acts).progress in
+      let p = (state_after plan commands scope acts).progress in
       (subst (λ (x : Phase). Fresh p.stale p.moment.elapsed x acts) awake.1 (fresh_stood scope acts runs)) awake.0
 
 -- A close that no act shows is decided if it is made.
 
 -- if no act can show the cause of a close, the phase hasn't decided that close
 pub not_closing : (plan : Plan) (commands : List Task) (scope : Scope) (acts : List Act) (why : Cause) → Runs plan commands (opening plan scope) acts
-    → ((act : Act) → Shows why act → ⊥) → (stood plan commands scope acts).progress.phase ≡ phase.Closing why → ⊥
+    → ((act : Act) → Shows why act → ⊥) → (state_after plan commands scope acts).progress.phase ≡ phase.Closing why → ⊥
 not_closing plan commands scope acts why runs none is = let shown = closing_shown plan commands scope acts why runs is in none shown.1 shown.3
 
 -- a close that the phase hasn't decided is made because the run is at its end (`IsAtItsEnd`)

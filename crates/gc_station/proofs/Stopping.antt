@@ -22,15 +22,15 @@ use Rattle.gc_station.specs.declared.progress.Phase.TheVariants as phase
 use Rattle.gc_station.specs.declared.progress.Progress.{Progress}
 use Rattle.gc_station.specs.declared.progress.Until.{Until}
 use Rattle.gc_station.specs.declared.progress.Waiting.{Waiting}
-use Rattle.gc_station.specs.Closing.{Shows, EndsBehind, Ends}
+use Rattle.gc_station.specs.Closing.{Shows, EndsAfter, Ends}
 use Rattle.gc_station.specs.Deciding.{is_stale, action_of, action_in, action_on}
-use Rattle.gc_station.specs.Marks.{records_of, is_well, fresh_behind}
-use Rattle.gc_station.specs.Model.{Model, opening, action_at, waiting_of, place_next, mark_next, skips, skips_first, with_progress, with_moment, with_rest, is_heard, line_came, lines_behind, came, piece_at, Performs, moved, losing, after, after_all, Runs}
-use Rattle.gc_station.specs.Progressing.{turned, told, quieted, time_passed, loses_all}
+use Rattle.gc_station.specs.Marks.{records_of, is_well, fresh_after}
+use Rattle.gc_station.specs.Model.{Model, opening, action_at, waiting_of, place_next, mark_next, skips, skips_first, with_progress, with_moment, with_rest, is_heard, line_came, lines_completed, after_piece, piece_at, Performs, moved, losing, after, after_all, Runs}
+use Rattle.gc_station.specs.Progressing.{turned, moment_noted, quieted, time_passed, loses_all}
 use Rattle.gc_station.specs.Records.{Record}
-use Rattle.gc_station.specs.Runs.{stood}
+use Rattle.gc_station.specs.Runs.{state_after}
 use Rattle.gc_station.specs.Scopes.{Scope}
-use Rattle.gc_station.specs.Stopping.{IsTelling, least_told, asked_behind, IsUnwell, UnwellSince, ClosesStale, StopsAtItsClose, EndsOnceStale, GoesOnInItsChain, ClosesBetweenChains}
+use Rattle.gc_station.specs.Stopping.{IsTelling, least_told, asked_after, IsUnwell, UnwellSince, ClosesStale, StopsAtItsClose, EndsOnceStale, GoesOnInItsChain, ClosesBetweenChains}
 use Rattle.gc_station.proofs.Always.{always, always_far}
 use Rattle.gc_station.proofs.Closings.{end_of, Decided, after_decided, runs_split, stopped_for, needs_of, done_sent}
 use Rattle.gc_station.proofs.Counts.{ended_progress}
@@ -51,33 +51,33 @@ abbrev HasWell : List Record → Type 0
 HasWell rs = (front : List Record) × (r : Record) × (later : List Record) × (rs ≡ front ++ r ∷ later) × (is_well r.end ≡ true)
 
 -- records of which none is of a command that was answered well leave the moment
-unwell_same : (now fresh : ℕ) (rs : List Record) → AllByRecursion IsUnwell rs → fresh_behind now fresh rs ≡ fresh
+unwell_same : (now fresh : ℕ) (rs : List Record) → AllByRecursion IsUnwell rs → fresh_after now fresh rs ≡ fresh
 unwell_same now fresh [] all = refl
 unwell_same now fresh (r ∷ rs) all =
-    ap (λ x. fresh_behind now x rs) (picks_other (is_well r.end) now fresh all.0) ∙ unwell_same now fresh rs all.1
+    ap (λ x. fresh_after now x rs) (picks_other (is_well r.end) now fresh all.0) ∙ unwell_same now fresh rs all.1
 
 -- of records that are recorded at one moment none is of a command that was answered well, and they leave the moment that was;
 -- or one is
-fresh_cases : (now fresh : ℕ) (rs : List Record) → (AllByRecursion IsUnwell rs × (fresh_behind now fresh rs ≡ fresh)) ⊎ (HasWell rs × (fresh_behind now fresh rs ≡ now))
+fresh_cases : (now fresh : ℕ) (rs : List Record) → (AllByRecursion IsUnwell rs × (fresh_after now fresh rs ≡ fresh)) ⊎ (HasWell rs × (fresh_after now fresh rs ≡ now))
 fresh_cases now fresh [] = inl (tt, refl)
 fresh_cases now fresh (r ∷ rs) = by_first (fresh_cases now now rs) (fresh_cases now fresh rs) (is_well r.end) refl where
   -- the lemma above, by whether the first record is of such a command
-  by_first : (AllByRecursion IsUnwell rs × (fresh_behind now now rs ≡ now)) ⊎ (HasWell rs × (fresh_behind now now rs ≡ now))
-      → (AllByRecursion IsUnwell rs × (fresh_behind now fresh rs ≡ fresh)) ⊎ (HasWell rs × (fresh_behind now fresh rs ≡ now)) → (b : Bool) → is_well r.end ≡ b
-      → (AllByRecursion IsUnwell (r ∷ rs) × (fresh_behind now fresh (r ∷ rs) ≡ fresh)) ⊎ (HasWell (r ∷ rs) × (fresh_behind now fresh (r ∷ rs) ≡ now))
+  by_first : (AllByRecursion IsUnwell rs × (fresh_after now now rs ≡ now)) ⊎ (HasWell rs × (fresh_after now now rs ≡ now))
+      → (AllByRecursion IsUnwell rs × (fresh_after now fresh rs ≡ fresh)) ⊎ (HasWell rs × (fresh_after now fresh rs ≡ now)) → (b : Bool) → is_well r.end ≡ b
+      → (AllByRecursion IsUnwell (r ∷ rs) × (fresh_after now fresh (r ∷ rs) ≡ fresh)) ⊎ (HasWell (r ∷ rs) × (fresh_after now fresh (r ∷ rs) ≡ now))
   by_first here there true well = on_well here where
     -- what is left of the records after one that is of such a command
-    on_well : ((AllByRecursion IsUnwell rs × (fresh_behind now now rs ≡ now)) ⊎ (HasWell rs × (fresh_behind now now rs ≡ now)))
-        → (AllByRecursion IsUnwell (r ∷ rs) × (fresh_behind now fresh (r ∷ rs) ≡ fresh)) ⊎ (HasWell (r ∷ rs) × (fresh_behind now fresh (r ∷ rs) ≡ now))
-    on_well (inl none) = inr (([], r, rs, refl, well), ap (λ x. fresh_behind now x rs) (picks (is_well r.end) now fresh well) ∙ none.1)
-    on_well (inr some) = inr (([], r, rs, refl, well), ap (λ x. fresh_behind now x rs) (picks (is_well r.end) now fresh well) ∙ some.1)
+    on_well : ((AllByRecursion IsUnwell rs × (fresh_after now now rs ≡ now)) ⊎ (HasWell rs × (fresh_after now now rs ≡ now)))
+        → (AllByRecursion IsUnwell (r ∷ rs) × (fresh_after now fresh (r ∷ rs) ≡ fresh)) ⊎ (HasWell (r ∷ rs) × (fresh_after now fresh (r ∷ rs) ≡ now))
+    on_well (inl none) = inr (([], r, rs, refl, well), ap (λ x. fresh_after now x rs) (picks (is_well r.end) now fresh well) ∙ none.1)
+    on_well (inr some) = inr (([], r, rs, refl, well), ap (λ x. fresh_after now x rs) (picks (is_well r.end) now fresh well) ∙ some.1)
   by_first here there false unwell = on_unwell there where
     -- what is left of the records after one that isn't of such a command
-    on_unwell : ((AllByRecursion IsUnwell rs × (fresh_behind now fresh rs ≡ fresh)) ⊎ (HasWell rs × (fresh_behind now fresh rs ≡ now)))
-        → (AllByRecursion IsUnwell (r ∷ rs) × (fresh_behind now fresh (r ∷ rs) ≡ fresh)) ⊎ (HasWell (r ∷ rs) × (fresh_behind now fresh (r ∷ rs) ≡ now))
-    on_unwell (inl none) = inl ((unwell, none.0), ap (λ x. fresh_behind now x rs) (picks_other (is_well r.end) now fresh unwell) ∙ none.1)
+    on_unwell : ((AllByRecursion IsUnwell rs × (fresh_after now fresh rs ≡ fresh)) ⊎ (HasWell rs × (fresh_after now fresh rs ≡ now)))
+        → (AllByRecursion IsUnwell (r ∷ rs) × (fresh_after now fresh (r ∷ rs) ≡ fresh)) ⊎ (HasWell (r ∷ rs) × (fresh_after now fresh (r ∷ rs) ≡ now))
+    on_unwell (inl none) = inl ((unwell, none.0), ap (λ x. fresh_after now x rs) (picks_other (is_well r.end) now fresh unwell) ∙ none.1)
     on_unwell (inr ((front, x, later, order, well), e)) =
-        inr ((r ∷ front, x, later, ap (λ xs. r ∷ xs) order, well), ap (λ x. fresh_behind now x rs) (picks_other (is_well r.end) now fresh unwell) ∙ e)
+        inr ((r ∷ front, x, later, ap (λ xs. r ∷ xs) order, well), ap (λ x. fresh_after now x rs) (picks_other (is_well r.end) now fresh unwell) ∙ e)
 
 -- a command that isn't sent wasn't answered well
 skips_unwell : (p : Progress) (m : Moment) (mark : Mark) (list : List Task) → AllByRecursion IsUnwell (skips_first p m mark list)
@@ -111,7 +111,7 @@ Freshly s act t = Plainly s act t ⊎ Well s act t
 
 -- a model of the lines so far of a piece, at this moment, after the model `mid`
 abbrev Heard : Model → ℕ → Model → Type 0
-Heard mid now t = (rs : List Record) × (t.records ≡ mid.records ++ rs) × (t.fresh ≡ fresh_behind now mid.fresh rs) × (t.progress.moment.elapsed ≡ now)
+Heard mid now t = (rs : List Record) × (t.records ≡ mid.records ++ rs) × (t.fresh ≡ fresh_after now mid.fresh rs) × (t.progress.moment.elapsed ≡ now)
 
 -- one line more preserves `Heard`
 heard_line : (mid : Model) (now : ℕ) (t : Model) (line : List ℕ) → Heard mid now t → Heard mid now (line_came t line)
@@ -119,30 +119,30 @@ heard_line mid now t line (rs, order, fresh, at) =
     let added = records_of t.reads t.progress.moment.utc t.marks (hears t.client line (heard line)).settlements in (
       rs ++ added,
       ap (λ xs. xs ++ added) order ∙ append_assoc mid.records rs added,
-      ap (λ n. fresh_behind n t.fresh added) at ∙ ap (λ f. fresh_behind now f added) fresh ∙ sym (fresh-append now mid.fresh rs added),
+      ap (λ n. fresh_after n t.fresh added) at ∙ ap (λ f. fresh_after now f added) fresh ∙ sym (fresh-append now mid.fresh rs added),
       at,
     )
 
 -- a piece preserves `Heard`
-heard_piece : (is_heard : Bool) (word piece : List ℕ) (mid : Model) → Heard mid mid.progress.moment.elapsed (came is_heard word piece mid)
+heard_piece : (is_heard : Bool) (word piece : List ℕ) (mid : Model) → Heard mid mid.progress.moment.elapsed (after_piece is_heard word piece mid)
 heard_piece is_heard word piece mid =
     let now = mid.progress.moment.elapsed in
     let none = sym (append-nil mid.records) in
     came_along (Heard mid now) (λ t line h. heard_line mid now t line h) is_heard word piece mid ([], none, refl, refl)
-    ([], none, refl, asked_along (λ (q : Progress). q.moment.elapsed ≡ now) (λ q line e. e) mid.progress (lines_behind mid.rest piece) refl) ([], none, refl, refl)
+    ([], none, refl, asked_along (λ (q : Progress). q.moment.elapsed ≡ now) (λ q line e. e) mid.progress (lines_completed mid.rest piece) refl) ([], none, refl, refl)
 
 -- a read that gave bytes wrote records as `Freshly` says
 gave_fresh : (plan : Plan) (until : Until) (s : Model) (bytes : List ℕ) (m : Moment) → Freshly s (Gave bytes m) (piece_at plan until bytes m s)
 gave_fresh plan until s bytes m =
-    let mid = with_moment m (with_progress (told m) s) in
+    let mid = with_moment m (with_progress (moment_noted m) s) in
     by_case (heard_piece (is_heard s.progress.phase) s.progress.word bytes mid) where
       -- the lemma above, by the records that the piece recorded
-      by_case : Heard (with_moment m (with_progress (told m) s)) m.elapsed (came (is_heard s.progress.phase) s.progress.word bytes (with_moment m (with_progress (told m) s)))
+      by_case : Heard (with_moment m (with_progress (moment_noted m) s)) m.elapsed (after_piece (is_heard s.progress.phase) s.progress.word bytes (with_moment m (with_progress (moment_noted m) s)))
           → Freshly s (Gave bytes m) (piece_at plan until bytes m s)
       by_case (rs, order, fresh, at) = by_records (fresh_cases m.elapsed (min s.fresh m.elapsed) rs) where
         -- the lemma above, by whether one of them is of a command that was answered well
-        by_records : ((AllByRecursion IsUnwell rs × (fresh_behind m.elapsed (min s.fresh m.elapsed) rs ≡ min s.fresh m.elapsed))
-            ⊎ (HasWell rs × (fresh_behind m.elapsed (min s.fresh m.elapsed) rs ≡ m.elapsed))) → Freshly s (Gave bytes m) (piece_at plan until bytes m s)
+        by_records : ((AllByRecursion IsUnwell rs × (fresh_after m.elapsed (min s.fresh m.elapsed) rs ≡ min s.fresh m.elapsed))
+            ⊎ (HasWell rs × (fresh_after m.elapsed (min s.fresh m.elapsed) rs ≡ m.elapsed))) → Freshly s (Gave bytes m) (piece_at plan until bytes m s)
         by_records (inl none) = inl (rs, order, none.0, fresh ∙ none.1)
         by_records (inr some) = inr (rs, order, some.0, bytes, m, refl, fresh ∙ some.1)
 
@@ -209,7 +209,7 @@ least-append n (Silent m ∷ xs) ys = least-append (min n m.elapsed) xs ys
 least-append n (x ∷ xs) ys = least-append n xs ys
 
 -- whether the end was asked for in two lists of acts is known from the second list, and from that of the first
-asked-append : (b : Bool) (xs ys : List Act) → asked_behind b (xs ++ ys) ≡ asked_behind (asked_behind b xs) ys
+asked-append : (b : Bool) (xs ys : List Act) → asked_after b (xs ++ ys) ≡ asked_after (asked_after b xs) ys
 asked-append b [] ys = refl
 asked-append b (Told m ∷ xs) ys = asked-append (b || m.stops) xs ys
 asked-append b (Gave bytes m ∷ xs) ys = asked-append (b || m.stops) xs ys
@@ -218,12 +218,12 @@ asked-append b (x ∷ xs) ys = asked-append b xs ys
 
 -- the model after one act more is the one after that act
 behind_one : (plan : Plan) (commands : List Task) (scope : Scope) (done : List Act) (act : Act)
-    → stood plan commands scope (done ++ act ∷ []) ≡ after plan commands (stood plan commands scope done) act
+    → state_after plan commands scope (done ++ act ∷ []) ≡ after plan commands (state_after plan commands scope done) act
 behind_one plan commands scope done act = after_all-append plan commands (opening plan scope) done (act ∷ [])
 
 -- one act more preserves `UnwellSince`
 since_more : (plan : Plan) (commands : List Task) (scope : Scope) (done : List Act) (act : Act) → UnwellSince plan commands scope done
-    → Freshly (stood plan commands scope done) act (stood plan commands scope (done ++ act ∷ [])) → UnwellSince plan commands scope (done ++ act ∷ [])
+    → Freshly (state_after plan commands scope done) act (state_after plan commands scope (done ++ act ∷ [])) → UnwellSince plan commands scope (done ++ act ∷ [])
 since_more plan commands scope done act u (inl (rs, order, unwell, fresh)) = record {
   before = u.before;
   behind = u.behind ++ act ∷ [];
@@ -231,7 +231,7 @@ since_more plan commands scope done act u (inl (rs, order, unwell, fresh)) = rec
   from = u.from;
   start = u.start;
   records = u.records ++ rs;
-  written = order ∙ ap (λ xs. xs ++ rs) u.written ∙ append_assoc (stood plan commands scope u.before).records u.records rs;
+  written = order ∙ ap (λ xs. xs ++ rs) u.written ∙ append_assoc (state_after plan commands scope u.before).records u.records rs;
   unwell = all_append IsUnwell u.records rs u.unwell unwell;
   fresh = fresh ∙ ap (λ n. least_told n (act ∷ [])) u.fresh ∙ sym (least-append u.from u.behind (act ∷ []));
 }
@@ -251,11 +251,11 @@ since_more plan commands scope done act u (inr (rs, order, (front, r, later, spl
         front = front;
         answer = r;
         later = later;
-        written = order ∙ ap (λ xs. (stood plan commands scope done).records ++ xs) split;
+        written = order ∙ ap (λ xs. (state_after plan commands scope done).records ++ xs) split;
         well = well;
       });
       records = [];
-      written = sym (append-nil (stood plan commands scope all).records);
+      written = sym (append-nil (state_after plan commands scope all).records);
       unwell = tt;
       fresh = fresh;
     }
@@ -264,14 +264,14 @@ since_more plan commands scope done act u (inr (rs, order, (front, r, later, spl
 since_stood : (plan : Plan) (commands : List Task) (scope : Scope) (acts : List Act) → Runs plan commands (opening plan scope) acts → UnwellSince plan commands scope acts
 since_stood plan commands scope acts runs =
     always plan commands (opening plan scope) (λ (done : List Act) (t : Model). UnwellSince plan commands scope done) (λ done act runs' o u.
-    since_more plan commands scope done act u (subst (λ (t : Model). Freshly (stood plan commands scope done) act t) (sym (behind_one plan commands scope done act))
-    (after_fresh plan commands (stood plan commands scope done) act o)))
+    since_more plan commands scope done act u (subst (λ (t : Model). Freshly (state_after plan commands scope done) act t) (sym (behind_one plan commands scope done act))
+    (after_fresh plan commands (state_after plan commands scope done) act o)))
     (record { before = []; behind = []; order = refl; from = 0; start = inl (refl, refl); records = []; written = refl; unwell = tt; fresh = refl }) acts runs
 
 -- if a connection is closed, or a run ends, because it is stale, it is
 pub closes_stale : ClosesStale
 closes_stale plan commands scope acts runs is =
-    let s = stood plan commands scope acts in
+    let s = state_after plan commands scope acts in
     let u = since_stood plan commands scope acts runs in
     let stale = end_here plan s cause.Stale is (not_closing plan commands scope acts cause.Stale runs (λ act shows. shows)) in
     let it = both_true (nat_lt 0 plan.stale) (nat_le plan.stale (s.progress.moment.elapsed - s.fresh)) stale in
@@ -284,7 +284,7 @@ closes_stale plan commands scope acts runs is =
 -- If a run stops.
 
 -- a run ends for `Stale` or `Stopped` only if the connection was closed for that
-quits_only : (plan : Plan) (p : Progress) (n : ℕ) (other why : Cause) → (why ≡ cause.Stale) ⊎ (why ≡ cause.Stopped) → EndsBehind plan p n other why → other ≡ why
+quits_only : (plan : Plan) (p : Progress) (n : ℕ) (other why : Cause) → (why ≡ cause.Stale) ⊎ (why ≡ cause.Stopped) → EndsAfter plan p n other why → other ≡ why
 quits_only plan p n cause.Done why (inl is) ends = let done = ends.0 in cc
 quits_only plan p n cause.Done why (inr is) ends = let done = ends.0 in cc
 quits_only plan p n cause.Clock why is ends = sym ends
@@ -310,16 +310,16 @@ stops_at : (why : Cause) → (why ≡ cause.Stale) ⊎ (why ≡ cause.Stopped) �
 stops_at why is plan commands scope acts runs stop = by_shown (stopped_for plan commands scope acts why runs stop).shown where
   -- what is claimed
   Claim : Type 0
-  Claim = (earlier : List Act) × (acts ≡ earlier ++ Closed ∷ []) × (action_at plan (stood plan commands scope earlier) ≡ actions.Close why)
+  Claim = (earlier : List Act) × (acts ≡ earlier ++ Closed ∷ []) × (action_at plan (state_after plan commands scope earlier) ≡ actions.Close why)
 
   -- the last act ended the run: it closed a connection for that, as no failed call and no failed attempt ends a run for it
-  by_end : (earlier : List Act) (last : Act) → acts ≡ earlier ++ last ∷ [] → Ends plan (stood plan commands scope earlier) why last → Claim
+  by_end : (earlier : List Act) (last : Act) → acts ≡ earlier ++ last ∷ [] → Ends plan (state_after plan commands scope earlier) why last → Claim
   by_end earlier last order (inl failed) = absurd (shows_none why last is failed.1)
   by_end earlier last order (inr (inl (other, is_close, next, ends))) =
-      let s = stood plan commands scope earlier in
+      let s = state_after plan commands scope earlier in
       (earlier, order ∙ ap (λ a. earlier ++ a ∷ []) is_close, next ∙ ap actions.Close (quits_only plan s.progress (waiting_of s).commands other why is ends))
   by_end earlier last order (inr (inr (unopened, ends))) =
-      let s = stood plan commands scope earlier in
+      let s = state_after plan commands scope earlier in
       absurd (never_open why is (quits_only plan s.progress (waiting_of s).commands cause.Open why is ends)) where
         -- neither of them is that no connection could be made
         never_open : (why : Cause) → (why ≡ cause.Stale) ⊎ (why ≡ cause.Stopped) → cause.Open ≡ why → ⊥
@@ -327,8 +327,8 @@ stops_at why is plan commands scope acts runs stop = by_shown (stopped_for plan 
         never_open why (inr is) e = let other : cause.Open ≡ cause.Stopped = e ∙ is in cc
 
   -- the lemma above, by why the run stopped
-  by_shown : ((why ≡ cause.Turns) × ((stood plan commands scope acts).progress.turns ≡ 0))
-      ⊎ ((earlier : List Act) × (last : Act) × (acts ≡ earlier ++ last ∷ []) × Ends plan (stood plan commands scope earlier) why last) → Claim
+  by_shown : ((why ≡ cause.Turns) × ((state_after plan commands scope acts).progress.turns ≡ 0))
+      ⊎ ((earlier : List Act) × (last : Act) × (acts ≡ earlier ++ last ∷ []) × Ends plan (state_after plan commands scope earlier) why last) → Claim
   by_shown (inl turns) = absurd (no_turns why is turns.0)
   by_shown (inr (earlier, last, order, ends)) = by_end earlier last order ends
 
@@ -405,19 +405,19 @@ runs_behind plan commands s (act ∷ front) later runs = runs_behind plan comman
 -- the first moment read at which a run with turns left is stale ends it
 pub ends_once_stale : EndsOnceStale
 ends_once_stale plan commands scope earlier behind telling runs tells turns stale =
-    let s = stood plan commands scope earlier in
+    let s = state_after plan commands scope earlier in
     let all = earlier ++ telling ∷ [] in
-    let t = stood plan commands scope all in
+    let t = state_after plan commands scope all in
     let split = runs_split plan commands (opening plan scope) earlier behind telling runs in
     let later = runs_behind plan commands (opening plan scope) all behind
     (subst (λ (xs : List Act). Runs plan commands (opening plan scope) xs) (sym (append_assoc earlier (telling ∷ []) behind)) runs) in
     nothing_behind plan commands t behind (stale_next plan t.progress (waiting_of t) t.progress.phase refl (by_end (end_of t.progress.phase) refl) turns stale) later where
       -- the moment decides no end
-      by_end : (e : Option Cause) → end_of (stood plan commands scope (earlier ++ telling ∷ [])).progress.phase ≡ e
-          → end_of (stood plan commands scope (earlier ++ telling ∷ [])).progress.phase ≡ None
+      by_end : (e : Option Cause) → end_of (state_after plan commands scope (earlier ++ telling ∷ [])).progress.phase ≡ e
+          → end_of (state_after plan commands scope (earlier ++ telling ∷ [])).progress.phase ≡ None
       by_end None is = is
       by_end (Some why) is =
-          let s = stood plan commands scope earlier in
+          let s = state_after plan commands scope earlier in
           let next = behind_one plan commands scope earlier telling in
           let split = runs_split plan commands (opening plan scope) earlier behind telling runs in
           absurd (telling_not plan commands s telling _ why tells
@@ -427,13 +427,13 @@ ends_once_stale plan commands scope earlier behind telling runs tells turns stal
 
 -- what an act leaves of whether the end was asked for
 moved_asked : (plan : Plan) (commands : List Task) (next : Action) (s : Model) (act : Act) → Performs commands s next act
-    → (moved plan commands next (with_progress turned s) act).progress.stops ≡ asked_behind s.progress.stops (act ∷ [])
+    → (moved plan commands next (with_progress turned s) act).progress.stops ≡ asked_after s.progress.stops (act ∷ [])
 moved_asked plan commands (actions.Read until) s act o =
-    let P : Act → Model → Type 0 = λ (a : Act) (t : Model). t.progress.stops ≡ asked_behind s.progress.stops (a ∷ []) in
+    let P : Act → Model → Type 0 = λ (a : Act) (t : Model). t.progress.stops ≡ asked_after s.progress.stops (a ∷ []) in
     walk plan commands P (actions.Read until) (with_progress turned s) act o (
-      λ bytes m. let mid = with_moment m (with_progress (told m) (with_progress turned s)) in
+      λ bytes m. let mid = with_moment m (with_progress (moment_noted m) (with_progress turned s)) in
           came_along (λ (t : Model). t.progress.stops ≡ (s.progress.stops || m.stops)) (λ t line e. e) (is_heard s.progress.phase) s.progress.word bytes mid refl
-          (asked_along (λ (q : Progress). q.stops ≡ (s.progress.stops || m.stops)) (λ q line e. e) mid.progress (lines_behind mid.rest bytes) refl) refl,
+          (asked_along (λ (q : Progress). q.stops ≡ (s.progress.stops || m.stops)) (λ q line e. e) mid.progress (lines_completed mid.rest bytes) refl) refl,
       λ m. quieted_asked plan s.progress.phase (time_passed until m (turned s.progress)),
       refl,
       refl,
@@ -443,25 +443,25 @@ moved_asked plan commands (actions.Read until) s act o =
       quieted_asked : (plan : Plan) (at : Phase) (p : Progress) → (quieted plan at p).stops ≡ p.stops
       quieted_asked plan at p = quieted_along (λ (q : Progress). q.stops ≡ p.stops) plan at p refl (refl) refl
 moved_asked plan commands (actions.Close why) s act o =
-    walk plan commands (λ (a : Act) (t : Model). t.progress.stops ≡ asked_behind s.progress.stops (a ∷ [])) (actions.Close why) (with_progress turned s) act o
+    walk plan commands (λ (a : Act) (t : Model). t.progress.stops ≡ asked_after s.progress.stops (a ∷ [])) (actions.Close why) (with_progress turned s) act o
     (closed_along (λ (q : Progress). q.stops ≡ s.progress.stops) plan (waiting_of (with_rest [] (with_progress turned s))) why (turned s.progress) refl refl)
 moved_asked plan commands (actions.Stop why) s act o = absurd o
 moved_asked plan commands next s act o =
-    walk plan commands (λ (a : Act) (t : Model). t.progress.stops ≡ asked_behind s.progress.stops (a ∷ [])) next (with_progress turned s) act o (λ m. refl, λ n. refl)
+    walk plan commands (λ (a : Act) (t : Model). t.progress.stops ≡ asked_after s.progress.stops (a ∷ [])) next (with_progress turned s) act o (λ m. refl, λ n. refl)
 
 -- after each run, whether the end was asked for is what its moments say
 asked_stood : (plan : Plan) (commands : List Task) (scope : Scope) (acts : List Act) → Runs plan commands (opening plan scope) acts
-    → (stood plan commands scope acts).progress.stops ≡ asked_behind false acts
+    → (state_after plan commands scope acts).progress.stops ≡ asked_after false acts
 asked_stood plan commands scope acts runs =
-    always_far plan commands (opening plan scope) (λ (p : Progress) (done : List Act). p.stops ≡ asked_behind false done) (λ done act runs' o e.
+    always_far plan commands (opening plan scope) (λ (p : Progress) (done : List Act). p.stops ≡ asked_after false done) (λ done act runs' o e.
     let s = after_all plan commands (opening plan scope) done in
-    moved_asked plan commands (action_at plan s) s act o ∙ ap (λ b. asked_behind b (act ∷ [])) e ∙ sym (asked-append false done (act ∷ []))) refl acts runs
+    moved_asked plan commands (action_at plan s) s act o ∙ ap (λ b. asked_after b (act ∷ [])) e ∙ sym (asked-append false done (act ∷ []))) refl acts runs
 
 -- once the end was asked for, no cycle begins, no command of the setup is sent, and each command that is sent goes on with a
 -- chain that has begun
 pub goes_on_in_its_chain : GoesOnInItsChain
 goes_on_in_its_chain plan commands scope acts runs asked =
-    let s = stood plan commands scope acts in
+    let s = state_after plan commands scope acts in
     let stops : s.progress.stops ≡ true = asked_stood plan commands scope acts runs ∙ asked in (
       λ is. let needs = needs_of plan s actions.Send is in needs.7 stops,
       λ is. let needs = needs_of plan s actions.Begin is in let never : true ≡ false = sym stops ∙ needs.5 in cc,
@@ -471,6 +471,6 @@ goes_on_in_its_chain plan commands scope acts runs asked =
 -- if a connection is closed, or a run ends, because that was asked for, it was, and the run may end there
 pub closes_between_chains : ClosesBetweenChains
 closes_between_chains plan commands scope acts runs is =
-    let s = stood plan commands scope acts in
+    let s = state_after plan commands scope acts in
     let it = end_here plan s cause.Stopped is (not_closing plan commands scope acts cause.Stopped runs (λ act shows. shows)) in
     (sym (asked_stood plan commands scope acts runs) ∙ it.0, it.1, resting_none s.progress (waiting_of s) (on_line_stood plan commands scope acts runs) it.1)

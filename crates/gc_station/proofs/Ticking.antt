@@ -3,7 +3,7 @@ use Rattle.std.proofs.Common.{◌≡◌, inl, inr, ℕ, ◌<◌, ◌≤◌, ◌&
 use Rattle.std.proofs.lemmas.Bool.Decides.{leb_tells}
 use Rattle.gc_links.specs.Acts.{Act, Told, Gave, Silent}
 use Rattle.gc_links.specs.declared.link.Moment.{Moment}
-use Rattle.gc_station.specs.Cycles.{Rises}
+use Rattle.gc_station.specs.Cycles.{ClockRises}
 use Rattle.gc_station.specs.declared.progress.Progress.{Progress}
 
 -- Tests of numbers.
@@ -46,8 +46,8 @@ pub and_second : (a b : Bool) → a ≡ true → (a && b) ≡ b
 and_second a b e = ap (λ (c : Bool). c && b) e
 
 -- a test isn't true and false
-pub clash : (b : Bool) → b ≡ true → b ≡ false → ⊥
-clash b e f = let bad : true ≡ false = sym e ∙ f in cc
+pub not_both : (b : Bool) → b ≡ true → b ≡ false → ⊥
+not_both b e f = let bad : true ≡ false = sym e ∙ f in cc
 
 -- Clocks.
 
@@ -75,14 +75,14 @@ ticked_not p q t past =
     (same, omega (arith, same, now, past))
 
 -- if the clock doesn't go back at an act, the beginning of the cycle stays
-pub ticked : (p q : Progress) (act : Act) → Ticks p act q → Rises p.moment.elapsed (act ∷ []) → p.began ≤ p.moment.elapsed → (q.began ≡ p.began) × (q.began ≤ q.moment.elapsed)
+pub ticked : (p q : Progress) (act : Act) → Ticks p act q → ClockRises p.moment.elapsed (act ∷ []) → p.began ≤ p.moment.elapsed → (q.began ≡ p.began) × (q.began ≤ q.moment.elapsed)
 ticked p q (Told m) t rises past = ticked_at p q m t rises.0 past
 ticked p q (Gave bytes m) t rises past = ticked_at p q m t rises.0 past
 ticked p q (Silent m) t rises past = ticked_at p q m t rises.0 past
 ticked p q act t rises past = ticked_not p q t past
 
 -- if the clock doesn't go back in acts, it doesn't in the acts before the last
-pub rises_front : (now : ℕ) (xs : List Act) (act : Act) → Rises now (xs ++ act ∷ []) → Rises now xs
+pub rises_front : (now : ℕ) (xs : List Act) (act : Act) → ClockRises now (xs ++ act ∷ []) → ClockRises now xs
 rises_front now [] act h = tt
 rises_front now (Told m ∷ xs) act h = (h.0, h.1, rises_front m.elapsed xs act h.2)
 rises_front now (Gave bytes m ∷ xs) act h = (h.0, h.1, rises_front m.elapsed xs act h.2)
@@ -98,7 +98,7 @@ last_of now (Silent m ∷ acts) = last_of m.elapsed acts
 last_of now (act ∷ acts) = last_of now acts
 
 -- if the clock doesn't go back in acts, it doesn't at the last of them
-pub rises_last : (now : ℕ) (xs : List Act) (act : Act) → Rises now (xs ++ act ∷ []) → Rises (last_of now xs) (act ∷ [])
+pub rises_last : (now : ℕ) (xs : List Act) (act : Act) → ClockRises now (xs ++ act ∷ []) → ClockRises (last_of now xs) (act ∷ [])
 rises_last now [] act h = h
 rises_last now (Told m ∷ xs) act h = rises_last m.elapsed xs act h.2
 rises_last now (Gave bytes m ∷ xs) act h = rises_last m.elapsed xs act h.2

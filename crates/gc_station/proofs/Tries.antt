@@ -19,13 +19,13 @@ use Rattle.gc_station.specs.declared.progress.Action.{Action}
 use Rattle.gc_station.specs.declared.progress.Action.TheVariants as actions
 use Rattle.gc_station.specs.declared.progress.Progress.{Progress}
 use Rattle.gc_links.specs.Acts.{Told, Untold, Act, Gave, Closed, Opened, Unopened}
-use Rattle.gc_station.specs.Closing.{Shows, EndsDone, EndsBehind}
+use Rattle.gc_station.specs.Closing.{Shows, EndsDone, EndsAfter}
 use Rattle.gc_station.specs.Deciding.{has_begun, is_up}
 use Rattle.gc_station.specs.EachOnce.{still_waiting, of_record}
 use Rattle.gc_station.specs.Marks.{commands_in}
 use Rattle.gc_station.specs.Progressing.{turned, is_over, loses_all}
 use Rattle.gc_station.specs.Records.{Record}
-use Rattle.gc_station.specs.Runs.{stood}
+use Rattle.gc_station.specs.Runs.{state_after}
 use Rattle.gc_station.specs.Model.{Model, opening, action_at, waiting_of, with_progress, Performs, moved, losing, after, after_all, Runs}
 use Rattle.gc_station.specs.Tries.{IsTried, IsEnding, ends_in, opens_in, SettlesNone, NoneSettled, EndsSettled, AllTried}
 use Rattle.gc_station.proofs.Closings.{runs_split, needs_of, end_of, Decided, after_decided, done_sent}
@@ -37,7 +37,7 @@ use Rattle.gc_station.proofs.Invariant.{Invariant}
 use Rattle.gc_station.proofs.Going.{after_all-append}
 use Rattle.gc_station.proofs.Growing.{losing_records, moved_grew}
 use Rattle.gc_station.proofs.Opens.{Counted, Quits, counted_moved}
-use Rattle.gc_station.proofs.Ticking.{clash}
+use Rattle.gc_station.proofs.Ticking.{not_both}
 use Rattle.gc_station.proofs.Records.{Grew}
 use Rattle.gc_station.proofs.Row.{row_of, row_losing, row_read}
 use Rattle.gc_station.proofs.Turns.{over_stays, up_count}
@@ -159,7 +159,7 @@ record Trying (plan : Plan) (commands : List Task) (scope : Scope) (tries : ℕ)
   held : ℕ
   order : acts ≡ before ++ behind
   since : (before ≡ []) ⊎ EndsSettled plan commands scope before
-  none : NoneSettled plan commands (stood plan commands scope before) behind
+  none : NoneSettled plan commands (state_after plan commands scope before) behind
   left : plan.retries ≤ tries + ends_in behind
   most : held ≤ 1
   first : before ≡ [] → held ≡ 0
@@ -167,13 +167,13 @@ record Trying (plan : Plan) (commands : List Task) (scope : Scope) (tries : ℕ)
 
 -- `Trying` is preserved by an act at which no command was settled
 abbrev trying_on : (plan : Plan) (commands : List Task) (scope : Scope) (tries tries' : ℕ) (up up' : Bool) (acts : List Act) (act : Act) → tries ≤ tries' + ends_in (act ∷ []) → Counted up act up'
-    → SettlesNone (stood plan commands scope acts) act (after plan commands (stood plan commands scope acts) act)
+    → SettlesNone (state_after plan commands scope acts) act (after plan commands (state_after plan commands scope acts) act)
     → Trying plan commands scope tries up acts → Trying plan commands scope tries' up' (acts ++ act ∷ [])
 trying_on plan commands scope tries tries' up up' acts act took counted settles t =
     let ends = ends_more t.behind act in
     let opens = opens_more t.behind act in
-    let there : stood plan commands scope acts ≡ after_all plan commands (stood plan commands scope t.before) t.behind =
-    ap (stood plan commands scope) t.order ∙ after_all-append plan commands (opening plan scope) t.before t.behind in
+    let there : state_after plan commands scope acts ≡ after_all plan commands (state_after plan commands scope t.before) t.behind =
+    ap (state_after plan commands scope) t.order ∙ after_all-append plan commands (opening plan scope) t.before t.behind in
     let enough = t.left in
     let even = t.opens in
     let least : plan.retries ≤ tries' + ends_in (t.behind ++ act ∷ []) = omega (arith, ends, took, enough) in
@@ -184,7 +184,7 @@ trying_on plan commands scope tries tries' up up' acts act took counted settles 
       held = t.held;
       order = ap (λ xs. xs ++ act ∷ []) t.order ∙ append_assoc t.before t.behind (act ∷ []);
       since = t.since;
-      none = none_more plan commands (stood plan commands scope t.before) t.behind act t.none (subst (λ (x : Model). SettlesNone x act (after plan commands x act)) there settles);
+      none = none_more plan commands (state_after plan commands scope t.before) t.behind act t.none (subst (λ (x : Model). SettlesNone x act (after plan commands x act)) there settles);
       left = least;
       most = t.most;
       first = t.first;
@@ -193,8 +193,8 @@ trying_on plan commands scope tries tries' up up' acts act took counted settles 
 
 -- `Trying` starts again with a read that settled a command, which gives all tries back
 trying_anew : (plan : Plan) (commands : List Task) (scope : Scope) (tries : ℕ) (up : Bool) (acts : List Act) (bytes : List ℕ) (m : Moment) → tries ≡ plan.retries
-    → (stood plan commands scope (acts ++ Gave bytes m ∷ [])).progress.preparing ≡ false
-    → (stood plan commands scope (acts ++ Gave bytes m ∷ [])).records ≢ (stood plan commands scope acts).records → Trying plan commands scope tries up (acts ++ Gave bytes m ∷ [])
+    → (state_after plan commands scope (acts ++ Gave bytes m ∷ [])).progress.preparing ≡ false
+    → (state_after plan commands scope (acts ++ Gave bytes m ∷ [])).records ≢ (state_after plan commands scope acts).records → Trying plan commands scope tries up (acts ++ Gave bytes m ∷ [])
 trying_anew plan commands scope tries up acts bytes m all done settled = record {
   before = acts ++ Gave bytes m ∷ [];
   behind = [];
@@ -235,8 +235,8 @@ after_grew plan commands s act =
     (a.0 ++ b.0, b.1 ∙ ap (λ xs. xs ++ b.0) a.1 ∙ append_assoc s.records a.0 b.0)
 
 -- `Trying` is preserved by one act, from the model s to u; t is the model before what is outstanding is lost
-try_step : (plan : Plan) (commands : List Task) (scope : Scope) (acts : List Act) (act : Act) (s u : Model) (t : Model) → stood plan commands scope acts ≡ s
-    → stood plan commands scope (acts ++ act ∷ []) ≡ u → u ≡ after plan commands s act
+try_step : (plan : Plan) (commands : List Task) (scope : Scope) (acts : List Act) (act : Act) (s u : Model) (t : Model) → state_after plan commands scope acts ≡ s
+    → state_after plan commands scope (acts ++ act ∷ []) ≡ u → u ≡ after plan commands s act
     → u.progress ≡ t.progress → Took plan s act t → Counted (is_up s.progress.phase) act (is_up t.progress.phase)
     → (((bytes : List ℕ) × (m : Moment) × (act ≡ Gave bytes m)) → Hears plan s t → Settling plan s u)
     → Trying plan commands scope s.progress.tries (is_up s.progress.phase) acts → Trying plan commands scope u.progress.tries (is_up u.progress.phase) (acts ++ act ∷ [])
@@ -269,7 +269,7 @@ gave_passes plan commands action s act o gave = ap (λ (x : Model). x.passes) (m
 
 -- the model after one act more is the one after that act
 behind_one : (plan : Plan) (commands : List Task) (scope : Scope) (done : List Act) (act : Act)
-    → stood plan commands scope (done ++ act ∷ []) ≡ after plan commands (stood plan commands scope done) act
+    → state_after plan commands scope (done ++ act ∷ []) ≡ after plan commands (state_after plan commands scope done) act
 behind_one plan commands scope done act = after_all-append plan commands (opening plan scope) done (act ∷ [])
 
 -- after an act that ends a run whether there is a connection or not, the run is over
@@ -280,11 +280,11 @@ quits_over plan commands next s act quits = absurd quits
 
 -- `Try` is preserved by one act of a run more
 try_after : (plan : Plan) (commands : List Task) (scope : Scope) (done : List Act) (act : Act)
-    → Performs commands (stood plan commands scope done) (action_at plan (stood plan commands scope done)) act
-    → Try plan commands scope done (stood plan commands scope done)
-    → Try plan commands scope (done ++ act ∷ []) (after plan commands (stood plan commands scope done) act)
+    → Performs commands (state_after plan commands scope done) (action_at plan (state_after plan commands scope done)) act
+    → Try plan commands scope done (state_after plan commands scope done)
+    → Try plan commands scope (done ++ act ∷ []) (after plan commands (state_after plan commands scope done) act)
 try_after plan commands scope done act o trying not_over =
-    let s = stood plan commands scope done in
+    let s = state_after plan commands scope done in
     let u = after plan commands s act in
     let t = moved plan commands (action_at plan s) (with_progress turned s) act in
     let same = ended_progress t in
@@ -293,14 +293,14 @@ try_after plan commands scope done act o trying not_over =
     let not_over_mid : is_over t.progress ≡ false = sym (ap is_over same) ∙ not_over in
     try_step plan commands scope done act s u t refl (behind_one plan commands scope done act) refl same (untook plan s t act (took_moved plan commands (action_at plan s) s act o))
     (counted_moved plan commands (action_at plan s) s act o (action_for plan s.progress (waiting_of s))
-    (λ quits. absurd (clash (is_over t.progress) (quits_over plan commands (action_at plan s) s act quits) not_over_mid)))
+    (λ quits. absurd (not_both (is_over t.progress) (quits_over plan commands (action_at plan s) s act quits) not_over_mid)))
     (λ gave h. gave_settles plan commands s t u fine (fine_after plan commands s act fine) h (after_grew plan commands s act) same
     (row_losing (loses_all t.progress) t ∙ row_read plan commands (action_at plan s) (with_progress turned s) act gave.0 gave.1 o gave.2)
     (kept_marks plan commands s t (loses_all t.progress) refl not_over_mid h.begins fine))
     (trying goes)
 
 -- `Try` holds after every run
-try_stood : (plan : Plan) (commands : List Task) (scope : Scope) (acts : List Act) → Runs plan commands (opening plan scope) acts → Try plan commands scope acts (stood plan commands scope acts)
+try_stood : (plan : Plan) (commands : List Task) (scope : Scope) (acts : List Act) → Runs plan commands (opening plan scope) acts → Try plan commands scope acts (state_after plan commands scope acts)
 try_stood plan commands scope acts runs =
     always plan commands (opening plan scope) (Try plan commands scope) (λ done act runs' o. try_after plan commands scope done act o)
     (λ not_over. record {
@@ -331,7 +331,7 @@ not_done : (p : Progress) (n : ℕ) (why : Cause) → IsTried why → EndsDone p
 not_done p n why tried done = subst IsTried done.0 tried
 
 -- if a run ends for a cause that is one of `IsTried`, no try is left
-no_try : (plan : Plan) (p : Progress) (n : ℕ) (other why : Cause) → IsTried why → EndsBehind plan p n other why → p.tries ≡ 0
+no_try : (plan : Plan) (p : Progress) (n : ℕ) (other why : Cause) → IsTried why → EndsAfter plan p n other why → p.tries ≡ 0
 no_try plan p n cause.Done why tried ends = absurd (not_done p n why tried ends)
 no_try plan p n cause.Clock why tried ends = absurd (subst IsTried ends tried)
 no_try plan p n cause.Turns why tried ends = absurd (subst IsTried ends tried)
@@ -341,7 +341,7 @@ no_try plan p n other why tried (inl done) = absurd (not_done p n why tried done
 no_try plan p n other why tried (inr used) = used.3
 
 -- an action that ends a run whether there is a connection or not is for a cause that isn't one of `IsTried`
-quits_not : (plan : Plan) (p : Progress) (n : ℕ) (other why : Cause) → IsTried why → EndsBehind plan p n other why → Quits (actions.Close other) → ⊥
+quits_not : (plan : Plan) (p : Progress) (n : ℕ) (other why : Cause) → IsTried why → EndsAfter plan p n other why → Quits (actions.Close other) → ⊥
 quits_not plan p n cause.Stale why tried ends quits = absurd (subst IsTried ends tried)
 quits_not plan p n cause.Stopped why tried ends quits = absurd (subst IsTried ends tried)
 quits_not plan p n other why tried ends quits = quits
@@ -365,10 +365,10 @@ one_end Unopened o = refl
 one_end act o = absurd o
 
 -- if no try is left (`Trying`), and the last act ends one more connection, all tries are used up as the law says (`AllTried`)
-all_tried : (plan : Plan) (commands : List Task) (scope : Scope) (acts : List Act) (last : Act) → IsEnding last → Counted (is_up (stood plan commands scope acts).progress.phase) last false
-    → Trying plan commands scope 0 (is_up (stood plan commands scope acts).progress.phase) acts → AllTried plan commands scope (acts ++ last ∷ [])
+all_tried : (plan : Plan) (commands : List Task) (scope : Scope) (acts : List Act) (last : Act) → IsEnding last → Counted (is_up (state_after plan commands scope acts).progress.phase) last false
+    → Trying plan commands scope 0 (is_up (state_after plan commands scope acts).progress.phase) acts → AllTried plan commands scope (acts ++ last ∷ [])
 all_tried plan commands scope acts last ending counted t =
-    let s = stood plan commands scope acts in
+    let s = state_after plan commands scope acts in
     let one = one_end last ending in
     let more : 0 ≤ 0 + ends_in (last ∷ []) = omega arith in
     let u = trying_on plan commands scope 0 0 (is_up s.progress.phase) false acts last more counted (settles_none s (after plan commands s last) last ending) t in
@@ -392,11 +392,11 @@ all_tried plan commands scope acts last ending counted t =
 -- if a run stops for a cause that is one of `IsTried`, which needs all tries used up, at an act that ends a connection, all
 -- tries were used up
 pub stop_tried : (plan : Plan) (commands : List Task) (scope : Scope) (acts : List Act) (last : Act) (why : Cause) → Runs plan commands (opening plan scope) (acts ++ last ∷ [])
-    → action_at plan (stood plan commands scope (acts ++ last ∷ [])) ≡ actions.Stop why → IsTried why → IsEnding last → AllTried plan commands scope (acts ++ last ∷ [])
+    → action_at plan (state_after plan commands scope (acts ++ last ∷ [])) ≡ actions.Stop why → IsTried why → IsEnding last → AllTried plan commands scope (acts ++ last ∷ [])
 stop_tried plan commands scope acts last why runs stop tried ending = by_decided decided where
   -- the model before the last act
   s : Model
-  s = stood plan commands scope acts
+  s = state_after plan commands scope acts
 
   -- the model after the last act, before what is outstanding is lost
   t : Model
@@ -407,11 +407,11 @@ stop_tried plan commands scope acts last why runs stop tried ending = by_decided
   split = runs_split plan commands (opening plan scope) acts [] last runs
 
   -- the run is over, and not for its turns
-  over : (stood plan commands scope (acts ++ last ∷ [])).progress.phase ≡ phase.Over why
-  over = by_needs (needs_of plan (stood plan commands scope (acts ++ last ∷ [])) (actions.Stop why) stop).1 where
+  over : (state_after plan commands scope (acts ++ last ∷ [])).progress.phase ≡ phase.Over why
+  over = by_needs (needs_of plan (state_after plan commands scope (acts ++ last ∷ [])) (actions.Stop why) stop).1 where
     -- the phase says that the run is over, or all turns are used up, for which no such run stops
-    by_needs : ((stood plan commands scope (acts ++ last ∷ [])).progress.phase ≡ phase.Over why) ⊎ ((why ≡ cause.Turns) × ((stood plan commands scope (acts ++ last ∷ [])).progress.turns ≡ 0))
-        → (stood plan commands scope (acts ++ last ∷ [])).progress.phase ≡ phase.Over why
+    by_needs : ((state_after plan commands scope (acts ++ last ∷ [])).progress.phase ≡ phase.Over why) ⊎ ((why ≡ cause.Turns) × ((state_after plan commands scope (acts ++ last ∷ [])).progress.turns ≡ 0))
+        → (state_after plan commands scope (acts ++ last ∷ [])).progress.phase ≡ phase.Over why
     by_needs (inl is) = is
     by_needs (inr turns) = absurd (subst IsTried turns.0 tried)
 

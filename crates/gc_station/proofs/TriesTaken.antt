@@ -16,8 +16,8 @@ use Rattle.gc_station.specs.declared.progress.Waiting.{Waiting}
 use Rattle.gc_links.specs.Acts.{Act, Gave}
 use Rattle.gc_station.specs.Deciding.{has_begun}
 use Rattle.gc_station.specs.Marks.{commands_in}
-use Rattle.gc_station.specs.Progressing.{is_spared, turned, told, time_passed, quieted, closed}
-use Rattle.gc_station.specs.Model.{Model, waiting_of, with_progress, with_moment, lines_behind, came, is_heard, piece_at, Performs, moved, after}
+use Rattle.gc_station.specs.Progressing.{is_spared, turned, moment_noted, time_passed, quieted, closed}
+use Rattle.gc_station.specs.Model.{Model, waiting_of, with_progress, with_moment, lines_completed, after_piece, is_heard, piece_at, Performs, moved, after}
 use Rattle.gc_station.specs.Tries.{ends_in}
 use Rattle.gc_station.proofs.Words.{begins_before}
 use Rattle.gc_station.proofs.Walk.{asked_along, came_along, closed_along, moved_changed, quieted_along, walk}
@@ -52,16 +52,16 @@ given_back false on after before retries new old e same = inr (inl (ltb-false af
 gave_took : (plan : Plan) (until : Until) (s : Model) (bytes : List ℕ) (m : Moment) → Hears plan s (piece_at plan until bytes m s)
 gave_took plan until s bytes m =
     let heard = is_heard s.progress.phase in
-    let mid = with_moment m (with_progress (told m) s) in
+    let mid = with_moment m (with_progress (moment_noted m) s) in
     let is = moved_changed plan [] (actions.Read until) s (Gave bytes m) in
-    let t = came heard s.progress.word bytes mid in
+    let t = after_piece heard s.progress.word bytes mid in
     record {
       left = ap (λ (x : Model). x.progress.left) is;
       unsent = ap (λ (x : Model). x.progress.unsent) is;
       begins = λ e. begins_before heard s.progress.word bytes mid refl e;
       tries = given_back (nat_lt (commands_in t.marks) (commands_in s.marks)) t.progress.preparing (commands_in t.marks) (commands_in s.marks) plan.retries t.progress.tries s.progress.tries refl
           (came_along (λ (x : Model). x.progress.tries ≡ s.progress.tries) (λ x line e. e) heard s.progress.word bytes mid refl
-          (asked_along (λ (q : Progress). q.tries ≡ s.progress.tries) (λ q line e. e) mid.progress (lines_behind s.rest bytes) refl) refl);
+          (asked_along (λ (q : Progress). q.tries ≡ s.progress.tries) (λ q line e. e) mid.progress (lines_completed s.rest bytes) refl) refl);
     }
 
 -- a read that gave nothing leaves the tries

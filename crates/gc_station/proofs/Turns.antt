@@ -13,7 +13,7 @@ use Rattle.gc_station.specs.declared.progress.Progress.{Progress}
 use Rattle.gc_station.specs.declared.progress.Waiting.{Waiting}
 use Rattle.gc_links.specs.Acts.{Act}
 use Rattle.gc_station.specs.Deciding.{is_up, action_in, action_on, action_of, action_up}
-use Rattle.gc_station.specs.Progressing.{turned, is_finished, is_spared, again, closed, is_over_in, is_over}
+use Rattle.gc_station.specs.Progressing.{turned, is_finished, is_spared, after_failure, closed, is_over_in, is_over}
 use Rattle.gc_station.specs.Model.{Model, waiting_of, action_at, Performs, moved, with_progress}
 use Rattle.gc_station.specs.Stations.{stepped}
 use Rattle.gc_station.proofs.Counts.{turns_kept, ended_progress}
@@ -40,7 +40,7 @@ phase_down false true why = refl
 phase_down false false why = refl
 
 -- in the progress after a connection that ended or couldn't be made, there is none
-pub again_down : (plan : Plan) (commands : ℕ) (why : Cause) (p : Progress) → is_up (again plan commands why p).phase ≡ false
+pub again_down : (plan : Plan) (commands : ℕ) (why : Cause) (p : Progress) → is_up (after_failure plan commands why p).phase ≡ false
 again_down plan commands why p = phase_down (is_finished commands p) (is_spared plan why p || nat_lt 0 p.tries) why
 
 -- after a close there is no connection

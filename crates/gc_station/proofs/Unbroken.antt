@@ -12,16 +12,16 @@ use Rattle.gc_station.specs.declared.progress.Phase.TheVariants as phase
 use Rattle.gc_station.specs.declared.progress.Progress.{Progress}
 use Rattle.gc_station.specs.declared.progress.Waiting.{Waiting}
 use Rattle.gc_station.specs.Deciding.{has_begun, is_up, may_go}
-use Rattle.gc_station.specs.Model.{Model, opening, action_at, requests_out, waiting_of, is_heard, lines_behind, with_progress, with_moment, with_rest, Performs, moved, after_all, Runs}
-use Rattle.gc_station.specs.Progressing.{turned, told, failing, cleared, time_passed}
+use Rattle.gc_station.specs.Model.{Model, opening, action_at, requests_out, waiting_of, is_heard, lines_completed, with_progress, with_moment, with_rest, Performs, moved, after_all, Runs}
+use Rattle.gc_station.specs.Progressing.{turned, moment_noted, failing, cleared, time_passed}
 use Rattle.gc_station.specs.Reasons.{IsFor, IsResting}
-use Rattle.gc_station.specs.Runs.{stood}
+use Rattle.gc_station.specs.Runs.{state_after}
 use Rattle.gc_station.specs.Scopes.{Scope}
 use Rattle.gc_station.proofs.Always.{always_far}
 use Rattle.gc_station.proofs.Closings.{came_phase}
-use Rattle.gc_station.proofs.Facts.{action_for}
+use Rattle.gc_station.proofs.Facts.{action_for, never_true}
 use Rattle.gc_station.proofs.Silences.{quieted_up}
-use Rattle.gc_station.proofs.Ticking.{clash}
+use Rattle.gc_station.proofs.Ticking.{not_both}
 use Rattle.gc_station.proofs.Walk.{asked_along, came_along, quieted_along, closed_along, is_sent, moved_changed, walk}
 use Rattle.gc_station.proofs.Words.{begun_kept}
 
@@ -44,11 +44,6 @@ both_second : (a b : Bool) → (a && b) ≡ true → b ≡ true
 both_second true b e = e
 both_second false b e = cc
 
--- if a test isn't true, it is false
-never_true : (b : Bool) → (b ≡ true → ⊥) → b ≡ false
-never_true true never = absurd (never refl)
-never_true false never = refl
-
 module _ (plan : Plan) (commands : List Task) where
   -- a chain that isn't broken after an act of the model s wasn't before
   abbrev Was : Model → Act → Model → Type 0
@@ -67,9 +62,9 @@ module _ (plan : Plan) (commands : List Task) where
   unbroken_before s (actions.Read until) act obeys c =
       let P : Progress → Type 0 = λ (q : Progress). q.chain_unbroken ≡ true → s.progress.chain_unbroken ≡ true in
       inr (walk plan commands (Was s) (actions.Read until) (with_progress turned s) act obeys (
-        λ bytes m. let mid = with_moment m (with_progress (told m) (with_progress turned s)) in
+        λ bytes m. let mid = with_moment m (with_progress (moment_noted m) (with_progress turned s)) in
             came_along (λ (t : Model). P t.progress) (λ t line e. e) (is_heard s.progress.phase) s.progress.word bytes mid (λ d. d)
-            (asked_along P (λ q line e. e) mid.progress (lines_behind mid.rest bytes) (λ d. d)) (λ d. d),
+            (asked_along P (λ q line e. e) mid.progress (lines_completed mid.rest bytes) (λ d. d)) (λ d. d),
         λ m. quieted_along P plan s.progress.phase (time_passed until m (turned s.progress)) (λ d. d) (λ d. d) (λ d. d),
         λ d. d,
         λ d. d,
@@ -98,7 +93,7 @@ module _ (plan : Plan) (commands : List Task) where
       (λ m c. cleared_up (has_begun s.progress), λ n c. fails (is_up (cleared (turned s.progress)).phase) (cause.Write (requests_out plan commands (turned s.progress)) n) ∙ cleared_up (has_begun s.progress))
   unbroken_up s (actions.Read until) act obeys up =
       walk plan commands Up (actions.Read until) (with_progress turned s) act obeys (
-        λ bytes m c. ap is_up (came_phase (is_heard s.progress.phase) s.progress.word bytes (with_moment m (with_progress (told m) (with_progress turned s)))) ∙ up,
+        λ bytes m c. ap is_up (came_phase (is_heard s.progress.phase) s.progress.word bytes (with_moment m (with_progress (moment_noted m) (with_progress turned s)))) ∙ up,
         λ m c. quieted_up plan s.progress.phase (time_passed until m (turned s.progress)) refl ∙ up,
         λ c. failed_up s cause.End up,
         λ c. failed_up s cause.Read up,
@@ -157,7 +152,7 @@ module _ (plan : Plan) (commands : List Task) where
     by_before (inr was) = let it = on was in (unbroken_up s o act obeys it.0 c, begun_kept plan commands s o act obeys it.1 c, unprepared_kept s o act c it.2)
 
 -- after each run, if a chain isn't broken there is a connection, the station has synchronized, and no setup comes first
-pub on_line_stood : (plan : Plan) (commands : List Task) (scope : Scope) (acts : List Act) → Runs plan commands (opening plan scope) acts → OnLine (stood plan commands scope acts).progress
+pub on_line_stood : (plan : Plan) (commands : List Task) (scope : Scope) (acts : List Act) → Runs plan commands (opening plan scope) acts → OnLine (state_after plan commands scope acts).progress
 on_line_stood plan commands scope acts runs =
     always_far plan commands (opening plan scope) (λ (p : Progress) (done : List Act). OnLine p) (λ done act runs' o on.
     let s = after_all plan commands (opening plan scope) done in
@@ -168,8 +163,8 @@ pub resting_none : (p : Progress) (w : Waiting) → OnLine p → IsResting p w �
 resting_none p w on rests some chained = never_true (may_go p w) (λ may. by_rest (both_second w.well p.chain_unbroken may) rests) where
   -- the lemma above, by why the run may end there
   by_rest : p.chain_unbroken ≡ true → IsResting p w → ⊥
-  by_rest c (inl down) = clash (is_up p.phase) (on c).0 down
-  by_rest c (inr (inl begins)) = clash (has_begun p) (on c).1 begins
+  by_rest c (inl down) = not_both (is_up p.phase) (on c).0 down
+  by_rest c (inr (inl begins)) = not_both (has_begun p) (on c).1 begins
   by_rest c (inr (inr (none, inl all))) = omega (arith, all, some)
-  by_rest c (inr (inr (none, inr (inl free)))) = clash p.next_is_chained chained free
-  by_rest c (inr (inr (none, inr (inr prepares)))) = clash p.preparing prepares (on c).2
+  by_rest c (inr (inr (none, inr (inl free)))) = not_both p.next_is_chained chained free
+  by_rest c (inr (inr (none, inr (inr prepares)))) = not_both p.preparing prepares (on c).2

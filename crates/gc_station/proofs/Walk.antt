@@ -21,8 +21,8 @@ use Rattle.gc_station.specs.declared.progress.Waiting.{Waiting}
 use Rattle.gc_links.specs.Acts.{Act, Told, Untold, Put, Cut, Gave, Silent, Ended, Broke, Closed, Opened, Unopened}
 use Rattle.gc_station.specs.Deciding.{is_quiet}
 use Rattle.gc_station.specs.Marks.{commands_in}
-use Rattle.gc_station.specs.Progressing.{told, begun, skipped, failing, opened, again, cleared, asking, null_sent, renewed, sent, line_asked, lines_asked, pause_ended, drained, quieted, time_passed, reckoned_early, ended_for, closed, setup_sent}
-use Rattle.gc_station.specs.Model.{Model, waiting_of, place_next, mark_next, requests_out, request_text, null_text, first_text, is_chained_behind_next, others_behind_next, skip_listed, with_listed, after_pass, Puts, Performs, is_heard, with_progress, with_moment, with_rest, with_records, asks_null, asks_first, asks_next, skips, line_came, lines_came, lines_behind, piece_asked, came, reckoned, piece_at, after_read, after_put, after_close, moved, cycle_length, mark_setup, text_or_null, asks_or_null, asks_setup}
+use Rattle.gc_station.specs.Progressing.{moment_noted, cycle_begun, skipped, failing, opened, after_failure, cleared, asking, null_sent, renewed, sent, line_asked, lines_asked, pause_ended, drained, quieted, time_passed, reckoned_early, ended_for, closed, setup_sent}
+use Rattle.gc_station.specs.Model.{Model, waiting_of, place_next, mark_next, requests_out, request_text, null_text, first_text, is_chained_after_next, others_after_next, skip_listed, with_listed, after_pass, Puts, Performs, is_heard, with_progress, with_moment, with_rest, with_records, asks_null, asks_first, asks_next, skips, line_came, lines_came, lines_completed, piece_asked, after_piece, reckoned, piece_at, after_read, after_put, after_close, moved, cycle_length, mark_setup, text_or_null, asks_or_null, asks_setup}
 
 -- Parts of an act.
 
@@ -39,8 +39,8 @@ asked_along P step p (line ∷ others) h = asked_along P step (line_asked p line
 -- a fact of models that each line keeps is kept by a piece, if it is also if the piece is heard while the station synchronizes,
 -- or discarded
 pub came_along : (P : Model → Type 0) → ((t : Model) (line : List ℕ) → P t → P (line_came t line)) → (heard : Bool) (word piece : List ℕ) (s : Model)
-    → P (with_rest (rest_behind s.rest piece) s) → P (piece_asked piece s) → P s → P (came heard word piece s)
-came_along P step true [] piece s hears begins drops = lines_along P step (with_rest (rest_behind s.rest piece) s) (lines_behind s.rest piece) hears
+    → P (with_rest (rest_behind s.rest piece) s) → P (piece_asked piece s) → P s → P (after_piece heard word piece s)
+came_along P step true [] piece s hears begins drops = lines_along P step (with_rest (rest_behind s.rest piece) s) (lines_completed s.rest piece) hears
 came_along P step true (asked ∷ others) piece s hears begins drops = begins
 came_along P step false word piece s hears begins drops = drops
 
@@ -55,7 +55,7 @@ quieted_along P plan Draining p paused quiet same = by_test (is_quiet plan p) wh
 quieted_along P plan at p paused quiet same = same
 
 -- a fact of progresses is kept by a close, if it is if the run ends, and if another connection may be made
-pub closed_along : (P : Progress → Type 0) (plan : Plan) (w : Waiting) (why : Cause) (p : Progress) → P (ended_for why p) → P (again plan w.commands why p) → P (closed plan w why p)
+pub closed_along : (P : Progress → Type 0) (plan : Plan) (w : Waiting) (why : Cause) (p : Progress) → P (ended_for why p) → P (after_failure plan w.commands why p) → P (closed plan w why p)
 closed_along P plan w cause.Done p ends on = ends
 closed_along P plan w cause.Clock p ends on = ends
 closed_along P plan w cause.Turns p ends on = ends
@@ -67,7 +67,7 @@ closed_along P plan w why p ends on = on
 
 -- the model that sent the next command, by its fields
 abbrev pub sending : Plan → List Task → Model → Model
-sending plan commands s = record s { progress = sent (is_chained_behind_next commands s.progress) (others_behind_next commands s.progress) s.progress; client = (asks_next plan commands s).client; marks = (asks_next plan commands s).marks }
+sending plan commands s = record s { progress = sent (is_chained_after_next commands s.progress) (others_after_next commands s.progress) s.progress; client = (asks_next plan commands s).client; marks = (asks_next plan commands s).marks }
 
 -- the model that sent the first of these commands, by its fields, is that after the send
 first_sent : (next_is_chained : Bool) (behind : ℕ) (mark : Mark) (left : List Task) (s : Model)
@@ -78,8 +78,8 @@ first_sent next_is_chained behind mark (task ∷ others) s = refl
 
 -- the model that sent the next command, by its fields (`sending`), is that after the act that sends
 pub is_sent : (plan : Plan) (commands : List Task) (s : Model)
-    → sending plan commands s ≡ with_progress (sent (is_chained_behind_next commands s.progress) (others_behind_next commands s.progress)) (asks_next plan commands s)
-is_sent plan commands s = first_sent (is_chained_behind_next commands s.progress) (others_behind_next commands s.progress) (mark_next plan commands s.progress)
+    → sending plan commands s ≡ with_progress (sent (is_chained_after_next commands s.progress) (others_after_next commands s.progress)) (asks_next plan commands s)
+is_sent plan commands s = first_sent (is_chained_after_next commands s.progress) (others_after_next commands s.progress) (mark_next plan commands s.progress)
     (drop (place_next commands s.progress) commands) s
 
 -- the model that sent the next command of the setup, by its fields
@@ -161,11 +161,11 @@ piece_of s t = record s { progress = asked_of s.progress t.progress; rest = t.re
 -- a read that gave bytes changes what `changed` says
 gave_changed : (plan : Plan) (until : Until) (s : Model) (bytes : List ℕ) (m : Moment) → piece_at plan until bytes m s ≡ changed (Read until) s (piece_at plan until bytes m s)
 gave_changed plan until s bytes m =
-    let mid = with_moment m (with_progress (told m) s) in
+    let mid = with_moment m (with_progress (moment_noted m) s) in
     let heard = is_heard s.progress.phase in
     let n = commands_in s.marks in
     let is = came_along (λ (t : Model). t ≡ piece_of mid t) (λ t line e. subst (λ (u : Model). line_came u line ≡ piece_of mid (line_came u line))
-    (sym e) refl) heard s.progress.word bytes mid refl (begins mid (lines_behind s.rest bytes) (rest_behind s.rest bytes)) refl in
+    (sym e) refl) heard s.progress.word bytes mid refl (begins mid (lines_completed s.rest bytes) (rest_behind s.rest bytes)) refl in
     subst (λ (u : Model). reckoned plan until n u ≡ changed (Read until) s (reckoned plan until n u)) (sym is) refl where
       -- the lemma above for a piece that is heard while the station synchronizes
       begins : (t : Model) (lines : List (List ℕ)) (rest : List ℕ) → record t { progress = lines_asked t.progress lines; rest = rest } ≡ piece_of t
@@ -228,19 +228,19 @@ Putting P requests bytes t = ((m : Moment) → P (Put bytes) t) × ((n : ℕ) �
 -- what has to hold for P to hold after an act of this action: P in each case that there may be
 abbrev pub Behind : Plan → List Task → (Act → Model → Type 0) → Action → Model → Type 0
 Behind plan commands P ReadClock s =
-    ((m : Moment) → P (Told m) (with_moment m (with_progress (λ p. reckoned_early plan (commands_in s.marks) (told m p)) s))) × ((n : ℕ) → P Untold (with_progress (failing cause.Clock) s))
+    ((m : Moment) → P (Told m) (with_moment m (with_progress (λ p. reckoned_early plan (commands_in s.marks) (moment_noted m p)) s))) × ((n : ℕ) → P Untold (with_progress (failing cause.Clock) s))
 Behind plan commands P Renew s = ((m : Moment) → P (Told m) (with_moment m
     (with_progress (λ p. reckoned_early plan 0 (renewed plan m p)) s))) × ((n : ℕ) → P Untold (with_progress (failing cause.Clock) s))
-Behind plan commands P Begin s = ((m : Moment) → P (Told m) (with_moment m (with_progress (begun plan (cycle_length plan commands) m) s)))
+Behind plan commands P Begin s = ((m : Moment) → P (Told m) (with_moment m (with_progress (cycle_begun plan (cycle_length plan commands) m) s)))
     × ((n : ℕ) → P Untold (with_progress (failing cause.Clock) s))
-Behind plan commands P Open s = ((m : Moment) → P Opened (with_progress opened s)) × ((n : ℕ) → P Unopened (with_progress (again plan (commands_in s.marks) cause.Open) s))
+Behind plan commands P Open s = ((m : Moment) → P Opened (with_progress opened s)) × ((n : ℕ) → P Unopened (with_progress (after_failure plan (commands_in s.marks) cause.Open) s))
 Behind plan commands P Clear s = Putting P (requests_out plan commands s.progress) (10 ∷ []) (with_progress cleared s)
 Behind plan commands P Ask s = Putting P (requests_out plan commands s.progress) (null_text s.progress.word) (with_progress (null_sent plan) s)
 Behind plan commands P Prepare s = Putting P (requests_out plan commands s.progress) (text_or_null s.progress.moment.utc s.client (drop s.progress.prepared commands)) (preparing plan commands s)
 Behind plan commands P Send s = Putting P (requests_out plan commands s.progress) (first_text s.progress.moment.utc s.client (drop (place_next commands s.progress) commands)) (sending plan commands s)
 Behind plan commands P Skip s =
     ((m : Moment) → P (Told m) (with_moment m (with_progress (λ p. reckoned_early plan (commands_in s.marks)
-    (skipped (is_chained_behind_next commands s.progress) (others_behind_next commands s.progress) m p)) (with_listed (skip_listed plan commands s (Told m))
+    (skipped (is_chained_after_next commands s.progress) (others_after_next commands s.progress) m p)) (with_listed (skip_listed plan commands s (Told m))
         (with_records (skips plan commands s.progress (Told m)) s)))))
     × ((n : ℕ) → P Untold (with_progress (failing cause.Clock) (with_records [] s)))
 Behind plan commands P Pass s = ((m : Moment) → P (Told m) (after_pass plan commands s (Told m))) × ((n : ℕ) → P Untold (with_progress (failing cause.Clock) s))
@@ -281,7 +281,7 @@ walk plan commands P Prepare s act o h =
 walk plan commands P Send s act o h =
     let requests = requests_out plan commands s.progress in
     let text = first_text s.progress.moment.utc s.client (drop (place_next commands s.progress) commands) in
-    put_walk P requests text (λ (x : Model). with_progress (sent (is_chained_behind_next commands s.progress) (others_behind_next commands s.progress)) (asks_next plan commands x)) s act o
+    put_walk P requests text (λ (x : Model). with_progress (sent (is_chained_after_next commands s.progress) (others_after_next commands s.progress)) (asks_next plan commands x)) s act o
     (subst (λ (u : Model). Putting P requests text u) (is_sent plan commands s) h)
 walk plan commands P Skip s (Told m) o h = h.0 m
 walk plan commands P Skip s Untold o h = h.1 0

@@ -10,16 +10,16 @@ use Rattle.gc_station.specs.declared.plan.Plan.{Plan}
 use Rattle.gc_links.specs.Acts.{Act, Told, Gave, Silent}
 use Rattle.gc_station.specs.Deciding.{later}
 use Rattle.gc_station.specs.Records.{Record}
-use Rattle.gc_station.specs.Runs.{stood}
-use Rattle.gc_station.specs.Model.{Puts, IsSending, cycle_out, place_out, request_text, lines_behind}
+use Rattle.gc_station.specs.Runs.{state_after}
+use Rattle.gc_station.specs.Model.{Puts, IsSending, cycle_out, place_out, request_text, lines_completed}
 use Rattle.gc_station.specs.Scopes.{Scope}
 
 -- an act reads no moment at or past this deadline
-abbrev pub IsBefore : ℕ → Act → Type 0
-IsBefore deadline (Told m) = m.elapsed < deadline
-IsBefore deadline (Gave bytes m) = m.elapsed < deadline
-IsBefore deadline (Silent m) = m.elapsed < deadline
-IsBefore deadline _ = Unit {0}
+abbrev pub ReadsBefore : ℕ → Act → Type 0
+ReadsBefore deadline (Told m) = m.elapsed < deadline
+ReadsBefore deadline (Gave bytes m) = m.elapsed < deadline
+ReadsBefore deadline (Silent m) = m.elapsed < deadline
+ReadsBefore deadline _ = Unit {0}
 
 -- how long the first of these commands waits; 0 if there is none
 abbrev pub first_deadline : List Task → ℕ
@@ -27,9 +27,9 @@ first_deadline [] = 0
 first_deadline (task ∷ others) = task.deadline
 
 -- the deadline of the next command, if its request is sent directly after these acts
-abbrev pub deadline_behind : Plan → List Task → Scope → List Act → ℕ
-deadline_behind plan commands scope acts =
-    let s = stood plan commands scope acts in
+abbrev pub deadline_after : Plan → List Task → Scope → List Act → ℕ
+deadline_after plan commands scope acts =
+    let s = state_after plan commands scope acts in
     later s.progress.moment.elapsed (first_deadline (drop (place_out plan commands s) commands))
 
 -- the acts are, in this order: `before`; `request`, which puts the request of the record r, of its cycle and place, where the
@@ -44,21 +44,21 @@ pub record IsAnsweredIn (plan : Plan) (commands : List Task) (scope : Scope) (ac
   pub moment : Moment
   pub behind : List Act
   pub order : acts ≡ before ++ request ∷ (between ++ Gave piece moment ∷ behind)
-  pub sends : IsSending plan (stood plan commands scope before)
-  pub cycle : r.cycle ≡ cycle_out plan (stood plan commands scope before)
-  pub place : r.place ≡ place_out plan commands (stood plan commands scope before)
-  pub sent : r.sent ≡ Some (stood plan commands scope before).progress.moment.utc
-  pub put : Puts (request_text (stood plan commands scope before).client r.command.call) request
-  pub waits : AllByRecursion (IsBefore (deadline_behind plan commands scope before)) between
-  pub in_time : moment.elapsed < deadline_behind plan commands scope before
+  pub sends : IsSending plan (state_after plan commands scope before)
+  pub cycle : r.cycle ≡ cycle_out plan (state_after plan commands scope before)
+  pub place : r.place ≡ place_out plan commands (state_after plan commands scope before)
+  pub sent : r.sent ≡ Some (state_after plan commands scope before).progress.moment.utc
+  pub put : Puts (request_text (state_after plan commands scope before).client r.command.call) request
+  pub waits : AllByRecursion (ReadsBefore (deadline_after plan commands scope before)) between
+  pub in_time : moment.elapsed < deadline_after plan commands scope before
   pub front : List (List ℕ)
   pub others : List (List ℕ)
-  pub came : lines_behind (stood plan commands scope (before ++ request ∷ between)).rest piece ≡ front ++ line ∷ others
-  pub id : heard line ≡ Some (stood plan commands scope before).client.next
+  pub came : lines_completed (state_after plan commands scope (before ++ request ∷ between)).rest piece ≡ front ++ line ∷ others
+  pub id : heard line ≡ Some (state_after plan commands scope before).client.next
   pub earlier : List Record
   pub later : List Record
-  pub written : (stood plan commands scope (before ++ request ∷ (between ++ Gave piece moment ∷ []))).records
-      ≡ (stood plan commands scope (before ++ request ∷ between)).records ++ (earlier ++ r ∷ later)
+  pub written : (state_after plan commands scope (before ++ request ∷ (between ++ Gave piece moment ∷ []))).records
+      ≡ (state_after plan commands scope (before ++ request ∷ between)).records ++ (earlier ++ r ∷ later)
 
 -- the line of the reply, for a command that a reply in time ended: as answered, unreadable or elsewhere. None for any other
 -- ending
@@ -72,5 +72,5 @@ answer_of Skipped = None
 answer_of Missed = None
 
 -- if a record is of a reply in time (answered, unreadable or elsewhere), the reply's line came as `IsAnsweredIn` says
-abbrev pub IsTrueRecord : Plan → List Task → Scope → List Act → Record → Type 0
-IsTrueRecord plan commands scope acts r = (line : List ℕ) → answer_of r.end ≡ Some line → IsAnsweredIn plan commands scope acts r line
+abbrev pub AnswerIsJustified : Plan → List Task → Scope → List Act → Record → Type 0
+AnswerIsJustified plan commands scope acts r = (line : List ℕ) → answer_of r.end ≡ Some line → IsAnsweredIn plan commands scope acts r line

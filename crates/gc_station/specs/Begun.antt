@@ -2,7 +2,7 @@
 -- from one synchronization of the station to the next (`Parts`).
 use Rattle.std.specs.Prelude.{◌≡◌, ◌⊎◌, ℕ, List, [], ◌∷◌}
 use Rattle.gc_client.specs.Beginning.{the_word}
-use Rattle.gc_station.specs.Beginnings.{left_behind}
+use Rattle.gc_station.specs.Beginnings.{unanswered_after}
 use Rattle.gc_station.specs.Parts.{Part, Turn, Asks, Hears}
 
 -- the lines that are heard among turns
@@ -15,5 +15,5 @@ heard_in (Hears line ∷ turns) = line ∷ heard_in turns
 -- left, and for each other all eight. The last one has no step of the client, or has begun as well
 abbrev pub AreBegun : List ℕ → List Part → Type 0
 AreBegun word [] = Unit {0}
-AreBegun word (p ∷ []) = (p.steps ≡ []) ⊎ (left_behind word (heard_in p.turns) ≡ [])
-AreBegun word (p ∷ q ∷ ps) = (left_behind word (heard_in p.turns) ≡ []) × AreBegun the_word (q ∷ ps)
+AreBegun word (p ∷ []) = (p.steps ≡ []) ⊎ (unanswered_after word (heard_in p.turns) ≡ [])
+AreBegun word (p ∷ q ∷ ps) = (unanswered_after word (heard_in p.turns) ≡ []) × AreBegun the_word (q ∷ ps)

@@ -19,7 +19,7 @@ use Rattle.gc_station.specs.Links.{parts}
 use Rattle.gc_station.specs.Model.{opening, waiting_of, Runs}
 use Rattle.gc_station.specs.Parts.{Part}
 use Rattle.gc_station.specs.Progressing.{is_over}
-use Rattle.gc_station.specs.Runs.{stood}
+use Rattle.gc_station.specs.Runs.{state_after}
 use Rattle.gc_station.specs.Scopes.{Scope}
 
 -- a request was a call of the table, and a reply ended it: it was answered, or late
@@ -52,7 +52,7 @@ AreOfTable tasks = AllByRecursion (λ task. is_of_table task.command.call ≡ tr
 abbrev pub TheTableIsNeverHeldUp : Type 0
 TheTableIsNeverHeldUp =
     (plan : Plan) (commands : List Task) (scope : Scope) (acts : List Act) → Runs plan commands (opening plan scope) acts → AreOfTable commands
-    → let s = stood plan commands scope acts in has_begun s.progress ≡ true → is_over s.progress ≡ false
+    → let s = state_after plan commands scope acts in has_begun s.progress ≡ true → is_over s.progress ≡ false
     → (s.progress.behind ≡ length s.client.waiting)
     × (action_next plan s.progress (waiting_of s) ≡ action_room plan s.progress (waiting_of s) action.Send)
     × (action_prepare plan s.progress (waiting_of s) ≡ action_room plan s.progress (waiting_of s) action.Prepare)

@@ -14,7 +14,7 @@ use Rattle.gc_station.specs.Answers.{IsAnsweredIn}
 use Rattle.gc_station.specs.Qualities.{IsOfQuality, accepted_at}
 use Rattle.gc_station.specs.Quiet.{KeepsOpen}
 use Rattle.gc_station.specs.Records.{Record}
-use Rattle.gc_station.specs.Runs.{stood}
+use Rattle.gc_station.specs.Runs.{state_after}
 use Rattle.gc_station.specs.Scopes.{Scope}
 use Rattle.gc_station.specs.Model.{Model, action_at, cycles_begun, place_next, is_chained}
 
@@ -31,15 +31,15 @@ pub record IsLinked (plan : Plan) (commands : List Task) (scope : Scope) (acts :
   pub request : Act
   pub between : List Act
   pub order : acts ≡ before ++ request ∷ between
-  pub sends : action_at plan (stood plan commands scope before) ≡ Send
-  pub cycle : cycles_begun plan (stood plan commands scope acts).progress ≡ cycles_begun plan (stood plan commands scope before).progress
-  pub place : place_next commands (stood plan commands scope acts).progress ≡ place_next commands (stood plan commands scope before).progress + 1
+  pub sends : action_at plan (state_after plan commands scope before) ≡ Send
+  pub cycle : cycles_begun plan (state_after plan commands scope acts).progress ≡ cycles_begun plan (state_after plan commands scope before).progress
+  pub place : place_next commands (state_after plan commands scope acts).progress ≡ place_next commands (state_after plan commands scope before).progress + 1
   pub stays : AllByRecursion KeepsOpen between
   pub earlier : List Record
   pub answer : Record
-  pub last : (stood plan commands scope acts).records ≡ earlier ++ answer ∷ []
-  pub own_cycle : answer.cycle ≡ cycles_begun plan (stood plan commands scope before).progress
-  pub own_place : answer.place ≡ place_next commands (stood plan commands scope before).progress
+  pub last : (state_after plan commands scope acts).records ≡ earlier ++ answer ∷ []
+  pub own_cycle : answer.cycle ≡ cycles_begun plan (state_after plan commands scope before).progress
+  pub own_place : answer.place ≡ place_next commands (state_after plan commands scope before).progress
   pub line : List ℕ
   pub quality : Quality
   pub said : Option Answer

@@ -14,7 +14,7 @@ use Rattle.gc_station.specs.declared.progress.Action.TheVariants.{Stop}
 use Rattle.gc_links.specs.Acts.{Act}
 use Rattle.gc_station.specs.Records.{Record}
 pub use Rattle.gc_station.specs.Requests.{Request, requests, of_command, of_task, in_text}
-use Rattle.gc_station.specs.Runs.{stood}
+use Rattle.gc_station.specs.Runs.{state_after}
 use Rattle.gc_station.specs.Model.{Model, action_at, cycles_begun, place_next}
 use Rattle.gc_station.specs.Scopes.{Scope}
 
@@ -73,12 +73,12 @@ IsEachOnce plan commands s =
 -- after these acts of a run `IsEachOnce` holds. If the run stopped there, the records and the attempts that were left out are
 -- the commands that had their turn; and if it is done, they are all commands of all cycles
 pub record EachOnce (plan : Plan) (commands : List Task) (scope : Scope) (acts : List Act) : Type 0 where
-  pub each : IsEachOnce plan commands (stood plan commands scope acts)
-  pub settled : (cause : Cause) → action_at plan (stood plan commands scope acts) ≡ Stop cause
-      → Parted (of_text commands (map of_record (stood plan commands scope acts).records)) (stood plan commands scope acts).passes
-      (sent_by plan.setup commands (cycles_begun plan (stood plan commands scope acts).progress) (place_next commands (stood plan commands scope acts).progress))
-  pub done : action_at plan (stood plan commands scope acts) ≡ Stop Done
-      → Parted (of_text commands (map of_record (stood plan commands scope acts).records)) (stood plan commands scope acts).passes (all_cycles plan.setup commands plan.cycles)
+  pub each : IsEachOnce plan commands (state_after plan commands scope acts)
+  pub settled : (cause : Cause) → action_at plan (state_after plan commands scope acts) ≡ Stop cause
+      → Parted (of_text commands (map of_record (state_after plan commands scope acts).records)) (state_after plan commands scope acts).passes
+      (sent_by plan.setup commands (cycles_begun plan (state_after plan commands scope acts).progress) (place_next commands (state_after plan commands scope acts).progress))
+  pub done : action_at plan (state_after plan commands scope acts) ≡ Stop Done
+      → Parted (of_text commands (map of_record (state_after plan commands scope acts).records)) (state_after plan commands scope acts).passes (all_cycles plan.setup commands plan.cycles)
 
 -- a station is further than it was: in a later cycle, or at a later place in the same cycle
 abbrev pub IsFurther : Plan → List Task → Model → Model → Type 0

@@ -12,7 +12,7 @@ use Rattle.gc_texts.specs.declared.tasks.Task.{Task}
 use Rattle.gc_station.specs.Parts.{Part, mark_of, parts_of}
 use Rattle.gc_station.specs.Qualities.{IsOfQuality, accepted_at}
 use Rattle.gc_station.specs.Records.{Record}
-use Rattle.gc_station.specs.Runs.{stood}
+use Rattle.gc_station.specs.Runs.{state_after}
 use Rattle.gc_station.specs.Scopes.{Scope}
 use Rattle.gc_station.specs.Model.{Runs, is_chained, opening}
 use Rattle.gc_station.specs.declared.mark.Mark.{Mark}
@@ -32,10 +32,10 @@ parts plan commands scope acts = parts_of plan commands (opening plan scope) act
 
 -- after these acts, the command at place a of this cycle has a record, which is an answer of a good quality: with both codes 0
 -- and values that read, or with a return code that is accepted of that command. And `part` has the request of that command
-pub record IsAnsweredBack (plan : Plan) (commands : List Task) (scope : Scope) (acts : List Act) (part : Part) (cycle a : ℕ) : Type 0 where
+pub record IsAnsweredEarlier (plan : Plan) (commands : List Task) (scope : Scope) (acts : List Act) (part : Part) (cycle a : ℕ) : Type 0 where
   pub k : ℕ
   pub answer : Record
-  pub among : slice_get (stood plan commands scope acts).records k ≡ Some answer
+  pub among : slice_get (state_after plan commands scope acts).records k ≡ Some answer
   pub own_cycle : answer.cycle ≡ cycle
   pub own_place : answer.place ≡ a
   pub line : List ℕ
@@ -53,7 +53,7 @@ pub record IsAnsweredBack (plan : Plan) (commands : List Task) (scope : Scope) (
 -- the command of this cycle and place was sent as request n of part i of a run, both counted from 0: after the acts `before`,
 -- part i is the last one and has n requests so far; and each earlier command of its chain was answered by then, as a request of
 -- that very part
-pub record IsSentBehind (plan : Plan) (commands : List Task) (scope : Scope) (acts : List Act) (i n cycle place : ℕ) : Type 0 where
+pub record IsSentAfter (plan : Plan) (commands : List Task) (scope : Scope) (acts : List Act) (i n cycle place : ℕ) : Type 0 where
   pub before : List Act
   pub rest : List Act
   pub order : acts ≡ before ++ rest
@@ -61,7 +61,7 @@ pub record IsSentBehind (plan : Plan) (commands : List Task) (scope : Scope) (ac
   pub of_parts : slice_get (parts plan commands scope before) i ≡ Some first
   pub last : length (parts plan commands scope before) ≡ suc i
   pub count : length first.marks ≡ n
-  pub chain : (a : ℕ) → plan.setup ≤ a → a < place → AreChained commands a place → IsAnsweredBack plan commands scope before first cycle a
+  pub chain : (a : ℕ) → plan.setup ≤ a → a < place → AreChained commands a place → IsAnsweredEarlier plan commands scope before first cycle a
 
 -- each command of a cycle is sent only after the answers of all earlier commands of its chain, as a request of the same part of
 -- a run
@@ -69,7 +69,7 @@ abbrev pub ChainsStay : Type 0
 ChainsStay =
     (plan : Plan) (commands : List Task) (scope : Scope) (acts : List Act) → Runs plan commands (opening plan scope) acts
     → (i n : ℕ) (part : Part) (mark : Mark) → slice_get (parts plan commands scope acts) i ≡ Some part → slice_get part.marks n ≡ Some (Some mark)
-    → 0 < mark.cycle → IsSentBehind plan commands scope acts i n mark.cycle mark.place
+    → 0 < mark.cycle → IsSentAfter plan commands scope acts i n mark.cycle mark.place
 
 -- of two commands of cycles that are sent, in one part or in two, the later one is of a later place in its cycle, or of a later
 -- cycle
@@ -83,4 +83,4 @@ MarksGoOn =
 abbrev pub RecordsStay : Type 0
 RecordsStay =
     (plan : Plan) (commands : List Task) (scope : Scope) (before rest : List Act)
-    → (more : List Record) × ((stood plan commands scope (before ++ rest)).records ≡ (stood plan commands scope before).records ++ more)
+    → (more : List Record) × ((state_after plan commands scope (before ++ rest)).records ≡ (state_after plan commands scope before).records ++ more)

@@ -105,6 +105,6 @@ last_well well (r ∷ others) = last_well (is_well r.end) others
 
 -- the moment at which a command that was answered well was recorded last: `now`, if one of these records, which are recorded at
 -- that moment, is of such a command; otherwise `fresh`
-abbrev pub fresh_behind : ℕ → ℕ → List Record → ℕ
-fresh_behind now fresh [] = fresh
-fresh_behind now fresh (r ∷ others) = fresh_behind now (if is_well r.end then now else fresh) others
+abbrev pub fresh_after : ℕ → ℕ → List Record → ℕ
+fresh_after now fresh [] = fresh
+fresh_after now fresh (r ∷ others) = fresh_after now (if is_well r.end then now else fresh) others

@@ -34,9 +34,9 @@ use Rattle.gc_station.specs.declared.mark.Mark.{Mark}
 use Rattle.gc_links.specs.Acts.{Act, Told, Untold, Put, Cut, Gave, Silent, Ended, Broke, Closed, Opened, Unopened}
 use Rattle.gc_station.specs.Deciding.{later, is_preparing, action_of}
 pub use Rattle.gc_station.specs.Lines.{is_ok, is_reply}
-use Rattle.gc_station.specs.Attempts.{listed_behind, listed_by}
-use Rattle.gc_station.specs.Marks.{commands_in, records_of, last_well, fresh_behind}
-use Rattle.gc_station.specs.Progressing.{at_start, turned, told, begun, skipped, passed, skipped_at, failing, opened, again, cleared, asking, null_sent, renewed, sent, caught_up, noted, lines_asked, gave, silent, reckoned_early, closed, loses_all, setup_sent}
+use Rattle.gc_station.specs.Attempts.{listed_after, listed_by}
+use Rattle.gc_station.specs.Marks.{commands_in, records_of, last_well, fresh_after}
+use Rattle.gc_station.specs.Progressing.{at_start, turned, moment_noted, cycle_begun, skipped, attempts_left_out, skipped_at, failing, opened, after_failure, cleared, asking, null_sent, renewed, sent, caught_up, line_noted, lines_asked, bytes_noted, silent, reckoned_early, closed, loses_all, setup_sent}
 use Rattle.gc_station.specs.Records.{Record}
 use Rattle.gc_station.specs.Requests.{Request, requests, of_task}
 use Rattle.gc_station.specs.Scopes.{Scope}
@@ -161,20 +161,20 @@ others_in (task ∷ others) = task.others
 
 -- whether the command this many places after the next one is sent only once the one before it was answered well. In a missed
 -- cycle, if none is sent, this holds of each command
-abbrev pub is_chained_behind : ℕ → List Task → Progress → Bool
-is_chained_behind count commands p = p.missed || is_chained (drop (place_next commands p + count) commands)
+abbrev pub is_chained_after : ℕ → List Task → Progress → Bool
+is_chained_after count commands p = p.missed || is_chained (drop (place_next commands p + count) commands)
 
 -- `others_in` from the command this many places after the next one
-abbrev pub others_behind : ℕ → List Task → Progress → ℕ
-others_behind count commands p = others_in (drop (place_next commands p + count) commands)
+abbrev pub others_after : ℕ → List Task → Progress → ℕ
+others_after count commands p = others_in (drop (place_next commands p + count) commands)
 
 -- whether the command after the next one is sent only once the next one was answered well
-abbrev pub is_chained_behind_next : List Task → Progress → Bool
-is_chained_behind_next commands p = is_chained_behind 1 commands p
+abbrev pub is_chained_after_next : List Task → Progress → Bool
+is_chained_after_next commands p = is_chained_after 1 commands p
 
 -- `others_in` from the command after the next one
-abbrev pub others_behind_next : List Task → Progress → ℕ
-others_behind_next commands p = others_behind 1 commands p
+abbrev pub others_after_next : List Task → Progress → ℕ
+others_after_next commands p = others_after 1 commands p
 
 -- a command is sent next: of a cycle, or of the setup
 abbrev pub IsSending : Plan → Model → Type 0
@@ -287,7 +287,7 @@ skips plan commands p _ = []
 -- whether a command of the attempt ended as its rule names, once the next command isn't sent: as before, if the clock couldn't
 -- be read
 abbrev pub skip_listed : Plan → List Task → Model → Act → Bool
-skip_listed plan commands s (Told m) = listed_behind s.listed (mark_next plan commands s.progress).expected None (if s.progress.missed then Missed else Skipped)
+skip_listed plan commands s (Told m) = listed_after s.listed (mark_next plan commands s.progress).expected None (if s.progress.missed then Missed else Skipped)
 skip_listed plan commands s _ = s.listed
 
 -- the commands that are left out if the next one begins a further attempt: those of this attempt and of those after it
@@ -313,7 +313,7 @@ with_settled settlements s = record s {
   records = s.records ++ records_of s.reads s.progress.moment.utc s.marks settlements;
   listed = listed_by s.reads s.listed s.marks settlements;
   marks = drop (length settlements) s.marks;
-  fresh = fresh_behind s.progress.moment.elapsed s.fresh (records_of s.reads s.progress.moment.utc s.marks settlements);
+  fresh = fresh_after s.progress.moment.elapsed s.fresh (records_of s.reads s.progress.moment.utc s.marks settlements);
 }
 
 -- the model after what a client settled: with the records of these settlements, and the client as it then is
@@ -336,7 +336,7 @@ line_settles x s = with_progress (caught_up (ends_with_table x.settlements) (len
 
 -- the model after a line that came
 abbrev pub line_came : Model → List ℕ → Model
-line_came s line = with_progress (noted (is_reply line)) (line_settles (hears s.client line (heard line)) s)
+line_came s line = with_progress (line_noted (is_reply line)) (line_settles (hears s.client line (heard line)) s)
 
 -- the model after lines that came, in order
 abbrev pub lines_came : Model → List (List ℕ) → Model
@@ -344,8 +344,8 @@ lines_came s [] = s
 lines_came s (line ∷ others) = lines_came (line_came s line) others
 
 -- the lines that a piece completes after the bytes since the last line feed
-abbrev pub lines_behind : List ℕ → List ℕ → List (List ℕ)
-lines_behind rest piece = filter_map line_in (frames_behind rest piece)
+abbrev pub lines_completed : List ℕ → List ℕ → List (List ℕ)
+lines_completed rest piece = filter_map line_in (frames_behind rest piece)
 
 -- a model with these bytes since the last line feed in place of its own
 abbrev pub with_rest : List ℕ → Model → Model
@@ -353,11 +353,11 @@ with_rest rest s = record s { rest = rest }
 
 -- the model after a piece whose lines are heard, in order
 abbrev pub piece_came : List ℕ → Model → Model
-piece_came piece s = lines_came (with_rest (rest_behind s.rest piece) s) (lines_behind s.rest piece)
+piece_came piece s = lines_came (with_rest (rest_behind s.rest piece) s) (lines_completed s.rest piece)
 
 -- the model after a piece whose lines are heard while the station synchronizes, in order
 abbrev pub piece_asked : List ℕ → Model → Model
-piece_asked piece s = with_progress (λ p. lines_asked p (lines_behind s.rest piece)) (with_rest (rest_behind s.rest piece) s)
+piece_asked piece s = with_progress (λ p. lines_asked p (lines_completed s.rest piece)) (with_rest (rest_behind s.rest piece) s)
 
 -- whether what comes in a phase is heard: in `Ready` alone. In each other phase it is discarded
 abbrev pub is_heard : Phase → Bool
@@ -372,21 +372,21 @@ is_heard (phase.Over cause) = false
 -- the model after a piece, with the ids of the synchronization that aren't answered. If the piece is heard (`true`), the client
 -- hears it if none of these ids is left, and else the synchronization does; the client doesn't hear what follows the
 -- synchronization's last answer in that piece. If it isn't heard (`false`), it is discarded
-abbrev pub came : Bool → List ℕ → List ℕ → Model → Model
-came true [] piece s = piece_came piece s
-came true (asked ∷ others) piece s = piece_asked piece s
-came false word piece s = s
+abbrev pub after_piece : Bool → List ℕ → List ℕ → Model → Model
+after_piece true [] piece s = piece_came piece s
+after_piece true (asked ∷ others) piece s = piece_asked piece s
+after_piece false word piece s = s
 
 -- the model once what a piece settled was counted: a command that was settled gives all tries back, and the cycle may be done
 -- early. `before` commands were outstanding before the piece
 abbrev pub reckoned : Plan → Until → ℕ → Model → Model
-reckoned plan until before s = with_progress (λ p. reckoned_early plan (commands_in s.marks) (gave plan until before (waiting_of s) p)) s
+reckoned plan until before s = with_progress (λ p. reckoned_early plan (commands_in s.marks) (bytes_noted plan until before (waiting_of s) p)) s
 
 -- the model after a piece that came by this moment: requests whose deadline has come time out first, and then the piece is
 -- heard
 abbrev pub piece_at : Plan → Until → List ℕ → Moment → Model → Model
 piece_at plan until piece m s =
-    reckoned plan until (commands_in s.marks) (came (is_heard s.progress.phase) s.progress.word piece (with_moment m (with_progress (told m) s)))
+    reckoned plan until (commands_in s.marks) (after_piece (is_heard s.progress.phase) s.progress.word piece (with_moment m (with_progress (moment_noted m) s)))
 
 -- the model after a read
 abbrev pub after_read : Plan → Until → Model → Act → Model
@@ -405,9 +405,9 @@ after_clock f s _ = with_progress (failing cause.Clock) s
 abbrev pub after_pass : Plan → List Task → Model → Act → Model
 after_pass plan commands s (Told m) =
     let n = s.progress.next_others in
-    let is_chained = is_chained_behind n commands s.progress in
-    let others = others_behind n commands s.progress in
-    with_moment m (with_progress (λ p. reckoned_early plan (commands_in s.marks) (passed is_chained others m p)) (with_passes (passes_next plan commands s.progress) s))
+    let is_chained = is_chained_after n commands s.progress in
+    let others = others_after n commands s.progress in
+    with_moment m (with_progress (λ p. reckoned_early plan (commands_in s.marks) (attempts_left_out is_chained others m p)) (with_passes (passes_next plan commands s.progress) s))
 after_pass plan commands s _ = with_progress (failing cause.Clock) s
 
 -- the model after a write, changed by `f`. If the bytes were cut, the connection is to be closed besides, for a cause that
@@ -419,7 +419,7 @@ after_put requests f s _ = f s
 -- the model after an attempt to connect
 abbrev pub after_open : Plan → Model → Act → Model
 after_open plan s Opened = with_progress opened s
-after_open plan s _ = with_progress (again plan (commands_in s.marks) cause.Open) s
+after_open plan s _ = with_progress (after_failure plan (commands_in s.marks) cause.Open) s
 
 -- the model after a close: the bytes of a line are forgotten, and what is outstanding stays outstanding
 abbrev pub after_close : Plan → Cause → Model → Model
@@ -427,17 +427,17 @@ after_close plan cause s = with_progress (closed plan (waiting_of s) cause) (wit
 
 -- the model after an act that performs this action, apart from the turn that is taken
 abbrev pub moved : Plan → List Task → Action → Model → Act → Model
-moved plan commands ReadClock s act = after_clock (λ m p. reckoned_early plan (commands_in s.marks) (told m p)) s act
+moved plan commands ReadClock s act = after_clock (λ m p. reckoned_early plan (commands_in s.marks) (moment_noted m p)) s act
 moved plan commands Renew s act = after_clock (λ m p. reckoned_early plan 0 (renewed plan m p)) s act
-moved plan commands Begin s act = after_clock (begun plan (cycle_length plan commands)) s act
+moved plan commands Begin s act = after_clock (cycle_begun plan (cycle_length plan commands)) s act
 moved plan commands Open s act = after_open plan s act
 moved plan commands Clear s act = after_put (requests_out plan commands s.progress) (with_progress cleared) s act
 moved plan commands Ask s act = after_put (requests_out plan commands s.progress) (with_progress (null_sent plan)) s act
 moved plan commands Prepare s act = after_put (requests_out plan commands s.progress) (λ (s : Model). with_progress (setup_sent plan) (asks_setup plan commands s)) s act
 moved plan commands Send s act = after_put (requests_out plan commands s.progress)
-    (λ (s : Model). with_progress (sent (is_chained_behind_next commands s.progress) (others_behind_next commands s.progress)) (asks_next plan commands s)) s act
+    (λ (s : Model). with_progress (sent (is_chained_after_next commands s.progress) (others_after_next commands s.progress)) (asks_next plan commands s)) s act
 moved plan commands Skip s act =
-    after_clock (λ m p. reckoned_early plan (commands_in s.marks) (skipped (is_chained_behind_next commands s.progress) (others_behind_next commands s.progress) m p))
+    after_clock (λ m p. reckoned_early plan (commands_in s.marks) (skipped (is_chained_after_next commands s.progress) (others_after_next commands s.progress) m p))
     (with_listed (skip_listed plan commands s act) (with_records (skips plan commands s.progress act) s)) act
 moved plan commands Pass s act = after_pass plan commands s act
 moved plan commands Flush s act = after_put (requests_out plan commands s.progress) (λ (s : Model). with_progress asking (asks_null plan s)) s act

@@ -19,7 +19,7 @@ use Rattle.gc_texts.specs.declared.quality.Quality.{Quality}
 use Rattle.gc_texts.specs.declared.tasks.Task.{Task}
 use Rattle.gc_links.specs.Acts.{Act}
 use Rattle.gc_station.specs.Records.{Record}
-use Rattle.gc_station.specs.Runs.{stood}
+use Rattle.gc_station.specs.Runs.{state_after}
 use Rattle.gc_station.specs.Scopes.{Scope}
 use Rattle.gc_station.specs.declared.plan.Plan.{Plan}
 
@@ -39,14 +39,14 @@ HasAnswer reads accepted call line answer =
 
 -- if a record ended as elsewhere, its line says an answer (`HasAnswer`), the text says where the command's target is, and the
 -- answer's direction isn't near that place
-abbrev pub IsTrulyElsewhere : (Asked → List ℕ → Reading) → List Task → Record → Type 0
-IsTrulyElsewhere reads commands r =
+abbrev pub ElsewhereIsJustified : (Asked → List ℕ → Reading) → List Task → Record → Type 0
+ElsewhereIsJustified reads commands r =
     (task : Task) (line : List ℕ) → slice_get commands r.place ≡ Some task → r.end ≡ Elsewhere line
     → (answer : Answer) × (near : Near) × (d : Direction) × HasAnswer reads task.accepted r.command.call line answer × (task.near ≡ Some near) × (direction_of answer ≡ Some d)
     × (IsNear d near.place near.tolerance → ⊥)
 
--- after any acts, `IsAtItsTarget` and `IsTrulyElsewhere` hold of each record
+-- after any acts, `IsAtItsTarget` and `ElsewhereIsJustified` hold of each record
 abbrev pub AnswersAreAtTheirTargets : Type 0
 AnswersAreAtTheirTargets =
     (plan : Plan) (commands : List Task) (scope : Scope) (acts : List Act)
-    → AllByRecursion (λ r. IsAtItsTarget commands r × IsTrulyElsewhere scope.reads commands r) (stood plan commands scope acts).records
+    → AllByRecursion (λ r. IsAtItsTarget commands r × ElsewhereIsJustified scope.reads commands r) (state_after plan commands scope acts).records

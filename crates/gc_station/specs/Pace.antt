@@ -68,6 +68,6 @@ overrun plan p told = if has_overrun plan p && nat_lt told (cycle_of plan p) the
 
 -- the number of the last cycle that was reported as overrun: the given cycle, if one is to be reported now, else `told` as
 -- before
-abbrev pub told_then : ℕ → Option ℕ → ℕ
-told_then told None = told
-told_then told (Some cycle) = cycle
+abbrev pub reported_then : ℕ → Option ℕ → ℕ
+reported_then told None = told
+reported_then told (Some cycle) = cycle

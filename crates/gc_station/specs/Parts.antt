@@ -19,7 +19,7 @@ use Rattle.gc_station.specs.Deciding.{later, has_begun}
 use Rattle.gc_station.specs.Progressing.{loses_all}
 use Rattle.gc_station.specs.Records.{Record}
 use Rattle.gc_station.specs.Requests.{asked_at}
-use Rattle.gc_station.specs.Model.{Model, action_at, place_next, mark_next, mark_setup, lines_behind, is_heard, after}
+use Rattle.gc_station.specs.Model.{Model, action_at, place_next, mark_next, mark_setup, lines_completed, is_heard, after}
 
 -- what happens while a station synchronizes: the null procedure of the first id that isn't answered is sent, whole or in part;
 -- or a line is heard
@@ -79,7 +79,7 @@ putting plan commands s _ = nothing
 -- the client's steps for a piece after these bytes since the last line feed: it hears the piece line by line; or, if the piece
 -- is discarded, nothing, as if the lines were lost on the way
 abbrev pub hearing : Bool → List ℕ → List ℕ → List (Step Asked)
-hearing true rest piece = map Hear (lines_behind rest piece)
+hearing true rest piece = map Hear (lines_completed rest piece)
 hearing false rest piece = []
 
 -- the part of an act of this action once the station has synchronized. A moment times out what has reached its deadline before
@@ -97,7 +97,7 @@ doing plan commands s action _ = nothing
 abbrev pub beginning : Model → Action → Act → Part
 beginning s action.Ask (Put bytes) = only_turns (Asks ∷ [])
 beginning s action.Ask (Cut bytes count) = only_turns (Asks ∷ [])
-beginning s (action.Read until) (Gave piece m) = only_turns (if is_heard s.progress.phase then map Hears (lines_behind s.rest piece) else [])
+beginning s (action.Read until) (Gave piece m) = only_turns (if is_heard s.progress.phase then map Hears (lines_completed s.rest piece) else [])
 beginning s action act = nothing
 
 -- the part of an act of this action

@@ -56,8 +56,8 @@ turned p = record p { turns = p.turns - 1 }
 -- the progress once the moment `m` was read, by any act but a read that gave nothing: the quiet time counts from `m`. If the
 -- clock went back, so that the cycle's beginning (`began`) or the moment from which a dead line counts (`alive`) lies after
 -- `m`, it becomes `m`: so the next cycle isn't put off
-abbrev pub told : Moment → Progress → Progress
-told m p = record p { moment = m; since = m.elapsed; alive = min p.alive m.elapsed; began = min p.began m.elapsed; stale = false; stops = p.stops || m.stops }
+abbrev pub moment_noted : Moment → Progress → Progress
+moment_noted m p = record p { moment = m; since = m.elapsed; alive = min p.alive m.elapsed; began = min p.began m.elapsed; stale = false; stops = p.stops || m.stops }
 
 -- the moment that counts as the beginning of a cycle that is begun at the moment `m`. For the first cycle, and where cycles
 -- have no due moment, it is `m`; for any other cycle the moment at which it was due, or `m` if that is earlier
@@ -73,9 +73,9 @@ abbrev pub due_of : Plan → Moment → Progress → ℕ
 due_of plan m p = m.utc - (m.elapsed - beginning plan m p)
 
 -- the progress after the beginning of a cycle of `count` commands. If it is missed, none of them is sent
-abbrev pub begun : Plan → ℕ → Moment → Progress → Progress
-begun plan count m p =
-    let q = told m p in
+abbrev pub cycle_begun : Plan → ℕ → Moment → Progress → Progress
+cycle_begun plan count m p =
+    let q = moment_noted m p in
     record q {
       began = beginning plan m p;
       due = due_of plan m p;
@@ -98,13 +98,13 @@ skipped_at m p = if p.missed then p.due else m.utc
 -- well; `others`: how many commands that one's attempt and those after it have, if it begins a further attempt, else 0
 abbrev pub skipped : Bool → ℕ → Moment → Progress → Progress
 skipped next_is_chained others m p =
-    let q = told m p in record q { unsent = p.unsent - 1; next_is_chained = next_is_chained; next_others = others; chain_unbroken = false; preparing = false }
+    let q = moment_noted m p in record q { unsent = p.unsent - 1; next_is_chained = next_is_chained; next_others = others; chain_unbroken = false; preparing = false }
 
 -- the progress after the further attempts of a chain that the next command begins are left out: all their commands are, and
 -- what is said of the next command is of the one after them
-abbrev pub passed : Bool → ℕ → Moment → Progress → Progress
-passed next_is_chained others m p =
-    let q = told m p in record q { unsent = p.unsent - p.next_others; next_is_chained = next_is_chained; next_others = others; chain_unbroken = false; preparing = false }
+abbrev pub attempts_left_out : Bool → ℕ → Moment → Progress → Progress
+attempts_left_out next_is_chained others m p =
+    let q = moment_noted m p in record q { unsent = p.unsent - p.next_others; next_is_chained = next_is_chained; next_others = others; chain_unbroken = false; preparing = false }
 
 -- the progress after a failure for this cause: the connection is to be closed, and without a connection the run is over
 abbrev pub failing : Cause → Progress → Progress
@@ -142,8 +142,8 @@ unprepared plan p = record p { preparing = nat_lt 0 plan.setup; prepared = 0; at
 
 -- the progress after a connection that was closed or couldn't be made: the setup is sent again on the next connection, and the
 -- next attempt takes a try, unless it is spared
-abbrev pub again : Plan → ℕ → Cause → Progress → Progress
-again plan commands why p = record p {
+abbrev pub after_failure : Plan → ℕ → Cause → Progress → Progress
+after_failure plan commands why p = record p {
   phase = phase_again plan commands why p;
   stale = true;
   tries = if is_spared plan why p then p.tries else p.tries - 1;
@@ -175,7 +175,7 @@ null_sent plan p = let q = asking p in record q { again = later p.moment.elapsed
 -- is sent again. If nothing is sent before the next cycle is due, the time after which the line is dead begins with the first
 -- null procedure
 abbrev pub renewed : Plan → Moment → Progress → Progress
-renewed plan m p = let q = told m p in unprepared plan (record q { word = the_word; again = 0; asked = p.asked && goes_on plan q; chain_unbroken = false; behind = 0 })
+renewed plan m p = let q = moment_noted m p in unprepared plan (record q { word = the_word; again = 0; asked = p.asked && goes_on plan q; chain_unbroken = false; behind = 0 })
 
 -- the progress after the next command. `next_is_chained` and `others` are of the one after it, as of `skipped`
 abbrev pub sent : Bool → ℕ → Progress → Progress
@@ -186,8 +186,8 @@ abbrev pub setup_sent : Plan → Progress → Progress
 setup_sent plan p = let q = asking p in record q { prepared = min (p.prepared + 1) plan.setup; chain_unbroken = false }
 
 -- the progress after a line that was heard: a reply line shows that the line is alive
-abbrev pub noted : Bool → Progress → Progress
-noted is_reply p = record p { alive = if is_reply then p.moment.elapsed else p.alive; asked = if is_reply then false else p.asked }
+abbrev pub line_noted : Bool → Progress → Progress
+line_noted is_reply p = record p { alive = if is_reply then p.moment.elapsed else p.alive; asked = if is_reply then false else p.asked }
 
 -- the progress once a line settled requests, of which `waiting` are still outstanding: if the last of them, which the line
 -- answers, is a call of the table (`of_table`), as many requests are after that call as wait
@@ -201,7 +201,7 @@ answered id p = record p { word = left_by p.word id; again = if is_answered p.wo
 
 -- the progress after a line that was heard while the station synchronizes
 abbrev pub line_asked : Progress → List ℕ → Progress
-line_asked p line = noted (is_reply line) (answered (heard line) p)
+line_asked p line = line_noted (is_reply line) (answered (heard line) p)
 
 -- the progress after the lines of a piece that were heard while the station synchronizes, in order
 abbrev pub lines_asked : Progress → List (List ℕ) → Progress
@@ -210,9 +210,9 @@ lines_asked p (line ∷ others) = lines_asked (line_asked p line) others
 
 -- whether the cycle counts as done early after a read. A read until the next cycle is due shows that it was, because only a done cycle
 -- has such a read; after any other read it counts as before (`early`)
-abbrev pub early_behind : Until → Bool → Bool
-early_behind Due early = true
-early_behind Limit early = early
+abbrev pub early_after : Until → Bool → Bool
+early_after Due early = true
+early_after Limit early = early
 
 -- whether a read gives the tries back: it settled a command, and the setup is done
 abbrev pub gives_back : ℕ → Waiting → Progress → Bool
@@ -221,9 +221,9 @@ gives_back before after p = nat_lt after.commands before && not p.preparing
 -- the progress after bytes that came: `before` commands were outstanding before them, and `after` counts what is outstanding
 -- after them. If a command was settled, and since the setup a command of a cycle had its turn, all tries are left again, and
 -- the next pause is the quiet time
-abbrev pub gave : Plan → Until → ℕ → Waiting → Progress → Progress
-gave plan until before after p = record p {
-  early = early_behind until p.early;
+abbrev pub bytes_noted : Plan → Until → ℕ → Waiting → Progress → Progress
+bytes_noted plan until before after p = record p {
+  early = early_after until p.early;
   tries = if gives_back before after p then plan.retries else p.tries;
   pause = if gives_back before after p then 0 else p.pause;
 }
@@ -253,7 +253,7 @@ time_passed until m p = record p {
   began = min p.began m.elapsed;
   stale = false;
   stops = p.stops || m.stops;
-  early = early_behind until p.early;
+  early = early_after until p.early;
 }
 
 -- the progress after a read that gave nothing until this moment
@@ -269,7 +269,7 @@ reckoned_early plan commands p = record p { early = p.early || (nat_eq commands 
 abbrev pub ended_for : Cause → Progress → Progress
 ended_for why p = record p { phase = phase.Over why; chain_unbroken = false }
 
--- the progress after a close: for `Done`, `Clock`, `Turns`, `Stale` and `Stopped` no other connection is made; for any other cause `again`
+-- the progress after a close: for `Done`, `Clock`, `Turns`, `Stale` and `Stopped` no other connection is made; for any other cause `after_failure`
 -- says whether
 abbrev pub closed : Plan → Waiting → Cause → Progress → Progress
 closed plan w cause.Done p = ended_for cause.Done p
@@ -277,7 +277,7 @@ closed plan w cause.Clock p = ended_for cause.Clock p
 closed plan w cause.Turns p = ended_for cause.Turns p
 closed plan w cause.Stale p = ended_for cause.Stale p
 closed plan w cause.Stopped p = ended_for cause.Stopped p
-closed plan w why p = again plan w.commands why p
+closed plan w why p = after_failure plan w.commands why p
 
 -- whether the run is over in a phase
 abbrev pub is_over_in : Phase → Bool

@@ -17,7 +17,7 @@ use Rattle.gc_texts.specs.declared.tasks.Task.{Task}
 use Rattle.gc_links.specs.Acts.{Act}
 use Rattle.gc_station.specs.Model.{expected_first}
 use Rattle.gc_station.specs.Records.{Record}
-use Rattle.gc_station.specs.Runs.{stood}
+use Rattle.gc_station.specs.Runs.{state_after}
 use Rattle.gc_station.specs.Scopes.{Scope}
 use Rattle.gc_station.specs.declared.plan.Plan.{Plan}
 
@@ -58,7 +58,7 @@ IsAsListed reads commands r =
 -- after any acts `IsAsListed` holds of each record
 abbrev pub QualitiesAreAsListed : Type 0
 QualitiesAreAsListed =
-    (plan : Plan) (commands : List Task) (scope : Scope) (acts : List Act) → AllByRecursion (λ r. IsAsListed scope.reads commands r) (stood plan commands scope acts).records
+    (plan : Plan) (commands : List Task) (scope : Scope) (acts : List Act) → AllByRecursion (λ r. IsAsListed scope.reads commands r) (state_after plan commands scope acts).records
 
 -- if no code is accepted, the line of an answer of a good quality has both codes 0, and values that read
 abbrev pub GoodIsAnAnswer : Type 0

@@ -14,7 +14,7 @@ use Rattle.gc_station.specs.Attempts.{code_in}
 use Rattle.gc_station.specs.Marks.{commands_in}
 use Rattle.gc_station.specs.Model.{Model, Runs, opening, action_at, place_next, expected_first, is_chained, others_in}
 use Rattle.gc_station.specs.Records.{Record}
-use Rattle.gc_station.specs.Runs.{stood}
+use Rattle.gc_station.specs.Runs.{state_after}
 use Rattle.gc_station.specs.Scopes.{Scope}
 use Rattle.gc_station.specs.declared.plan.Plan.{Plan}
 use Rattle.gc_station.specs.declared.progress.Action.TheVariants.{Send, Pass}
@@ -66,15 +66,15 @@ IsFurtherAttempt plan commands s = (plan.setup < place_next commands s.progress)
 -- as its rule names; or if the cycle is missed, or the command is chained, which the first of an attempt never is
 pub record GoesOutAgainForACause : Type 0 where
   pub goes : (plan : Plan) (commands : List Task) (scope : Scope) (acts : List Act) → Runs plan commands (opening plan scope) acts
-      → action_at plan (stood plan commands scope acts) ≡ Send → IsFurtherAttempt plan commands (stood plan commands scope acts)
-      → (commands_in (stood plan commands scope acts).marks ≡ 0) × HasListed scope.reads commands (stood plan commands scope acts).records
+      → action_at plan (state_after plan commands scope acts) ≡ Send → IsFurtherAttempt plan commands (state_after plan commands scope acts)
+      → (commands_in (state_after plan commands scope acts).marks ≡ 0) × HasListed scope.reads commands (state_after plan commands scope acts).records
   pub passes : (plan : Plan) (commands : List Task) (scope : Scope) (acts : List Act) → Runs plan commands (opening plan scope) acts
-      → action_at plan (stood plan commands scope acts) ≡ Pass
-      → let s = stood plan commands scope acts in
+      → action_at plan (state_after plan commands scope acts) ≡ Pass
+      → let s = state_after plan commands scope acts in
       IsFurtherAttempt plan commands s × (commands_in s.marks ≡ 0)
       × ((HasListed scope.reads commands s.records → ⊥) ⊎ ((s.progress.missed ≡ true) ⊎ (is_chained (drop (place_next commands s.progress) commands) ≡ true)))
 
 -- each record has the turn of the command at its place of its cycle; one of the setup has the attempt of the setup in it
 abbrev pub TurnsAreTheTexts : Type 0
 TurnsAreTheTexts =
-    (plan : Plan) (commands : List Task) (scope : Scope) (acts : List Act) → AllByRecursion (λ r. r.turn ≡ turn_at commands r.cycle r.turn.attempt r.place) (stood plan commands scope acts).records
+    (plan : Plan) (commands : List Task) (scope : Scope) (acts : List Act) → AllByRecursion (λ r. r.turn ≡ turn_at commands r.cycle r.turn.attempt r.place) (state_after plan commands scope acts).records

@@ -5,7 +5,7 @@ use Rattle.gc_texts.specs.declared.tasks.Task.{Task}
 use Rattle.gc_station.specs.declared.plan.Plan.{Plan}
 use Rattle.gc_links.specs.Acts.{Act}
 use Rattle.gc_station.specs.Quiet.{IsAsking}
-use Rattle.gc_station.specs.Runs.{stood}
+use Rattle.gc_station.specs.Runs.{state_after}
 use Rattle.gc_station.specs.Scopes.{Scope}
 use Rattle.gc_station.specs.Model.{action_at}
 
@@ -13,6 +13,6 @@ use Rattle.gc_station.specs.Model.{action_at}
 -- than seven are outstanding in all
 abbrev pub RequestsHaveRoom : Type 0
 RequestsHaveRoom =
-    (plan : Plan) (commands : List Task) (scope : Scope) (acts : List Act) → IsAsking (action_at plan (stood plan commands scope acts))
-    → ((length (deadlines (stood plan commands scope acts).client.waiting) ≡ 0) ⊎ (length (deadlines (stood plan commands scope acts).client.waiting) < plan.width))
-    × (length (stood plan commands scope acts).client.waiting < 7)
+    (plan : Plan) (commands : List Task) (scope : Scope) (acts : List Act) → IsAsking (action_at plan (state_after plan commands scope acts))
+    → ((length (deadlines (state_after plan commands scope acts).client.waiting) ≡ 0) ⊎ (length (deadlines (state_after plan commands scope acts).client.waiting) < plan.width))
+    × (length (state_after plan commands scope acts).client.waiting < 7)

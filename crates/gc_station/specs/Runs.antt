@@ -17,8 +17,8 @@ use Rattle.gc_station.specs.Tallies.{tally_of}
 use Rattle.gc_station.specs.Scopes.{Scope}
 
 -- the model of a station after these acts, from the start on
-abbrev pub stood : Plan → List Task → Scope → List Act → Model
-stood plan commands scope acts = after_all plan commands (opening plan scope) acts
+abbrev pub state_after : Plan → List Task → Scope → List Act → Model
+state_after plan commands scope acts = after_all plan commands (opening plan scope) acts
 
 -- a link recorded these acts, each the one that was to be made next; then none was, for this cause; the book took the records
 -- of the acts, and the tally counts them
@@ -27,9 +27,9 @@ pub record RanTo (plan : Plan) (commands : List Task) (scope : Scope) (text : Re
   pub acts : List Act
   pub tells : Tells told told' acts
   pub runs : Runs plan commands (opening plan scope) acts
-  pub stops : action_at plan (stood plan commands scope acts) ≡ Stop cause
-  pub took : Appends taken taken' (texts_of text (stood plan commands scope acts).records)
-  pub counts : tally ≡ tally_of (stood plan commands scope acts).records
+  pub stops : action_at plan (state_after plan commands scope acts) ≡ Stop cause
+  pub took : Appends taken taken' (texts_of text (state_after plan commands scope acts).records)
+  pub counts : tally ≡ tally_of (state_after plan commands scope acts).records
 
 -- a link recorded these acts, each the one that was to be made next, and after the last one that the connection was closed, and
 -- nothing else; the book took the records of the acts before the last one whole, and of those that this one records a part,
@@ -39,7 +39,7 @@ pub record BrokeAt (plan : Plan) (commands : List Task) (scope : Scope) (text : 
   pub last : Act
   pub tells : Tells told told' (acts ++ last ∷ (Closed ∷ []))
   pub runs : Runs plan commands (opening plan scope) (acts ++ last ∷ [])
-  pub took : WritesPart text (stood plan commands scope acts).records (stood plan commands scope (acts ++ last ∷ [])).records taken taken'
+  pub took : WritesPart text (state_after plan commands scope acts).records (state_after plan commands scope (acts ++ last ∷ [])).records taken taken'
 
 -- a link recorded these acts, each the one that was to be made next, and after them that the connection was closed, and nothing
 -- else; the book took the records of all of them, and couldn't make them last
@@ -47,7 +47,7 @@ pub record LeftAt (plan : Plan) (commands : List Task) (scope : Scope) (text : R
   pub acts : List Act
   pub tells : Tells told told' (acts ++ Closed ∷ [])
   pub runs : Runs plan commands (opening plan scope) acts
-  pub took : Appends taken taken' (texts_of text (stood plan commands scope acts).records)
+  pub took : Appends taken taken' (texts_of text (state_after plan commands scope acts).records)
 
 -- a run stopped for this cause, with this tally; or the book failed
 abbrev pub EndsAs : {E : Type 0} → Plan → List Task → Scope → (Record → List ℕ) → Option (List Act) → Option (List Act) → Option (List ℕ) → Option (List ℕ)

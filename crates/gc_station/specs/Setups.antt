@@ -14,7 +14,7 @@ use Rattle.gc_station.specs.Marks.{is_well}
 use Rattle.gc_station.specs.Model.{Model, opening, action_at, mark_setup, after, Runs}
 use Rattle.gc_station.specs.Quiet.{KeepsOpen}
 use Rattle.gc_station.specs.Records.{Record}
-use Rattle.gc_station.specs.Runs.{stood}
+use Rattle.gc_station.specs.Runs.{state_after}
 use Rattle.gc_station.specs.Scopes.{Scope}
 
 -- Which commands of the setup were sent.
@@ -28,18 +28,18 @@ pub record Dispatch : Type 0 where
   pub sent : Option ℕ
 
 -- what a record says of this
-abbrev pub of_record : Record → Dispatch
-of_record r = record { cycle = r.cycle; place = r.place; attempt = r.turn.attempt; sent = r.sent }
+abbrev pub dispatch_of_record : Record → Dispatch
+dispatch_of_record r = record { cycle = r.cycle; place = r.place; attempt = r.turn.attempt; sent = r.sent }
 
 -- what a mark says of this
-abbrev pub of_mark : Mark → Dispatch
-of_mark mark = record { cycle = mark.cycle; place = mark.place; attempt = mark.expected.turn.attempt; sent = Some mark.sent }
+abbrev pub dispatch_of_mark : Mark → Dispatch
+dispatch_of_mark mark = record { cycle = mark.cycle; place = mark.place; attempt = mark.expected.turn.attempt; sent = Some mark.sent }
 
 -- the commands among those that are outstanding, by their marks; a null procedure has none
-abbrev pub of_marks : List (Option Mark) → List Dispatch
-of_marks [] = []
-of_marks (None ∷ marks) = of_marks marks
-of_marks (Some mark ∷ marks) = of_mark mark ∷ of_marks marks
+abbrev pub dispatches_of : List (Option Mark) → List Dispatch
+dispatches_of [] = []
+dispatches_of (None ∷ marks) = dispatches_of marks
+dispatches_of (Some mark ∷ marks) = dispatch_of_mark mark ∷ dispatches_of marks
 
 -- these commands, with this one first if it is of the setup (`true`)
 abbrev pub setup_with : Bool → Dispatch → List Dispatch → List Dispatch
@@ -54,7 +54,7 @@ of_setup (x ∷ xs) = setup_with (nat_eq x.cycle 0) x (of_setup xs)
 -- the command with this mark, if there is a command
 abbrev pub sent_first : Mark → List Task → List Dispatch
 sent_first mark [] = []
-sent_first mark (task ∷ others) = of_mark mark ∷ []
+sent_first mark (task ∷ others) = dispatch_of_mark mark ∷ []
 
 -- the command of the setup that an act of this action sends, if it sends one
 abbrev pub sent_as : Action → List Task → Model → List Dispatch
@@ -70,22 +70,22 @@ setup_sent_by plan commands s (act ∷ acts) = sent_as (action_at plan s) comman
 -- stopped, none is outstanding
 pub record EachSetUpOnce (plan : Plan) (commands : List Task) (scope : Scope) (acts : List Act) : Type 0 where
   pub each :
-      of_setup (map of_record (stood plan commands scope acts).records ++ of_marks (stood plan commands scope acts).marks)
+      of_setup (map dispatch_of_record (state_after plan commands scope acts).records ++ dispatches_of (state_after plan commands scope acts).marks)
       ≡ setup_sent_by plan commands (opening plan scope) acts
-  pub settled : (cause : Cause) → action_at plan (stood plan commands scope acts) ≡ Stop cause
-      → of_setup (map of_record (stood plan commands scope acts).records) ≡ setup_sent_by plan commands (opening plan scope) acts
+  pub settled : (cause : Cause) → action_at plan (state_after plan commands scope acts) ≡ Stop cause
+      → of_setup (map dispatch_of_record (state_after plan commands scope acts).records) ≡ setup_sent_by plan commands (opening plan scope) acts
 
 -- Attempts.
 
 -- of two commands of the setup, y is the one after x: the next one in the same attempt, or the first one in the next attempt.
 -- Attempts count up to 2^64 - 1
-abbrev pub GoesBehind : Dispatch → Dispatch → Type 0
-GoesBehind x y = ((y.attempt ≡ x.attempt) × (y.place ≡ x.place + 1)) ⊎ ((y.attempt ≡ later x.attempt 1) × (y.place ≡ 0))
+abbrev pub IsNextAfter : Dispatch → Dispatch → Type 0
+IsNextAfter x y = ((y.attempt ≡ x.attempt) × (y.place ≡ x.place + 1)) ⊎ ((y.attempt ≡ later x.attempt 1) × (y.place ≡ 0))
 
 -- each of these commands goes after the one before it; the first goes after x
 abbrev pub GoOn : Dispatch → List Dispatch → Type 0
 GoOn x [] = Unit {0}
-GoOn x (y ∷ ys) = GoesBehind x y × GoOn y ys
+GoOn x (y ∷ ys) = IsNextAfter x y × GoOn y ys
 
 -- the first of these commands is the first one of attempt 1, and each further one goes after the one before it
 abbrev pub AreInOrder : List Dispatch → Type 0
@@ -113,14 +113,14 @@ pub record IsPrepared (plan : Plan) (commands : List Task) (scope : Scope) (acts
   pub request : Act
   pub behind : List Act
   pub order : acts ≡ before ++ request ∷ behind
-  pub sends : action_at plan (stood plan commands scope before) ≡ Prepare
-  pub its_place : (stood plan commands scope before).progress.prepared ≡ place
-  pub stays : StaysUp plan commands (stood plan commands scope before) (request ∷ behind)
+  pub sends : action_at plan (state_after plan commands scope before) ≡ Prepare
+  pub its_place : (state_after plan commands scope before).progress.prepared ≡ place
+  pub stays : StaysUp plan commands (state_after plan commands scope before) (request ∷ behind)
   pub earlier : List Record
   pub answer : Record
   pub later : List Record
-  pub written : (stood plan commands scope acts).records ≡ (stood plan commands scope before).records ++ (earlier ++ answer ∷ later)
-  pub own : of_record answer ≡ of_mark (mark_setup commands (stood plan commands scope before).progress)
+  pub written : (state_after plan commands scope acts).records ≡ (state_after plan commands scope before).records ++ (earlier ++ answer ∷ later)
+  pub own : dispatch_of_record answer ≡ dispatch_of_mark (mark_setup commands (state_after plan commands scope before).progress)
   pub well : is_well answer.end ≡ true
 
 -- after these acts each of the first `n` commands of the setup is `IsPrepared`
@@ -132,11 +132,11 @@ ArePrepared plan commands scope acts n = (place : ℕ) → place < n → IsPrepa
 abbrev pub NoneBeforeTheSetUp : Type 0
 NoneBeforeTheSetUp =
     (plan : Plan) (commands : List Task) (scope : Scope) (acts : List Act) → Runs plan commands (opening plan scope) acts
-    → action_at plan (stood plan commands scope acts) ≡ Send → ArePrepared plan commands scope acts plan.setup
+    → action_at plan (state_after plan commands scope acts) ≡ Send → ArePrepared plan commands scope acts plan.setup
 
 -- a command of the setup is sent only once each one before it was answered well, on its connection, and after its
 -- synchronization
 abbrev pub SetUpInOrder : Type 0
 SetUpInOrder =
     (plan : Plan) (commands : List Task) (scope : Scope) (acts : List Act) → Runs plan commands (opening plan scope) acts → plan.setup ≤ length commands
-    → action_at plan (stood plan commands scope acts) ≡ Prepare → ArePrepared plan commands scope acts (stood plan commands scope acts).progress.prepared
+    → action_at plan (state_after plan commands scope acts) ≡ Prepare → ArePrepared plan commands scope acts (state_after plan commands scope acts).progress.prepared

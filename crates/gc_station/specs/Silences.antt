@@ -6,8 +6,8 @@ use Rattle.gc_texts.specs.declared.tasks.Task.{Task}
 use Rattle.gc_station.specs.declared.plan.Plan.{Plan}
 use Rattle.gc_links.specs.Acts.{Act, Told, Put, Gave, Silent}
 use Rattle.gc_station.specs.Quiet.{TellsMoment, IsListening, StaysConnected}
-use Rattle.gc_station.specs.Runs.{stood}
-use Rattle.gc_station.specs.Model.{Model, is_reply, lines_behind, after}
+use Rattle.gc_station.specs.Runs.{state_after}
+use Rattle.gc_station.specs.Model.{Model, is_reply, lines_completed, after}
 use Rattle.gc_station.specs.Scopes.{Scope}
 
 -- the moment that these acts read last; if they read none, `now`
@@ -24,7 +24,7 @@ IsNoReply line = is_reply line ≡ false
 
 -- an act brings no line that reads as a reply, where `rest` are the bytes since the last line feed
 abbrev pub BringsNoReply : List ℕ → Act → Type 0
-BringsNoReply rest (Gave piece m) = AllByRecursion IsNoReply (lines_behind rest piece)
+BringsNoReply rest (Gave piece m) = AllByRecursion IsNoReply (lines_completed rest piece)
 BringsNoReply rest act = Unit {0}
 
 -- none of these acts brings a line that reads as a reply, from this model on
@@ -53,6 +53,6 @@ pub record IsMuteFor (wait : ℕ) (plan : Plan) (commands : List Task) (scope : 
   pub order : acts ≡ before ++ start ∷ behind
   pub starts : TellsMoment from start
   pub stays : AllByRecursion StaysConnected behind
-  pub mute : IsMute plan commands (stood plan commands scope (before ++ start ∷ [])) behind
+  pub mute : IsMute plan commands (state_after plan commands scope (before ++ start ∷ [])) behind
   pub asked : AllByRecursion IsListening behind ⊎ (((text : List ℕ) × (others : List Act) × (behind ≡ Put text ∷ others)) ⊎ WentBack from before)
   pub long : wait ≤ latest from behind - from

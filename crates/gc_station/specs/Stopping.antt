@@ -14,7 +14,7 @@ use Rattle.gc_station.specs.Marks.{is_well}
 use Rattle.gc_station.specs.Model.{opening, action_at, waiting_of, Runs}
 use Rattle.gc_station.specs.Reasons.{IsResting}
 use Rattle.gc_station.specs.Records.{Record}
-use Rattle.gc_station.specs.Runs.{stood}
+use Rattle.gc_station.specs.Runs.{state_after}
 use Rattle.gc_station.specs.Scopes.{Scope}
 
 -- an act reads a moment
@@ -34,12 +34,12 @@ least_told n (Silent m ∷ acts) = least_told (min n m.elapsed) acts
 least_told n (act ∷ acts) = least_told n acts
 
 -- whether `asked`, or one of the moments that these acts read says that the end of the run was asked for
-abbrev pub asked_behind : Bool → List Act → Bool
-asked_behind asked [] = asked
-asked_behind asked (Told m ∷ acts) = asked_behind (asked || m.stops) acts
-asked_behind asked (Gave bytes m ∷ acts) = asked_behind (asked || m.stops) acts
-asked_behind asked (Silent m ∷ acts) = asked_behind (asked || m.stops) acts
-asked_behind asked (act ∷ acts) = asked_behind asked acts
+abbrev pub asked_after : Bool → List Act → Bool
+asked_after asked [] = asked
+asked_after asked (Told m ∷ acts) = asked_after (asked || m.stops) acts
+asked_after asked (Gave bytes m ∷ acts) = asked_after (asked || m.stops) acts
+asked_after asked (Silent m ∷ acts) = asked_after (asked || m.stops) acts
+asked_after asked (act ∷ acts) = asked_after asked acts
 
 -- a record is of a command that wasn't answered well
 abbrev pub IsUnwell : Record → Type 0
@@ -55,7 +55,7 @@ pub record EndsWell (plan : Plan) (commands : List Task) (scope : Scope) (acts :
   pub front : List Record
   pub answer : Record
   pub later : List Record
-  pub written : (stood plan commands scope acts).records ≡ (stood plan commands scope earlier).records ++ (front ++ answer ∷ later)
+  pub written : (state_after plan commands scope acts).records ≡ (state_after plan commands scope earlier).records ++ (front ++ answer ∷ later)
   pub well : is_well answer.end ≡ true
 
 -- the acts after the last one that recorded a command that was answered well, or all acts if none did: from which moment on the
@@ -67,45 +67,45 @@ pub record UnwellSince (plan : Plan) (commands : List Task) (scope : Scope) (act
   pub from : ℕ
   pub start : ((before ≡ []) × (from ≡ 0)) ⊎ EndsWell plan commands scope before from
   pub records : List Record
-  pub written : (stood plan commands scope acts).records ≡ (stood plan commands scope before).records ++ records
+  pub written : (state_after plan commands scope acts).records ≡ (state_after plan commands scope before).records ++ records
   pub unwell : AllByRecursion IsUnwell records
-  pub fresh : (stood plan commands scope acts).fresh ≡ least_told from behind
+  pub fresh : (state_after plan commands scope acts).fresh ≡ least_told from behind
 
 -- after these acts the moment read last lies `stale` milliseconds or more after the start, or after the last act that recorded
 -- a command that was answered well; if the clock went back since, after the least moment that was read since
 pub record IsStaleAt (plan : Plan) (commands : List Task) (scope : Scope) (acts : List Act) : Type 0 where
   pub since : UnwellSince plan commands scope acts
   pub wanted : 0 < plan.stale
-  pub long : plan.stale ≤ (stood plan commands scope acts).progress.moment.elapsed - least_told since.from since.behind
+  pub long : plan.stale ≤ (state_after plan commands scope acts).progress.moment.elapsed - least_told since.from since.behind
 
 -- if a connection is closed, or a run ends, because it is stale, it is (`IsStaleAt`)
 abbrev pub ClosesStale : Type 0
 ClosesStale =
     (plan : Plan) (commands : List Task) (scope : Scope) (acts : List Act) → Runs plan commands (opening plan scope) acts
-    → action_at plan (stood plan commands scope acts) ≡ Close Stale → IsStaleAt plan commands scope acts
+    → action_at plan (state_after plan commands scope acts) ≡ Close Stale → IsStaleAt plan commands scope acts
 
 -- if a run stops for this cause, its last act is the close that was next for that cause
 abbrev pub StopsAtItsClose : Cause → Type 0
 StopsAtItsClose why =
     (plan : Plan) (commands : List Task) (scope : Scope) (acts : List Act) → Runs plan commands (opening plan scope) acts
-    → action_at plan (stood plan commands scope acts) ≡ Stop why
-    → (earlier : List Act) × (acts ≡ earlier ++ Closed ∷ []) × (action_at plan (stood plan commands scope earlier) ≡ Close why)
+    → action_at plan (state_after plan commands scope acts) ≡ Stop why
+    → (earlier : List Act) × (acts ≡ earlier ++ Closed ∷ []) × (action_at plan (state_after plan commands scope earlier) ≡ Close why)
 
 -- the first moment read at which a run with turns left is stale ends it: no act is after it but one close
 abbrev pub EndsOnceStale : Type 0
 EndsOnceStale =
     (plan : Plan) (commands : List Task) (scope : Scope) (earlier behind : List Act) (telling : Act) → Runs plan commands (opening plan scope) (earlier ++ telling ∷ behind) → IsTelling telling
-    → 0 < (stood plan commands scope (earlier ++ telling ∷ [])).progress.turns
-    → is_stale plan (stood plan commands scope (earlier ++ telling ∷ [])).progress (waiting_of (stood plan commands scope (earlier ++ telling ∷ []))) ≡ true
+    → 0 < (state_after plan commands scope (earlier ++ telling ∷ [])).progress.turns
+    → is_stale plan (state_after plan commands scope (earlier ++ telling ∷ [])).progress (waiting_of (state_after plan commands scope (earlier ++ telling ∷ []))) ≡ true
     → (behind ≡ []) ⊎ (behind ≡ Closed ∷ [])
 
 -- once a moment was read at which the end of the run was asked for, no cycle begins, no command of the setup is sent, and each
 -- command that is sent goes on with a chain that has begun
 abbrev pub GoesOnInItsChain : Type 0
 GoesOnInItsChain =
-    (plan : Plan) (commands : List Task) (scope : Scope) (acts : List Act) → Runs plan commands (opening plan scope) acts → asked_behind false acts ≡ true
-    → (action_at plan (stood plan commands scope acts) ≡ Send → (stood plan commands scope acts).progress.next_is_chained ≡ true)
-    × (action_at plan (stood plan commands scope acts) ≡ Begin → ⊥) × (action_at plan (stood plan commands scope acts) ≡ Prepare → ⊥)
+    (plan : Plan) (commands : List Task) (scope : Scope) (acts : List Act) → Runs plan commands (opening plan scope) acts → asked_after false acts ≡ true
+    → (action_at plan (state_after plan commands scope acts) ≡ Send → (state_after plan commands scope acts).progress.next_is_chained ≡ true)
+    × (action_at plan (state_after plan commands scope acts) ≡ Begin → ⊥) × (action_at plan (state_after plan commands scope acts) ≡ Prepare → ⊥)
 
 -- if a connection is closed, or a run ends, because that was asked for, a moment was read at which it was; and there is no
 -- connection, or the station synchronizes, or it is between two chains and nothing is in flight that hasn't timed out. No
@@ -113,7 +113,7 @@ GoesOnInItsChain =
 abbrev pub ClosesBetweenChains : Type 0
 ClosesBetweenChains =
     (plan : Plan) (commands : List Task) (scope : Scope) (acts : List Act) → Runs plan commands (opening plan scope) acts
-    → action_at plan (stood plan commands scope acts) ≡ Close Stopped
-    → (asked_behind false acts ≡ true) × IsResting (stood plan commands scope acts).progress (waiting_of (stood plan commands scope acts))
-    × (0 < (stood plan commands scope acts).progress.unsent → (stood plan commands scope acts).progress.next_is_chained ≡ true
-    → may_go (stood plan commands scope acts).progress (waiting_of (stood plan commands scope acts)) ≡ false)
+    → action_at plan (state_after plan commands scope acts) ≡ Close Stopped
+    → (asked_after false acts ≡ true) × IsResting (state_after plan commands scope acts).progress (waiting_of (state_after plan commands scope acts))
+    × (0 < (state_after plan commands scope acts).progress.unsent → (state_after plan commands scope acts).progress.next_is_chained ≡ true
+    → may_go (state_after plan commands scope acts).progress (waiting_of (state_after plan commands scope acts)) ≡ false)

@@ -7,7 +7,7 @@ use Rattle.gc_links.specs.Acts.{Act}
 use Rattle.gc_station.specs.Parts.{went_out}
 use Rattle.gc_station.specs.Records.{Record}
 use Rattle.gc_station.specs.Requests.{command_sent}
-use Rattle.gc_station.specs.Runs.{stood}
+use Rattle.gc_station.specs.Runs.{state_after}
 use Rattle.gc_station.specs.Scopes.{Scope}
 use Rattle.gc_station.specs.declared.plan.Plan.{Plan}
 
@@ -28,4 +28,4 @@ pub record IsOfItsTask (commands : List Task) (r : Record) : Type 0 where
 -- after any acts `IsOfItsTask` holds of each record
 abbrev pub CommandsAreTheirTasks : Type 0
 CommandsAreTheirTasks =
-    (plan : Plan) (commands : List Task) (scope : Scope) (acts : List Act) → AllByRecursion (IsOfItsTask commands) (stood plan commands scope acts).records
+    (plan : Plan) (commands : List Task) (scope : Scope) (acts : List Act) → AllByRecursion (IsOfItsTask commands) (state_after plan commands scope acts).records

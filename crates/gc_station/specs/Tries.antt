@@ -7,7 +7,7 @@ use Rattle.gc_station.specs.declared.cause.Cause.TheVariants as cause
 use Rattle.gc_links.specs.declared.link.Moment.{Moment}
 use Rattle.gc_station.specs.declared.plan.Plan.{Plan}
 use Rattle.gc_links.specs.Acts.{Act, Gave, Closed, Opened, Unopened}
-use Rattle.gc_station.specs.Runs.{stood}
+use Rattle.gc_station.specs.Runs.{state_after}
 use Rattle.gc_station.specs.Model.{Model, after}
 use Rattle.gc_station.specs.Scopes.{Scope}
 
@@ -57,8 +57,8 @@ pub record EndsSettled (plan : Plan) (commands : List Task) (scope : Scope) (act
   pub piece : List ℕ
   pub moment : Moment
   pub order : acts ≡ earlier ++ Gave piece moment ∷ []
-  pub settled : (stood plan commands scope acts).records ≢ (stood plan commands scope earlier).records
-  pub prepared : (stood plan commands scope acts).progress.preparing ≡ false
+  pub settled : (state_after plan commands scope acts).records ≢ (state_after plan commands scope earlier).records
+  pub prepared : (state_after plan commands scope acts).progress.preparing ≡ false
 
 -- since the last read that settled a command, or from the start if none did, more connections ended or couldn't be made than
 -- the plan has tries. At least as many connections as the plan has tries were asked for meanwhile, and more if that is from the
@@ -68,7 +68,7 @@ pub record AllTried (plan : Plan) (commands : List Task) (scope : Scope) (acts :
   pub behind : List Act
   pub order : acts ≡ before ++ behind
   pub since : (before ≡ []) ⊎ EndsSettled plan commands scope before
-  pub none : NoneSettled plan commands (stood plan commands scope before) behind
+  pub none : NoneSettled plan commands (state_after plan commands scope before) behind
   pub ended : plan.retries < ends_in behind
   pub opened : plan.retries ≤ opens_in behind
   pub first : before ≡ [] → plan.retries < opens_in behind

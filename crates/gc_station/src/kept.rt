@@ -3,7 +3,7 @@
 
 ghost use Rattle.std.specs.Prelude.{◌≡◌, [], ◌∷◌, ◌++◌, List};
 ghost use base.Fml.{ftrue};
-ghost use Rattle.gc_station.specs.Keeping.{Turn, turns_code};
+ghost use Rattle.gc_station.specs.Keeping.{Snapshot, snapshots_code};
 
 use crate::book::Book;
 use gc_links::Link;
@@ -29,7 +29,7 @@ impl Kept {
 
     // What was seen so far, with `turn` added at the end. The turns are ghost, so there is nothing to copy.
     fn then<L, B>(&self, _link: &L, _book: &B) -> Kept
-        ghost turn: { Turn }
+        ghost turn: { Snapshot }
         ensures { result.turns ≡ self.now.turns ++ turn ∷ [] }
     {
         Kept {}

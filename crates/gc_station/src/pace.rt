@@ -5,7 +5,7 @@ ghost use Rattle.std.specs.Prelude.{◌≡◌, ℕ, Option};
 ghost use Rattle.std.specs.Option.{option_to_list};
 ghost use Rattle.std.specs.Io.KnownBytes.{Appends};
 ghost use Rattle.gc_client.specs.Rule.{IsEarliest, deadlines};
-ghost use Rattle.gc_station.specs.Pace.{dead_at, due_at, retry_at, stale_at, longest, ends_in, ends_without_deadline, ends_at, patience, cycle_of, overrun, told_then};
+ghost use Rattle.gc_station.specs.Pace.{dead_at, due_at, retry_at, stale_at, longest, ends_in, ends_without_deadline, ends_at, patience, cycle_of, overrun, reported_then};
 
 use crate::book::{Book, LinkHealth};
 use crate::plan::Plan;
@@ -159,7 +159,7 @@ impl Station {
     // Reports to a book the health of the link and, once for each cycle, that the cycle wasn't done when the next was due. `told` is
     // the last cycle that was reported before. Returns the last one that was reported by then.
     pub(crate) fn tell_overrun<B: Book>(&self, book: &mut B, plan: &Plan, told: u64) -> u64
-        ensures told { result ≡ told_then told (overrun plan.now self.now.progress told) }
+        ensures told { result ≡ reported_then told (overrun plan.now self.now.progress told) }
         ensures tells { Appends (B.overruns book.old) (B.overruns book.new) (option_to_list (overrun plan.now self.now.progress told)) }
         ensures taken { B.taken book.new ≡ B.taken book.old }
         ensures failed { B.failed book.new ≡ B.failed book.old }

@@ -6,7 +6,7 @@ ghost use Rattle.gc_client.specs.Hearing.{HearsInto};
 ghost use Rattle.gc_client.specs.Rule.{ById};
 ghost use Rattle.gc_client.specs.declared.settlement.Settlement.{Settlement};
 ghost use Rattle.gc_station.specs.Deciding.{later};
-ghost use Rattle.gc_station.specs.Progressing.{turned, told, beginning, is_missing, due_of, begun, skipped, passed, skipped_at, failing, opened, is_finished, is_idle, is_spared, phase_again, pause_again, again, cleared, asking, null_sent, renewed, line_asked, sent, caught_up, noted, early_behind, gave, pause_ended, drained, quieted, time_passed, silent, reckoned_early, ended_for, closed, is_over, loses_all, next_attempt, unprepared, setup_sent, gives_back};
+ghost use Rattle.gc_station.specs.Progressing.{turned, moment_noted, beginning, is_missing, due_of, cycle_begun, skipped, attempts_left_out, skipped_at, failing, opened, is_finished, is_idle, is_spared, phase_again, pause_again, after_failure, cleared, asking, null_sent, renewed, line_asked, sent, caught_up, line_noted, early_after, bytes_noted, pause_ended, drained, quieted, time_passed, silent, reckoned_early, ended_for, closed, is_over, loses_all, next_attempt, unprepared, setup_sent, gives_back};
 ghost use Rattle.gc_station.specs.Lines.{is_reply};
 
 use crate::cause::Cause;
@@ -26,7 +26,7 @@ pub(crate) fn later(moment: u64, wait: u64) -> u64
 // Whether the cycle counts as done early after a read. A read `Until::Due` shows that the cycle was done early, because only
 // after a done cycle is there such a read. After any other read the cycle counts as it did before (`early`).
 fn early_behind(until: Until, early: bool) -> bool
-    ensures { result ≡ early_behind until early }
+    ensures { result ≡ early_after until early }
 {
     match until {
         Until::Due => true,
@@ -67,7 +67,7 @@ impl Progress {
     // Where the clock went back, the cycle is taken to have begun now at the latest, so that the next one isn't put off, and
     // the line to have been alive now at the latest.
     pub(crate) fn tell(&mut self, moment: Moment)
-        ensures { self.new ≡ told moment self.old }
+        ensures { self.new ≡ moment_noted moment self.old }
     {
         self.moment = moment;
         self.since = moment.elapsed;
@@ -107,7 +107,7 @@ impl Progress {
 
     // Begins a cycle of `count` commands at this moment. If the cycle is missed, none of them is sent.
     pub(crate) fn begin(&mut self, plan: &Plan, count: usize, moment: Moment)
-        ensures { self.new ≡ begun plan.now count moment self.old }
+        ensures { self.new ≡ cycle_begun plan.now count moment self.old }
     {
         let began = self.beginning(plan, moment);
         let missed = self.is_missing(plan, moment);
@@ -150,7 +150,7 @@ impl Progress {
     // Leaves out the further attempts of a chain that the next command begins. `next_is_chained` and `others` are of the
     // command after them, as of `skip`.
     pub(crate) fn pass(&mut self, next_is_chained: bool, others: usize, moment: Moment)
-        ensures { self.new ≡ passed next_is_chained others moment self.old }
+        ensures { self.new ≡ attempts_left_out next_is_chained others moment self.old }
     {
         self.tell(moment);
         self.unsent = self.unsent.saturating_sub(self.next_others);
@@ -245,7 +245,7 @@ impl Progress {
     // Notes that a connection was closed, or couldn't be made: the phase is `phase_again`, the pause `pause_again`, and a try
     // is taken unless the next attempt is spared. The setup is sent again on the next connection.
     pub(crate) fn try_again(&mut self, plan: &Plan, commands: usize, cause: Cause)
-        ensures { self.new ≡ again plan.now commands cause self.old }
+        ensures { self.new ≡ after_failure plan.now commands cause self.old }
     {
         let spared = self.is_spared(plan, cause);
         self.pause = self.pause_again(plan, cause);
@@ -356,7 +356,7 @@ impl Progress {
 
     // Notes that a line was heard: a reply line shows that the line is alive.
     pub(crate) fn note(&mut self, is_reply: bool)
-        ensures { self.new ≡ noted is_reply self.old }
+        ensures { self.new ≡ line_noted is_reply self.old }
     {
         if is_reply {
             self.alive = self.moment.elapsed;
@@ -368,7 +368,7 @@ impl Progress {
     // If a command was settled, and since the setup a command of a cycle had its turn, all tries are left again, and the next
     // pause is the quiet time.
     pub(crate) fn give(&mut self, plan: &Plan, until: Until, before: usize, after: Waiting)
-        ensures { self.new ≡ gave plan.now until before after self.old }
+        ensures { self.new ≡ bytes_noted plan.now until before after self.old }
     {
         if after.commands < before && !self.preparing {
             self.tries = plan.retries;

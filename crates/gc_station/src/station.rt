@@ -9,12 +9,12 @@ ghost use Rattle.gc_catalogue.specs.Asked.{IsAskedReading};
 ghost use Rattle.gc_client.specs.Settlements.{settlement_seen, IsReadBy};
 ghost use Rattle.gc_station.specs.Deciding.{action_of};
 ghost use Rattle.gc_links.specs.Acts.{Told};
-ghost use Rattle.gc_station.specs.Attempts.{listed_behind, listed_by};
+ghost use Rattle.gc_station.specs.Attempts.{listed_after, listed_by};
 ghost use Rattle.gc_texts.specs.Endings.{Missed, Skipped};
-ghost use Rattle.gc_station.specs.Marks.{commands_in, records_of, last_well, fresh_behind};
+ghost use Rattle.gc_station.specs.Marks.{commands_in, records_of, last_well, fresh_after};
 ghost use Rattle.gc_station.specs.Scopes.{AreReadings};
 ghost use Rattle.gc_station.specs.Records.{Record, texts_of, WritesAll, WritesNews};
-ghost use Rattle.gc_station.specs.Model.{Model, opening, action_at, place_next, expected_first, mark_next, requests_out, is_chained, others_in, is_chained_behind, others_behind, skips, skip_listed, moved, ended, cycle_length, mark_setup, is_chained_behind_next};
+ghost use Rattle.gc_station.specs.Model.{Model, opening, action_at, place_next, expected_first, mark_next, requests_out, is_chained, others_in, is_chained_after, others_after, skips, skip_listed, moved, ended, cycle_length, mark_setup, is_chained_after_next};
 ghost use Rattle.gc_station.specs.Stations.{waiting_in, IsPaired, Refines, Took, Does, Made, stepped, OnCall, ComesTo, IsFitting, seen};
 ghost use Rattle.gc_station.specs.Tallies.{tallied};
 ghost use Rattle.gc_station.specs.declared.progress.Action.TheVariants.{ReadClock, Renew, Begin, Open, Skip, Pass, Close};
@@ -188,7 +188,7 @@ impl Station {
     // Whether the command `count` places after the next one is sent only once the one before it was answered well. In a missed
     // cycle the result is true for each command, because none is sent.
     fn is_chained_behind(&self, count: usize, commands: &[Task]) -> bool
-        ensures { result ≡ is_chained_behind count commands.now self.now.progress }
+        ensures { result ≡ is_chained_after count commands.now self.now.progress }
     {
         self.progress.missed || is_chained(commands, self.place(commands).saturating_add(count))
     }
@@ -196,7 +196,7 @@ impl Station {
     // If the command `count` places after the next one begins a further attempt of its chain: how many commands this attempt
     // and those after it have. Else 0.
     fn others_behind(&self, count: usize, commands: &[Task]) -> usize
-        ensures { result ≡ others_behind count commands.now self.now.progress }
+        ensures { result ≡ others_after count commands.now self.now.progress }
     {
         others_at(commands, self.place(commands).saturating_add(count))
     }
@@ -392,7 +392,7 @@ impl Station {
         ensures listed { OnOk result ((reads : Asked → List ℕ → Reading) → AreReadings reads
             → self.new.listed ≡ listed_by reads self.old.listed self.old.marks.items (map settlement_seen self.old.settled.items)) }
         ensures fresh { OnOk result ((reads : Asked → List ℕ → Reading) → AreReadings reads
-            → self.new.fresh ≡ fresh_behind self.old.progress.moment.elapsed self.old.fresh (records_of reads self.old.progress.moment.utc self.old.marks.items (map settlement_seen self.old.settled.items))) }
+            → self.new.fresh ≡ fresh_after self.old.progress.moment.elapsed self.old.fresh (records_of reads self.old.progress.moment.utc self.old.marks.items (map settlement_seen self.old.settled.items))) }
         ensures fails { FailsWith result (B.failed book.old) (B.failed book.new) }
         ensures form { B.text book.new ≡ B.text book.old }
     {

@@ -8,8 +8,8 @@ ghost use Rattle.gc_catalogue.specs.declared.answer.Reading.{Reading};
 ghost use Rattle.gc_catalogue.specs.declared.asked.Asked.{Asked};
 ghost use Rattle.gc_catalogue.specs.Asked.{IsAskedReading};
 ghost use Rattle.gc_client.specs.Settlements.{settlement_seen, outcome_seen, IsReadBy};
-ghost use Rattle.gc_station.specs.Attempts.{code_in, code_of, listed_behind, listed_by};
-ghost use Rattle.gc_station.specs.Marks.{records_of, value_as, refused_as, end_of, last_well, is_well, fresh_behind};
+ghost use Rattle.gc_station.specs.Attempts.{code_in, code_of, listed_after, listed_by};
+ghost use Rattle.gc_station.specs.Marks.{records_of, value_as, refused_as, end_of, last_well, is_well, fresh_after};
 ghost use Rattle.gc_station.specs.Model.{ends_with_table};
 ghost use Rattle.gc_station.specs.Zeros.{IsZeroOf};
 ghost use Rattle.gc_station.specs.Scopes.{AreReadings};
@@ -146,7 +146,7 @@ pub(crate) fn is_listed(
     code: Option<u16>,
     ending: Ending<'_>,
 ) -> bool
-    ensures { result ≡ listed_behind listed expected.now code (ending_seen ending.entry) }
+    ensures { result ≡ listed_after listed expected.now code (ending_seen ending.entry) }
 {
     (expected.turn.link != 0 && listed) || expected.again.names(code, ending)
 }
@@ -173,7 +173,7 @@ fn write_one<B: Book>(
     ensures listed { OnOk result ((reads : Asked → List ℕ → Reading) → AreReadings reads
         → listed.new ≡ listed_by reads listed.old (mark ∷ []) (settlement_seen settlement.now ∷ [])) }
     ensures fresh { OnOk result ((reads : Asked → List ℕ → Reading) → AreReadings reads
-        → fresh.new ≡ fresh_behind now.elapsed fresh.old (records_of reads now.utc (mark ∷ []) (settlement_seen settlement.now ∷ []))) }
+        → fresh.new ≡ fresh_after now.elapsed fresh.old (records_of reads now.utc (mark ∷ []) (settlement_seen settlement.now ∷ []))) }
     ensures fails { FailsWith result (B.failed book.old) (B.failed book.new) }
     ensures form { B.text book.new ≡ B.text book.old }
 {
@@ -237,7 +237,7 @@ pub(crate) fn write_settlements<B: Book>(
     ensures listed { OnOk result ((reads : Asked → List ℕ → Reading) → AreReadings reads
         → listed.new ≡ listed_by reads listed.old marks.old.items (map settlement_seen settlements.now)) }
     ensures fresh { OnOk result ((reads : Asked → List ℕ → Reading) → AreReadings reads
-        → fresh.new ≡ fresh_behind now.elapsed fresh.old (records_of reads now.utc marks.old.items (map settlement_seen settlements.now))) }
+        → fresh.new ≡ fresh_after now.elapsed fresh.old (records_of reads now.utc marks.old.items (map settlement_seen settlements.now))) }
     ensures marks { OnOk result (marks.new.items ≡ drop (length settlements.now) marks.old.items) }
     ensures fails { FailsWith result (B.failed book.old) (B.failed book.new) }
     ensures form { B.text book.new ≡ B.text book.old }

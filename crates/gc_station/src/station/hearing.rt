@@ -5,7 +5,7 @@ ghost use Rattle.std.specs.Option.{option_to_list};
 ghost use Rattle.gc_lines.specs.Frames.{line_in};
 ghost use Rattle.gc_lines.specs.Lent.{lent_seen, IsLineWithin};
 ghost use Rattle.gc_lines.specs.Ports.{FailsWith};
-ghost use Rattle.gc_station.specs.Model.{Model, is_heard, with_progress, lines_came, piece_came, piece_asked, came, piece_at, moved};
+ghost use Rattle.gc_station.specs.Model.{Model, is_heard, with_progress, lines_came, piece_came, piece_asked, after_piece, piece_at, moved};
 ghost use Rattle.gc_station.specs.Progressing.{lines_asked};
 ghost use Rattle.gc_station.specs.Stations.{Refines, Took, Made, ComesTo, seen};
 ghost use Rattle.gc_station.specs.declared.progress.Action.TheVariants.{Read};
@@ -90,7 +90,7 @@ impl Station {
     // discards them.
     fn take_lines<B: Book>(&mut self, book: &mut B, piece: &[u8]) -> Result<(), PortFailed>
         ensures takes { (s : Model) (start : Option (List ℕ)) → Refines self.old s → Took (B.text book.old) start (B.taken book.old) s
-            → ComesTo (B.text book.old) s.records self.new start (B.taken book.new) (came (is_heard s.progress.phase) s.progress.word piece.now s) result }
+            → ComesTo (B.text book.old) s.records self.new start (B.taken book.new) (after_piece (is_heard s.progress.phase) s.progress.word piece.now s) result }
         ensures fails { FailsWith result (B.failed book.old) (B.failed book.new) }
         ensures form { B.text book.new ≡ B.text book.old }
     {
