@@ -4,5 +4,5 @@ use Rattle.std.specs.Io.KnownBytes.{Appends}
 
 -- what is written after the lines on how a run ended: one more line if the run's log was lost (`true`), else nothing
 abbrev pub TellsLoss : Bool → Option (List ℕ) → Option (List ℕ) → Type 0
-TellsLoss true old new = Appends old new (codes "geocom: the log could not be written to its end\n")
+TellsLoss true old new = Appends old new (codes "geocom: the log could not be written completely\n")
 TellsLoss false old new = new ≡ old

@@ -29,7 +29,7 @@ unfit_text why = fault_line (run_fault_text (fault_of_unfit why)) ++ rotation_li
 
 -- what is written of a torn row that was cut off, by its number of bytes: nothing if there were none
 abbrev pub torn_line : ℕ → List ℕ
-torn_line torn = if torn == 0 then [] else codes "geocom: " ++ decimal torn ++ codes " bytes of a torn row were cut off\n"
+torn_line torn = if torn == 0 then [] else codes "geocom: " ++ decimal torn ++ codes " bytes of an incomplete row were cut off\n"
 
 -- what is written of rows that were copied because the run before was killed or a sync failed, by their number: nothing if
 -- there were none

@@ -138,7 +138,7 @@ fn end_chain<W: Write>(chain: Option<(u64, Again)>, outline: &mut W) -> io::Resu
         return Ok(());
     };
     if again > 0 {
-        write!(outline, " again {again} times at most, behind")?;
+        write!(outline, " again at most {again} times, after")?;
         outline_rule(&rule, outline)?;
     }
     writeln!(outline)

@@ -192,7 +192,7 @@ fn tell_loss<E: Write>(
 {
     let status = ended?;
     if is_lost {
-        writeln!(messages, "geocom: the log could not be written to its end")?;
+        writeln!(messages, "geocom: the log could not be written completely")?;
     }
     Ok(status)
 }

@@ -42,7 +42,7 @@ fn fault_of_unfit(why: Unfit) -> RunFault
     }
 }
 
-// Writes how many bytes of a torn row were cut off, if any were.
+// Writes how many bytes of an incomplete row were cut off, if any were.
 fn tell_torn<E: Write>(torn: u64, messages: &mut E) -> io::Result<()>
     ensures { OnOk result (Appends (E.contents messages.old) (E.contents messages.new) (torn_line torn)) }
 {
@@ -50,7 +50,7 @@ fn tell_torn<E: Write>(torn: u64, messages: &mut E) -> io::Result<()>
         // For the proof: writing an empty text gives the clause, which an `Ok(())` alone doesn't.
         return write!(messages, "");
     }
-    writeln!(messages, "geocom: {torn} bytes of a torn row were cut off")
+    writeln!(messages, "geocom: {torn} bytes of an incomplete row were cut off")
 }
 
 // Writes how many rows were copied because the run before was killed or a sync failed, if any were.
@@ -104,7 +104,7 @@ fn write_rotation<E: Write>(why: Unfit, messages: &mut E) -> io::Result<()>
 }
 
 // Opens the file of a station's records, in the form of its rows, to sync each row or not as `recording` asks. Writes how many
-// rows were copied and how many bytes of a torn row were cut off, if any were. The result is the file, and whether this could
+// rows were copied and how many bytes of an incomplete row were cut off, if any were. The result is the file, and whether this could
 // be written.
 fn open_records<R: Files<File = File>, E: Write>(
     rt: &R,

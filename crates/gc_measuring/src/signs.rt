@@ -246,13 +246,13 @@ impl Signs {
         if odd.echoes && !told.echoes {
             writeln!(
                 messages,
-                "geocom: the line sends back what goes out: a modem or the far end has its echo on"
+                "geocom: the line echoes what is sent: a modem or the other end has its echo on"
             )?;
         }
         if odd.bare && !told.bare {
             writeln!(
                 messages,
-                "geocom: the line changes CR to LF: it is to be raw (stty raw)"
+                "geocom: the line changes CR to LF: set it to raw mode (stty raw)"
             )?;
         }
         Ok(())
@@ -283,7 +283,7 @@ impl Signs {
     fn tell_unprepared<E: Write>(&mut self, messages: &mut E) -> io::Result<()> {
         match self.unprepared_since {
             Some(since) if self.unprepared.allows(self.elapsed, MINUTE) => {
-                self.tell_since(since, "no set-up", messages)
+                self.tell_since(since, "setup not done", messages)
             }
             _ => Ok(()),
         }
@@ -299,7 +299,7 @@ impl Signs {
         if !self.unquiet.allows(self.elapsed, MINUTE) {
             return Ok(());
         }
-        self.tell_since(self.since.utc, "not quiet", messages)
+        self.tell_since(self.since.utc, "line not quiet", messages)
     }
 
     // Reports that no answer comes, once that has lasted for `LASTING`, whatever became of connections meanwhile.
@@ -318,7 +318,7 @@ impl Signs {
 
     /// Reports why a run ended that is stale: since when no answer of a good quality came, in milliseconds since 1970.
     pub(crate) fn tell_stale<E: Write>(&mut self, since: u64, messages: &mut E) -> io::Result<()> {
-        self.tell_since(since, "no good answer", messages)
+        self.tell_since(since, "no answer of good quality", messages)
     }
 
     // Reports that `what` has lasted since `utc` (milliseconds since 1970). From then on the station counts as troubled, until a

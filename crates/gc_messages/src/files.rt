@@ -23,13 +23,13 @@ pub enum LogSeen {
 pub struct FilesSeen {
     /// The log.
     pub log: LogSeen,
-    /// How many bytes of a torn line of the log were cut off.
+    /// How many bytes of an incomplete line of the log were cut off.
     pub log_torn: u64,
     /// How many times the rows went on in a new file, because the path no longer led to the one before.
     pub moves: u64,
     /// How many rows of the last of these new files were copied, because an earlier run was killed or a sync failed.
     pub copied: u64,
-    /// How many bytes of a torn row were cut off the last of these new files.
+    /// How many bytes of an incomplete row were cut off the last of these new files.
     pub torn: u64,
     /// Whether the path doesn't lead to the rows' file, and no new one can be had there.
     pub is_astray: bool,
@@ -117,7 +117,7 @@ impl FilesNews {
         }
         writeln!(
             messages,
-            "geocom: the file of rows was moved or deleted, and none can be had at its path: rows still go into the old one"
+            "geocom: the file of records was moved or deleted, and no new one can be opened at its path: rows are still written to the old one"
         )
     }
 
@@ -131,16 +131,16 @@ impl FilesNews {
             LogSeen::Whole => Ok(()),
             LogSeen::Full => writeln!(
                 messages,
-                "geocom: the log is full: what went or came from here on is left out of it"
+                "geocom: the log is full: what is sent or received from here on is not in it"
             ),
             LogSeen::Lost => writeln!(
                 messages,
-                "geocom: the log can't be written, and ends here: the station measures on"
+                "geocom: the log can't be written and ends here: measuring continues"
             ),
         }
     }
 
-    // Writes that bytes of a torn line of the log were cut off, if that is new.
+    // Writes that bytes of an incomplete line of the log were cut off, if that is new.
     fn tell_torn_log<E: Write>(self, messages: &mut E) -> io::Result<()> {
         let torn = self.now.log_torn;
         if torn == self.before.log_torn {
@@ -148,7 +148,7 @@ impl FilesNews {
         }
         writeln!(
             messages,
-            "geocom: {torn} bytes of a torn line of the log were cut off"
+            "geocom: {torn} bytes of an incomplete line of the log were cut off"
         )
     }
 
@@ -159,14 +159,14 @@ impl FilesNews {
         }
         writeln!(
             messages,
-            "geocom: the file of rows was moved or deleted: rows go on in a new one at its path"
+            "geocom: the file of records was moved or deleted: rows continue in a new one at its path"
         )?;
         self.tell_copied(messages)?;
         let torn = self.now.torn;
         if torn == 0 {
             return Ok(());
         }
-        writeln!(messages, "geocom: {torn} bytes of a torn row were cut off")
+        writeln!(messages, "geocom: {torn} bytes of an incomplete row were cut off")
     }
 
     // Writes that rows of the new file were copied, if any were.

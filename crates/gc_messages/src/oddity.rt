@@ -97,11 +97,11 @@ impl<'a> Spot<'a> {
 pub fn tell_place<E: Write>(place: Place<'_>, fault: RunFault, messages: &mut E) -> io::Result<()> {
     let why = match fault {
         RunFault::LinkClosed => "the connection ended",
-        RunFault::Mute => "no reply came any more",
-        RunFault::SetUp => "a command of the set-up wasn't answered well",
+        RunFault::Mute => "no further reply came",
+        RunFault::SetUp => "a command of the setup was not answered well",
         RunFault::Write { .. } => "a write failed",
-        RunFault::NoTerminal => "it is no terminal",
-        RunFault::Held => "another program holds it",
+        RunFault::NoTerminal => "it is not a terminal",
+        RunFault::Held => "another program has locked it",
         _ => return Ok(()),
     };
     writeln!(messages, "geocom: {place}: {why}")

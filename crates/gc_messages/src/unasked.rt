@@ -26,7 +26,7 @@ pub fn tell_unnamed<E: Write>(tasks: &Tasks, messages: &mut E) -> io::Result<()>
             let target = name.target;
             writeln!(
                 messages,
-                "geocom: name {target}: no command asks target {target}"
+                "geocom: name {target}: no command is for target {target}"
             )?;
         }
     }
@@ -37,6 +37,6 @@ pub fn tell_unnamed<E: Write>(tasks: &Tasks, messages: &mut E) -> io::Result<()>
 fn tell_target<E: Write>(target: u32, messages: &mut E) -> io::Result<()> {
     writeln!(
         messages,
-        "geocom: near {target}: no command asks target {target} for its direction"
+        "geocom: near {target}: no command measures the direction of target {target}"
     )
 }

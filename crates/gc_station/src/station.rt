@@ -1,27 +1,25 @@
 //! A station's steps: each makes the one call of the link that is next, and does by the client what came of it.
 
-ghost use Rattle.std.specs.Prelude.{◌≡◌, ℕ, ◌<◌, ◌≤◌, ◌++◌, List, length, drop, map, Option, None, OnOk, All, true, false, if◌then◌else◌};
-ghost use Rattle.std.specs.Io.KnownBytes.{Appends};
+ghost use Rattle.std.specs.Prelude.{◌≡◌, ℕ, ◌≤◌, List, length, drop, map, Option, OnOk, All, true};
 ghost use Rattle.gc_lines.specs.Ports.{FailsWith};
 ghost use Rattle.gc_catalogue.specs.declared.answer.Reading.{Reading};
 ghost use Rattle.gc_catalogue.specs.declared.asked.Asked.{Asked};
 ghost use Rattle.gc_catalogue.specs.Asked.{IsAskedReading};
 ghost use Rattle.gc_client.specs.Settlements.{settlement_seen, IsReadBy};
 ghost use Rattle.gc_station.specs.Deciding.{action_of};
-ghost use Rattle.gc_links.specs.Acts.{Told};
-ghost use Rattle.gc_station.specs.Attempts.{listed_after, listed_by};
-ghost use Rattle.gc_texts.specs.Endings.{Missed, Skipped};
+ghost use Rattle.gc_station.specs.Attempts.{listed_by};
 ghost use Rattle.gc_station.specs.Marks.{commands_in, records_of, last_well, fresh_after};
 ghost use Rattle.gc_station.specs.Scopes.{AreReadings};
-ghost use Rattle.gc_station.specs.Records.{Record, texts_of, WritesAll, WritesNews};
-ghost use Rattle.gc_station.specs.Model.{Model, opening, action_at, place_next, expected_first, mark_next, requests_out, is_chained, others_in, is_chained_after, others_after, skips, skip_listed, moved, ended, cycle_length, mark_setup, is_chained_after_next};
+ghost use Rattle.gc_station.specs.Records.{Record, WritesNews};
+ghost use Rattle.gc_station.specs.Model.{Model, opening, action_at, place_next, expected_first, mark_next, requests_out, is_chained, others_in, is_chained_after, others_after, moved, ended, mark_setup};
 ghost use Rattle.gc_station.specs.Stations.{waiting_in, IsPaired, Refines, Took, Does, Made, stepped, OnCall, ComesTo, IsFitting, seen};
 ghost use Rattle.gc_station.specs.Tallies.{tallied};
-ghost use Rattle.gc_station.specs.declared.progress.Action.TheVariants.{ReadClock, Renew, Begin, Open, Skip, Pass, Close};
+ghost use Rattle.gc_station.specs.declared.progress.Action.TheVariants.{ReadClock, Renew, Begin, Open, Close};
 ghost use Rattle.gc_texts.specs.declared.tasks.Task.{Task};
 
 mod hearing;
 mod sending;
+mod unsent;
 
 use crate::book::Book;
 use crate::cause::Cause;
@@ -29,13 +27,13 @@ use crate::mark::{Mark, commands_in};
 use crate::plan::Plan;
 use crate::progress::{Action, Progress, Waiting};
 use crate::tally::Counts;
-use crate::writing::{is_listed, write_settlements};
+use crate::writing::write_settlements;
 use arrayvec::ArrayVec;
 use gc_catalogue::Asked;
 use gc_client::{Client, Settlement, SlotsOf, WINDOW};
 use gc_lines::{Assembler, PortFailed};
-use gc_links::{Link, Moment};
-use gc_texts::{Again, Codes, Ending, Expected, Stamp, Task, Turn};
+use gc_links::Link;
+use gc_texts::{Again, Codes, Expected, Task, Turn};
 
 // Whether a command at this place is sent only once the one before it was answered well.
 fn is_chained(commands: &[Task], place: usize) -> bool
@@ -272,106 +270,6 @@ impl Station {
             Ok(()) => self.progress.open(),
             Err(_) => self.progress.try_again(plan, commands, Cause::Open),
         }
-    }
-
-    // Reads the clock, and records the next command without sending it. A clock that can't be read is noted, as by
-    // `read_clock`, and nothing is written. `Err`: the book failed.
-    fn skip<L: Link, B: Book>(
-        &mut self,
-        link: &mut L,
-        book: &mut B,
-        plan: &Plan,
-        commands: &[Task],
-    ) -> Result<(), PortFailed>
-        requires unsent { 0 < self.old.progress.unsent }
-        requires within { self.old.progress.unsent ≤ length commands.now }
-        ensures does { Made commands.now Skip (moved plan.now commands.now Skip) (seen (L.acts link.old) (B.text book.old) (B.taken book.old) self.old) (seen (L.acts link.new) (B.text book.old) (B.taken book.new) self.new) result }
-        ensures fails { FailsWith result (B.failed book.old) (B.failed book.new) }
-        ensures form { B.text book.new ≡ B.text book.old }
-    {
-        match link.now() {
-            Ok(moment) => {
-                if let Err(failed) = self.write_skipped(book, plan, commands, moment) {
-                    return Err(failed);
-                }
-                let waiting = self.commands();
-                let next_is_chained = self.is_chained_behind(1, commands);
-                let others = self.others_behind(1, commands);
-                self.progress.skip(next_is_chained, others, moment);
-                self.progress.reckon_early(plan, waiting);
-                self.client.expire(moment.elapsed);
-                self.fresh = self.fresh.min(moment.elapsed);
-                Ok(())
-            }
-            Err(_) => {
-                self.progress.fail(Cause::Clock);
-                Ok(())
-            }
-        }
-    }
-
-    // Reads the clock, and leaves out the further attempts of a chain that the next command begins. A clock that can't be read
-    // is noted, as by `read_clock`, and nothing is left out.
-    fn pass<L: Link>(&mut self, link: &mut L, plan: &Plan, commands: &[Task])
-        ensures { (text : Record → List ℕ) (known : Option (List ℕ))
-            → Does plan.now commands.now Pass (seen (L.acts link.old) text known self.old) (seen (L.acts link.new) text known self.new) }
-    {
-        match link.now() {
-            Ok(moment) => {
-                let waiting = self.commands();
-                let count = self.progress.next_others;
-                let next_is_chained = self.is_chained_behind(count, commands);
-                let others = self.others_behind(count, commands);
-                self.progress.pass(next_is_chained, others, moment);
-                self.progress.reckon_early(plan, waiting);
-                self.client.expire(moment.elapsed);
-                self.fresh = self.fresh.min(moment.elapsed);
-            }
-            Err(_) => self.progress.fail(Cause::Clock),
-        }
-    }
-
-    // Writes the record of the next command, which isn't sent: it is skipped, or its cycle is missed.
-    fn write_skipped<B: Book>(
-        &mut self,
-        book: &mut B,
-        plan: &Plan,
-        commands: &[Task],
-        moment: Moment,
-    ) -> Result<(), PortFailed>
-        requires unsent { 0 < self.old.progress.unsent }
-        requires within { self.old.progress.unsent ≤ length commands.now }
-        ensures wrote { (start : Option (List ℕ)) (before : List Record) → Appends start (B.taken book.old) (texts_of (B.text book.old) before)
-            → WritesAll (B.text book.old) before (before ++ skips plan.now commands.now self.old.progress (Told moment)) start (B.taken book.new) result }
-        ensures after { OnOk result (self.new ≡ record self.old {
-          tally = tallied self.old.tally (skips plan.now commands.now self.old.progress (Told moment));
-          well = false;
-          listed = listed_behind self.old.listed (mark_next plan.now commands.now self.old.progress).expected None (if self.old.progress.missed then Missed else Skipped);
-        }) }
-        ensures fails { FailsWith result (B.failed book.old) (B.failed book.new) }
-        ensures form { B.text book.new ≡ B.text book.old }
-    {
-        let mark = self.mark(plan, commands);
-        let task = &commands[self.place(commands)];
-        let stamp = Stamp {
-            sent: None,
-            utc: self.progress.skipped_at(moment),
-            cycle: mark.cycle,
-            place: mark.place,
-            turn: mark.expected.turn,
-        };
-        let ending = if self.progress.missed {
-            Ending::Missed
-        } else {
-            Ending::Skipped
-        };
-        if let Err(failed) = book.write(stamp, &task.command, ending) {
-            return Err(failed);
-        }
-        self.tally.count(mark.cycle, mark.expected.turn, ending);
-        self.well = false;
-        self.listed = is_listed(self.listed, &mark.expected, None, ending);
-        Ok(())
     }
 
     // Writes the records of `settled`, and takes out the marks of the requests that were settled, the oldest first.
