@@ -2,7 +2,7 @@
 
 ghost use Rattle.std.specs.Prelude.{◌≡◌, ◌≤◌, false, IfOk};
 ghost use Rattle.std.specs.Process.{exit_status};
-ghost use Rattle.gc_messages.specs.Streams.{are_open, TellsClosed};
+ghost use Rattle.gc_messages.specs.Streams.{are_open, ReportsClosed};
 
 use gc_lines::{Durable, Source};
 use gc_links::Place;
@@ -37,7 +37,7 @@ pub(crate) fn run_asking<
     mut streams: Streams<S, K, E>,
 ) -> (Streams<S, K, E>, io::Result<ExitCode>)
     // If a stream is closed, that is reported with status 1, and nothing was read or written.
-    ensures closed { are_open standard ≡ false → IfOk result.1 (λ status. TellsClosed standard (exit_status status) (E.contents streams.messages) (E.contents result.0.messages)) }
+    ensures closed { are_open standard ≡ false → IfOk result.1 (λ status. ReportsClosed standard (exit_status status) (E.contents streams.messages) (E.contents result.0.messages)) }
     ensures untouched { are_open standard ≡ false → (result.0.input ≡ streams.input) × (result.0.output ≡ streams.output) }
     ensures bound { IfOk result.1 (λ status. exit_status status ≤ 2) }
 {
@@ -152,7 +152,7 @@ fn measure_site<
     };
     let lossy = lossy_of(streams);
     let (mut lossy, ended) = measure_recorded(rt, alloc, spot, site, station, recording, lossy);
-    let _ = spot.tell(&mut lossy.messages);
+    let _ = spot.report(&mut lossy.messages);
     // The system's reason is reported only if the place couldn't be reached, or no run stopped for a fault.
     if !spot.is_unreached() {
         rt.forget();

@@ -175,7 +175,7 @@ fn run_serve<
 {
     let noting = Noting::new(rt);
     let ended = serve_filled(&noting, alloc, standard, serving, &mut streams.messages);
-    noting.tell(standard, ended, &mut streams.messages)
+    noting.report(standard, ended, &mut streams.messages)
 }
 
 // Runs a subcommand that asks over a connection, and reports how that ended; after a fault also what the system refused last, and
@@ -206,7 +206,7 @@ fn run_over<
         messages,
     };
     let (mut streams, ended) = run_asking(&noting, alloc, standard, asking, streams);
-    noting.tell(standard, ended, &mut streams.messages)
+    noting.report(standard, ended, &mut streams.messages)
 }
 
 // Reports why words ask for no subcommand: memory ran out, they don't parse, or they ask for the help or the version. `reads`

@@ -144,13 +144,13 @@ module _ {State : Type 0} (ends : Ends State) (Good : State → Type 0) (kept : 
   abbrev pub IsSafePart : Part → Stretch State → Type 0
   IsSafePart p s = (n : ℕ) (mark : _) → slice_get p.marks n ≡ Some (Some mark) → IsSafe 7 ends s.from Good kept s.moves (8 + n)
 
-  -- so it is in each part with its stretch
+  -- `IsSafePart` holds of each part with its stretch
   abbrev pub AllSafe : List Part → List (Stretch State) → Type 0
   AllSafe [] [] = Unit {0}
   AllSafe (p ∷ ps) (s ∷ ss) = IsSafePart p s × AllSafe ps ss
   AllSafe _ _ = ⊥
 
-  -- so it is at each place
+  -- if all parts are safe, so is the one at each place
   pub safe_at : (ps : List Part) (ss : List (Stretch State)) (i : ℕ) (p : Part) (s : Stretch State) → AllSafe ps ss → slice_get ps i ≡ Some p → slice_get ss i ≡ Some s → IsSafePart p s
   safe_at [] ss i p s h e f = absurd (none_is_not p e)
   safe_at (q ∷ ps) [] i p s h e f = absurd h
@@ -335,7 +335,7 @@ module _ {State : Type 0} (ends : Ends State) (Good : State → Type 0) (kept : 
       let r = asked_at (own_sent ends s) n a.0 a.1 in
       let b = f.faithful.booked (8 + n) x beyond (safe n mark at) there line answered in
       let right : x.call ≡ call_at a.2.0 mark.sent = (f.faithful.one_for_one.same (8 + n) x r.0 there (get_drop 8 n (world ends s).wire.sent r.0 r.1)).1 ∙ ap
-          (λ (o : Wanted Asked). o.call) (r.2 ∙ a.2.2) in
+      (λ (o : Wanted Asked). o.call) (r.2 ∙ a.2.2) in
       record {
         k = 0;
         part = p;
@@ -465,7 +465,7 @@ module _ {State : Type 0} (ends : Ends State) (Good : State → Type 0) (kept : 
       let a = of_at commands p.marks (map asked (own_sent ends s)) n (Some mark) sent at in
       let r = asked_at (own_sent ends s) n a.0 a.1 in
       let right : x.call ≡ call_at a.2.0 mark.sent = (f.faithful.one_for_one.same (8 + n) x r.0 there (get_drop 8 n (world ends s).wire.sent r.0 r.1)).1 ∙ ap
-          (λ (o : Wanted Asked). o.call) (r.2 ∙ a.2.2) in
+      (λ (o : Wanted Asked). o.call) (r.2 ∙ a.2.2) in
       let made = f.faithful.late (8 + n) x beyond (safe n mark at) there late in
       record {
         k = 0;

@@ -23,7 +23,7 @@ use Rattle.gc_world.proofs.Options.{some_is, none_is_not}
 abbrev pub IsFront : List Part → List Part → Type 0
 IsFront [] qs = ⊥
 IsFront (p ∷ ps) [] = ⊥
-pub IsFront (p ∷ []) (q ∷ qs) = (more : Part) × (q ≡ joined p more)
+IsFront (p ∷ []) (q ∷ qs) = (more : Part) × (q ≡ joined p more)
 IsFront (p ∷ next ∷ ps) (q ∷ qs) = (q ≡ p) × IsFront (next ∷ ps) qs
 
 -- of three parts in a row, the first two or the last two may be joined first
@@ -137,7 +137,7 @@ marked (y ∷ xs) m x got e = cc
 -- if the last part has a mark, `LastIsMarked` holds
 pub last_marked : (ps : List Part) (i m : ℕ) (p : Part) (mark : _) → length ps ≡ suc i → slice_get ps i ≡ Some p → slice_get p.marks m ≡ Some mark → LastIsMarked ps
 last_marked [] i m p mark size e got = tt
-pub last_marked (x ∷ []) zero m p mark size e got = marked x.marks m mark (subst (λ (y : Part). slice_get y.marks m ≡ Some mark) (sym (some_is x p e)) got)
+last_marked (x ∷ []) zero m p mark size e got = marked x.marks m mark (subst (λ (y : Part). slice_get y.marks m ≡ Some mark) (sym (some_is x p e)) got)
 last_marked (x ∷ []) (suc i) m p mark size e got = absurd (omega (arith, size))
 last_marked (x ∷ next ∷ ps) zero m p mark size e got = absurd (omega (arith, size))
 last_marked (x ∷ next ∷ ps) (suc i) m p mark size e got = last_marked (next ∷ ps) i m p mark (omega (arith, size)) e got

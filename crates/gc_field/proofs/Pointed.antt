@@ -65,7 +65,7 @@ executes : (s : State) (id : ℕ) (asked : Asked) → (handed s id asked).execut
 executes s id (Table c) e = bare_after s id c e ∙ exec_bare s (Table c)
 executes s id (Raw raw) e = refl
 
--- if it doesn't, nothing changes
+-- if the simulator doesn't execute a request, its state stays, but for the retained reply
 repeats : (s : State) (id : ℕ) (asked : Asked) → (handed s id asked).executed ≡ false → bare (handed s id asked).state ≡ bare s
 repeats s id (Table c) not = ap bare (handed_same s id c (kept_line s.kept (Some id)) refl not)
 repeats s id (Raw raw) not = refl

@@ -167,6 +167,6 @@ abbrev pub tally_line : Tally → List ℕ
 tally_line t = ends_text t ++ others_text t ++ again_text t
 
 -- how the program reports a station's end: by status 0 and the line of its counts, or by status 1 and the lines of its stop
-abbrev pub TellsCounts : Result Tally Stop → ℕ → Option (List ℕ) → Option (List ℕ) → Type 0
-TellsCounts (Ok tally) status old new = (status ≡ 0) × Appends old new (tally_line tally)
-TellsCounts (Err stop) status old new = (status ≡ 1) × Appends old new (stop_text stop)
+abbrev pub ReportsCounts : Result Tally Stop → ℕ → Option (List ℕ) → Option (List ℕ) → Type 0
+ReportsCounts (Ok tally) status old new = (status ≡ 0) × Appends old new (tally_line tally)
+ReportsCounts (Err stop) status old new = (status ≡ 1) × Appends old new (stop_text stop)

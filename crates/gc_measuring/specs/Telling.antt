@@ -4,8 +4,8 @@
 -- start.
 use Rattle.std.specs.Prelude.{◌≡◌, ℕ, Bool, true, ◌⊎◌, List, [], Option, Some, None, Result, Err}
 use Rattle.std.specs.Io.KnownBytes.{Appends}
-use Rattle.gc_measuring.specs.Logging.{TellsLoss}
-use Rattle.gc_measuring.specs.Measuring.{Places, MeasuresGiven, MeasuresBegun, IsMeasured, AllLast, TellsCounts}
+use Rattle.gc_measuring.specs.Logging.{ReportsLoss}
+use Rattle.gc_measuring.specs.Measuring.{Places, MeasuresGiven, MeasuresBegun, IsMeasured, AllLast, ReportsCounts}
 use Rattle.gc_measuring.specs.Recording.{unfit_text}
 use Rattle.gc_measuring.specs.Stops.{IsWithoutLink, with_fault}
 use Rattle.gc_words.specs.Stations.{appended, begun_at}
@@ -38,14 +38,14 @@ acts_of (Some link) = Some link.history.acts
 
 -- a text was refused, or its commands were measured, over a link that recorded these acts, with what was seen at each; and the
 -- status and the messages report how that ended. `between` are the messages before this report
-pub record TellsMeasuring {S K E : Type 0} (source : Source S) (sink : Sink K) (lasts : K → Bool) (shown : E → Option (List ℕ)) (station : Settings)
+pub record ReportsMeasuring {S K E : Type 0} (source : Source S) (sink : Sink K) (lasts : K → Bool) (shown : E → Option (List ℕ)) (station : Settings)
     (acts acts' : Option (List Act)) (turns turns' : List Snapshot) (old new : Streams S K E) (status : ℕ) : Type 0 where
   pub end : Result Tally Stop
   pub between : E
   pub measured : MeasuresGiven station (places_of source sink shown old acts turns) (places_of source sink shown (record new { messages = between }) acts' turns') end
   pub all_last : AllLast (lasts new.output) end
   pub fails : FailsAtOutput (sink.failed old.output) (sink.failed new.output) (with_fault end)
-  pub counts : TellsCounts end status (shown between) (shown new.messages)
+  pub counts : ReportsCounts end status (shown between) (shown new.messages)
 
 -- a source gave a text to its end, and the run over its commands is done, or its end was asked for, over a link that recorded
 -- these acts
@@ -75,7 +75,7 @@ pub record MeasuresFromNone {S K E : Type 0} (source : Source S) (sink : Sink K)
 -- a run measured by these acts of its link, with what was seen at each, or it didn't begin; and the status and the messages
 -- report how it ended, and then whether the log was lost. `between` are the messages before the report of the end, and `behind`
 -- those after it
-pub record TellsRun {S K E : Type 0} (source : Source S) (sink : Sink K) (lasts : K → Bool) (shown : E → Option (List ℕ)) (has_log : Bool) (station : Settings)
+pub record ReportsRun {S K E : Type 0} (source : Source S) (sink : Sink K) (lasts : K → Bool) (shown : E → Option (List ℕ)) (has_log : Bool) (station : Settings)
     (old new : Streams S K E) (acts : Option (List Act)) (turns turns' : List Snapshot) (status : ℕ) : Type 0 where
   pub end : Result Tally Stop
   pub between : E
@@ -85,8 +85,8 @@ pub record TellsRun {S K E : Type 0} (source : Source S) (sink : Sink K) (lasts 
   pub ran : MeasuresFromNone source sink lasts shown station old (record new { messages = between }) acts turns turns' end
       ⊎ IsUnbegun has_log old (record new { messages = between }) acts turns turns' end
   pub fails : FailsAtOutput (sink.failed old.output) (sink.failed new.output) (with_fault end)
-  pub counts : TellsCounts end status (shown between) (shown behind)
-  pub loss : TellsLoss is_lost (shown behind) (shown new.messages)
+  pub counts : ReportsCounts end status (shown between) (shown behind)
+  pub loss : ReportsLoss is_lost (shown behind) (shown new.messages)
 
 -- a source gave a text to its end, and the run over its commands is done, or its end was asked for, by these acts, which its
 -- link recorded from none on
@@ -114,12 +114,12 @@ pub record IsFiled {S F K E : Type 0} (sink : Sink F) (old new : Streams S K E) 
 
 -- a run that appends to a file is reported after what was written of the file's opening, and the file has the rows of what was measured.
 -- `old` and `new` are the streams of the run's caller; `begun` and `ended` are the run's own, with the file as output (`IsFiled`)
-pub record TellsAppended {S F K E : Type 0} (source : Source S) (sink : Sink F) (lasts : F → Bool) (shown : E → Option (List ℕ)) (has_log : Bool) (station : Settings)
+pub record ReportsAppended {S F K E : Type 0} (source : Source S) (sink : Sink F) (lasts : F → Bool) (shown : E → Option (List ℕ)) (has_log : Bool) (station : Settings)
     (old new : Streams S K E) (file : Option F) (acts : Option (List Act)) (turns turns' : List Snapshot) (status : ℕ) : Type 0 where
   pub begun : Streams S F E
   pub ended : Streams S F E
   pub filed : IsFiled sink old new begun ended file
-  pub run : TellsRun source sink lasts shown has_log (appended station) begun ended acts turns turns' status
+  pub run : ReportsRun source sink lasts shown has_log (appended station) begun ended acts turns turns' status
 
 -- a source gave a text to its end, and the run over its commands is done, or its end was asked for, which appended to a file. `old` and `new` are the streams of
 -- the run's caller; `begun` and `ended` are the run's own, with the file as output (`IsFiled`)

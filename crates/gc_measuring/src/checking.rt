@@ -9,7 +9,7 @@ ghost use Rattle.gc_texts.specs.WholeTexts.{input_of};
 use crate::stop::Stop;
 use crate::task_text::read_task_text;
 use gc_lines::{Sink, Source, write_whole};
-use gc_messages::{Streams, tell_spaces, tell_turns, tell_unasked, tell_unnamed};
+use gc_messages::{Streams, report_spaces, report_turns, report_unasked, report_unnamed};
 use gc_texts::{Again, RunFault, Task, Tasks};
 use gc_words::Choice;
 use std::alloc::Global;
@@ -34,14 +34,14 @@ pub fn check_task_text<S: Source, K: Sink, E: Write>(
 {
     let end = match read_task_text(alloc, &mut streams.input, &choice) {
         Ok((tasks, text)) => {
-            let _ = tell_doubts(text.as_slice(), &tasks, &mut streams.messages);
+            let _ = report_doubts(text.as_slice(), &tasks, &mut streams.messages);
             write_outline(alloc, &tasks, &mut streams.output)
         }
         Err(stop) => Err(stop),
     };
     let status = match end {
         Ok(()) => Ok(ExitCode::SUCCESS),
-        Err(stop) => match stop.tell(&mut streams.messages) {
+        Err(stop) => match stop.report(&mut streams.messages) {
             Ok(()) => Ok(ExitCode::from(1)),
             Err(failed) => Err(failed),
         },
@@ -50,11 +50,11 @@ pub fn check_task_text<S: Source, K: Sink, E: Write>(
 }
 
 // Reports what looks wrong in a text that gives these tasks.
-fn tell_doubts<E: Write>(text: &[u8], tasks: &Tasks, messages: &mut E) -> io::Result<()> {
-    tell_turns(text, tasks, messages)?;
-    tell_unasked(tasks, messages)?;
-    tell_unnamed(tasks, messages)?;
-    tell_spaces(text, messages)
+fn report_doubts<E: Write>(text: &[u8], tasks: &Tasks, messages: &mut E) -> io::Result<()> {
+    report_turns(text, tasks, messages)?;
+    report_unasked(tasks, messages)?;
+    report_unnamed(tasks, messages)?;
+    report_spaces(text, messages)
 }
 
 // Writes what a station would do by these tasks.

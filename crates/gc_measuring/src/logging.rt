@@ -4,8 +4,8 @@ ghost use Rattle.std.specs.Prelude.{◌≡◌, ◌≤◌, true, None, IfOk, IfEr
 ghost use Rattle.std.specs.Option.{is_some};
 ghost use Rattle.std.specs.Process.{exit_status};
 ghost use Rattle.gc_texts.specs.declared.fault.RunFault.{RunFault};
-ghost use Rattle.gc_measuring.specs.Logging.{TellsLoss};
-ghost use Rattle.gc_measuring.specs.Telling.{TellsMeasuring, MeasuresAll};
+ghost use Rattle.gc_measuring.specs.Logging.{ReportsLoss};
+ghost use Rattle.gc_measuring.specs.Telling.{ReportsMeasuring, MeasuresAll};
 ghost use Rattle.gc_logs.specs.Bounds.{has_ended, sink_of};
 
 use crate::station::measure_over;
@@ -168,9 +168,9 @@ pub(crate) fn measure_logged<L: Link, G: Sink, S: Source, K: Durable, E: Write>(
 ) -> (Streams<S, K, E>, io::Result<ExitCode>)
     // As without a log; and the log was lost exactly if the messages say so after that.
     ensures told { IfOk result.1 (λ status. (behind : E)
-        × TellsMeasuring S.Source K.Sink K.is_durable E.contents station (L.acts logged.old.link) (L.acts logged.new.link)
+        × ReportsMeasuring S.Source K.Sink K.is_durable E.contents station (L.acts logged.old.link) (L.acts logged.new.link)
         kept.old.turns kept.new.turns streams (record result.0 { messages = behind }) (exit_status status)
-        × TellsLoss (G.failed (sink_of logged.new)) (E.contents behind) (E.contents result.0.messages)) }
+        × ReportsLoss (G.failed (sink_of logged.new)) (E.contents behind) (E.contents result.0.messages)) }
 
     // Status 0 only if the source gave a text to its end, and the run over its commands is done.
     ensures done { IfOk result.1 (λ status. exit_status status ≡ 0 → MeasuresAll S.Source K.Sink E.contents station
@@ -178,17 +178,17 @@ pub(crate) fn measure_logged<L: Link, G: Sink, S: Source, K: Durable, E: Write>(
     ensures bound { IfOk result.1 (λ status. exit_status status ≤ 1) }
 {
     let (mut streams, ended) = measure_over(alloc, logged, station, spot, streams, kept);
-    let ended = tell_loss(ended, logged.has_lost_its_log(), &mut streams.messages);
+    let ended = report_loss(ended, logged.has_lost_its_log(), &mut streams.messages);
     (streams, ended)
 }
 
 // Writes a line if the log was lost (`is_lost`), after the report of how the run ended. The status stays as it was.
-fn tell_loss<E: Write>(
+fn report_loss<E: Write>(
     ended: io::Result<ExitCode>,
     is_lost: bool,
     messages: &mut E,
 ) -> io::Result<ExitCode>
-    ensures told { IfOk result (λ status. (ended ≡ Ok status) × TellsLoss is_lost (E.contents messages.old) (E.contents messages.new)) }
+    ensures told { IfOk result (λ status. (ended ≡ Ok status) × ReportsLoss is_lost (E.contents messages.old) (E.contents messages.new)) }
 {
     let status = ended?;
     if is_lost {

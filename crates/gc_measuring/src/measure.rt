@@ -11,12 +11,12 @@ ghost use Rattle.gc_texts.specs.declared.text.TheConstants.{TEXT_LIMIT};
 
 use crate::checking::commands_in;
 use crate::plan::plan_of;
+use crate::reporter::Reporter;
 use crate::stop::Stop;
 use crate::task_text::read_task_text;
-use crate::telling::Teller;
 use gc_lines::{Durable, PortFailed, Source, write_whole};
 use gc_links::{Link, Moment};
-use gc_messages::{Noticed, Spot, Streams, tell_turns, tell_unasked};
+use gc_messages::{Noticed, Spot, Streams, report_turns, report_unasked};
 use gc_rows::{When, write_head, write_record};
 use gc_station::{Book, Kept, LinkHealth, Tally, run_station};
 use gc_texts::{Ending, RunFault, Stamp, Task, Tasks, Wish};
@@ -77,8 +77,8 @@ pub fn run_station_text<L: Link, S: Source, K: Durable, E: Write>(
     let Ok(()) = write_front(&mut streams.output, station.layout) else {
         return (streams, Err(Stop::Run(RunFault::Output)));
     };
-    let _ = tell_turns(text.as_slice(), &tasks, &mut streams.messages);
-    let _ = tell_unasked(&tasks, &mut streams.messages);
+    let _ = report_turns(text.as_slice(), &tasks, &mut streams.messages);
+    let _ = report_unasked(&tasks, &mut streams.messages);
     let commands = commands_in(&tasks);
     let Tasks {
         setup,
@@ -150,15 +150,15 @@ fn measure<L: Link, S, K: Durable, E: Write>(
         max_turns,
     } = work;
     let plan = plan_of(station.choice, setup, tasks.as_slice());
-    let mut teller = Teller::new(station.choice.watch, messages);
-    teller.begin(spot.place, commands);
+    let mut reporter = Reporter::new(station.choice.watch, messages);
+    reporter.begin(spot.place, commands);
     let mut records = Records {
         sink: output,
         layout: station.layout,
         named,
         noticed: spot.noticed,
         fresh: station.layout.run,
-        teller,
+        reporter,
     };
     let end = run_station(link, &mut records, tasks.as_slice(), &plan, max_turns, kept);
     let Records {
@@ -167,15 +167,15 @@ fn measure<L: Link, S, K: Durable, E: Write>(
         named: _,
         noticed: _,
         fresh,
-        mut teller,
+        mut reporter,
     } = records;
     if let Err(RunFault::Stale) = end {
-        teller.stale(fresh);
+        reporter.stale(fresh);
     }
     let streams = Streams {
         input,
         output: sink,
-        messages: teller.end(),
+        messages: reporter.end(),
     };
     (streams, end)
 }
@@ -212,7 +212,7 @@ struct Records<'a, K, E> {
     noticed: &'a Cell<Noticed>,
     // When an answer of a good quality came last, or the run began, in milliseconds since 1970.
     fresh: u64,
-    teller: Teller<E>,
+    reporter: Reporter<E>,
 }
 
 impl<'a, K: Durable, E: Write> Book for Records<'a, K, E> {
@@ -231,7 +231,7 @@ impl<'a, K: Durable, E: Write> Book for Records<'a, K, E> {
         command: &Wish,
         ending: Ending<'_>,
     ) -> Result<(), PortFailed> {
-        self.teller.count(stamp, ending);
+        self.reporter.count(stamp, ending);
         self.fresh = fresh_behind(self.fresh, stamp.utc, ending);
         let when = When {
             run: self.layout.run,
@@ -261,11 +261,11 @@ impl<'a, K: Durable, E: Write> Book for Records<'a, K, E> {
 
     // Writes the messages that are due, by the health of the link and by what was noticed.
     fn sees(&mut self, health: LinkHealth, moment: Moment) {
-        self.teller.tell(self.noticed.get(), health, moment);
+        self.reporter.report(self.noticed.get(), health, moment);
     }
 
     // Reports on the messages that the cycle wasn't done when the next was due, if a line of this kind may be written.
     fn overran(&mut self, cycle: u64) {
-        self.teller.overran(cycle);
+        self.reporter.overran(cycle);
     }
 }

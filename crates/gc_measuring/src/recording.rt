@@ -7,11 +7,11 @@ ghost use Rattle.std.specs.Process.{exit_status};
 ghost use Rattle.gc_words.specs.Stations.{form_of_rows};
 ghost use Rattle.gc_measuring.specs.Recording.{copied_line, fault_of_unfit, opened_lines, rotation_line, unfit_text, torn_line};
 ghost use Rattle.gc_measuring.specs.Appending.{file_of, acts_in};
-ghost use Rattle.gc_measuring.specs.Telling.{RefusesFile, TellsAppended, AppendsAll};
+ghost use Rattle.gc_measuring.specs.Telling.{RefusesFile, ReportsAppended, AppendsAll};
 ghost use Rattle.gc_rows.specs.Records.{head_text, sign_text};
 ghost use Rattle.gc_files.specs.Sinks.{torn_in, steps_in, IsOpenedAs};
 
-use crate::counts::tell_counts;
+use crate::counts::report_counts;
 use crate::station::measure_at;
 use crate::stop::Stop;
 use gc_files::{RowsFile, SystemFile, Unfit, open_at};
@@ -43,18 +43,21 @@ fn fault_of_unfit(why: Unfit) -> RunFault
 }
 
 // Writes how many bytes of an incomplete row were cut off, if any were.
-fn tell_torn<E: Write>(torn: u64, messages: &mut E) -> io::Result<()>
+fn report_torn<E: Write>(torn: u64, messages: &mut E) -> io::Result<()>
     ensures { OnOk result (Appends (E.contents messages.old) (E.contents messages.new) (torn_line torn)) }
 {
     if torn == 0 {
         // For the proof: writing an empty text gives the clause, which an `Ok(())` alone doesn't.
         return write!(messages, "");
     }
-    writeln!(messages, "geocom: {torn} bytes of an incomplete row were cut off")
+    writeln!(
+        messages,
+        "geocom: {torn} bytes of an incomplete row were cut off"
+    )
 }
 
 // Writes how many rows were copied because the run before was killed or a sync failed, if any were.
-fn tell_copied<E: Write>(copied: u64, messages: &mut E) -> io::Result<()>
+fn report_copied<E: Write>(copied: u64, messages: &mut E) -> io::Result<()>
     ensures { OnOk result (Appends (E.contents messages.old) (E.contents messages.new) (copied_line copied)) }
 {
     if copied == 0 {
@@ -68,16 +71,16 @@ fn tell_copied<E: Write>(copied: u64, messages: &mut E) -> io::Result<()>
 }
 
 // Writes what the opening of a file did: how many rows it copied, and how many bytes of a torn row it cut off.
-fn tell_opened<E: Write>(copied: u64, torn: u64, messages: &mut E) -> io::Result<()>
+fn report_opened<E: Write>(copied: u64, torn: u64, messages: &mut E) -> io::Result<()>
     ensures { OnOk result (Appends (E.contents messages.old) (E.contents messages.new) (opened_lines copied torn)) }
 {
-    tell_copied(copied, messages)?;
-    tell_torn(torn, messages)
+    report_copied(copied, messages)?;
+    report_torn(torn, messages)
 }
 
 // Writes after the fault's line, for a file that doesn't begin as this station's rows do, what may have happened and how to
 // rotate the file. The status stays as it was.
-fn tell_rotation<E: Write>(
+fn report_rotation<E: Write>(
     ended: io::Result<ExitCode>,
     why: Unfit,
     messages: &mut E,
@@ -129,7 +132,7 @@ fn open_records<R: Files<File = File>, E: Write>(
     );
     match opened {
         Ok((rows, copied)) => {
-            let told = tell_opened(copied, rows.torn(), messages);
+            let told = report_opened(copied, rows.torn(), messages);
             Ok((rows, told))
         }
         Err(why) => Err(why),
@@ -185,7 +188,7 @@ pub fn append_at<
     // opening and then, with the status, how the run ended; and the file that is handed back has the run's rows: those of the
     // acts that the link recorded. At each act the file had all rows that the acts before it settled, and they lasted.
     ensures told { IfOk result.1 (λ status. RefusesFile E.contents streams result.0 (exit_status status)
-        ⊎ TellsAppended S.Source ⟦<Followed<'a, R> as Sink>⟧ ⟦<Followed<'a, R> as Durable>⟧.is_durable E.contents (is_some log.entry) station
+        ⊎ ReportsAppended S.Source ⟦<Followed<'a, R> as Sink>⟧ ⟦<Followed<'a, R> as Durable>⟧.is_durable E.contents (is_some log.entry) station
         streams result.0 (file_of result.2) (acts_in result.2) kept.old.turns kept.new.turns (exit_status status)) }
 
     // Status 0 only if the source gave a text to its end, and the run over its commands is done, or its end was asked for.
@@ -226,6 +229,6 @@ fn refuse_file<E: Write>(why: Unfit, messages: &mut E) -> io::Result<ExitCode>
     ensures told { IfOk result (λ status. (exit_status status ≡ 1) × Appends (E.contents messages.old) (E.contents messages.new) (unfit_text why)) }
 {
     let stop = Stop::Run(fault_of_unfit(why));
-    let ended = tell_counts(Err(stop), messages);
-    tell_rotation(ended, why, messages)
+    let ended = report_counts(Err(stop), messages);
+    report_rotation(ended, why, messages)
 }

@@ -4,9 +4,9 @@ ghost use Rattle.std.specs.Prelude.{◌≡◌, ◌≤◌, IfOk, IfErr};
 ghost use Rattle.std.specs.Option.{is_some};
 ghost use Rattle.std.specs.Process.{exit_status};
 ghost use Rattle.gc_measuring.specs.Stops.{fault_without_link, IsWithoutLink};
-ghost use Rattle.gc_measuring.specs.Telling.{TellsMeasuring, MeasuresAll, TellsRun, MeasuresAllFromNone, CannotBegin, acts_of};
+ghost use Rattle.gc_measuring.specs.Telling.{ReportsMeasuring, MeasuresAll, ReportsRun, MeasuresAllFromNone, CannotBegin, acts_of};
 
-use crate::counts::tell_counts;
+use crate::counts::report_counts;
 use crate::logging::{Noted, log_at, measure_logged};
 use crate::measure::run_station_text;
 use crate::stop::Stop;
@@ -57,7 +57,7 @@ pub fn measure_at<
     // its commands were measured: the link that is handed back has recorded all acts of the run and no other, the sink that is handed
     // back has its records, and at each act all that the acts before it settled lasted. Or no log, no link or no clock could be
     // had, and nothing was read or written.
-    ensures told { IfOk result.1 (λ status. TellsRun S.Source K.Sink K.is_durable E.contents (is_some log.entry) station
+    ensures told { IfOk result.1 (λ status. ReportsRun S.Source K.Sink K.is_durable E.contents (is_some log.entry) station
         streams result.0 (acts_of result.2) kept.old.turns kept.new.turns (exit_status status)) }
 
     // Status 0 only if the source gave a text to its end, and the run over its commands is done, or its end was asked for.
@@ -68,7 +68,7 @@ pub fn measure_at<
     let Ends { link, moment, log } = match open_ends(rt, spot, log) {
         Ok(ends) => ends,
         Err(fault) => {
-            let ended = tell_counts(Err(Stop::Run(fault)), &mut streams.messages);
+            let ended = report_counts(Err(Stop::Run(fault)), &mut streams.messages);
             return (streams, ended, None);
         }
     };
@@ -156,7 +156,7 @@ pub(crate) fn measure_over<L: Link, S: Source, K: Durable, E: Write>(
     kept: &mut Kept,
 ) -> (Streams<S, K, E>, io::Result<ExitCode>)
     // The text was refused, or its commands were measured; and the status and the messages report how that ended.
-    ensures told { IfOk result.1 (λ status. TellsMeasuring S.Source K.Sink K.is_durable E.contents station
+    ensures told { IfOk result.1 (λ status. ReportsMeasuring S.Source K.Sink K.is_durable E.contents station
         (L.acts link.old) (L.acts link.new) kept.old.turns kept.new.turns streams result.0 (exit_status status)) }
 
     // Status 0 only if the source gave a text to its end, and the run over its commands is done, or its end was asked for.
@@ -166,7 +166,7 @@ pub(crate) fn measure_over<L: Link, S: Source, K: Durable, E: Write>(
 {
     let (mut streams, end) = run_station_text(alloc, link, station, spot, streams, u64::MAX, kept);
     note_stop(spot, end);
-    let ended = tell_counts(end, &mut streams.messages);
+    let ended = report_counts(end, &mut streams.messages);
     (streams, ended)
 }
 

@@ -10,7 +10,7 @@ abbrev pub are_open : Standard → Bool
 are_open s = (s.input && s.output) && s.messages
 
 -- what the program reports if a standard stream is closed: status 1, and the fault's line if the messages are open
-pub record TellsClosed (s : Standard) (status : ℕ) (old new : Option (List ℕ)) : Type 0 where
+pub record ReportsClosed (s : Standard) (status : ℕ) (old new : Option (List ℕ)) : Type 0 where
   pub is : status ≡ 1
   pub told : s.messages ≡ true → Appends old new (fault_line (run_fault_text StreamClosed))
   pub untold : s.messages ≡ false → new ≡ old

@@ -104,14 +104,14 @@ pub struct FilesNews {
 
 impl FilesNews {
     /// Writes the news, a line for each thing.
-    pub fn tell<E: Write>(self, messages: &mut E) -> io::Result<()> {
-        self.tell_log(messages)?;
-        self.tell_moves(messages)?;
-        self.tell_astray(messages)
+    pub fn report<E: Write>(self, messages: &mut E) -> io::Result<()> {
+        self.report_log(messages)?;
+        self.report_moves(messages)?;
+        self.report_astray(messages)
     }
 
     // Writes, if that is due, that the path of the rows leads astray.
-    fn tell_astray<E: Write>(self, messages: &mut E) -> io::Result<()> {
+    fn report_astray<E: Write>(self, messages: &mut E) -> io::Result<()> {
         if !self.is_astray {
             return Ok(());
         }
@@ -122,8 +122,8 @@ impl FilesNews {
     }
 
     // Writes what became of the log, if that is new.
-    fn tell_log<E: Write>(self, messages: &mut E) -> io::Result<()> {
-        self.tell_torn_log(messages)?;
+    fn report_log<E: Write>(self, messages: &mut E) -> io::Result<()> {
+        self.report_torn_log(messages)?;
         if self.now.log == self.before.log {
             return Ok(());
         }
@@ -141,7 +141,7 @@ impl FilesNews {
     }
 
     // Writes that bytes of an incomplete line of the log were cut off, if that is new.
-    fn tell_torn_log<E: Write>(self, messages: &mut E) -> io::Result<()> {
+    fn report_torn_log<E: Write>(self, messages: &mut E) -> io::Result<()> {
         let torn = self.now.log_torn;
         if torn == self.before.log_torn {
             return Ok(());
@@ -153,7 +153,7 @@ impl FilesNews {
     }
 
     // Writes that the rows go on in a new file, if that is new.
-    fn tell_moves<E: Write>(self, messages: &mut E) -> io::Result<()> {
+    fn report_moves<E: Write>(self, messages: &mut E) -> io::Result<()> {
         if self.now.moves == self.before.moves {
             return Ok(());
         }
@@ -161,16 +161,19 @@ impl FilesNews {
             messages,
             "geocom: the file of records was moved or deleted: rows continue in a new one at its path"
         )?;
-        self.tell_copied(messages)?;
+        self.report_copied(messages)?;
         let torn = self.now.torn;
         if torn == 0 {
             return Ok(());
         }
-        writeln!(messages, "geocom: {torn} bytes of an incomplete row were cut off")
+        writeln!(
+            messages,
+            "geocom: {torn} bytes of an incomplete row were cut off"
+        )
     }
 
     // Writes that rows of the new file were copied, if any were.
-    fn tell_copied<E: Write>(self, messages: &mut E) -> io::Result<()> {
+    fn report_copied<E: Write>(self, messages: &mut E) -> io::Result<()> {
         let copied = self.now.copied;
         if copied == 0 {
             return Ok(());

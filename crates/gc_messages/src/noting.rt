@@ -76,7 +76,7 @@ impl<'a, R> Noting<'a, R> {
 
     /// If a run ended with a fault (`ended`), writes after the fault's line what the system refused last, and why, unless the
     /// note was cleared since or the messages are closed. Returns `ended`.
-    pub fn tell<E: Write>(
+    pub fn report<E: Write>(
         &self,
         standard: Standard,
         ended: io::Result<ExitCode>,

@@ -84,7 +84,7 @@ impl<'a> Spot<'a> {
 
     /// Adds to the fault's line the place and the reason, if the run stopped for one of the faults that [`tell_place`]
     /// explains.
-    pub fn tell<E: Write>(self, messages: &mut E) -> io::Result<()> {
+    pub fn report<E: Write>(self, messages: &mut E) -> io::Result<()> {
         match self.noticed.get().fault {
             Some(fault) => tell_place(self.place, fault, messages),
             None => Ok(()),

@@ -4,23 +4,23 @@ use std::io::{self, Write};
 
 /// Writes a line for each line of a text that ends with a space or a tab, with its number, counted from 1. A CR before the line
 /// feed doesn't count.
-pub fn tell_spaces<E: Write>(text: &[u8], messages: &mut E) -> io::Result<()> {
+pub fn report_spaces<E: Write>(text: &[u8], messages: &mut E) -> io::Result<()> {
     let mut line = 1u32;
     let mut last = b'\n';
     for byte in text {
         if *byte == b'\n' {
-            tell_space(line, last, messages)?;
+            report_space(line, last, messages)?;
             line = line.saturating_add(1);
         }
         if *byte != b'\r' {
             last = *byte;
         }
     }
-    tell_space(line, last, messages)
+    report_space(line, last, messages)
 }
 
 // Writes the line of a line that ends with this byte, if that is a space or a tab.
-fn tell_space<E: Write>(line: u32, last: u8, messages: &mut E) -> io::Result<()> {
+fn report_space<E: Write>(line: u32, last: u8, messages: &mut E) -> io::Result<()> {
     if last != b' ' && last != b'\t' {
         return Ok(());
     }

@@ -27,7 +27,7 @@ fn is_no_vertical(v: Decimal) -> bool {
 
 /// Writes a line for each angle outside one turn that a positioning of `text` has, with the number of its line. `all` is what the
 /// text gives.
-pub fn tell_turns<E: Write>(text: &[u8], all: &Tasks, messages: &mut E) -> io::Result<()> {
+pub fn report_turns<E: Write>(text: &[u8], all: &Tasks, messages: &mut E) -> io::Result<()> {
     let mut setup = all.tasks.iter().take(all.setup);
     let mut cycle = all.tasks.iter().skip(all.setup);
     let mut at_start = false;
@@ -47,7 +47,7 @@ pub fn tell_turns<E: Write>(text: &[u8], all: &Tasks, messages: &mut E) -> io::R
                 cycle.find(|task| task.turn.attempt == 1)
             };
             if let Some(task) = task {
-                tell_turn(line, task, messages)?;
+                report_turn(line, task, messages)?;
             }
         }
         begins = *byte == b'\n';
@@ -68,21 +68,26 @@ fn is_at_start(rest: &[u8], before: bool) -> bool {
 }
 
 // Writes a line for each angle outside one turn, if the task of this line is a positioning.
-fn tell_turn<E: Write>(line: u32, task: &Task, messages: &mut E) -> io::Result<()> {
+fn report_turn<E: Write>(line: u32, task: &Task, messages: &mut E) -> io::Result<()> {
     let Asked::Table(Call::Position { hz, v, .. }) = task.command.call else {
         return Ok(());
     };
     if is_far_round(hz) {
-        tell_angle(line, "HZ", hz, messages)?;
+        report_angle(line, "HZ", hz, messages)?;
     }
     if is_no_vertical(v) {
-        tell_angle(line, "V", v, messages)?;
+        report_angle(line, "V", v, messages)?;
     }
     Ok(())
 }
 
 // Writes the line of an angle that lies outside one turn.
-fn tell_angle<E: Write>(line: u32, name: &str, angle: Decimal, messages: &mut E) -> io::Result<()> {
+fn report_angle<E: Write>(
+    line: u32,
+    name: &str,
+    angle: Decimal,
+    messages: &mut E,
+) -> io::Result<()> {
     writeln!(
         messages,
         "geocom: line {line}: {name} {angle} lies outside one turn in radians: it looks like gon or degrees"

@@ -63,7 +63,7 @@ find_both key (Texts name texts ∷ xs) ys =
 
 -- no member has one of these names
 abbrev pub LacksAll : List Member → List (List ℕ) → Type 0
-pub LacksAll ms keys = AllByRecursion (λ (key : List ℕ). find key ms ≡ None) keys
+LacksAll ms keys = AllByRecursion (λ (key : List ℕ). find key ms ≡ None) keys
 
 -- the names of members of a record that aren't quantities
 abbrev pub firsts : List (List ℕ)

@@ -21,7 +21,7 @@ use Rattle.gc_station.specs.Runs.{state_after}
 use Rattle.gc_station.specs.Scopes.{AreReadings}
 use Rattle.gc_station.specs.declared.tally.Tally.{Tally}
 use Rattle.gc_measuring.specs.Measuring.{Places, Course, text_in, RunsBehind}
-use Rattle.gc_measuring.specs.Telling.{TellsAppended}
+use Rattle.gc_measuring.specs.Telling.{ReportsAppended}
 use Rattle.gc_measuring.specs.declared.stop.Stop.{Stop}
 use Rattle.gc_words.specs.declared.settings.Settings.{Settings}
 
@@ -45,15 +45,15 @@ pub record IsRunOfFile {R : Type 0} (run : RunOfFile R) : Type 0 where
   pub took : run.new.taken ≡ Some (bytes_in run.file)
   pub ran : RunsBehind run.course run.old run.new run.end
 
--- what clause `told` of `append_at` says (`TellsAppended`) comes to this: either no act was made (`turns' ≡ turns`), or there is a run of
+-- what clause `told` of `append_at` says (`ReportsAppended`) comes to this: either no act was made (`turns' ≡ turns`), or there is a run of
 -- this file, with these acts, which took the turns (what was seen at each act) from `turns` to `turns'`. `source` and `sink` are the
 -- ghost members of the program's input and of such files as sinks; `K` and `E` are the types of the output and the messages. The other
--- arguments are `TellsAppended`'s own: `lasts`, whether a file is durable; `shown`, the bytes written to the messages; `has_log`,
+-- arguments are `ReportsAppended`'s own: `lasts`, whether a file is durable; `shown`, the bytes written to the messages; `has_log`,
 -- whether the run keeps a log
 abbrev pub AppendsAreRuns : {S R : Type 0} → Source S → Sink (Followed R) → Type 0 → Type 0 → Type 0
 AppendsAreRuns {S = S} {R = R} source sink K E = (lasts : Followed R → Bool) (shown : E → Option (List ℕ)) (has_log : Bool) (station : Settings)
     (old new : Streams S K E) (file : Followed R) (acts : Option (List Act)) (turns turns' : List Snapshot) (status : ℕ)
-    → TellsAppended source sink lasts shown has_log station old new (Some file) acts turns turns' status
+    → ReportsAppended source sink lasts shown has_log station old new (Some file) acts turns turns' status
     → (turns' ≡ turns)
     ⊎ ((run : RunOfFile R) × IsRunOfFile run × (run.file ≡ file) × (acts ≡ Some run.told) × (run.old.turns ≡ turns) × (run.new.turns ≡ turns'))
 

@@ -287,8 +287,8 @@ moved_honest plan commands scope acts actions.Prepare act tail fine h is needs o
 moved_honest plan commands scope acts actions.Send act tail fine h is needs o ends =
     let s = state_after plan commands scope acts in
     put_honest plan commands scope (acts ++ act ∷ []) _
-        (λ (x : Model). with_progress (sent (is_chained_after_next commands x.progress) (others_after_next commands x.progress)) (asks_next plan commands x))
-        (with_progress turned s) act
+    (λ (x : Model). with_progress (sent (is_chained_after_next commands x.progress) (others_after_next commands x.progress)) (asks_next plan commands x))
+    (with_progress turned s) act
     (first_honest plan commands scope acts act (is_chained_after_next commands s.progress) (others_after_next commands s.progress) (drop (place_next commands s.progress) commands) (mark_next plan commands s.progress) fine h
     (record { sends = inl is; cycle = sym (send_cycle plan s is); place = sym (send_place plan commands s is); sent = refl }) needs.3.1
     (ap (λ n. drop n commands) (send_place plan commands s is)) o)

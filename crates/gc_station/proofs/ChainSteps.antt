@@ -111,7 +111,7 @@ moved_steps plan commands action s act =
 
 -- no act but that of a close closes the connection
 pub stays_open : (plan : Plan) (commands : List Task) (next : Action) (s : Model) (act : Act) → Performs commands s next act → ((why : Cause) → next ≡ Close why → ⊥) → KeepsOpen act
-pub stays_open plan commands (Read until) s act o other = walk plan commands (λ a (t : Model). KeepsOpen a) (Read until) s act o (λ bytes m. tt, λ m. tt, tt, tt, tt)
+stays_open plan commands (Read until) s act o other = walk plan commands (λ a (t : Model). KeepsOpen a) (Read until) s act o (λ bytes m. tt, λ m. tt, tt, tt, tt)
 stays_open plan commands (Close why) s act o other = absurd (other why refl)
 stays_open plan commands (Stop why) s act o other = absurd o
-pub stays_open plan commands next s act o other = walk plan commands (λ a (t : Model). KeepsOpen a) next s act o (λ m. tt, λ n. tt)
+stays_open plan commands next s act o other = walk plan commands (λ a (t : Model). KeepsOpen a) next s act o (λ m. tt, λ n. tt)

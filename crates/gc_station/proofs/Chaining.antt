@@ -147,7 +147,7 @@ chain_still plan commands scope acts act p q there k begins keeps stays other h 
             cycles =
                 let back = after_all-append plan commands (opening plan scope) w.before (w.request ∷ w.between) in
                 let here : after_all plan commands (state_after plan commands scope w.before) (w.request ∷ w.between)
-                    ≡ state_after plan commands scope acts = sym back ∙ ap (state_after plan commands scope) (sym w.order) in
+                ≡ state_after plan commands scope acts = sym back ∙ ap (state_after plan commands scope) (sym w.order) in
                 prepares_none plan commands (state_after plan commands scope w.before) (w.request ∷ w.between) (act ∷ []) w.cycles
                 (subst (λ (x : Model). PreparesNothing plan commands x (act ∷ [])) (sym here) (other, tt));
           };
@@ -272,7 +272,7 @@ chain_along : (plan : Plan) (commands : List Task) (scope : Scope) (done acts : 
     → Chain plan commands scope done (state_after plan commands scope done).progress
     → Chain plan commands scope (done ++ acts) (state_after plan commands scope (done ++ acts)).progress
 chain_along plan commands scope done [] runs h = subst (λ (xs : List Act). Chain plan commands scope xs (state_after plan commands scope xs).progress) (sym (all_of done)) h where
-  -- nothing appended changes no list
+  -- a list with nothing appended is itself
   all_of : (xs : List Act) → xs ++ [] ≡ xs
   all_of [] = refl
   all_of (x ∷ xs) = ap (λ ys. x ∷ ys) (all_of xs)
@@ -396,11 +396,11 @@ pub chain_whole : (plan : Plan) (commands : List Task) (scope : Scope) (acts : L
     → (l : IsLinked plan commands scope acts) × StaysBegun plan commands (state_after plan commands scope l.before) (l.request ∷ l.between)
     × PreparesNothing plan commands (state_after plan commands scope l.before) (l.request ∷ l.between)
 chain_whole plan commands scope acts runs is chained = of_may needs.4 where
-  -- the station as it is
+  -- the model after these acts
   s : Model
   s = state_after plan commands scope acts
 
-  -- its fields on chains are true
+  -- the fields on chains of that model say what happened
   h : Chain plan commands scope acts s.progress
   h = chain_stood plan commands scope acts runs
 
@@ -443,7 +443,7 @@ chain_whole plan commands scope acts runs is chained = of_may needs.4 where
       (subst (λ (xs : List Request). Parted xs s.passes (sent_by plan.setup commands (cycles_begun plan s.progress) (place_next commands s.progress)))
       (sym (each_settled commands s.marks s.client.waiting s.records (of_text commands (map of_record s.records ++ still_waiting s.marks s.client.waiting)) settled refl)) fine.each)) in
       let front = parted_all (IsInFront cycle place) (of_text commands (map of_record b.records ++ still_waiting b.marks b.client.waiting)) b_passes
-          (sent_by plan.setup commands cycle place) before.each
+      (sent_by plan.setup commands cycle place) before.each
       (sent_before plan.setup commands cycle place within) in
       let kept = parted_last one (of_text commands (map of_record s.records)) b_passes (sent_by plan.setup commands cycle place) all
       (λ xs e. not_in_front cycle place one refl refl (all_last (IsInFront cycle place) xs one (subst (AllByRecursion (IsInFront cycle place)) e front))) in

@@ -64,7 +64,7 @@ module _ (count : Tally → ℕ) (so : End → Bool) (step : (end : End) (t : Ta
         counts_next _ (count (record c.settled { again = one_more c.settled.again })) 0 none_yet r (last_attempts rs) (is_followed rs)
         (ih (record { settled = record c.settled { again = one_more c.settled.again }; attempt = counted r.end none_yet }))
         ∙ ap (λ n. at_most (n + ((if is_followed rs then 0 else count none_yet) + how_many so (if is_followed rs then last_attempts rs else r ∷ last_attempts rs))))
-            (stays c.settled (one_more c.settled.again))
+        (stays c.settled (one_more c.settled.again))
         ∙ ap (λ n. at_most (count c.settled + ((if is_followed rs then 0 else n) + how_many so (if is_followed rs then last_attempts rs else r ∷ last_attempts rs)))) none
         ∙ started_again (is_followed rs) (count c.settled) _
     by_tests ih false true false =

@@ -131,7 +131,7 @@ module _ (plan : Plan) (commands : List Task) (scope : Scope) (some : 0 < plan.e
   pub begun_next : (acts : List Act) (act : Act) (p q : Progress) → q.left ≡ p.left → q.unsent ≡ p.unsent - 1 → q.missed ≡ p.missed → q.due ≡ p.due
       → q.next_is_chained ≡ is_chained_after_next commands p
       → (p.missed ≡ true → q.chain_unbroken ≡ false) → Ticks p act q → ClockRises p.moment.elapsed (act ∷ []) → 0 < p.unsent → p.unsent ≤ cycle_length plan commands → Begun acts p
-          → Begun (acts ++ act ∷ []) q
+      → Begun (acts ++ act ∷ []) q
   begun_next acts act p q left unsent missed due next_is_chained chain_unbroken t rises here within (inl none) = let nothing = none.1 in absurd (omega (arith, nothing, here))
   begun_next acts act p q left unsent missed due next_is_chained chain_unbroken t rises here within (inr c) =
       let tick = ticked p q act t rises c.past in
@@ -164,7 +164,7 @@ module _ (plan : Plan) (commands : List Task) (scope : Scope) (some : 0 < plan.e
   pub begun_past : (acts : List Act) (act : Act) (p q : Progress) → q.left ≡ p.left → q.unsent ≡ p.unsent - p.next_others → q.missed ≡ p.missed → q.due ≡ p.due
       → q.next_is_chained ≡ is_chained_after p.next_others commands p
       → 0 < p.next_others → (p.missed ≡ true → q.chain_unbroken ≡ false) → Ticks p act q → ClockRises p.moment.elapsed (act ∷ []) → 0 < p.unsent
-          → p.unsent ≤ length commands - plan.setup → Begun acts p → Begun (acts ++ act ∷ []) q
+      → p.unsent ≤ length commands - plan.setup → Begun acts p → Begun (acts ++ act ∷ []) q
   begun_past acts act p q left unsent missed due next_is_chained more chain_unbroken t rises here within (inl none) = let nothing = none.1 in absurd (omega (arith, nothing, here))
   begun_past acts act p q left unsent missed due next_is_chained more chain_unbroken t rises here within (inr c) =
       let tick = ticked p q act t rises c.past in

@@ -269,7 +269,7 @@ each_once plan commands scope acts =
           let cycles : plan.cycles - s.progress.left ≡ plan.cycles = omega (arith, none.0) in
           let place : place_next commands s.progress ≡ length commands = omega (arith, none.1) in
           subst (λ (xs : List Request). Parted (of_text commands (map of_record s.records)) s.passes xs)
-              (sent_whole plan.setup commands (plan.cycles - s.progress.left) (place_next commands s.progress) place ∙ ap (all_cycles plan.setup commands) cycles) it.1;
+          (sent_whole plan.setup commands (plan.cycles - s.progress.left) (place_next commands s.progress) place ∙ ap (all_cycles plan.setup commands) cycles) it.1;
     }
 
 -- each record after any acts is of its task

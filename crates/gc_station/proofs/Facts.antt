@@ -344,7 +344,7 @@ turn_for : (plan : Plan) (p : Progress) (w : Waiting) → Awake p → has_begun 
     → Holds plan p w (action_turn plan p w)
 turn_for plan p w awake begun unasked on first =
     either (Holds plan p w) _ (action.Read Limit) (nat_lt p.prepared plan.setup) (λ e. prepare_for plan p w awake begun unasked (on, ltb-true p.prepared plan.setup e, first))
-        (λ e. (tt, awake_reads p awake, tt))
+    (λ e. (tt, awake_reads p awake, tt))
 
 -- `Holds` is true while the setup isn't done
 preparing_for : (plan : Plan) (p : Progress) (w : Waiting) → Awake p → has_begun p ≡ true → p.stops ≡ false → is_preparing plan p w ≡ true → Holds plan p w (action_preparing plan p w)

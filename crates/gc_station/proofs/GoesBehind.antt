@@ -114,7 +114,7 @@ hearing_nothing : (h : Bool) (rest piece : List ℕ) → AllByRecursion SendsNot
 hearing_nothing true rest piece = hears_nothing (lines_completed rest piece)
 hearing_nothing false rest piece = tt
 
--- before the only step there is none
+-- a list of one step has nothing before that step
 one_step : (x : Step Asked) (front later : List (Step Asked)) (target : ℕ) (call : Asked) (deadline : ℕ) → x ∷ [] ≡ front ++ Send target call deadline ∷ later → front ≡ []
 one_step x [] later target call deadline e = refl
 one_step x (f ∷ []) later target call deadline e = cc
@@ -188,7 +188,7 @@ split (x ∷ xs) ys (f ∷ front) a later e =
     let head : x ≡ f = cc in
     let tails : xs ++ ys ≡ front ++ a ∷ later = cc in
     more (split xs ys front a later tails) head where
-      -- the lemma for one element more before it
+      -- the lemma above, for lists with one element more before both
       more : Splits xs ys front a later → x ≡ f → Splits (x ∷ xs) ys (f ∷ front) a later
       more (inl (mid, is)) head = inl (mid, ap (λ y. y ∷ xs) head ∙ ap (λ l. f ∷ l) is)
       more (inr (rest, is, others)) head = inr (rest, ap (λ l. f ∷ l) is ∙ ap (λ y. y ∷ (xs ++ rest)) (sym head), others)
@@ -207,12 +207,12 @@ IsNear done p =
     (front later : List (Step Asked)) (target : ℕ) (call : Asked) (deadline : ℕ) (mark : Mark) → p.steps ≡ front ++ Send target call deadline ∷ later
     → slice_get p.marks (length (sent_by (reached done).client front)) ≡ Some (Some mark) → IsNearTheTable (reached (done ++ front))
 
--- the same in each of these parts, if the steps `done` are before the first
+-- `IsNear` holds of each of these parts; the steps `done` come before those of the first
 abbrev AreNear : List (Step Asked) → List Part → Type 0
 AreNear done [] = Unit {0}
 AreNear done (p ∷ ps) = IsNear done p × AllByRecursion (IsNear []) ps
 
--- parts with nothing done before
+-- if `AreNear` holds of parts with nothing done before, `IsNear` holds of each
 near_all : (ps : List Part) → AreNear [] ps → AllByRecursion (IsNear []) ps
 near_all [] h = tt
 near_all (p ∷ ps) h = h
@@ -220,11 +220,11 @@ near_all (p ∷ ps) h = h
 module _ (plan : Plan) (commands : List Task) (s : Model) (o : Action) (act : Act) (done : List (Step Asked)) (fine : Invariant plan commands s)
     (is : IsFor plan s.progress (waiting_of s) o) (obeys : Performs commands s o act) (client : s.client ≡ (reached done).client)
     (counts : Counts (reached done) s.progress.behind) where
-  -- the part of the act
+  -- the client's part of the act
   abbrev p : Part
   p = acting plan commands s o act
 
-  -- what the act leads to
+  -- the act leads from its model to the next by its part
   led : Leads commands s p (moved plan commands o (with_progress turned s) act)
   led = leads plan commands s o act fine is obeys
 
@@ -263,12 +263,12 @@ module _ (plan : Plan) (commands : List Task) (s : Model) (o : Action) (act : Ac
         subst (λ (l : List (Step Asked)). IsNearTheTable (reached l)) (append_assoc done p.steps rest ∙ ap (λ l. done ++ l) (sym is_front))
         (h rest later target call deadline mark there (ap (λ (k : ById Asked). slice_get q.marks (length (sent_by k rest))) after ∙ at_q))
 
-  -- the steps of the act alone
+  -- `IsNear` holds of the part of the act alone
   alone_near : IsNear done p
   alone_near front later target call deadline mark e at =
       sends_near [] front later target call deadline mark e (ap (λ l. slice_get l (length (sent_by (reached done).client front))) (append-nil p.marks) ∙ at)
 
-  -- the part of the act before others
+  -- `AreNear` holds with the part of the act joined to the first of the others
   front_near : (ps : List Part) → AreNear (done ++ p.steps) ps → AreNear done (in_front p false ps)
   front_near [] h = (alone_near, tt)
   front_near (q ∷ ps) h = (joined_near q h.0, h.1)
@@ -303,15 +303,15 @@ new_client t false e = e
 module _ (plan : Plan) (commands : List Task) (s : Model) (act : Act) (done : List (Step Asked)) (fine : Invariant plan commands s)
     (obeys : Performs commands s (action_at plan s) act) (client : s.client ≡ (reached done).client) (new : has_begun s.progress ≡ false → done ≡ [])
     (counts : Counts (reached done) s.progress.behind) (ps : List Part) where
-  -- the act's action
+  -- the action that the act performs
   abbrev o : Action
   o = action_at plan s
 
-  -- its conditions
+  -- the conditions of that action hold
   its : IsFor plan s.progress (waiting_of s) o
   its = action_for plan s.progress (waiting_of s)
 
-  -- its part
+  -- the client's part of the act
   abbrev part : Part
   part = acting plan commands s o act
 
@@ -319,7 +319,7 @@ module _ (plan : Plan) (commands : List Task) (s : Model) (act : Act) (done : Li
   abbrev t : Model
   t = moved plan commands o (with_progress turned s) act
 
-  -- the model after it
+  -- the model after the act
   abbrev u : Model
   u = losing (loses_all t.progress) t
 

@@ -94,7 +94,7 @@ settle_tables (suc k) line (p ∷ ps) low all = settle_tables k line ps (omega (
 -- one more than fewer than seven is one more
 more_is : (n : ℕ) → n < 7 → one_more n ≡ n + 1
 more_is n low = by_test (nat_lt n WINDOW) refl where
-  -- the lemma above, by the test
+  -- the lemma above, by whether n is below the window
   by_test : (b : Bool) → nat_lt n WINDOW ≡ b → (if b then n + 1 else n) ≡ n + 1
   by_test true e = refl
   by_test false e = let high : 7 ≤ n = ltb-false n WINDOW e in absurd (omega (arith, low, high))
@@ -260,11 +260,11 @@ module _ (plan : Plan) (commands : List Task) (all : AreOfTable commands) where
     neither false over e f = cc
 
   module _ (s : Model) (act : Act) (fine : Invariant plan commands s) (obeys : Performs commands s (action_at plan s) act) (h : Free s) where
-    -- the act's action
+    -- the action that the act performs
     abbrev o : Action
     o = action_at plan s
 
-    -- its conditions
+    -- the conditions of that action hold
     its : IsFor plan s.progress (waiting_of s) o
     its = action_for plan s.progress (waiting_of s)
 
@@ -344,7 +344,7 @@ sends_on plan p w o e = by_test (nat_lt p.behind WINDOW) refl where
   by_test false is =
       let full : nat_lt w.all WINDOW ≡ false = ap (λ n. nat_lt n WINDOW) (sym e) ∙ is in
       either_way (nat_eq w.current 0) (full_waits plan p w action.Flush full) ∙ sym (full_waits plan p w o full) where
-        -- a null procedure isn't sent either
+        -- the station doesn't send a null procedure in place of the command either
         either_way : (b : Bool) → action_room plan p w action.Flush ≡ action_waiting plan p w → (if b then action_room plan p w action.Flush else action_waiting plan p w) ≡ action_waiting plan p w
         either_way true f = f
         either_way false f = refl

@@ -190,10 +190,10 @@ sound_sent plan commands left unsent client marks records passes utc deadline ex
     let one = requests begun place (of_task task ∷ []) in
     let each : Parted (of_text commands (map of_record records ++ still_waiting (marks ++ Some mark ∷ []) (client.waiting ++ p ∷ []))) passes (sent_by plan.setup commands begun (place + 1)) =
     subst (λ (xs : List Request). Parted (of_text commands (map of_record records ++ still_waiting (marks ++ Some mark ∷ []) (client.waiting ++ p ∷ []))) passes xs)
-        (sent_next plan.setup commands begun place task others at within many)
+    (sent_next plan.setup commands begun place task others at within many)
     (as_kept _ _ _ _ (each_sent commands begun place utc expected marks client.waiting p records task others sound.paired at refl many kept refl) (parted_more kept passes (sent_by plan.setup commands begun place) one sound.each)) in
     subst (λ (c : ById Asked). Sound plan commands left (unsent - 1) c (marks ++ Some mark ∷ []) records passes)
-        (sym (client_behind client task.command.target (call_at task utc) deadline room)) (record {
+    (sym (client_behind client task.command.target (call_at task utc) deadline room)) (record {
       unsents = omega (arith, sound.unsents);
       lefts = sound.lefts;
       begun = λ e. below;
@@ -214,7 +214,7 @@ sound_prepared plan commands left unsent client marks records passes deadline ma
     let p = pending_of task.command.target (call_at task mark.sent) deadline in
     let more : length (client.waiting ++ p ∷ []) ≡ length client.waiting + 1 = length-append client.waiting (p ∷ []) in
     subst (λ (c : ById Asked). Sound plan commands left unsent c (marks ++ Some mark ∷ []) records passes)
-        (sym (client_behind client task.command.target (call_at task mark.sent) deadline room)) (record {
+    (sym (client_behind client task.command.target (call_at task mark.sent) deadline room)) (record {
       unsents = sound.unsents;
       lefts = sound.lefts;
       begun = sound.begun;
@@ -325,7 +325,7 @@ fine_losing plan commands s true is (sound, placed) =
     let p = s.progress in
     let ss = map lost s.client.waiting in
     let x = sound_settles s.reads plan commands p.left p.unsent s.client fresh s.marks s.records s.passes p.moment.utc ss
-        (append_none (map of_settled ss) ∙ lost_parts s.client.waiting) (omega arith) sound in
+    (append_none (map of_settled ss) ∙ lost_parts s.client.waiting) (omega arith) sound in
     let nothing : drop (length ss) s.marks ≡ [] = nil_from_length (drop (length ss) s.marks) x.paired in
     record {
       unsent = x.unsents;

@@ -388,7 +388,7 @@ module _ (plan : Plan) (commands : List Task) (scope : Scope) where
   -- if a request is outstanding, or a null procedure was sent on this connection, a reply line is waited for
   sought_dead : (s : Model) → Invariant plan commands s → (nat_lt 0 (length s.client.waiting) || nat_lt 0 s.progress.again) ≡ true → is_sought s.progress.word s.progress.again s.progress.asked ≡ true
   sought_dead s fine e = by_again (nat_lt 0 s.progress.again) refl where
-    -- how far the station is
+    -- the progress after the acts
     p : Progress
     p = s.progress
 
@@ -437,6 +437,6 @@ module _ (plan : Plan) (commands : List Task) (scope : Scope) where
     dead = both_true (nat_lt 0 (length s.client.waiting) || nat_lt 0 s.progress.again)
         (nat_le (patience_of plan) (s.progress.moment.elapsed - s.progress.alive)) (end_here plan s cause.Dead is never).1
 
-    -- there is a silence since `alive`
+    -- a silence has lasted since `alive`
     q : IsMuted s.progress.asked s.progress.alive s.progress.moment.elapsed acts
     q = in_phase s.progress phase.Ready acts awake.1 (mute_stood acts runs) (sought_dead s (fine_stood plan commands scope acts) dead.0)

@@ -76,12 +76,12 @@ over_ready p is = ap (λ at. is_over_in at || (not (is_up at) && nat_eq p.turns 
 
 -- if a command is next, the conditions of `Send` hold
 pub needs_send : (plan : Plan) (s : Model) → action_at plan s ≡ Send → IsFor plan s.progress (waiting_of s) Send
-pub needs_send plan s is = subst (λ (o : Action). IsFor plan s.progress (waiting_of s) o) is (action_for plan s.progress (waiting_of s))
+needs_send plan s is = subst (λ (o : Action). IsFor plan s.progress (waiting_of s) o) is (action_for plan s.progress (waiting_of s))
 
 -- an act that sends puts the line of the next command
 pub puts_text : (commands : List Task) (plan : Plan) (s : Model) (act : Act) → action_at plan s ≡ Send → Performs commands s (action_at plan s) act
     → Puts (first_text s.progress.moment.utc s.client (drop (place_next commands s.progress) commands)) act
-pub puts_text commands plan s act is obeys = subst (λ (o : Action). Performs commands s o act) is obeys
+puts_text commands plan s act is obeys = subst (λ (o : Action). Performs commands s o act) is obeys
 
 -- a request and the acts after it, in which the station doesn't resynchronize, are of one part
 pub same_part : (plan : Plan) (commands : List Task) (scope : Scope) (before between : List Act) (request : Act)

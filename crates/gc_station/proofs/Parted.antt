@@ -112,11 +112,11 @@ requests_before : (cycle place : ℕ) (asks : List (Wanted Asked)) → AllByRecu
 requests_before cycle place [] = tt
 requests_before cycle place (a ∷ others) =
     ((refl, omega arith), all_by cycle (place + 1) (length others) place (length (a ∷ others)) (requests cycle (place + 1) others) (omega arith) (requests_before cycle (place + 1) others)) where
-  -- a place below one number is below another that is the same
-  all_by : (cycle a m b n : ℕ) (rs : List Request) → a + m ≡ b + n → AllByRecursion (λ (r : Request). (r.cycle ≡ cycle) × (r.place < a + m)) rs
-      → AllByRecursion (λ (r : Request). (r.cycle ≡ cycle) × (r.place < b + n)) rs
-  all_by cycle a m b n [] e all = tt
-  all_by cycle a m b n (r ∷ rs) e all = ((all.0.0, omega (arith, all.0.1, e)), all_by cycle a m b n rs e all.1)
+      -- a place below one number is below another that is the same
+      all_by : (cycle a m b n : ℕ) (rs : List Request) → a + m ≡ b + n → AllByRecursion (λ (r : Request). (r.cycle ≡ cycle) × (r.place < a + m)) rs
+          → AllByRecursion (λ (r : Request). (r.cycle ≡ cycle) × (r.place < b + n)) rs
+      all_by cycle a m b n [] e all = tt
+      all_by cycle a m b n (r ∷ rs) e all = ((all.0.0, omega (arith, all.0.1, e)), all_by cycle a m b n rs e all.1)
 
 -- a request is of a place before this one: in an earlier cycle, or in the same one
 abbrev pub IsInFront : ℕ → ℕ → Request → Type 0

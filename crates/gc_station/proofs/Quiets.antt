@@ -295,10 +295,10 @@ module _ (plan : Plan) (commands : List Task) (scope : Scope) where
       λ m. stage_ready (has_begun p) (has_begun p) p.stale true p.since p.since p.phase acts (Put (null_text p.word)) tt needs.0 st
   stage_line actions.Prepare s acts there needs time st =
       let p = s.progress in λ m. stage_ready (has_begun p) (has_begun p) p.stale true p.since p.since p.phase acts
-          (Put (text_or_null s.progress.moment.utc s.client (drop p.prepared commands))) tt needs.0 st
+      (Put (text_or_null s.progress.moment.utc s.client (drop p.prepared commands))) tt needs.0 st
   stage_line actions.Send s acts there needs time st =
       let p = s.progress in λ m. stage_ready (has_begun p) (has_begun p) p.stale true p.since p.since p.phase acts
-          (Put (first_text s.progress.moment.utc s.client (drop (place_next commands p) commands))) tt needs.0 st
+      (Put (first_text s.progress.moment.utc s.client (drop (place_next commands p) commands))) tt needs.0 st
   stage_line actions.Flush s acts there needs time st = let p = s.progress in
       λ m. stage_ready (has_begun p) (has_begun p) p.stale true p.since p.since p.phase acts (Put (request_text s.client (Table NullProc))) tt needs.0 st
   stage_line actions.Renew s acts there needs time st = let p = s.progress in λ m. stage_ready (has_begun p) false p.stale false p.since m.elapsed p.phase acts (Told m) tt needs.0 st

@@ -17,7 +17,7 @@ use Rattle.gc_station.proofs.Walk.{lines_along}
 
 -- lines that are heard leave the moment read last
 pub lines_moment : (s : Model) (lines : List (List ℕ)) → (lines_came s lines).progress.moment ≡ s.progress.moment
-pub lines_moment s lines = lines_along (λ (t : Model). t.progress.moment ≡ s.progress.moment) (λ t line e. e) s lines refl
+lines_moment s lines = lines_along (λ (t : Model). t.progress.moment ≡ s.progress.moment) (λ t line e. e) s lines refl
 
 -- for lines that the client hears, from the model to this progress: none of them is a reply, and `alive` and `asked` stay as in
 -- the model; or the line was alive at the moment read last, and no request was sent since

@@ -220,7 +220,7 @@ module _ (plan : Plan) (commands : List Task) (scope : Scope) where
   }
   moved_so (actions.Read until) s (Gave bytes m) some k =
       let n = came_so (is_heard s.progress.phase) s.progress.word bytes (with_moment m (with_progress (moment_noted m) s))
-          (record { reads = k.reads; marks = k.marks; records = k.records; listed = k.listed }) in
+      (record { reads = k.reads; marks = k.marks; records = k.records; listed = k.listed }) in
       record { reads = n.reads; marks = n.marks; records = n.records; listed = n.listed }
   moved_so (actions.Read until) s act some k = record { reads = k.reads; marks = k.marks; records = k.records; listed = k.listed }
   moved_so next s act some k = subst KeepsTurns (sym (moved_changed plan commands next s act)) (record { reads = k.reads; marks = k.marks; records = k.records; listed = k.listed })
@@ -327,7 +327,7 @@ module _ (plan : Plan) (commands : List Task) (scope : Scope) where
       → IsFurtherAttempt plan commands (state_after plan commands scope acts)
       → (commands_in (state_after plan commands scope acts).marks ≡ 0) × HasListed scope.reads commands (state_after plan commands scope acts).records
   goes_again acts runs is further = by_may (needs_of acts actions.Send is).6 where
-    -- the station as it is
+    -- the model after these acts
     s : Model
     s = state_after plan commands scope acts
 
@@ -346,7 +346,7 @@ module _ (plan : Plan) (commands : List Task) (scope : Scope) where
       × ((HasListed scope.reads commands (state_after plan commands scope acts).records → ⊥)
       ⊎ (((state_after plan commands scope acts).progress.missed ≡ true) ⊎ (is_chained (drop (place_next commands (state_after plan commands scope acts).progress) commands) ≡ true)))
   passes_over acts runs is = ((above, further), needs.3, by_why needs.5) where
-    -- the station as it is
+    -- the model after these acts
     s : Model
     s = state_after plan commands scope acts
 
@@ -367,7 +367,7 @@ module _ (plan : Plan) (commands : List Task) (scope : Scope) where
     above : plan.setup < place_next commands s.progress
     above = by_place (nat_lt plan.setup (place_next commands s.progress)) refl
 
-    -- it begins a further attempt
+    -- the next command begins a further attempt
     further : 0 < others_in (drop (place_next commands s.progress) commands)
     further = subst (λ (n : ℕ). 0 < n) (follows.0 above) needs.4
 

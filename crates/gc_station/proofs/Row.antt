@@ -59,7 +59,7 @@ row_gave plan until s bytes m =
 pub row_losing : (b : Bool) (s : Model) → row_of (losing b s) ≡ row_of s
 row_losing true s =
     row_settles s.reads s.progress.moment.utc s.marks s.client.waiting [] (map lost s.client.waiting) s.records (none (map of_settled (map lost s.client.waiting)) ∙ lost_parts s.client.waiting) where
-      -- nothing appended changes no list
+      -- a list with nothing appended is itself
       none : {A : Type 0} (xs : List A) → xs ++ [] ≡ xs
       none xs = append-nil xs
 row_losing false s = refl
@@ -98,7 +98,7 @@ last_behind n (y ∷ xs) x = last_behind y.cycle xs x
 abbrev LastIsOfCycle : Model → Type 0
 LastIsOfCycle s = s.progress.chain_unbroken ≡ true → 0 < last_cycle 0 (row_of s)
 
--- it lasts if the row stays
+-- `LastIsOfCycle` is preserved if the row stays
 kept : {xs ys : List Request} {b : Bool} → ys ≡ xs → (b ≡ true → 0 < last_cycle 0 xs) → b ≡ true → 0 < last_cycle 0 ys
 kept same h e = subst (λ (zs : List Request). 0 < last_cycle 0 zs) (sym same) (h e)
 
@@ -117,7 +117,7 @@ sent_last mark (task ∷ others) s paired room some many =
     (subst (λ (xs : List Request). 0 < last_cycle 0 xs) (sym is) last)
 
 module _ (plan : Plan) (commands : List Task) where
-  -- an act of each action keeps it
+  -- `LastIsOfCycle` is preserved by an act of each action
   last_moved : (o : Action) (s : Model) (act : Act) → Invariant plan commands s → IsFor plan s.progress (waiting_of s) o → Performs commands s o act → LastIsOfCycle (with_progress turned s)
       → LastIsOfCycle (moved plan commands o (with_progress turned s) act)
   last_moved action.Send s act fine is o h =
@@ -165,7 +165,7 @@ module _ (plan : Plan) (commands : List Task) where
       (λ e. absurd (not_both _ e (closed_along (λ (q : Progress). q.chain_unbroken ≡ false) plan (waiting_of s) why (turned s.progress) refl refl)))
   last_moved (action.Stop why) s act fine is o h = absurd o
 
-  -- it holds after every run
+  -- `LastIsOfCycle` holds after every run
   last_stood : (scope : Scope) (acts : List Act) → Runs plan commands (opening plan scope) acts → LastIsOfCycle (state_after plan commands scope acts)
   last_stood scope acts runs =
       always plan commands (opening plan scope) (λ (xs : List Act) (t : Model). LastIsOfCycle t)

@@ -47,7 +47,7 @@ settled_row reads utc (Some mark ∷ ms) [] = refl
 settled_row reads utc (None ∷ ms) (x ∷ ss) = settled_row reads utc ms ss
 settled_row reads utc (Some mark ∷ ms) (x ∷ ss) = ap (λ xs. dispatch_of_mark mark ∷ xs) (settled_row reads utc ms ss)
 
--- they leave the row: their records take the place of the requests
+-- settlements leave the row: their records take the place of the requests
 row_settles : (reads : Asked → List ℕ → Reading) (utc : ℕ) (ms : List (Option Mark)) (ss : List (Settlement Asked)) (rs : List Record)
     → map dispatch_of_record (rs ++ records_of reads utc ms ss) ++ dispatches_of (drop (length ss) ms) ≡ map dispatch_of_record rs ++ dispatches_of ms
 row_settles reads utc ms ss rs =
@@ -87,7 +87,7 @@ first_row : (mark : Mark) (left : List Task) (s : Model) → row_of (asks_first 
 first_row mark [] s = sym (append-nil (row_of s))
 first_row mark (task ∷ others) s = row_more s.records s.marks (Some mark)
 
--- so does the first of these commands of the setup
+-- the first of these commands of the setup adds itself to the row if it is sent; a null procedure adds nothing
 null_row : (plan : Plan) (mark : Mark) (left : List Task) (s : Model) → row_of (asks_or_null plan mark left s) ≡ row_of s ++ sent_first mark left
 null_row plan mark [] s = row_more s.records s.marks None
 null_row plan mark (task ∷ others) s = row_more s.records s.marks (Some mark)
@@ -122,7 +122,7 @@ module _ (plan : Plan) (commands : List Task) where
 
 -- Those of the setup.
 
--- those of two lists that are of the setup are those of the first list, and after them those of the second
+-- the commands of the setup in two joined lists are those of the first list, and after them those of the second
 setup_append : (xs ys : List Dispatch) → of_setup (xs ++ ys) ≡ of_setup xs ++ of_setup ys
 setup_append [] ys = refl
 setup_append (x ∷ xs) ys = by_cycle (nat_eq x.cycle 0) (setup_append xs ys) where
@@ -131,19 +131,19 @@ setup_append (x ∷ xs) ys = by_cycle (nat_eq x.cycle 0) (setup_append xs ys) wh
   by_cycle true others = ap (λ zs. x ∷ zs) others
   by_cycle false others = others
 
--- one of a cycle is none of the setup
+-- a command of a cycle isn't one of the setup
 none_one : (x : Dispatch) → 0 < x.cycle → of_setup (x ∷ []) ≡ []
 none_one x many = ap (λ b. setup_with b x []) (not_none x.cycle many) where
   -- a number above 0 isn't 0
   not_none : (n : ℕ) → 0 < n → nat_eq n 0 ≡ false
   not_none n some = grind (arith, nat_tests, some)
 
--- a command of a cycle that is sent is none of the setup
+-- a command of a cycle that is sent isn't one of the setup
 none_sent : (mark : Mark) (left : List Task) → 0 < mark.cycle → of_setup (sent_first mark left) ≡ []
 none_sent mark [] many = refl
 none_sent mark (task ∷ others) many = none_one (dispatch_of_mark mark) many
 
--- nor is the record of one that isn't sent
+-- the record of a command of a cycle that isn't sent isn't one of the setup
 none_skipped : (p : Progress) (m : Moment) (mark : Mark) (left : List Task) → 0 < mark.cycle → of_setup (map dispatch_of_record (skips_first p m mark left)) ≡ []
 none_skipped p m mark [] many = refl
 none_skipped p m mark (task ∷ others) many = none_one (record { cycle = mark.cycle; place = mark.place; attempt = mark.expected.turn.attempt; sent = None }) many
@@ -188,7 +188,7 @@ module _ (plan : Plan) (commands : List Task) where
       let p = turned s.progress in
       let left = drop (place_next commands p) commands in
       between_none s.records (skips_first p m (mark_next plan commands p) left) s.marks (none_skipped p m (mark_next plan commands p) left (some_cycle s fine is.2)) ∙ sym
-          (append-nil (of_setup (row_of s)))
+      (append-nil (of_setup (row_of s)))
   setup_moved action.Skip s act fine is = between_none s.records [] s.marks refl ∙ sym (append-nil (of_setup (row_of s)))
   setup_moved action.ReadClock s act fine is = ap of_setup (row_kept plan commands action.ReadClock (with_progress turned s) act tt) ∙ sym (append-nil (of_setup (row_of s)))
   setup_moved action.Renew s act fine is = ap of_setup (row_kept plan commands action.Renew (with_progress turned s) act tt) ∙ sym (append-nil (of_setup (row_of s)))
@@ -202,7 +202,7 @@ module _ (plan : Plan) (commands : List Task) where
   setup_moved (action.Close why) s act fine is = ap of_setup (row_kept plan commands (action.Close why) (with_progress turned s) act tt) ∙ sym (append-nil (of_setup (row_of s)))
   setup_moved (action.Stop why) s act fine is = ap of_setup (row_kept plan commands (action.Stop why) (with_progress turned s) act tt) ∙ sym (append-nil (of_setup (row_of s)))
 
-  -- acts add those that they send
+  -- acts add to the setup's part of the row the commands of the setup that they send
   setup_from : (s : Model) (acts : List Act) → Invariant plan commands s → of_setup (row_of (after_all plan commands s acts)) ≡ of_setup (row_of s) ++ setup_sent_by plan commands s acts
   setup_from s [] fine = sym (append-nil (of_setup (row_of s)))
   setup_from s (act ∷ acts) fine =
@@ -226,7 +226,7 @@ each_set_up_once plan commands scope acts =
           let empty : length s.client.waiting ≡ 0 = ap length (stopped plan commands s why fine stop).0 in
           ap of_setup (sym (append-nil (map dispatch_of_record s.records)) ∙ ap (λ xs. map dispatch_of_record s.records ++ xs) (sym (none_left s.marks (omega (arith, paired, empty))))) ∙ all;
     } where
-      -- no mark is of no command
+      -- if there are no marks, no command is outstanding
       none_left : (ms : List (Option Mark)) → length ms ≡ 0 → dispatches_of ms ≡ []
       none_left [] e = refl
       none_left (m ∷ ms) e = absurd (omega (arith, e))
@@ -237,7 +237,7 @@ each_set_up_once plan commands scope acts =
 abbrev pub Resets : Progress → Progress → Type 0
 Resets p q = ((q.attempt ≡ p.attempt) × (q.prepared ≡ p.prepared)) ⊎ ((q.attempt ≡ next_attempt p) × (q.prepared ≡ 0))
 
--- an act that sends no command of the setup leaves them, or begins the setup again
+-- an act that sends no command of the setup leaves its next command and attempt, or restarts the setup
 resets : (plan : Plan) (commands : List Task) (o : Action) (s : Model) (act : Act) → (o ≡ action.Prepare → ⊥) → Resets s.progress (moved plan commands o s act).progress
 resets plan commands action.Prepare s act other = absurd (other refl)
 resets plan commands action.Renew s (Told m) other = inr (refl, refl)
@@ -262,40 +262,40 @@ abbrev IsNext : Dispatch → Progress → Type 0
 IsNext x p = ((p.attempt ≡ x.attempt) × (p.prepared ≡ x.place + 1)) ⊎ ((p.attempt ≡ later x.attempt 1) × (p.prepared ≡ 0))
 
 -- if the setup starts again, its first command is next
-anew_next : (x : Dispatch) (p q : Progress) → q.attempt ≡ next_attempt p → q.prepared ≡ 0 → IsNext x p → IsNext x q
-anew_next x p q a k (inl is) = inr (a ∙ ap (λ (b : Bool). if b then p.attempt else later p.attempt 1) (not_none p.prepared (let at : p.prepared ≡ x.place + 1 = is.1 in omega (arith, at))) ∙ ap (λ n. later n 1) is.0, k) where
+restarted_next : (x : Dispatch) (p q : Progress) → q.attempt ≡ next_attempt p → q.prepared ≡ 0 → IsNext x p → IsNext x q
+restarted_next x p q a k (inl is) = inr (a ∙ ap (λ (b : Bool). if b then p.attempt else later p.attempt 1) (not_none p.prepared (let at : p.prepared ≡ x.place + 1 = is.1 in omega (arith, at))) ∙ ap (λ n. later n 1) is.0, k) where
   -- a number above 0 isn't 0
   not_none : (n : ℕ) → 0 < n → nat_eq n 0 ≡ false
   not_none n some = grind (arith, nat_tests, some)
-anew_next x p q a k (inr is) = inr (a ∙ ap (λ (n : ℕ). if nat_eq n 0 then p.attempt else later p.attempt 1) is.1 ∙ is.0, k)
+restarted_next x p q a k (inr is) = inr (a ∙ ap (λ (n : ℕ). if nat_eq n 0 then p.attempt else later p.attempt 1) is.1 ∙ is.0, k)
 
 -- an act that sends no command of the setup leaves the next one after x
 next_kept : (x : Dispatch) (p q : Progress) → Resets p q → IsNext x p → IsNext x q
 next_kept x p q (inl same) (inl is) = inl (same.0 ∙ is.0, same.1 ∙ is.1)
 next_kept x p q (inl same) (inr is) = inr (same.0 ∙ is.0, same.1 ∙ is.1)
-next_kept x p q (inr anew) is = anew_next x p q anew.0 anew.1 is
+next_kept x p q (inr anew) is = restarted_next x p q anew.0 anew.1 is
 
 -- whether an action sends a command of the setup
-kind : (o : Action) → (o ≡ action.Prepare) ⊎ (o ≡ action.Prepare → ⊥)
-kind action.Prepare = inl refl
-kind action.ReadClock = inr (λ e. cc)
-kind action.Renew = inr (λ e. cc)
-kind action.Begin = inr (λ e. cc)
-kind action.Open = inr (λ e. cc)
-kind action.Clear = inr (λ e. cc)
-kind action.Ask = inr (λ e. cc)
-kind action.Send = inr (λ e. cc)
-kind action.Skip = inr (λ e. cc)
-kind action.Pass = inr (λ e. cc)
-kind action.Flush = inr (λ e. cc)
-kind (action.Read until) = inr (λ e. cc)
-kind (action.Close why) = inr (λ e. cc)
-kind (action.Stop why) = inr (λ e. cc)
+is_prepare_or_not : (o : Action) → (o ≡ action.Prepare) ⊎ (o ≡ action.Prepare → ⊥)
+is_prepare_or_not action.Prepare = inl refl
+is_prepare_or_not action.ReadClock = inr (λ e. cc)
+is_prepare_or_not action.Renew = inr (λ e. cc)
+is_prepare_or_not action.Begin = inr (λ e. cc)
+is_prepare_or_not action.Open = inr (λ e. cc)
+is_prepare_or_not action.Clear = inr (λ e. cc)
+is_prepare_or_not action.Ask = inr (λ e. cc)
+is_prepare_or_not action.Send = inr (λ e. cc)
+is_prepare_or_not action.Skip = inr (λ e. cc)
+is_prepare_or_not action.Pass = inr (λ e. cc)
+is_prepare_or_not action.Flush = inr (λ e. cc)
+is_prepare_or_not (action.Read until) = inr (λ e. cc)
+is_prepare_or_not (action.Close why) = inr (λ e. cc)
+is_prepare_or_not (action.Stop why) = inr (λ e. cc)
 
--- no other action sends one
-none_as : (o : Action) (commands : List Task) (s : Model) → (o ≡ action.Prepare → ⊥) → sent_as o commands s ≡ []
-none_as action.Prepare commands s other = absurd (other refl)
-none_as o commands s other = refl
+-- an action other than `Prepare` sends no command of the setup
+others_send_none : (o : Action) (commands : List Task) (s : Model) → (o ≡ action.Prepare → ⊥) → sent_as o commands s ≡ []
+others_send_none action.Prepare commands s other = absurd (other refl)
+others_send_none o commands s other = refl
 
 -- if there is a command, it is sent
 pub sent_some : (mark : Mark) (left : List Task) → 0 < length left → sent_first mark left ≡ dispatch_of_mark mark ∷ []
@@ -303,23 +303,23 @@ sent_some mark [] some = absurd (omega (arith, some))
 sent_some mark (task ∷ others) some = refl
 
 module _ (plan : Plan) (commands : List Task) (within : plan.setup ≤ length commands) where
-  -- the command of the setup that is next, as it is sent
-  abbrev its : Model → Dispatch
-  its s = dispatch_of_mark (mark_setup commands s.progress)
+  -- the dispatch of the next command of the setup
+  abbrev next_dispatch : Model → Dispatch
+  next_dispatch s = dispatch_of_mark (mark_setup commands s.progress)
 
   -- if a command of the setup is next, it is in the setup
   below : (s : Model) → action_at plan s ≡ action.Prepare → s.progress.prepared < plan.setup
   below s is = let needs = subst (λ (o : Action). IsFor plan s.progress (waiting_of s) o) is (action_for plan s.progress (waiting_of s)) in needs.2.1
 
   -- if a command of the setup is next, it is sent
-  pub sends_it : (s : Model) → action_at plan s ≡ action.Prepare → sent_as (action_at plan s) commands s ≡ its s ∷ []
+  pub sends_it : (s : Model) → action_at plan s ≡ action.Prepare → sent_as (action_at plan s) commands s ≡ next_dispatch s ∷ []
   sends_it s is =
       let some = below s is in
       let many : length (drop s.progress.prepared commands) ≡ length commands - s.progress.prepared = length-drop s.progress.prepared commands in
       ap (λ (o : Action). sent_as o commands s) is ∙ sent_some (mark_setup commands s.progress) (drop s.progress.prepared commands) (omega (arith, many, some, within))
 
-  -- after it, the one after it is next
-  next_sent : (s : Model) (act : Act) → action_at plan s ≡ action.Prepare → IsNext (its s) (after plan commands s act).progress
+  -- after a command of the setup was sent, the one after it is next
+  next_sent : (s : Model) (act : Act) → action_at plan s ≡ action.Prepare → IsNext (next_dispatch s) (after plan commands s act).progress
   next_sent s act is =
       let t = with_progress turned s in
       let far : (after plan commands s act).progress ≡ (moved plan commands action.Prepare t act).progress =
@@ -329,43 +329,43 @@ module _ (plan : Plan) (commands : List Task) (within : plan.setup ≤ length co
       let some = below s is in
       inl (ap (λ (p : Progress). p.attempt) far ∙ it.0, ap (λ (p : Progress). p.prepared) far ∙ omega (arith, prepared, some))
 
-  -- another act leaves the next one after x
+  -- an act that sends no command of the setup leaves the next one after x
   next_other : (x : Dispatch) (s : Model) (act : Act) → (action_at plan s ≡ action.Prepare → ⊥) → IsNext x s.progress → IsNext x (after plan commands s act).progress
   next_other x s act other is =
       let t = moved plan commands (action_at plan s) (with_progress turned s) act in
       subst (λ (q : Progress). IsNext x q) (sym (ended_progress t)) (next_kept x (turned s.progress) t.progress (resets plan commands (action_at plan s) (with_progress turned s) act other) is)
 
-  -- what these acts send goes on after x
+  -- the commands of the setup that these acts send continue after x
   go_on_from : (x : Dispatch) (s : Model) (acts : List Act) → IsNext x s.progress → GoOn x (setup_sent_by plan commands s acts)
   go_on_from x s [] is = tt
   go_on_from x s (act ∷ acts) is =
       let u = after plan commands s act in
       let rest = setup_sent_by plan commands u acts in
-      elim (kind (action_at plan s)) [
-        | inl sends ↦ subst (λ xs. GoOn x (xs ++ rest)) (sym (sends_it s sends)) (is, go_on_from (its s) u acts (next_sent s act sends))
-        | inr other ↦ subst (λ xs. GoOn x (xs ++ rest)) (sym (none_as (action_at plan s) commands s other)) (go_on_from x u acts (next_other x s act other is))
+      elim (is_prepare_or_not (action_at plan s)) [
+        | inl sends ↦ subst (λ xs. GoOn x (xs ++ rest)) (sym (sends_it s sends)) (is, go_on_from (next_dispatch s) u acts (next_sent s act sends))
+        | inr other ↦ subst (λ xs. GoOn x (xs ++ rest)) (sym (others_send_none (action_at plan s) commands s other)) (go_on_from x u acts (next_other x s act other is))
       ]
 
-  -- nothing of the setup was sent
+  -- nothing of the setup was sent yet: its first command is next, in attempt 1
   abbrev IsFresh : Progress → Type 0
   IsFresh p = (p.attempt ≡ 1) × (p.prepared ≡ 0)
 
-  -- an act that sends no command of the setup keeps that
+  -- if nothing of the setup was sent, that stays so after an act that sends no command of it
   fresh_kept : (p q : Progress) → Resets p q → IsFresh p → IsFresh q
   fresh_kept p q (inl same) is = (same.0 ∙ is.0, same.1 ∙ is.1)
   fresh_kept p q (inr anew) is = (anew.0 ∙ ap (λ (n : ℕ). if nat_eq n 0 then p.attempt else later p.attempt 1) is.1 ∙ is.0, anew.1)
 
-  -- what these acts send is in order, if nothing of the setup was sent before
+  -- the commands of the setup that these acts send are in order, if none was sent before
   in_order_from : (s : Model) (acts : List Act) → IsFresh s.progress → AreInOrder (setup_sent_by plan commands s acts)
   in_order_from s [] is = tt
   in_order_from s (act ∷ acts) is =
       let u = after plan commands s act in
       let rest = setup_sent_by plan commands u acts in
       let t = moved plan commands (action_at plan s) (with_progress turned s) act in
-      elim (kind (action_at plan s)) [
-        | inl sends ↦ subst (λ xs. AreInOrder (xs ++ rest)) (sym (sends_it s sends)) (is.0, is.1, go_on_from (its s) u acts (next_sent s act sends))
+      elim (is_prepare_or_not (action_at plan s)) [
+        | inl sends ↦ subst (λ xs. AreInOrder (xs ++ rest)) (sym (sends_it s sends)) (is.0, is.1, go_on_from (next_dispatch s) u acts (next_sent s act sends))
         | inr other ↦
-            subst (λ xs. AreInOrder (xs ++ rest)) (sym (none_as (action_at plan s) commands s other))
+            subst (λ xs. AreInOrder (xs ++ rest)) (sym (others_send_none (action_at plan s) commands s other))
             (in_order_from u acts (subst (λ (q : Progress). IsFresh q) (sym (ended_progress t)) (fresh_kept (turned s.progress) t.progress (resets plan commands (action_at plan s) (with_progress turned s) act other) is)))
       ]
 

@@ -241,7 +241,7 @@ Behind plan commands P Send s = Putting P (requests_out plan commands s.progress
 Behind plan commands P Skip s =
     ((m : Moment) → P (Told m) (with_moment m (with_progress (λ p. reckoned_early plan (commands_in s.marks)
     (skipped (is_chained_after_next commands s.progress) (others_after_next commands s.progress) m p)) (with_listed (skip_listed plan commands s (Told m))
-        (with_records (skips plan commands s.progress (Told m)) s)))))
+    (with_records (skips plan commands s.progress (Told m)) s)))))
     × ((n : ℕ) → P Untold (with_progress (failing cause.Clock) (with_records [] s)))
 Behind plan commands P Pass s = ((m : Moment) → P (Told m) (after_pass plan commands s (Told m))) × ((n : ℕ) → P Untold (with_progress (failing cause.Clock) s))
 Behind plan commands P Flush s = Putting P (requests_out plan commands s.progress) (request_text s.client (Table NullProc)) (with_progress asking (asks_null plan s))

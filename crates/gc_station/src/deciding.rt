@@ -52,7 +52,7 @@ ghost use Rattle.gc_station.specs.Deciding.{is_dead, is_due, goes_on, is_finishe
 
 use crate::cause::Cause;
 use crate::plan::Plan;
-use crate::progress::{patience_of, width, Action, Phase, Progress, Until, Waiting};
+use crate::progress::{Action, Phase, Progress, Until, Waiting, patience_of, width};
 use gc_client::WINDOW;
 
 impl Progress {

@@ -12,7 +12,7 @@ use std::marker::Model;
 /// What was seen so far, in order: at each moment what a link had recorded, what a book had taken, and whether that lasted.
 #[derive(Drop)]
 pub struct Kept {
-    pub ghost turns: { List Turn } by { turns_code },
+    pub ghost turns: { List Snapshot } by { snapshots_code },
 }
 
 impl Model for Kept {

@@ -57,7 +57,7 @@ pub(crate) fn is_reply(hearing: Hearing) -> bool
 
 impl Progress {
     // Takes one of the turns that are left.
-    pub(crate) fn turn(&mut self)
+    pub(crate) fn take_turn(&mut self)
         ensures { self.new ≡ turned self.old }
     {
         self.turns = self.turns.saturating_sub(1);
@@ -66,7 +66,7 @@ impl Progress {
     // Notes a moment read on the link: the quiet time begins now. (`pass_time` notes the moment of a read that gave nothing.)
     // Where the clock went back, the cycle is taken to have begun now at the latest, so that the next one isn't put off, and
     // the line to have been alive now at the latest.
-    pub(crate) fn tell(&mut self, moment: Moment)
+    pub(crate) fn note_moment(&mut self, moment: Moment)
         ensures { self.new ≡ moment_noted moment self.old }
     {
         self.moment = moment;
@@ -106,13 +106,13 @@ impl Progress {
     }
 
     // Begins a cycle of `count` commands at this moment. If the cycle is missed, none of them is sent.
-    pub(crate) fn begin(&mut self, plan: &Plan, count: usize, moment: Moment)
+    pub(crate) fn begin_cycle(&mut self, plan: &Plan, count: usize, moment: Moment)
         ensures { self.new ≡ cycle_begun plan.now count moment self.old }
     {
         let began = self.beginning(plan, moment);
         let missed = self.is_missing(plan, moment);
         let due = self.due_of(plan, moment);
-        self.tell(moment);
+        self.note_moment(moment);
         self.began = began;
         self.due = due;
         self.missed = missed;
@@ -139,7 +139,7 @@ impl Progress {
     pub(crate) fn skip(&mut self, next_is_chained: bool, others: usize, moment: Moment)
         ensures { self.new ≡ skipped next_is_chained others moment self.old }
     {
-        self.tell(moment);
+        self.note_moment(moment);
         self.unsent = self.unsent.saturating_sub(1);
         self.next_is_chained = next_is_chained;
         self.next_others = others;
@@ -149,10 +149,10 @@ impl Progress {
 
     // Leaves out the further attempts of a chain that the next command begins. `next_is_chained` and `others` are of the
     // command after them, as of `skip`.
-    pub(crate) fn pass(&mut self, next_is_chained: bool, others: usize, moment: Moment)
+    pub(crate) fn leave_out(&mut self, next_is_chained: bool, others: usize, moment: Moment)
         ensures { self.new ≡ attempts_left_out next_is_chained others moment self.old }
     {
-        self.tell(moment);
+        self.note_moment(moment);
         self.unsent = self.unsent.saturating_sub(self.next_others);
         self.next_is_chained = next_is_chained;
         self.next_others = others;
@@ -172,7 +172,7 @@ impl Progress {
     }
 
     // Notes that a connection was made.
-    pub(crate) fn open(&mut self)
+    pub(crate) fn note_open(&mut self)
         ensures { self.new ≡ opened self.old }
     {
         self.phase = Phase::Clearing;
@@ -259,7 +259,7 @@ impl Progress {
     }
 
     // Notes that the line feed was sent: the connection is drained next, unless a synchronization goes on with it.
-    pub(crate) fn clear(&mut self)
+    pub(crate) fn note_cleared(&mut self)
         ensures { self.new ≡ cleared self.old }
     {
         self.phase = if self.has_begun() {
@@ -274,7 +274,7 @@ impl Progress {
 
     // Notes that a request was sent. The time after which the line is dead begins with the first request after a reply line. It
     // is counted as after the last call of the table that a reply ended.
-    pub(crate) fn ask(&mut self)
+    pub(crate) fn note_request(&mut self)
         ensures { self.new ≡ asking self.old }
     {
         if !self.asked {
@@ -289,20 +289,20 @@ impl Progress {
 
     // Notes that the null procedure of the first id that isn't answered was sent: it is sent again at its deadline. No command
     // is sent before it is answered, so nothing is after it then.
-    pub(crate) fn ask_null(&mut self, plan: &Plan)
+    pub(crate) fn note_null(&mut self, plan: &Plan)
         ensures { self.new ≡ null_sent plan.now self.old }
     {
-        self.ask();
+        self.note_request();
         self.again = later(self.moment.elapsed, plan.deadline);
         self.behind = 0;
     }
 
     // Notes that the station resynchronizes at this moment. If nothing is sent before the next cycle is due, the time after
     // which the line is dead begins with the first null procedure.
-    pub(crate) fn renew(&mut self, plan: &Plan, moment: Moment)
+    pub(crate) fn resynchronize(&mut self, plan: &Plan, moment: Moment)
         ensures { self.new ≡ renewed plan.now moment self.old }
     {
-        self.tell(moment);
+        self.note_moment(moment);
         self.word = Beginning::new();
         self.again = 0;
         self.asked = self.asked && self.goes_on(plan);
@@ -320,14 +320,14 @@ impl Progress {
         if self.word.hear(line) {
             self.again = 0;
         }
-        self.note(reads(line));
+        self.note_line(reads(line));
     }
 
     // Notes that the next command was sent. `next_is_chained` and `others` are of the command after it, as of `skip`.
-    pub(crate) fn send(&mut self, next_is_chained: bool, others: usize)
+    pub(crate) fn note_sent(&mut self, next_is_chained: bool, others: usize)
         ensures { self.new ≡ sent next_is_chained others self.old }
     {
-        self.ask();
+        self.note_request();
         self.unsent = self.unsent.saturating_sub(1);
         self.next_is_chained = next_is_chained;
         self.next_others = others;
@@ -336,10 +336,10 @@ impl Progress {
     }
 
     // Notes that the next command of the setup was sent.
-    pub(crate) fn prepare(&mut self, plan: &Plan)
+    pub(crate) fn note_setup(&mut self, plan: &Plan)
         ensures { self.new ≡ setup_sent plan.now self.old }
     {
-        self.ask();
+        self.note_request();
         self.prepared = self.prepared.saturating_add(1).min(plan.setup);
         self.chain_unbroken = false;
     }
@@ -355,7 +355,7 @@ impl Progress {
     }
 
     // Notes that a line was heard: a reply line shows that the line is alive.
-    pub(crate) fn note(&mut self, is_reply: bool)
+    pub(crate) fn note_line(&mut self, is_reply: bool)
         ensures { self.new ≡ line_noted is_reply self.old }
     {
         if is_reply {
@@ -367,7 +367,7 @@ impl Progress {
     // Notes that a read gave bytes: `before` commands were outstanding before it, and `after` counts what is outstanding now.
     // If a command was settled, and since the setup a command of a cycle had its turn, all tries are left again, and the next
     // pause is the quiet time.
-    pub(crate) fn give(&mut self, plan: &Plan, until: Until, before: usize, after: Waiting)
+    pub(crate) fn note_bytes(&mut self, plan: &Plan, until: Until, before: usize, after: Waiting)
         ensures { self.new ≡ bytes_noted plan.now until before after self.old }
     {
         if after.commands < before && !self.preparing {
@@ -396,7 +396,7 @@ impl Progress {
     }
 
     // Ends a pause that was long enough, if a connection is wanted, or a draining in which nothing came for the quiet time.
-    fn quiet(&mut self, plan: &Plan)
+    fn end_quiet_phase(&mut self, plan: &Plan)
         ensures { self.new ≡ quieted plan.now self.old.phase self.old }
     {
         match self.phase {
@@ -425,16 +425,16 @@ impl Progress {
     }
 
     // Notes that a read gave nothing until this moment, which may end a pause or a draining.
-    pub(crate) fn be_silent(&mut self, plan: &Plan, until: Until, moment: Moment)
+    pub(crate) fn note_silence(&mut self, plan: &Plan, until: Until, moment: Moment)
         ensures { self.new ≡ silent plan.now until moment self.old }
     {
         self.pass_time(until, moment);
-        self.quiet(plan);
+        self.end_quiet_phase(plan);
     }
 
     // Notes whether the cycle was done early, where `commands` commands are outstanding: nothing of it is left, and the next
     // one isn't due yet.
-    pub(crate) fn reckon_early(&mut self, plan: &Plan, commands: usize)
+    pub(crate) fn note_early(&mut self, plan: &Plan, commands: usize)
         ensures { self.new ≡ reckoned_early plan.now commands self.old }
     {
         self.early = self.early || (commands == 0 && self.unsent == 0 && !self.is_due(plan));

@@ -218,8 +218,8 @@ impl Station {
         match link.now() {
             Ok(moment) => {
                 let commands = self.commands();
-                self.progress.tell(moment);
-                self.progress.reckon_early(plan, commands);
+                self.progress.note_moment(moment);
+                self.progress.note_early(plan, commands);
                 self.client.expire(moment.elapsed);
                 self.fresh = self.fresh.min(moment.elapsed);
             }
@@ -235,8 +235,8 @@ impl Station {
     {
         match link.now() {
             Ok(moment) => {
-                self.progress.renew(plan, moment);
-                self.progress.reckon_early(plan, 0);
+                self.progress.resynchronize(plan, moment);
+                self.progress.note_early(plan, 0);
                 self.client.expire(moment.elapsed);
                 self.fresh = self.fresh.min(moment.elapsed);
             }
@@ -252,7 +252,7 @@ impl Station {
         match link.now() {
             Ok(moment) => {
                 let count = commands.len().saturating_sub(plan.setup);
-                self.progress.begin(plan, count, moment);
+                self.progress.begin_cycle(plan, count, moment);
                 self.client.expire(moment.elapsed);
                 self.fresh = self.fresh.min(moment.elapsed);
             }
@@ -267,7 +267,7 @@ impl Station {
     {
         let commands = self.commands();
         match link.open() {
-            Ok(()) => self.progress.open(),
+            Ok(()) => self.progress.note_open(),
             Err(_) => self.progress.try_again(plan, commands, Cause::Open),
         }
     }
@@ -420,7 +420,7 @@ impl Station {
         ensures fails { FailsWith result (B.failed book.old) (B.failed book.new) }
         ensures form { B.text book.new ≡ B.text book.old }
     {
-        self.progress.turn();
+        self.progress.take_turn();
         if let Err(failed) = self.perform(link, book, plan, commands, action) {
             return Err(failed);
         }

@@ -39,7 +39,7 @@ impl Station {
         }
         let of_table = ends_with_table(self.settled.as_slice());
         self.progress.catch_up(of_table, self.client.waiting());
-        self.progress.note(is_reply(hearing));
+        self.progress.note_line(is_reply(hearing));
         Ok(())
     }
 
@@ -119,15 +119,15 @@ impl Station {
         ensures form { B.text book.new ≡ B.text book.old }
     {
         let before = self.commands();
-        self.progress.tell(now);
+        self.progress.note_moment(now);
         self.client.expire(now.elapsed);
         self.fresh = self.fresh.min(now.elapsed);
         if let Err(failed) = self.take_lines(book, piece) {
             return Err(failed);
         }
         let after = self.waiting();
-        self.progress.give(plan, until, before, after);
-        self.progress.reckon_early(plan, after.commands);
+        self.progress.note_bytes(plan, until, before, after);
+        self.progress.note_early(plan, after.commands);
         Ok(())
     }
 
@@ -152,7 +152,7 @@ impl Station {
             Came::Silence(moment) => {
                 self.client.expire(moment.elapsed);
                 self.fresh = self.fresh.min(moment.elapsed);
-                self.progress.be_silent(plan, until, moment);
+                self.progress.note_silence(plan, until, moment);
                 Ok(())
             }
             Came::End => {

@@ -70,7 +70,7 @@ impl Station {
     {
         let requests = self.requests_out(plan, commands);
         let put = link.put(b"\n");
-        self.progress.clear();
+        self.progress.note_cleared();
         self.cut(put, requests);
     }
 
@@ -135,7 +135,7 @@ impl Station {
     {
         let requests = self.requests_out(plan, commands);
         let put = self.put_null(link);
-        self.progress.ask_null(plan);
+        self.progress.note_null(plan);
         self.cut(put, requests);
     }
 
@@ -156,7 +156,7 @@ impl Station {
         let others = self.others_behind(1, commands);
         let command = command_at(task, mark.sent);
         let put = self.ask(link, &command, task.deadline, Some(mark));
-        self.progress.send(next_is_chained, others);
+        self.progress.note_sent(next_is_chained, others);
         self.cut(put, requests);
     }
 
@@ -190,7 +190,7 @@ impl Station {
         let requests = self.requests_out(plan, commands);
         let asking = self.next_setup(plan, commands);
         let put = self.ask(link, &asking.command, asking.wait, asking.mark);
-        self.progress.prepare(plan);
+        self.progress.note_setup(plan);
         self.cut(put, requests);
     }
 
@@ -204,7 +204,7 @@ impl Station {
     {
         let requests = self.requests_out(plan, commands);
         let put = self.ask(link, &null_command(), plan.deadline, None);
-        self.progress.ask();
+        self.progress.note_request();
         self.cut(put, requests);
     }
 }

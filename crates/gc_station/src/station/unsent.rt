@@ -46,7 +46,7 @@ impl Station {
                 let next_is_chained = self.is_chained_behind(1, commands);
                 let others = self.others_behind(1, commands);
                 self.progress.skip(next_is_chained, others, moment);
-                self.progress.reckon_early(plan, waiting);
+                self.progress.note_early(plan, waiting);
                 self.client.expire(moment.elapsed);
                 self.fresh = self.fresh.min(moment.elapsed);
                 Ok(())
@@ -70,8 +70,8 @@ impl Station {
                 let count = self.progress.next_others;
                 let next_is_chained = self.is_chained_behind(count, commands);
                 let others = self.others_behind(count, commands);
-                self.progress.pass(next_is_chained, others, moment);
-                self.progress.reckon_early(plan, waiting);
+                self.progress.leave_out(next_is_chained, others, moment);
+                self.progress.note_early(plan, waiting);
                 self.client.expire(moment.elapsed);
                 self.fresh = self.fresh.min(moment.elapsed);
             }

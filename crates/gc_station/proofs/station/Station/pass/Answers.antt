@@ -34,13 +34,13 @@ returns-in-Ok g c text known =
           } in
           let waiting = c.commands-waiting.ensures ∙ ap commands_in stands.marks in
           let progress =
-          c.reckon_early.ensures ∙ ap (λ k. reckoned_early plan k c.pass.new.self) waiting
-          ∙ ap (reckoned_early plan (commands_in s.marks)) (c.pass.ensures
+          c.note_early.ensures ∙ ap (λ k. reckoned_early plan k c.leave_out.new.self) waiting
+          ∙ ap (reckoned_early plan (commands_in s.marks)) (c.leave_out.ensures
           ∙ ap (λ b. attempts_left_out b c.others_behind-others.result m old.progress) c.is_chained_behind-next_is_chained.ensures
           ∙ ap (λ k. attempts_left_out (is_chained_after n commands old.progress) k m old.progress) c.others_behind-others.ensures
           ∙ ap goes_on stands.progress) in (
             tt,
-            stands_expired old c.reckon_early.new.self (reckoned_early plan (commands_in s.marks) (goes_on s.progress)) c.expire.new.self c.min-self.result m
+            stands_expired old c.note_early.new.self (reckoned_early plan (commands_in s.marks) (goes_on s.progress)) c.expire.new.self c.min-self.result m
                 (with_passes (passes_next plan commands s.progress) s) there progress c.expire.ensures.client c.min-self.ensures,
             so,
           );

@@ -41,10 +41,10 @@ returns g c text known =
           let first = first_stands c.ask-put.new.self s mark (mark_next plan commands s.progress) list task others is next asked in (
             put_puts put line (first_text utc s.client list) (ap (λ (ids : ById Asked). request_text ids command.call) stands.ids
                 ∙ ap (λ (w : Wish). request_text s.client w.call) (c.command_at-command.ensures ∙ ap (λ (m : Mark). command_at m.sent task) next) ∙ sym
-                    (ap (first_text utc s.client) is)) c.ask-put.ensures.part,
-            put_stands put line c.requests_out-requests.result (requests_out plan commands s.progress) f s (record c.ask-put.new.self { progress = c.send.new.self }) c.cut.new.self
-                (stands_with c.ask-put.new.self c.send.new.self (sent (is_chained_after_next commands s.progress) (others_after_next commands s.progress)) (asks_next plan commands s) first
-                (c.send.ensures ∙ ap (λ b. sent b behind.result c.ask-put.new.self.progress)
+                (ap (first_text utc s.client) is)) c.ask-put.ensures.part,
+            put_stands put line c.requests_out-requests.result (requests_out plan commands s.progress) f s (record c.ask-put.new.self { progress = c.note_sent.new.self }) c.cut.new.self
+                (stands_with c.ask-put.new.self c.note_sent.new.self (sent (is_chained_after_next commands s.progress) (others_after_next commands s.progress)) (asks_next plan commands s) first
+                (c.note_sent.ensures ∙ ap (λ b. sent b behind.result c.ask-put.new.self.progress)
                 (next_is_chained.ensures ∙ ap (is_chained_after_next commands) stands.progress)
                 ∙ ap (λ n. sent (is_chained_after_next commands s.progress) n c.ask-put.new.self.progress) (behind.ensures ∙ ap (others_after_next commands) stands.progress))) c.cut.ensures
                 (c.requests_out-requests.ensures ∙ ap (requests_out plan commands) stands.progress),

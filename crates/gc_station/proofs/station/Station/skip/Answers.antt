@@ -37,23 +37,23 @@ returns-in_default-clause-does g c =
           let is = stands.progress in
           let same = ap (λ (x : Station). x.progress) c.in_default.ensures.after ∙ is in
           let here_stands : Refines mid (with_listed listed (with_records rs s)) = skipped_stands old mid s rs
-              (listed_after old.listed (mark_next plan commands p).expected None (if p.missed then Missed else Skipped)) listed stands
+          (listed_after old.listed (mark_next plan commands p).expected None (if p.missed then Missed else Skipped)) listed stands
           (λ b. skips_unwell b p m (mark_next plan commands p) (drop (place_next commands p) commands) here.0 here.1 here.2)
           (λ are. ap (λ b. listed_after b (mark_next plan commands p).expected None (if p.missed then Missed else Skipped)) (stands.listed are)
           ∙ ap (λ (x : Progress). listed_after s.listed (mark_next plan commands x).expected None (if x.missed then Missed else Skipped)) is)
           c.in_default.ensures.after in
           let rs' = ap (λ (x : Progress). skips plan commands x (Told m)) is in
           let there : Refines mid (with_listed listed (with_records (skips plan commands q (Told m)) s)) = subst
-              (λ (xs : List Record). Refines mid (with_listed listed (with_records xs s))) rs' here_stands in
+          (λ (xs : List Record). Refines mid (with_listed listed (with_records xs s))) rs' here_stands in
           let waiting = c.commands-waiting.ensures ∙ ap commands_in there.marks in
           let progress =
-          c.reckon_early.ensures ∙ ap (λ n. reckoned_early plan n c.skip.new.self) waiting
+          c.note_early.ensures ∙ ap (λ n. reckoned_early plan n c.skip.new.self) waiting
           ∙ ap (reckoned_early plan (commands_in s.marks)) (c.skip.ensures
           ∙ ap (λ b. skipped b c.others_behind-others.result m mid.progress) (c.is_chained_behind-next_is_chained.ensures ∙ ap (is_chained_after_next commands) same)
           ∙ ap (λ n. skipped next_is_chained n m mid.progress) (c.others_behind-others.ensures ∙ ap (others_after_next commands) same)
           ∙ ap (skipped next_is_chained behind m) same) in (
             tt,
-            stands_expired mid c.reckon_early.new.self (reckoned_early plan (commands_in s.marks) (skipped next_is_chained behind m q)) c.expire.new.self c.min-self.result m
+            stands_expired mid c.note_early.new.self (reckoned_early plan (commands_in s.marks) (skipped next_is_chained behind m q)) c.expire.new.self c.min-self.result m
                 (with_listed listed (with_records (skips plan commands q (Told m)) s)) there progress c.expire.ensures.client c.min-self.ensures,
             λ are. subst (λ (xs : List Record). Appends start (g.B.Book.taken c.write_skipped.new.book)
                 (texts_of (g.B.Book.text c.args.book.now) (s.records ++ xs))) rs' (c.in_default.ensures.wrote start s.records (so are)),
