@@ -15,7 +15,7 @@ pub record Sent : Type 0 where
   pub old : Bool
 
 -- the state of a synchronization: the requests and the replies in flight, the front of each queue first; the id of the reply
--- that the instrument keeps; and the ids of the word that aren't answered. If none is left, it has begun
+-- that the instrument retains; and the ids of the word that aren't answered. If none is left, it has begun
 pub record Model : Type 0 where
   pub up : List Sent
   pub down : List Sent
@@ -30,7 +30,8 @@ pub data Move : Type 0 where
   Ask : Move
   -- the front request reaches the instrument, whose reply is sent, or is lost at once
   Reach : (replies : Bool) → Move
-  -- the front request reaches the instrument, whose reply is sent, and which still keeps what it kept, if that request is old
+  -- the front request reaches the instrument, whose reply is sent, and which still retains what it retained, if that request is
+  -- old
   Pass : Move
   -- the front reply comes
   Come : Move
@@ -54,19 +55,19 @@ asks s [] = s
 asks s (asked ∷ rest) = record s { up = s.up ++ record { id = asked; old = false } ∷ [] }
 
 -- the state once the front request of this queue reached the instrument (true: its reply is sent; false: it is lost), which
--- replies with the request's id: by the reply that it keeps, if that has this id, and else by executing the request, whose
--- reply it then keeps. So what it keeps has this id from now on, and what it sends is for this request
+-- replies with the request's id: by the reply that it retains, if that has this id, and else by executing the request, whose
+-- reply it then keeps. So what it retains has this id from now on, and what it sends is for this request
 abbrev pub reaches : Model → Bool → List Sent → Model
 reaches s replies [] = s
 reaches s true (x ∷ rest) = record s { up = rest; down = s.down ++ x ∷ []; kept = Some x.id }
 reaches s false (x ∷ rest) = record s { up = rest; kept = Some x.id }
 
--- the id of what is kept once a request with this id was left out (`k` before): an old one leaves it
+-- the id of what is retained once a request with this id was left out (`k` before): an old one leaves it
 abbrev pub kept_past : Bool → ℕ → Option ℕ → Option ℕ
 kept_past true id k = k
 kept_past false id k = Some id
 
--- the state once the front request of this queue was left out: its reply is sent, and if it is old, what is kept stays
+-- the state once the front request of this queue was left out: its reply is sent, and if it is old, what is retained stays
 abbrev pub passes : Model → List Sent → Model
 passes s [] = s
 passes s (x ∷ rest) = record s { up = rest; down = s.down ++ x ∷ []; kept = kept_past x.old x.id s.kept }
@@ -121,8 +122,8 @@ pub record Begins (word : List ℕ) (s : Model) : Type 0 where
   pub down : Each (λ x. x.old ≡ true) s.down
   pub absent : IsSubsequence word (ids_of s.down ++ ids_of s.up) → ⊥
 
--- a synchronization that has begun cleanly: nothing old is in flight, and all that is in flight has this id; so has what the
--- instrument keeps, if it keeps anything
+-- a synchronization that ended cleanly: nothing old is in flight, and all that is in flight has this id; so has what
+-- the instrument retains, if it retains anything
 pub record IsClean (id : ℕ) (s : Model) : Type 0 where
   pub up : Each (λ x. (x.old ≡ false) × (x.id ≡ id)) s.up
   pub down : Each (λ x. (x.old ≡ false) × (x.id ≡ id)) s.down

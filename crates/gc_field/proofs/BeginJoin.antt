@@ -146,7 +146,7 @@ module _ {State : Type 0} (ends : Ends State) (Good : State → Type 0) (kept : 
     small = small_left s.left (rule.heard line) g.small;
   }
 
-  -- what is kept after a request, its reply or nothing, has the request's id
+  -- what is retained after a request, its reply or nothing, has the request's id
   kept_behind : (k : Option KeptReply) (id : ℕ) (line : List ℕ) (r : KeptReply) → (k ≡ None) ⊎ (k ≡ Some (record { id = id; line = line })) → k ≡ Some r → Some id ≡ Some r.id
   kept_behind k id line r (inl none) e = absurd (none_is_not r (sym none ∙ e))
   kept_behind k id line r (inr some) e = ap (λ (x : KeptReply). Some x.id) (some_is (record { id = id; line = line }) r (sym some ∙ e))
@@ -203,7 +203,7 @@ module _ {State : Type 0} (ends : Ends State) (Good : State → Type 0) (kept : 
       → Shows (record s { down = down }) (record p { down = downs })
   shows_down s p down downs e g = record { up = g.up; down = e; left = g.left; keeps = g.keeps; good = g.good; known = g.known; small = g.small }
 
-  -- what is kept afterwards, the same as before or nothing, has the id that was noted before
+  -- what is retained afterwards, the same as before or nothing, has the id that was noted before
   still_kept : (k after : Option KeptReply) (o : Option ℕ) → (after ≡ None) ⊎ (after ≡ k) → ((r : KeptReply) → k ≡ Some r → o ≡ Some r.id) → (r : KeptReply) → after ≡ Some r → o ≡ Some r.id
   still_kept k after o (inl none) f r e = absurd (none_is_not r (sym none ∙ e))
   still_kept k after o (inr same) f r e = f r (sym same ∙ e)
@@ -255,7 +255,7 @@ module _ {State : Type 0} (ends : Ends State) (Good : State → Type 0) (kept : 
 
   -- Its start.
 
-  -- the id of the reply that is kept
+  -- the id of the reply that is retained
   abbrev kept_id : Option KeptReply → Option ℕ
   kept_id None = None
   kept_id (Some k) = Some k.id
@@ -394,7 +394,7 @@ module _ {State : Type 0} (ends : Ends State) (Good : State → Type 0) (kept : 
     keeps = λ k e. c.kept k.id (g.keeps k e);
   }
 
-  -- a synchronization that has begun has begun cleanly, unless the ids in flight at its start contain the word
+  -- a synchronization that has begun has synchronized cleanly, unless the ids in flight at its start contain the word
   pub begins_cleanly : (u : UnderWay State) (ts : List (Turn State)) → AreLines Good u → AreTurns ends Good kept ts (begins u)
       → (IsSubsequence the_word (ids_under_way u) → ⊥) → (turned ends ts (begins u)).left ≡ []
       → HasBegunCleanly kept (turned ends ts (begins u))

@@ -1,5 +1,5 @@
 -- A whole beginning: the invariant of its line (`IsLine`) holds through each move, and so does what is known of the id of the
--- reply that the instrument keeps (`KeptIdFits`). `IsSound` is both.
+-- reply that the instrument retains (`KeptIdFits`). `IsSound` is both.
 use Rattle.std.proofs.Common.{◌≡◌, ℕ, Bool, true, false, List, [], ◌∷◌, ◌++◌, Option, Some, None, nat_eq, refl, sym, ◌∙◌, subst}
 use Rattle.std.proofs.lemmas.Bool.{eqb-true}
 use Rattle.gc_client.specs.Beginning.{left_by_one, IsSubsequence, the_word}
@@ -13,23 +13,23 @@ use Rattle.gc_field.proofs.BeginLines.{IsLine, IsOld, IsOwn, IsBefore, HasNone, 
 
 -- The invariant.
 
--- what is kept has this id, if anything is kept
+-- what is retained has this id, if anything is retained
 abbrev pub IsFor : ℕ → Option ℕ → Type 0
 IsFor id None = Unit {0}
 IsFor id (Some i) = i ≡ id
 
--- if this is an own reply with this id, what is kept has that id
+-- if this is an own reply with this id, what is retained has that id
 abbrev pub KeepsIf : ℕ → Option ℕ → Sent → Type 0
 KeepsIf asked kept x = IsOwn x → x.id ≡ asked → IsFor asked kept
 
--- what is known of the id `kept` of the reply that the instrument keeps, if it keeps one. If no id of the word is left, it is
--- z, the word's last. Else, as soon as a reply in flight (`down`) is of this synchronization and has the first id that is left,
--- `asked`, it is `asked`
+-- what is known of the id `kept` of the reply that the instrument retains, if it retains one. If no id of the word is left, it
+-- is z, the word's last. Else, as soon as a reply in flight (`down`) is of this synchronization and has the first id that is
+-- left, `asked`, it is `asked`
 abbrev pub KeptIdFits : ℕ → List ℕ → List Sent → Option ℕ → Type 0
 KeptIdFits z [] down kept = IsFor z kept
 KeptIdFits z (asked ∷ later) down kept = Each (KeepsIf asked kept) down
 
--- what holds of a state of a synchronization, where z is the word's last id: of the line, and of what is kept
+-- what holds of a state of a synchronization, where z is the word's last id: of the line, and of what is retained
 pub record IsSound (z : ℕ) (s : Model) : Type 0 where
   pub line : IsLine z s.left (s.down ++ s.up)
   pub keeps : KeptIdFits z s.left s.down s.kept
@@ -46,7 +46,7 @@ keeps_doubled : (z : ℕ) (left : List ℕ) (k : ℕ) (down : List Sent) (kept :
 keeps_doubled z [] k down kept h = h
 keeps_doubled z (asked ∷ later) k down kept h = each_doubled (KeepsIf asked kept) k down h
 
--- `KeptIdFits` holds if nothing is kept
+-- `KeptIdFits` holds if nothing is retained
 keeps_nothing : (z : ℕ) (left : List ℕ) (down : List Sent) → KeptIdFits z left down None
 keeps_nothing z [] down = tt
 keeps_nothing z (asked ∷ later) down = every down where
@@ -54,8 +54,8 @@ keeps_nothing z (asked ∷ later) down = every down where
   every [] = tt
   every (x ∷ xs) = ((λ o e. tt), every xs)
 
--- if a request reaches the instrument, what is kept has its id, and `KeptIdFits` lasts: the own replies before it with the first id
--- that is left have its id, too
+-- if a request reaches the instrument, what is retained has its id, and `KeptIdFits` lasts: the own replies before it with the
+-- first id that is left have its id, too
 keeps_reached : (z : ℕ) (left : List ℕ) (down : List Sent) (x : Sent) (rest : List Sent) → IsLine z left (down ++ x ∷ rest) → KeptIdFits z left down (Some x.id)
 keeps_reached z [] down x rest h =
     let own : IsOwn x = (each_back IsOwn down (x ∷ rest) (each_own (down ++ x ∷ rest) (h.clear tt))).0 in
@@ -103,7 +103,7 @@ keeps_reaches z s false (x ∷ rest) e h = keeps_reached z s.left s.down x rest 
 both : (x : Sent) → IsOld x → IsOwn x → ⊥
 both x old own = never (sym own ∙ old)
 
--- `KeptIdFits` is preserved if the reply to an old request is sent, and what is kept stays
+-- `KeptIdFits` is preserved if the reply to an old request is sent, and what is retained stays
 keeps_old : (z : ℕ) (left : List ℕ) (down : List Sent) (x : Sent) (kept : Option ℕ) → IsOld x → KeptIdFits z left down kept → KeptIdFits z left (down ++ x ∷ []) kept
 keeps_old z [] down x kept old h = h
 keeps_old z (asked ∷ later) down x kept old h = each_append (KeepsIf asked kept) down (x ∷ []) h ((λ own e. absurd (both x old own)), tt)
@@ -199,12 +199,12 @@ clean_if z s left e f h =
       kept = λ i e. subst (λ k. IsFor z k) e keeps;
     }
 
--- a beginning with a word without an id twice begins cleanly, if what is in flight at its start doesn't contain the word
+-- a beginning with a word without an id twice synchronizes cleanly, if what is in flight at its start doesn't contain the word
 pub begins_cleanly : (word : List ℕ) (s : Model) (ms : List Move) → AllDiffer word → Begins word s → (moved ms s).left ≡ [] → IsClean (last 0 word) (moved ms s)
 begins_cleanly word s ms differ begins done = clean_if (last 0 word) (moved ms s) (moved ms s).left refl done (sound_moved (last 0 word) ms s (sound_at_start word s differ begins))
 
 -- The word.
 
--- a beginning with the word that a station uses begins cleanly
+-- a beginning with the word that a station uses synchronizes cleanly
 pub the_word_begins_cleanly : (s : Model) (ms : List Move) → Begins the_word s → (moved ms s).left ≡ [] → IsClean 7 (moved ms s)
 the_word_begins_cleanly s ms begins done = begins_cleanly the_word s ms word_differs begins done

@@ -160,7 +160,7 @@ module _ {State : Type 0} (ends : Ends State) (Good : State → Type 0) (kept : 
       first_is : (line : List ℕ) → First 7 line
       first_is line = (inl (omega arith), inl (early 7 (omega arith)))
 
-      -- after a clean synchronization, what the instrument keeps, if anything, is the reply to the eighth null procedure
+      -- after a clean synchronization, what the instrument retains, if anything, is the reply to the eighth null procedure
       kept_begun : (k : Option KeptReply) → kept u.state ≡ k → KeptIs First 0 8 7 k
       kept_begun None e = tt
       kept_begun (Some k) e = record { number = 7; recent = omega arith; before = omega arith; behind = omega arith; id = clean.keeps k e; line = first_is k.line }

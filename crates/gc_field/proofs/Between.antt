@@ -1,6 +1,6 @@
--- What is executed between two moves of a stretch, and what it makes of the instrument. A *stretch* is a run once it has begun:
--- what is in flight then, and its moves. `Did` says of two wires, an earlier and a later one, what was executed between them;
--- `Goes` says it, too, and that the later wire is in order (`Refines`) as the earlier one was.
+-- What is executed between two moves of a stretch, and what it makes of the instrument. A *stretch* is a run once it has
+-- synchronized: what is in flight then, and its moves. `Did` says of two wires, an earlier and a later one, what was executed
+-- between them; `Goes` says it, too, and that the later wire is in order (`Refines`) as the earlier one was.
 use Rattle.std.proofs.Common.{◌≡◌, ℕ, ◌+◌, ◌≤◌, Bool, true, false, cond, List, [], ◌∷◌, ◌++◌, length, Option, Some, None, refl, sym, ◌∙◌, ap, subst, arith, append_assoc, append-nil, ltb}
 use Rattle.std.specs.Prelude.{slice_get}
 use Rattle.std.proofs.lemmas.List.{length-append}
@@ -30,13 +30,13 @@ executing_append effect [] ys s = refl
 executing_append effect (call ∷ xs) ys s = executing_append effect xs ys (effect s call)
 
 module _ {State : Type 0} (ends : Ends State) where
-  -- two states that are alike apart from what is kept are still so after the same calls
+  -- two states that are alike apart from what is retained are still so after the same calls
   executing_alike : (apart : State → State) (effect : State → Asked → State) → HasEffect ends apart effect → (calls : List Asked) (s t : State)
       → apart s ≡ apart t → apart (executing effect s calls) ≡ apart (executing effect t calls)
   executing_alike apart effect has [] s t e = e
   executing_alike apart effect has (call ∷ calls) s t e = executing_alike apart effect has calls (effect s call) (effect t call) (has.alike s t call e)
 
-  -- executing these calls makes the second state of the first, apart from what is kept, for each effect that executing has
+  -- executing these calls makes the second state of the first, apart from what is retained, for each effect that executing has
   abbrev pub IsMadeBy : State → List Asked → State → Type 0
   IsMadeBy s calls t = (apart : State → State) (effect : State → Asked → State) → HasEffect ends apart effect → apart t ≡ apart (executing effect s calls)
 
@@ -53,7 +53,7 @@ module _ {State : Type 0} (ends : Ends State) where
   made_one : (s : State) (id : ℕ) (call : Asked) → (ends.handed s id call).executed ≡ true → IsMadeBy s (call ∷ []) (ends.handed s id call).state
   made_one s id call e apart effect has = has.executes s id call e
 
-  -- a line that is sent again changes nothing but what is kept
+  -- a line that is sent again changes nothing but what is retained
   made_again : (s : State) (id : ℕ) (call : Asked) → (ends.handed s id call).executed ≡ false → IsMadeBy s [] (ends.handed s id call).state
   made_again s id call e apart effect has = has.repeats s id call e
 

@@ -109,7 +109,7 @@ first_cut s ss front later order zero u v is a b =
 first_cut s ss front later order (suc i) u v is a b = absurd (omega (arith, is))
 
 module _ {State : Type 0} (ends : Ends State) (Good : State → Type 0) (kept : State → Option KeptReply) where
-  -- what a run leaves in flight once it has begun
+  -- what a run leaves in flight once it has synchronized
   abbrev from_of : UnderWay State → Run State → UnderWay State
   from_of u r = leaves (turned ends r.turns (begins u))
 

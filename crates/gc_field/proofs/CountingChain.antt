@@ -77,7 +77,7 @@ is =
       starts_good = λ s good. tt;
     }
 
--- `counting` keeps its reply
+-- `counting` retains its reply
 keeps_its : KeepsItsReply counting AnyState kept_by all_known
 keeps_its =
     record {

@@ -1,4 +1,4 @@
--- A run over an instrument that keeps no reply, computed.
+-- A run over an instrument that retains no reply, computed.
 use Rattle.std.proofs.Common.{◌≡◌, true, false, Some, [], ◌∷◌, inl, refl, sym, ap, subst, lit<}
 use Rattle.std.specs.Prelude.{take, drop}
 use Rattle.std.specs.Fmt.{decimal, digits}

@@ -1,5 +1,5 @@
--- The first reply to a request that comes while the request isn't settled settles it. A *stretch* is a run once it has begun:
--- what is in flight then, and its moves.
+-- The first reply to a request that comes while the request isn't settled settles it. A *stretch* is a run once it has
+-- synchronized: what is in flight then, and its moves.
 use Rattle.std.proofs.Common.{◌≡◌, ◌⊎◌, inl, inr, ℕ, zero, suc, ◌+◌, ◌-◌, ◌<◌, ◌≤◌, Bool, true, false, List, [], ◌∷◌, ◌++◌, length, map, nat_eq, Option, Some, refl, sym, ◌∙◌, ap, subst, arith, append_assoc, length-drop}
 use Rattle.std.specs.Prelude.{slice_get}
 use Rattle.std.proofs.lemmas.Bool.{ne_eqb}
@@ -86,12 +86,12 @@ module _ {State : Type 0} (ends : Ends State) (Good : State → Type 0) (kept : 
       → ArePossible ends Good kept (by_ids 7 ends) front (ids_begun u)
   front_of u ms front later e p = possible_front 7 ends Good kept front later (ids_begun u) (subst (λ xs. ArePossible ends Good kept (by_ids 7 ends) xs (ids_begun u)) e p)
 
-  -- a stretch has begun cleanly, or nothing happens in it; and its moves are possible
+  -- a stretch has synchronized cleanly, or nothing happens in it; and its moves are possible
   pub record Sound (s : Stretch State) : Type 0 where
     pub possible : ArePossible ends Good kept (by_ids 7 ends) s.moves (ids_begun s.from)
     pub clean : IsClean Good kept s.from ⊎ (s.moves ≡ [])
 
-  -- a stretch in which something happens has begun cleanly
+  -- a stretch in which something happens has synchronized cleanly
   pub clean_of : (s : Stretch State) → Sound s → (front later : List (Move State)) (m : Move State) → s.moves ≡ front ++ m ∷ later → IsClean Good kept s.from
   clean_of s sound front later m e =
       elim sound.clean [

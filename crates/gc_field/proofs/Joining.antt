@@ -62,14 +62,14 @@ use Rattle.gc_field.proofs.Once.{true_is_not}
 module _ {State : Type 0} (ends : Ends State) (Good : State → Type 0) (kept : State → Option KeptReply) (is : IsAnInstrument ends Good kept) where
   -- One part.
 
-  -- what a run comes to, by the ids that are left of its word: if it has begun, it has begun cleanly; and its stretch is sound
-  -- and faithful
+  -- what a run comes to, by the ids that are left of its word: if it has synchronized, it has synchronized cleanly; and its
+  -- stretch is sound and faithful
   record One (u : UnderWay State) (r : Run State) (left : List ℕ) : Type 0 where
     own : IsOwnIf 7 ends Good kept left (stood_by 7 ends u r) r.moves
     sound : Sound ends Good kept is (record { from = leaves (turned ends r.turns (begins u)); moves = r.moves })
     faithful : IsFaithful 7 ends (leaves (turned ends r.turns (begins u))) r.moves Good kept
 
-  -- a run that has begun over lines without the word in their ids has begun cleanly
+  -- a run that has synchronized over lines without the word in their ids has synchronized cleanly
   begun_clean : (u : UnderWay State) (r : Run State) → AreLines Good u → (IsSubsequence the_word (ids_under_way u) → ⊥)
       → AreTurns ends Good kept r.turns (begins u) → (stood_by 7 ends u r).left ≡ [] → IsClean Good kept (leaves (stood_by 7 ends u r))
   begun_clean u r lines none turns e =
@@ -92,7 +92,7 @@ module _ {State : Type 0} (ends : Ends State) (Good : State → Type 0) (kept : 
         faithful = subst (λ ms. IsFaithful 7 ends from ms Good kept) (sym p) (faithful_none ends Good kept from);
       }
 
-  -- a run that has begun leaves lines without the word in their ids
+  -- a run that has synchronized leaves lines without the word in their ids
   leaves_next : (u : UnderWay State) (r : Run State) → AreLines Good u → (IsSubsequence the_word (ids_under_way u) → ⊥)
       → AreTurns ends Good kept r.turns (begins u) → ArePossibleIf 7 ends Good kept (stood_by 7 ends u r).left (stood_by 7 ends u r) r.moves
       → (stood_by 7 ends u r).left ≡ [] → AreLines Good (left_by_run 7 ends u r) × (IsSubsequence the_word (ids_under_way (left_by_run 7 ends u r)) → ⊥)

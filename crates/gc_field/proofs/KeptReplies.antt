@@ -1,5 +1,6 @@
--- What an instrument's kept reply is to: the last request that it was handed and knows (`table`), or a later one. And what it
--- means that a line is vouched for: it was made for its request, as that request's call was executed. The id of request n is n
+-- What an instrument's retained reply is to: the last request that it was handed and knows (`table`), or a later one. And what
+-- it means that a line is vouched for: it was made for its request, as that request's call was executed. The id of request n is
+-- n
 -- - `since`, modulo 8.
 use Rattle.std.proofs.Common.{◌≡◌, ℕ, ◌+◌, ◌-◌, ◌%◌, ◌<◌, ◌≤◌, ◌⊎◌, inl, inr, Bool, true, false, List, [], ◌∷◌, ◌++◌, Option, Some, None, refl, sym, ap, subst, arith}
 use Rattle.std.specs.Prelude.{slice_get}
@@ -25,7 +26,8 @@ rising_tail low n (x ∷ xs) ys h = let r = rising_tail (x + 1) n xs ys h.1 in (
 
 -- What is kept.
 
--- the kept reply `k` is to request `number`, which is `table` or a later one, but before `top`: it has that request's id, and the property P
+-- the retained reply `k` is to request `number`, which is `table` or a later one, but before `top`: it has that request's id,
+-- and the property P
 pub record IsKept (P : ℕ → List ℕ → Type 0) (since top table : ℕ) (k : KeptReply) : Type 0 where
   pub number : ℕ
   pub recent : since ≤ number
@@ -34,7 +36,7 @@ pub record IsKept (P : ℕ → List ℕ → Type 0) (since top table : ℕ) (k :
   pub id : k.id ≡ (number - since) % 8
   pub line : P number k.line
 
--- if anything is kept, `IsKept` holds of it
+-- if anything is retained, `IsKept` holds of it
 abbrev pub KeptIs : (ℕ → List ℕ → Type 0) → ℕ → ℕ → ℕ → Option KeptReply → Type 0
 KeptIs P since top table None = Unit {0}
 KeptIs P since top table (Some k) = IsKept P since top table k
@@ -45,11 +47,11 @@ pub kept_more : (P Q : ℕ → List ℕ → Type 0) → ((n : ℕ) (line : List 
 kept_more P Q f since top table None h = tt
 kept_more P Q f since top table (Some k) h = record { number = h.number; recent = h.recent; before = h.before; behind = h.behind; id = h.id; line = f h.number k.line h.line }
 
--- if nothing is kept, `KeptIs` holds
+-- if nothing is retained, `KeptIs` holds
 pub kept_none : (P : ℕ → List ℕ → Type 0) (since top table : ℕ) (k : Option KeptReply) → k ≡ None → KeptIs P since top table k
 kept_none P since top table k e = subst (λ k. KeptIs P since top table k) (sym e) tt
 
--- if nothing is kept, or this line with the id of request n, `KeptIs` holds
+-- if nothing is retained, or this line with the id of request n, `KeptIs` holds
 pub kept_one : (P : ℕ → List ℕ → Type 0) (since top table n id : ℕ) (line : List ℕ) (k : Option KeptReply) → since ≤ n → n < top → table ≤ n → id ≡ (n - since) % 8
     → P n line → (k ≡ None) ⊎ (k ≡ Some (record { id = id; line = line })) → KeptIs P since top table k
 kept_one P since top table n id line k recent before behind own p (inl none) = kept_none P since top table k none
@@ -92,8 +94,8 @@ pub newest_dealt : (knows : Asked → Bool) (sent : List Sent) (known : Bool) (n
 newest_dealt knows sent true n table f = inl (omega arith)
 newest_dealt knows sent false n table f = inr (f refl)
 
--- what is kept after request n was handed is its own line, or nothing; or, if it isn't known, what was kept: so `KeptIs` holds
--- then
+-- what is retained after request n was handed is its own line, or nothing; or, if it isn't known, what was kept: so `KeptIs`
+-- holds then
 pub kept_handed : (P Q : ℕ → List ℕ → Type 0) → ((n : ℕ) (line : List ℕ) → P n line → Q n line) → (since top table n id : ℕ) (known : Bool) (line : List ℕ) (k after : Option KeptReply)
     → since ≤ n → top ≤ n + 1 → table ≤ n → id ≡ (n - since) % 8 → Q n line
     → ((after ≡ None) ⊎ (after ≡ Some (record { id = id; line = line }))) ⊎ ((known ≡ false) × (after ≡ k)) → KeptIs P since top table k

@@ -1,4 +1,5 @@
--- Each act of a run means what its part says: turns while the station synchronizes, steps of the client once it has begun.
+-- Each act of a run means what its part says: turns while the station synchronizes, steps of the client once it has
+-- synchronized.
 use Rattle.std.proofs.Common.{◌≡◌, ◌⊎◌, inl, inr, ℕ, Bool, true, false, if◌then◌else◌, List, [], ◌∷◌, map, refl, sym, ◌∙◌, ap, subst}
 use Rattle.gc_catalogue.specs.declared.asked.Asked.{Asked}
 use Rattle.gc_client.specs.Rule.{ById}

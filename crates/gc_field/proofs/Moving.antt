@@ -108,8 +108,8 @@ pub record IsOwn {State : Type 0} (ends : Ends State) (Good : State → Type 0) 
   pub answered : (line : List ℕ) → s.outcome ≡ Answered line → IsVouched ends Good M w.sent w.executed w.made m line
   pub late : s.outcome ≡ Late → (line : List ℕ) × IsVouched ends Good M w.sent w.executed w.made m line
 
--- each settlement that isn't excepted (`E`) is its own, and between two starts each request is executed at most once to which the instrument keeps
--- its reply
+-- each settlement that isn't excepted (`E`) is its own, and between two starts each request is executed at most once to which
+-- the instrument retains its reply
 pub record IsVouchedFor {State : Type 0} (ends : Ends State) (Good : State → Type 0) (kept : State → Option KeptReply) (E : ℕ → Type 0) (M : ℕ → Asked → List ℕ → Type 0)
     (w : Wire State) : Type 0 where
   pub own : (m : ℕ) (s : Settlement Asked) → (E m → ⊥) → slice_get w.settled m ≡ Some s → IsOwn ends Good M w m s
@@ -234,7 +234,7 @@ module _ {State : Type 0} (width : ℕ) (narrow : width ≤ 7) (knows : Asked �
   each_all P f [] = tt
   each_all P f (x ∷ xs) = (f x, each_all P f xs)
 
-  -- the first request reaches it: from then on what is kept has the id of the last request that it was handed
+  -- the first request reaches it: from then on what is retained has the id of the last request that it was handed
   module _ (b : World (ByNumber Asked) State) (out : Bool) (s : Sound width ends Good b) (f : IsFresh b out) where
     -- once the first request reached the instrument, the world is `Trusted`
     fresh_reached : (x : Numbered Request) (rest : List (Numbered Request)) → b.wire.up ≡ x ∷ rest → Trusts (on_wire b (replied b.wire x.number rest (ends.handed b.wire.state x.line.id x.line.call)))
@@ -278,7 +278,7 @@ module _ {State : Type 0} (width : ℕ) (narrow : width ≤ 7) (knows : Asked �
         below_two true l = l
         below_two false l = omega (arith, l)
 
-        -- after a request that is known its reply is kept, or nothing
+        -- after a request that is known its reply is retained, or nothing
         own_kept : knows x.line.call ≡ true
             → KeepsItsOwn ends Good kept b.wire.state x.line.id x.line.call
             ⊎ ((knows x.line.call ≡ false) × (kept (ends.handed b.wire.state x.line.id x.line.call).state ≡ kept b.wire.state))
@@ -286,7 +286,7 @@ module _ {State : Type 0} (width : ℕ) (narrow : width ≤ 7) (knows : Asked �
         own_kept known (inl own) = own
         own_kept known (inr third) = absurd (true_is_not (sym known ∙ third.0))
 
-        -- the first request is kept, if the instrument keeps its reply to it
+        -- the first request is kept, if the instrument retains its reply to it
         held : (keeps : Asked → Bool) → KeepsItsReply ends Good kept keeps → (t : Bool) → keeps x.line.call ≡ t → IsOf written b.wire.sent x → x.line.id ≡ (0 - b.client.since) % 8
             → IsUnknown keeps b.wire.sent x.number
             ⊎ ((kept (ends.handed b.wire.state x.line.id x.line.call).state ≡ Some (record { id = x.line.id; line = (ends.handed b.wire.state x.line.id x.line.call).reply }))

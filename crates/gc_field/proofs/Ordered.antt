@@ -1,5 +1,5 @@
--- What is sent after an answer is executed after the request that was answered. A *stretch* is a run once it has begun: what is
--- in flight then, and its moves.
+-- What is sent after an answer is executed after the request that was answered. A *stretch* is a run once it has synchronized:
+-- what is in flight then, and its moves.
 use Rattle.std.proofs.Common.{◌≡◌, ◌⊎◌, inl, inr, ℕ, zero, suc, ◌+◌, ◌<◌, ◌≤◌, List, [], ◌∷◌, ◌++◌, length, Option, Some, refl, sym, ◌∙◌, ap, subst, arith, append_assoc, Bool, true, false, ltb}
 use Rattle.std.proofs.lemmas.Bool.{ltb-true, ltb-false}
 use Rattle.std.specs.Prelude.{slice_get}

@@ -50,7 +50,7 @@ use Rattle.gc_field.proofs.Once.{true_is_not}
 
 -- What executing a call makes of the simulator.
 
--- what a request makes of the simulator doesn't depend on the reply that is kept
+-- what a request makes of the simulator doesn't depend on the reply that is retained
 exec_bare : (s : State) (asked : Asked) → behind_call (bare s) asked ≡ bare (behind_call s asked)
 exec_bare s (Table c) = ap (λ (x : Executed). x.state) (executes_apart s None c)
 exec_bare s (Raw raw) = refl

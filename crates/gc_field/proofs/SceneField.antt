@@ -46,7 +46,7 @@ kept_own (Some k) id line e = chosen (eqb k.id id) refl e where
   chosen true t e = ap (λ i. Some (record { id = i; line = k.line })) (eqb-true k.id id t) ∙ ap (λ l. Some (record { id = id; line = l })) (some_is k.line line e)
   chosen false t e = let wrong : ⊥ = cc in absurd wrong
 
--- what is sent again is what is kept
+-- what is sent again is what is retained
 again_kept : (b : Bool) (k : Option KeptReply) (id : ℕ) (line : List ℕ) → cond b (kept_line k (Some id)) None ≡ Some line → k ≡ Some (record { id = id; line = line })
 again_kept true k id line e = kept_own k id line e
 again_kept false k id line e = let wrong : ⊥ = cc in absurd wrong
@@ -62,13 +62,13 @@ record Does (s : SceneState) (id : ℕ) (known : Bool) (h : Handed SceneState) :
 line_heard : (id : ℕ) (p : Played) → id < 8 → p.rc < 65536 → heard (line_of id p) ≡ Some id
 line_heard id p small code = ap id_in (reply_back (record { rc_com = 0; id = Some id; rc = p.rc; params = p.params }) (record { rc_com = lit< tt; id = small; rc = code }))
 
--- what is kept after a request: its own reply, or nothing
+-- what is retained after a request: its own reply, or nothing
 own_or_none : (b : Bool) (id : ℕ) (line : List ℕ) (k : Option KeptReply)
     → (cond b (kept_after k (Some id) line) None ≡ None) ⊎ (cond b (kept_after k (Some id) line) None ≡ Some (record { id = id; line = line }))
 own_or_none true id line k = inr refl
 own_or_none false id line k = inl refl
 
--- what is kept after a request is heard
+-- what is retained after a request is heard
 kept_heard : (b : Bool) (id : ℕ) (line : List ℕ) (k : Option KeptReply) → heard line ≡ Some id → IsHeard (cond b (kept_after k (Some id) line) None)
 kept_heard true id line k h = h
 kept_heard false id line k h = tt

@@ -1,10 +1,10 @@
 -- Each line that comes was made for its request as its call was executed, whatever is repeated or lost, and however often the
 -- instrument starts again. Requests that `E` names are excepted. M n call line stands for any property that the reply to each
 -- request has that is executed. The client is the one that is given the number of each reply's request: `count` of its requests
--- are settled, and the id of request n is n - `since`, modulo 8. After a request that `knows` names the instrument keeps its
--- own reply to that, or nothing; after another one it may keep what it kept: so what it keeps is a reply to `table`, the last
--- such request that it was handed, or to a later request. `AllVouched` is the invariant of a world: each reply in flight, the kept
--- reply and each answer was made so.
+-- are settled, and the id of request n is n - `since`, modulo 8. After a request that `knows` names the instrument retains its
+-- own reply to that, or nothing; after another one it may retain what it retained: so what it retains is a reply to `table`,
+-- the last such request that it was handed, or to a later request. `AllVouched` is the invariant of a world: each reply in
+-- flight, the retained reply and each answer was made so.
 use Rattle.std.proofs.Common.{◌≡◌, ℕ, ◌+◌, ◌-◌, ◌%◌, ◌<◌, ◌≤◌, ◌⊎◌, inl, inr, Bool, true, false, List, [], ◌∷◌, ◌++◌, length, drop, Option, Some, None, refl, sym, ◌∙◌, ap, subst, arith, ltb, eqb}
 use Rattle.std.proofs.lemmas.List.{length_push}
 use Rattle.std.proofs.lemmas.Bool.{ltb-false}
@@ -63,8 +63,8 @@ module _ {State : Type 0} (width : ℕ) (narrow : width ≤ 7) (knows : Asked �
   abbrev pub IsNear : List Sent → ℕ → ℕ → Type 0
   IsNear sent top table = (Plain × (top ≤ table + 1) × Each (λ (r : Sent). knows r.call ≡ true) sent) ⊎ ((n : ℕ) → E n ⊎ (n ≤ table + 7))
 
-  -- the invariant, over the fields of a world: each reply in flight, the kept reply `k`, and each answer is vouched for;
-  -- executions are in order, and each request acts once to which the instrument keeps its reply
+  -- the invariant, over the fields of a world: each reply in flight, the retained reply `k`, and each answer is vouched for;
+  -- executions are in order, and each request acts once to which the instrument retains its reply
   pub record AllVouchedIn (since count : ℕ) (sent : List Sent) (executed starts : List ℕ) (made : List (Numbered (List ℕ))) (settled : List (Settlement Asked))
       (up : List (Numbered Request)) (down : List (Numbered (List ℕ))) (k : Option KeptReply) : Type 0 where
     -- the number of the last request that the instrument was handed is one less than this
@@ -136,7 +136,7 @@ module _ {State : Type 0} (width : ℕ) (narrow : width ≤ 7) (knows : Asked �
   -- A request that reaches the instrument.
 
   -- where request n is excepted, or at most seven after the newest known one, and has the id of the request whose reply is
-  -- kept, it is excepted or it is that request
+  -- retained, it is excepted or it is that request
   near_same : (since top table n : ℕ) (k : KeptReply) (P : ℕ → List ℕ → Type 0) → IsKept P since top table k → since ≤ n → top ≤ n + 1 → k.id ≡ (n - since) % 8
       → E n ⊎ (n ≤ table + 7) → E n ⊎ P n k.line
   near_same since top table n k P held recent le same (inl e) = inl e
@@ -252,12 +252,12 @@ module _ {State : Type 0} (width : ℕ) (narrow : width ≤ 7) (knows : Asked �
         | inr p ↦ (vouched_on v.sent v.executed v.executed v.made (m ∷ []) h.table h.table x.number line (λ i has. has) (omega arith) p).1
       ]
 
-  -- what the instrument keeps after the front request
+  -- what the instrument retains after the front request
   abbrev AfterIs : World (ByNumber Asked) State → Numbered Request → Handed State → Bool → Type 0
   AfterIs w x hd known =
       ((kept hd.state ≡ None) ⊎ (kept hd.state ≡ Some (record { id = x.line.id; line = hd.reply }))) ⊎ ((known ≡ false) × (kept hd.state ≡ kept w.wire.state))
 
-  -- if the instrument keeps its reply to a request that it knows, it keeps that to the front request, or doesn't know that
+  -- if the instrument retains its reply to a request that it knows, it retains that to the front request, or doesn't know that
   held_by : (w : World (ByNumber Asked) State) (x : Numbered Request) (hd : Handed State) (keeps : Asked → Bool) (b : Bool) → keeps x.line.call ≡ b → KeepsItsReply ends Good kept keeps
       → ends.handed w.wire.state x.line.id x.line.call ≡ hd → Good w.wire.state → (since : ℕ) → x.line.id ≡ (x.number - since) % 8 → IsOf written w.wire.sent x
       → IsUnknown keeps w.wire.sent x.number ⊎ ((kept hd.state ≡ Some (record { id = x.line.id; line = hd.reply })) × (x.line.id ≡ (x.number + 1 - 1 - since) % 8))
@@ -269,7 +269,7 @@ module _ {State : Type 0} (width : ℕ) (narrow : width ≤ 7) (knows : Asked �
       )
   held_by w x hd keeps false e is handed good since own o = inl (o.request, o.found, ap keeps o.call ∙ e)
 
-  -- `AllVouched` is preserved if the front request isn't executed, and the kept line is sent again for it
+  -- `AllVouched` is preserved if the front request isn't executed, and the retained line is sent again for it
   true_again : (w : World (ByNumber Asked) State) (x : Numbered Request) (rest : List (Numbered Request)) (hd : Handed State) (known : Bool) → w.wire.up ≡ x ∷ rest
       → ends.handed w.wire.state x.line.id x.line.call ≡ hd → knows x.line.call ≡ known → kept w.wire.state ≡ Some (record { id = x.line.id; line = hd.reply }) → AfterIs w x hd known
       → Sound width ends Good w → AllVouched w → AllVouched (on_wire w (replied w.wire x.number rest (record hd { executed = false })))
@@ -283,8 +283,8 @@ module _ {State : Type 0} (width : ℕ) (narrow : width ≤ 7) (knows : Asked �
       (record { id = x.line.id; line = hd.reply }) front.top
       (held_by w x hd keeps (keeps x.line.call) refl k is s.good c.since front.id front.of) (h.once keeps k))
 
-  -- if the front request is executed, it isn't one to which the instrument keeps its reply; or nothing was executed since the
-  -- last start, or it is later than all that were handed before, and its reply is kept
+  -- if the front request is executed, it isn't one to which the instrument retains its reply; or nothing was executed since the
+  -- last start, or it is later than all that were handed before, and its reply is retained
   acted_by : (w : World (ByNumber Asked) State) (x : Numbered Request) (hd : Handed State) (known : Bool) (keeps : Asked → Bool) (b : Bool) → keeps x.line.call ≡ b
       → KeepsItsReply ends Good kept keeps → ends.handed w.wire.state x.line.id x.line.call ≡ hd → hd.executed ≡ true → Good w.wire.state → (h : AllVouched w) → IsFront w h x known
       → IsUnknown keeps w.wire.sent x.number

@@ -1,5 +1,5 @@
--- What the acts of a link are to a station while it begins, this project's own: turns. A turn is a null procedure that is sent,
--- or a line that is heard. The word is the list of the ids of the null procedures that aren't answered.
+-- What the acts of a link are to a station while it synchronizes, this project's own: turns. A turn is a null procedure that is
+-- sent, or a line that is heard. The word is the list of the ids of the null procedures that aren't answered.
 use Rattle.std.specs.Prelude.{◌≡◌, ◌⊎◌, ℕ, List, [], ◌∷◌, map}
 use Rattle.gc_lines.specs.Frames.{rest_behind}
 use Rattle.gc_links.specs.Acts.{Act, Put, Cut, Gave, Closed}

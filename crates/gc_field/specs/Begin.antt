@@ -27,8 +27,8 @@ pub record UnderWay (State : Type 0) : Type 0 where
 abbrev pub none_under_way : {State : Type 0} → State → UnderWay State
 none_under_way state = record { up = []; down = []; state = state }
 
--- the ids in flight, in order: of the replies, then of the requests. The reply that the instrument keeps doesn't count, because
--- it is sent only for a request; nor does a line without an id
+-- the ids in flight, in order: of the replies, then of the requests. The reply that the instrument retains doesn't count,
+-- because it is sent only for a request; nor does a line without an id
 abbrev pub ids_under_way : {State : Type 0} → UnderWay State → List ℕ
 ids_under_way u = filter_map heard u.down ++ map (λ x. x.id) u.up
 

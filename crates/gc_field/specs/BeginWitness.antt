@@ -55,7 +55,7 @@ next =
           ∷ [];
     }
 
--- what the second run had in flight once it had begun
+-- what the second run had in flight once it had synchronized
 abbrev pub clean : UnderWay State
 clean = leaves (turned ends next.turns (begins (left_by_run WINDOW ends before killed)))
 

@@ -151,7 +151,7 @@ runs = run ∷ record { turns = turns; moves = moves_anew } ∷ record { turns =
 abbrev pub left : UnderWay Counter
 left = left_by_run WINDOW counting before run
 
--- what is in flight if the run has begun again
+-- what is in flight if the run has synchronized again
 abbrev pub from : UnderWay Counter
 from = leaves (turned counting turns (begins left))
 

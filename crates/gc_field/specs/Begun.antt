@@ -30,20 +30,20 @@ use Rattle.gc_catalogue.specs.Asked.{is_of_table}
 abbrev pub eighth : Request
 eighth = record { id = 7; call = Table NullProc }
 
--- what the instrument keeps in this state, if it keeps anything, has the id of the eighth null procedure
+-- what the instrument retains in this state, if it retains anything, has the id of the eighth null procedure
 abbrev pub IsOfEighth : {State : Type 0} → (State → Option KeptReply) → State → Type 0
 IsOfEighth kept state = (k : KeptReply) → kept state ≡ Some k → k.id ≡ 7
 
--- a synchronization has begun cleanly: in flight are copies of its eighth null procedure, and replies to it; and what the
--- instrument keeps, if it keeps anything, has its id. No request from before is among them, nor a reply to one, and none of the
--- other null procedures
+-- a synchronization ended cleanly: in flight are copies of its eighth null procedure, and replies to it; and what
+-- the instrument retains, if it retains anything, has its id. No request from before is among them, nor a reply to one, and
+-- none of the other null procedures
 pub record HasBegunCleanly {State : Type 0} (kept : State → Option KeptReply) (s : Model State) : Type 0 where
   pub up : Each (λ x. (x.old ≡ false) × (x.line ≡ eighth)) s.up
   pub down : Each (λ x. (x.old ≡ false) × (heard x.line ≡ Some 7)) s.down
   pub keeps : IsOfEighth kept s.state
 
 -- for any instrument: unless the word is a subsequence of the ids in flight when a synchronization begins, whatever is in
--- flight then, and whatever happens, once it has begun, it has begun cleanly
+-- flight then, and whatever happens, once it has synchronized, it has synchronized cleanly
 abbrev pub BeginsCleanly : Type 0 → Type 0
 BeginsCleanly State =
     (ends : Ends State) (kept : State → Option KeptReply) → IsAnInstrument ends AnyState kept →
@@ -52,8 +52,8 @@ BeginsCleanly State =
 
 -- The client after a synchronization.
 
--- what a synchronization leaves once it has begun cleanly: the instrument in a good state, copies of the eighth null procedure,
--- replies to it, and a kept reply with its id, or none
+-- what a synchronization leaves once it has synchronized cleanly: the instrument in a good state, copies of the eighth null
+-- procedure, replies to it, and a retained reply with its id, or none
 pub record IsClean {State : Type 0} (Good : State → Type 0) (kept : State → Option KeptReply) (u : UnderWay State) : Type 0 where
   pub good : Good u.state
   pub up : Each (λ x. x ≡ eighth) u.up
@@ -180,7 +180,7 @@ module _ {State : Type 0} (width : ℕ) (ends : Ends State) (u : UnderWay State)
     pub late :
         (m : ℕ) (s : Settlement Asked) → 8 ≤ m → IsSafe Good kept ms m → slice_get (behind ms).wire.settled m ≡ Some s → s.outcome ≡ Late
         → (line : List ℕ) × WasMadeOn ms m s.call line
-    -- acts once: if the instrument keeps its reply to each request that it knows, between two of its starts each of these is
+    -- acts once: if the instrument retains its reply to each request that it knows, between two of its starts each of these is
     -- executed at most once
     pub once : (knows : Asked → Bool) → KeepsItsReply ends Good kept knows → ActsOnce knows (behind ms).wire.sent (behind ms).wire.executed (behind ms).wire.starts
     -- agreement: all is as with a client that is given the number of each reply's request
@@ -199,7 +199,7 @@ AnswersAreTheirOwnOnceBegun State =
     (width : ℕ) → width ≤ WINDOW → (u : UnderWay State) → IsClean AnyState kept u →
     (ms : List (Move State)) → ArePossible ends AnyState kept (by_ids width ends) ms (ids_begun u) → IsFaithful width ends u ms AnyState kept
 
--- `AnswersAreTheirOwnOnceBegun` for the simulated instrument: its `ends` and its kept reply, in any state that fits
+-- `AnswersAreTheirOwnOnceBegun` for the simulated instrument: its `ends` and its retained reply, in any state that fits
 abbrev pub SimulatorsAnswersAreTheirOwnOnceBegun : Type 0
 SimulatorsAnswersAreTheirOwnOnceBegun =
     (width : ℕ) → width ≤ WINDOW → (u : UnderWay State) → IsClean IsFittingState kept_of u →

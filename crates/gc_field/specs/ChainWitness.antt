@@ -129,7 +129,7 @@ records_with a b c =
 abbrev pub acts : List Act
 acts = acts_with replies first second third
 
--- what the line does meanwhile, once the run has begun
+-- what the line does meanwhile, once the run has synchronized
 abbrev pub moves : List (Move State)
 moves = moves_with first second third
 
@@ -145,9 +145,9 @@ stretch = record { from = leaves (turned ends eight (begins before)); moves = mo
 abbrev pub runs : List (Run State)
 runs = record { turns = eight; moves = moves } ∷ record { turns = []; moves = [] } ∷ []
 
--- this is a run in the field that wrote all three answers down; the third command is of the first one's chain, no command
--- between the two turns the telescope, and nothing disturbs the instrument. So when the third is executed, after both others,
--- the telescope points if the first pointed it
+-- this is a run in the field that recorded all three answers; the third command is of the first one's chain, no command between
+-- the two turns the telescope, and nothing disturbs the instrument. So when the third is executed, after both others, the
+-- telescope points if the first pointed it
 pub record IsPointedInField : Type 0 where
   pub field : IsInField ends IsFittingState kept_of plan commands scope acts before runs
   pub records : (state_after plan commands scope acts).records ≡ records_with first second third

@@ -1,7 +1,7 @@
 -- Chains in the field, this project's own: what the instrument had executed when it executed a command of a chain. Each earlier
 -- command of the chain had been executed before, with the reply that was booked for it; between the two only what was sent
 -- between them was executed; and the instrument's state was what these executions had made of it. A part is what a station sees
--- of its run from one synchronization to the next, and a stretch what happens on the line meanwhile, once it has begun.
+-- of its run from one synchronization to the next, and a stretch what happens on the line meanwhile, once it has synchronized.
 use Rattle.std.specs.Prelude.{◌≡◌, ℕ, Bool, ◌+◌, ◌<◌, ◌≤◌, true, false, List, [], ◌∷◌, ◌++◌, Option, Some, slice_get}
 use Rattle.std.specs.List.{AllByRecursion}
 use Rattle.gc_catalogue.specs.declared.answer.Answer.{Answer}
@@ -74,8 +74,8 @@ executing effect s [] = s
 executing effect s (call ∷ calls) = executing effect (effect s call) calls
 
 -- executing a call changes an instrument's state by `effect`, whatever id the request has, and a reply that is sent again
--- changes nothing. Both are said of the state without what the instrument keeps, which `apart` gives; and by `alike` the effect
--- doesn't depend on what is kept
+-- changes nothing. Both are said of the state without what the instrument retains, which `apart` gives; and by `alike` the
+-- effect doesn't depend on what is retained
 pub record HasEffect {State : Type 0} (ends : Ends State) (apart : State → State) (effect : State → Asked → State) : Type 0 where
   pub executes : (state : State) (id : ℕ) (call : Asked) → (ends.handed state id call).executed ≡ true → apart (ends.handed state id call).state ≡ apart (effect state call)
   pub repeats : (state : State) (id : ℕ) (call : Asked) → (ends.handed state id call).executed ≡ false → apart (ends.handed state id call).state ≡ apart state
@@ -100,8 +100,8 @@ module _ {State : Type 0} (ends : Ends State) (Good : State → Type 0) (kept : 
     pub executed : (behind ends s second.front).executed ≡ (behind ends s first.front).executed ++ m ∷ numbers
     pub in_order : IsInOrder numbers
     pub within : Each (λ x. (m ≤ x) × (x ≤ n)) numbers
-    -- if the instrument keeps its reply to each request that it knows, and didn't start between, each of these was sent after m
-    -- and before n
+    -- if the instrument retains its reply to each request that it knows, and didn't start between, each of these was sent after
+    -- m and before n
     pub strictly :
         (knows : Asked → Bool) → KeepsItsReply ends Good kept knows → HasNoStartBetween between →
         Each (λ x. (r : Sent) → slice_get (behind ends s s.moves).sent x ≡ Some r → knows r.call ≡ true → (m < x) × (x < n)) numbers

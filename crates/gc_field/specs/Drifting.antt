@@ -1,4 +1,4 @@
--- A run over an instrument that isn't the simulator, this project's own: it keeps no reply, and what it measures changes by
+-- A run over an instrument that isn't the simulator, this project's own: it retains no reply, and what it measures changes by
 -- itself. Its second command asks for a procedure that isn't in the table. The first null procedure is sent again, and the
 -- synchronization goes on over another connection; a reply is lost, and its request timed out; the instrument starts again, and
 -- its connection is made again.
@@ -141,7 +141,7 @@ moves raw =
 abbrev pub runs : RawCall → List (Run ℕ)
 runs raw = record { turns = turns; moves = moves raw } ∷ record { turns = []; moves = [] } ∷ []
 
--- `drifting` is an instrument, and this is a run in the field, after which no act follows. The run wrote the first command down
+-- `drifting` is an instrument, and this is a run in the field, after which no act follows. The run recorded the first command
 -- as lost, and the second one's answer, which was made on executing the second command's request
 pub record IsAnsweredByDrifting (raw : RawCall) : Type 0 where
   pub is : IsAnInstrument drifting AnyState nothing

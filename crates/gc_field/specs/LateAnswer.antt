@@ -1,4 +1,4 @@
--- Some run in the field writes a late record down, this project's own: a command has timed out, and its reply comes after that.
+-- Some run in the field has a late record, this project's own: a command has timed out, and its reply comes after that.
 use Rattle.std.specs.Prelude.{◌≡◌, ℕ, true, false, List, [], ◌∷◌, codes, pos, Some, None}
 use Rattle.gc_lines.specs.Lines.{with_end}
 use Rattle.gc_catalogue.specs.declared.answer.Answer.TheVariants.{Long}
@@ -81,12 +81,12 @@ runs = record { turns = eight; moves = moves } ∷ record { turns = []; moves = 
 abbrev pub before : UnderWay State
 before = none_under_way simulator_opening
 
--- what is in flight once the run has begun
+-- what is in flight once the run has synchronized
 abbrev pub from : UnderWay State
 from = leaves (turned ends eight (begins before))
 
--- this is a run in the field, after which no act follows. It wrote the first command down as late, and the second one's
--- answer; and each of these lines was made on executing its own request
+-- this is a run in the field, after which no act follows. It recorded the first command as late, and the second one's answer;
+-- and each of these lines was made on executing its own request
 pub record IsLateInField : Type 0 where
   pub field : IsInField ends IsFittingState kept_of plan commands scope acts before runs
   pub over : is_over (state_after plan commands scope acts).progress ≡ true

@@ -46,8 +46,8 @@ module _ {State : Type 0} (width : ℕ) (ends : Ends State) (state : State) (ms 
     -- m has the target and the call of request m
     pub accounted : map of_settled left.wire.settled ++ map of_pending left.client.waiting ≡ map asked left.wire.sent
     pub one_for_one : IsOneForOne left.wire.sent left.wire.settled
-    -- its own: an answer at place m is among the lines that the instrument made for request m, and is its reply to that very call; but for
-    -- the first request, which an instrument that kept an older reply with its id may have answered with that
+    -- its own: an answer at place m is among the lines that the instrument made for request m, and is its reply to that very
+    -- call; but for the first request, which an instrument that retained an older reply with its id may have answered with that
     pub booked :
         (m : ℕ) (s : Settlement Asked) → 0 < m → slice_get left.wire.settled m ≡ Some s → IsBooked ends Good left.wire.made m s
     -- and the instrument executed request m at one of these moves, not before the client began
@@ -62,7 +62,7 @@ module _ {State : Type 0} (width : ℕ) (ends : Ends State) (state : State) (ms 
     -- late: the instrument dealt with the request, though its reply came too late
     pub late :
         (m : ℕ) (s : Settlement Asked) → 0 < m → slice_get left.wire.settled m ≡ Some s → s.outcome ≡ Late → (line : List ℕ) × WasMadeOn width ends state ms m s.call line
-    -- acts once: if the instrument keeps its reply to each request that it knows, between two of its starts each of these is
+    -- acts once: if the instrument retains its reply to each request that it knows, between two of its starts each of these is
     -- executed at most once
     pub once : (knows : Asked → Bool) → KeepsItsReply ends Good kept knows → ActsOnce knows left.wire.sent left.wire.executed left.wire.starts
     -- agreement: all is as with a client that is given the number of each reply's request
@@ -79,12 +79,12 @@ AnswersAreTheirOwn State =
     (ends : Ends State) (kept : State → Option KeptReply) → IsAnInstrument ends AnyState kept →
     (width : ℕ) → width ≤ WINDOW → (state : State) (ms : List (Move State)) → IsField width ends AnyState kept state ms → IsFaithful width ends state ms AnyState kept
 
--- the reply that the simulator keeps
+-- the reply that the simulator retains
 abbrev pub kept_of : State → Option KeptReply
 kept_of s = s.kept
 
--- the simulator is an instrument, in any state that fits, and one that keeps its reply to each call of its table. It refuses other requests,
--- and its refusals leave what it keeps
+-- the simulator is an instrument, in any state that fits, and one that retains its reply to each call of its table. It refuses
+-- other requests, and its refusals leave what it retains
 pub record SimulatorIsAnInstrument : Type 0 where
   pub is : IsAnInstrument ends IsFittingState kept_of
   pub keeps : KeepsItsReply ends IsFittingState kept_of is_of_table

@@ -1,5 +1,5 @@
 -- What the acts of a link are to a station's client, this project's own. Nothing is said of when a station sends: only that it
--- keeps the client's rule, with the window of seven, and hears each line that comes or discards what came. Connections may be
+-- retains the client's rule, with the window of seven, and hears each line that comes or discards what came. Connections may be
 -- closed and made at any time, and that is nothing to the client.
 use Rattle.std.specs.Prelude.{◌≡◌, ◌⊎◌, ℕ, List, [], ◌∷◌, ◌++◌, map, Some}
 use Rattle.gc_lines.specs.Frames.{rest_behind}

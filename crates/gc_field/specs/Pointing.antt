@@ -1,6 +1,6 @@
--- Where the telescope pointed when a command of a chain was executed, of the simulated instrument: this project's own. A part is
--- what a station sees of its run from one synchronization to the next, and a stretch what happens on the line meanwhile, once
--- it has begun.
+-- Where the telescope pointed when a command of a chain was executed, of the simulated instrument: this project's own. A part
+-- is what a station sees of its run from one synchronization to the next, and a stretch what happens on the line meanwhile,
+-- once it has synchronized.
 use Rattle.std.specs.Prelude.{◌≡◌, ℕ, ◌<◌, ◌≤◌, Bool, true, false, List, Some, None, slice_get}
 use Rattle.std.specs.List.{AllByRecursion}
 use Rattle.gc_values.specs.declared.decimal.Decimal.{Decimal}
@@ -34,7 +34,7 @@ abbrev pub behind_call : State → Asked → State
 behind_call s (Table call) = (exec s call).state
 behind_call s (Raw raw) = s
 
--- the simulator's state without the reply that it keeps
+-- the simulator's state without the reply that it retains
 abbrev pub bare : State → State
 bare s = with_kept None s
 
@@ -82,7 +82,7 @@ ChainsAreMeasuredWhereTheyPointed =
     (plan : Plan) (commands : List Task) (scope : Scope) (acts : List Act) (u : UnderWay State) (rs : List (Run State)) → IsInField ends IsFittingState kept_of plan commands scope acts u rs →
     AllByRecursion (IsPointedInChain plan commands scope acts u rs) (state_after plan commands scope acts).records
 
--- executing a call of the table makes of the simulator's state what the execution table says, apart from the reply that is kept; another
--- request changes nothing
+-- executing a call of the table makes of the simulator's state what the execution table says, apart from the reply that is
+-- retained; another request changes nothing
 abbrev pub SimulatorHasItsEffect : Type 0
 SimulatorHasItsEffect = HasEffect ends bare behind_call

@@ -1,7 +1,7 @@
 -- A station in the field, this project's own: its runs, the line over all of its connections, and an instrument. Each answer
 -- that it records was made on executing the very request of that cycle and place. A part is what the station sees of its run
--- from one synchronization to the next; a stretch is what happens on the line meanwhile, once it has begun. The word has the
--- ids of a synchronization's null procedures.
+-- from one synchronization to the next; a stretch is what happens on the line meanwhile, once it has synchronized. The word has
+-- the ids of a synchronization's null procedures.
 use Rattle.std.specs.Prelude.{◌≡◌, ℕ, ◌+◌, ◌<◌, ◌≤◌, Bool, true, false, ◌||◌, if◌then◌else◌, nat_le, List, [], ◌∷◌, ◌++◌, drop, length, map, Option, Some, slice_get}
 use Rattle.std.specs.List.{AllByRecursion}
 use Rattle.gc_catalogue.specs.declared.answer.Reading.{Reading}
@@ -102,9 +102,10 @@ AreMeant plan commands s (act ∷ acts) =
     IsMeant (has_begun s.progress) s act (acting plan commands s (action_at plan s) act) (after plan commands s act) × AreMeant plan commands (after plan commands s act) acts
 
 module _ {State : Type 0} (ends : Ends State) (Good : State → Type 0) (kept : State → Option KeptReply) where
-  -- a run of a station, and for each of its parts what happens on the line and to an instrument: first while it begins, then once it has
-  -- begun. Under way at its start may be anything, in which the word isn't a subsequence of the ids; and each part is over what the one before
-  -- it left. What these happenings show to the station and its client are the turns and steps of its acts
+  -- a run of a station, and for each of its parts what happens on the line and to an instrument: first while it synchronizes,
+  -- then once it has synchronized. In flight at its start may be anything in which the word isn't a subsequence of the ids; and
+  -- each part is over what the one before it left. What these happenings show to the station and its client are the turns and
+  -- steps of its acts
   pub record IsInField (plan : Plan) (commands : List Task) (scope : Scope) (acts : List Act) (u : UnderWay State) (rs : List (Run State)) : Type 0 where
     pub runs : Runs plan commands (opening plan scope) acts
     pub lines : AreLines Good u
@@ -170,7 +171,7 @@ module _ {State : Type 0} (ends : Ends State) (Good : State → Type 0) (kept : 
   pub record IsRunFaithful (plan : Plan) (commands : List Task) (scope : Scope) (acts : List Act) (u : UnderWay State) (rs : List (Run State)) : Type 0 where
     -- no command is sent before the eighth null procedure is answered: neither at first, nor if it resynchronizes
     pub begun : AreBegun the_word (parts_of plan commands (opening plan scope) acts)
-    -- and if it has begun, it has begun cleanly: no request from before is in flight, nor a reply to one
+    -- and if it has synchronized, it has synchronized cleanly: no request from before is in flight, nor a reply to one
     pub clean : AreOwn WINDOW ends Good kept u rs
     -- its own: the answer of each record was made on executing the request of that very cycle and place
     pub own : AllByRecursion (IsOwnAnswer commands (parts_of plan commands (opening plan scope) acts) (stretches ends u rs)) (state_after plan commands scope acts).records

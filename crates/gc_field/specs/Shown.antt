@@ -1,5 +1,5 @@
 -- What a line shows to a station, this project's own: the turns of its synchronization; and a stretch, what happens once it has
--- begun, over what the synchronization left in flight.
+-- synchronized, over what the synchronization left in flight.
 use Rattle.std.specs.Prelude.{◌≡◌, ℕ, List, [], ◌∷◌, ◌++◌}
 use Rattle.gc_client.specs.declared.window.TheConstants.{WINDOW}
 use Rattle.gc_station.specs.Parts as part
@@ -34,14 +34,14 @@ module _ {State : Type 0} where
   shown ends [] s = []
   shown ends (t ∷ ts) s = shows s t ++ shown ends ts (turns ends s t)
 
--- a run once it has begun: what is in flight then, and what happens from there on
+-- a run once it has synchronized: what is in flight then, and what happens from there on
 pub record Stretch (State : Type 0) : Type 0 where
   pub from : UnderWay State
   pub moves : List (Move State)
 
 module _ {State : Type 0} (ends : Ends State) where
-  -- the stretches of runs, each over what the run before it left. The stretch of a run that never began has no moves, if the
-  -- runs are possible
+  -- the stretches of runs, each over what the run before it left. The stretch of a run that never synchronized has no moves, if
+  -- the runs are possible
   abbrev pub stretches : UnderWay State → List (Run State) → List (Stretch State)
   stretches u [] = []
   stretches u (r ∷ rs) = record { from = leaves (turned ends r.turns (begins u)); moves = r.moves } ∷ stretches (left_by_run WINDOW ends u r) rs

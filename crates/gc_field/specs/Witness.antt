@@ -115,8 +115,8 @@ moves = Tells 15 ∷ Sends 7 (Table InstrumentNo) 115 ∷ Tells 15 ∷ OnLine Up
 abbrev pub runs : List (Run State)
 runs = record { turns = turns; moves = moves } ∷ record { turns = []; moves = [] } ∷ []
 
--- this is a run in the field, after which no act follows; it wrote the command's answer down, which was made on executing
--- the command's request
+-- this is a run in the field, after which no act follows; it recorded the command's answer, which was made on executing the
+-- command's request
 pub record IsAnsweredInField : Type 0 where
   pub field : IsInField ends IsFittingState kept_of plan commands scope acts before runs
   pub over : is_over (state_after plan commands scope acts).progress ≡ true

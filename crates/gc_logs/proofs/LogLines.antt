@@ -130,7 +130,7 @@ keeps way p (b ∷ bs) =
     ap (λ w. w ++ held) (flat_map-append (λ (e : Entry). wire_of e.mark e.bytes) es fs) ∙ append_assoc (wire es) (wire fs) held ∙ ap (λ w. wire es ++ w) (keeps way q bs)
     ∙ sym (append_assoc (wire es) q.bytes.items bs) ∙ ap (λ w. w ++ bs) (byte_wire way p b) ∙ append_assoc p.bytes.items (b ∷ []) bs
 
--- the law: of the bytes of one way nothing is lost, nothing is added, and nothing changes places
+-- the law: of the bytes of one direction nothing is lost, nothing is added, and nothing changes places
 pub keeps_all : LogKeepsAll
 keeps_all way p bytes = sym (keeps way p bytes)
 

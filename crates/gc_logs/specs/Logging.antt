@@ -1,5 +1,5 @@
--- What a log has of the bytes of one way, as they come and go: this project's own. Bytes that aren't written into a line of the
--- log yet are pending.
+-- What a log has of the bytes of one direction, as they are sent and received: this project's own. Bytes that aren't written
+-- into a line of the log yet are pending.
 use Rattle.std.specs.Prelude.{◌≡◌, ℕ, ◌-◌, ◌==◌, ◌&&◌, Bool, true, false, not, nat_lt, List, [], ◌∷◌, ◌++◌, length, take, Option, if◌then◌else◌, codes}
 use Rattle.std.specs.Io.KnownBytes.{Appends}
 use Rattle.std.specs.List.{flat_map}
@@ -97,12 +97,12 @@ wire_of mark.Link bytes = []
 abbrev pub wire : List Entry → List ℕ
 wire es = flat_map (λ (e : Entry). wire_of e.mark e.bytes) es
 
--- of the bytes of one way nothing is missing, nothing is added and nothing changes places: the bytes that were pending, and
--- after them the new ones, are those that the lines stand for, and after them those that are pending then
+-- of the bytes of one direction nothing is missing, nothing is added and nothing changes places: the bytes that were pending,
+-- and after them the new ones, are those that the lines stand for, and after them those that are pending then
 abbrev pub LogKeepsAll : Type 0
 LogKeepsAll = (way : Way) (p : Unwritten) (bytes : List ℕ) → p.bytes.items ++ bytes ≡ wire (entries way p bytes) ++ (pending_behind p bytes).bytes.items
 
--- what is seen of a log: what its sink took and whether it has failed, what is pending of each way, and the last moment
+-- what is seen of a log: what its sink took and whether it has failed, what is pending of each direction, and the last moment
 pub record LogSeen : Type 0 where
   pub taken : Option (List ℕ)
   pub failed : Bool
@@ -145,7 +145,7 @@ went_behind went (Cut bytes count) = pending_behind went (take count bytes)
 went_behind went Closed = nothing
 went_behind went _ = went
 
--- what is pending after an act of the bytes that came in, where `came` was pending before it: nothing after a close
+-- what is pending after an act of the received bytes, where `came` was pending before it: nothing after a close
 abbrev pub came_behind : Unwritten → Act → Unwritten
 came_behind came (Gave bytes m) = pending_behind came bytes
 came_behind came Closed = nothing

@@ -1,6 +1,6 @@
--- What is in a row of a table, or in an object, under each name: this project's own. Both are given by the function from a
--- name to the text under it, so that one definition serves both. A part is what a station sees of its run from one
--- synchronization to the next, and a stretch what happens on the line meanwhile, once it has begun.
+-- What is in a row of a table, or in an object, under each name: this project's own. Both are given by the function from a name
+-- to the text under it, so that one definition serves both. A part is what a station sees of its run from one synchronization
+-- to the next, and a stretch what happens on the line meanwhile, once it has synchronized.
 use Rattle.std.specs.Prelude.{◌≡◌, ◌⊎◌, ℕ, Bool, true, false, List, [], ◌∷◌, map, Some, nat_eq, if◌then◌else◌, slice_get, codes, Option}
 use Rattle.std.specs.Cmp.Lexicographic.{pointwise}
 use Rattle.std.specs.Fmt.{decimal}

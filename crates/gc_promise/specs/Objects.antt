@@ -1,6 +1,6 @@
 -- What a station wrote of a run in the field as lines of JSON, as they are read: this project's own. Texts are taken to be
 -- bytes, and numbers to have 64 bits, as those of the program do. A part is what a station sees of its run from one
--- synchronization to the next, and a stretch what happens on the line meanwhile, once it has begun.
+-- synchronization to the next, and a stretch what happens on the line meanwhile, once it has synchronized.
 use Rattle.std.specs.Prelude.{◌≡◌, ℕ, ◌<◌, ◌^◌, true, List, ◌∷◌, [], ◌++◌, length, All, Option, Some, Result, slice_get}
 use Rattle.std.specs.List.{AllByRecursion, flat_map}
 use Rattle.json.specs.Find.{get_member}

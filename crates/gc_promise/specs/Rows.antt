@@ -1,6 +1,6 @@
 -- The rows of a station in the field, this project's own: what is in the columns of a row of an answer was made by the
 -- instrument on executing the very request of that row's cycle and place. A part is what a station sees of its run from one
--- synchronization to the next, and a stretch what happens on the line meanwhile, once it has begun.
+-- synchronization to the next, and a stretch what happens on the line meanwhile, once it has synchronized.
 use Rattle.std.specs.Prelude.{◌≡◌, ℕ, Bool, List, [], ◌++◌, map, Option, Some, codes}
 use Rattle.std.specs.Fmt.{decimal}
 use Rattle.std.specs.List.{AllByRecursion}

@@ -1,7 +1,7 @@
 -- What a station wrote of a run in the field, as it is read: this project's own. The bytes are those that a sink took of a run,
 -- as the clauses of `measure_at` and `append_at` have it: what comes before the records, and their texts in order. A part is
 -- what a station sees of its run from one synchronization to the next, and a stretch what happens on the line meanwhile, once
--- it has begun.
+-- it has synchronized.
 use Rattle.std.specs.Prelude.{◌≡◌, ℕ, ◌-◌, ◌<◌, Bool, true, false, List, [], ◌∷◌, ◌++◌, length, take, Option, Some, Result, Err, if◌then◌else◌, slice_get}
 use Rattle.csv.specs.Reading.{default_config, records}
 use Rattle.gc_catalogue.specs.declared.answer.Reading.{Reading}

@@ -1,6 +1,6 @@
 -- Lines of JSON: a record as one object, whose members' names are this project's own. A string is printable ASCII: other bytes
--- stand as `\x` and two digits, and so does a backslash, as in a row; and then each backslash and each double quote comes after
--- a backslash.
+-- are written as `\x` and two digits, and so is a backslash, as in a row; and then each backslash and each double quote comes
+-- after a backslash.
 use Rattle.std.specs.Prelude.{ℕ, ◌+◌, ◌==◌, ◌||◌, Bool, true, false, List, [], ◌∷◌, ◌++◌, Option, Some, None, if◌then◌else◌, codes}
 use Rattle.std.specs.Fmt.{decimal}
 use Rattle.std.specs.List.{flat_map}
@@ -22,7 +22,7 @@ use Rattle.gc_texts.specs.Cuts.{before, behind}
 use Rattle.gc_rows.specs.Rows.{com_of, code_of, values_of, procedure_of}
 use Rattle.gc_texts.specs.Stamps.{stamp_text}
 
--- a byte of a string: a double quote and a backslash come after a backslash
+-- a byte of a string: a double quote or a backslash, after a backslash
 abbrev pub behind_backslash : ℕ → List ℕ
 behind_backslash b = if (b == 34) || (b == 92) then 92 ∷ b ∷ [] else b ∷ []
 

@@ -26,7 +26,7 @@ spaced_line None = []
 spaced_line (Some line) = codes " " ++ escaped line
 
 -- how a command ended, in words: the outcome, the number of its fault, and the line of its reply, if there are these. Its bytes
--- stand as in a row, so that no reply draws itself as another record
+-- are as in a row, so that no reply draws itself as another record
 abbrev pub ending_text : End → List ℕ
 ending_text end = codes " " ++ word_of end ++ spaced_fault (fault_of end) ++ spaced_line (line_of end)
 
@@ -59,8 +59,8 @@ head_text Json = []
 head_text Csv = row_of (names ++ last_names)
 head_text Columns = row_of (names ++ (quantity_names ++ last_names))
 
--- the bytes that a file of records begins with: what comes before all records, or, in a file of JSON, before which nothing
--- stands, the bytes that each line begins with
+-- the bytes that a file of records begins with: what comes before all records, or, in a file of JSON, which nothing precedes,
+-- the bytes that each line begins with
 abbrev pub sign_text : Form → List ℕ
 sign_text Json = codes "{\"run\":\""
 sign_text Lines = head_text Lines

@@ -1,5 +1,5 @@
--- Rows: a record as a row of comma-separated values. The columns are this project's own, and how a field is quoted is RFC 4180's. Each
--- field is printable ASCII: other bytes are written as `\x` and two digits, and so does a backslash.
+-- Rows: a record as a row of comma-separated values. The columns are this project's own, and how a field is quoted is RFC
+-- 4180's. Each field is printable ASCII: other bytes are written as `\x` and two digits, and so is a backslash.
 use Rattle.std.specs.Prelude.{ℕ, ◌-◌, ◌==◌, ◌||◌, Bool, true, false, List, [], ◌∷◌, ◌++◌, length, map, replicate, Option, Some, None, if◌then◌else◌, codes}
 use Rattle.std.specs.Fmt.{decimal}
 use Rattle.std.specs.List.{flat_map, list_any}

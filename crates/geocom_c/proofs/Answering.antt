@@ -67,7 +67,7 @@ pub heard_on : (r bytes word : List ℕ) (rest new : GeocomRest) (left more afte
     → HeardTo f.now more left new after end → HeardTo r bytes word new after end
 heard_on r bytes word rest new left more after end f g = record { now = g.now; is = g.is; same = g.same ∙ f.same; behind = g.behind ∙ f.behind }
 
--- if all bytes were heard, what is kept and what isn't answered is what all of them come to
+-- if all bytes were heard, what is retained and what isn't answered is what all of them come to
 pub heard_to_end : (r bytes word : List ℕ) (rest : GeocomRest) (left more : List ℕ) (f : HeardTo r bytes word rest left more) → more ≡ []
     → (f.now ≡ rest_behind r bytes) × (left ≡ left_behind word r bytes)
 heard_to_end r bytes word rest left more f none = (sym (ap (rest_behind f.now) none) ∙ f.behind, sym (ap (left_behind left f.now) none) ∙ f.same)

@@ -120,7 +120,7 @@ never_left asked later e = cc
 abbrev IsIdle : Course Asked → List ℕ → Type 0
 IsIdle x left = (left ≡ [] → ⊥) → x.client ≡ fresh
 
--- lines that a client hears once it has begun are steps of it
+-- lines that a client hears once it has synchronized are steps of it
 leads_heard : (width : ℕ) (x : Course Asked) (lines : List (List ℕ)) → Leads width x (course width x (map one.Hear lines)) [] [] (map Went (map one.Hear lines))
 leads_heard width x [] = leads_none width x []
 leads_heard width x (line ∷ lines) =

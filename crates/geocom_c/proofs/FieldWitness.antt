@@ -30,7 +30,7 @@ not_alone : {A : Type 0} → (◌≡◌ {A = ℕ} 6 0 × A) ⊎ ⊥ → ⊥
 not_alone (inl f) = absurd (omega (arith, f.0))
 not_alone (inr f) = f
 
--- after each request the instrument that counts keeps its own reply
+-- after each request the instrument that counts retains its own reply
 alike : TreatsRawsAlike counting AnyState kept_by
 alike state id call good lt = inr (counted.keeps.always state id call good lt refl)
 

@@ -70,7 +70,7 @@ all_one P x is zero d lt = is
 all_one P x is (suc k) d lt = absurd (omega (arith, lt))
 
 module _ (bytes t p rest : List ℕ) (n f : ℕ) (is : n ≡ length t) (clean : All (λ b. b ≢ 10) t) (cleanly : All (λ b. b ≢ 10) p) (same : GoAlike t rest) where
-  -- if all of the piece `p` was kept, its f bytes after the n bytes `t` that were kept before, what is kept stands for all
+  -- if all of the piece `p` was kept, its f bytes after the n bytes `t` that were kept before, what is retained stands for all
   -- bytes that came since the last line feed, `rest` and then `p`
   pub all_rest : n + f ≤ 514 → take (n + f) bytes ≡ t ++ p → IsRest (record { length = n + f; bytes = bytes }) (rest ++ p)
   all_rest short text =
@@ -80,7 +80,7 @@ module _ (bytes t p rest : List ℕ) (n f : ℕ) (is : n ≡ length t) (clean : 
       }
 
   -- if the first f bytes of the piece `p` were kept, as many as there was room for, and its last byte in the last place, what
-  -- is kept stands for all bytes that came since the last line feed, `rest` and then `p`
+  -- is retained stands for all bytes that came since the last line feed, `rest` and then `p`
   pub cut_rest : (last : ℕ) → n ≤ 514 → f ≡ 514 - n → f < length p → take (n + f) bytes ≡ t ++ take f p → 513 < length bytes → last ≡ last_of p
       → IsRest (record { length = n + f; bytes = slice_set bytes 513 last }) (rest ++ p)
   cut_rest last short room more text within e =

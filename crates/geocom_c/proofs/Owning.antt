@@ -1,6 +1,6 @@
 -- Each answer of a run is its own request's: it settled that request, and the instrument made it on executing that request. A
 -- part is a run with what was in flight when it began; `ends` is the instrument, `Good` the states that it may be in, and
--- `kept` the reply that it keeps.
+-- `kept` the reply that it retains.
 use Rattle.std.proofs.Common.{◌≡◌, ℕ, zero, suc, ◌<◌, ◌≤◌, List, [], ◌∷◌, ◌++◌, map, length, drop, refl, arith}
 use Rattle.std.specs.Prelude.{Option, Some, slice_get}
 use Rattle.std.specs.List.{AllByRecursion}

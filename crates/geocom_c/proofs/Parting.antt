@@ -1,8 +1,8 @@
 -- Run after run: what calls that are runs settle, and whose the answers are. A run is the turns of a synchronization and then
 -- the moves of the field, and a part is a run with what was in flight when it began. The word is the ids of a synchronization's
 -- eight null procedures, and `left` those of them that aren't answered. `ends` is the instrument, `Good` the states that it may
--- be in, and `kept` the reply that it keeps. `Turned` says which events a synchronization's turns are, `Begins` and `Passes`
--- that a run has begun cleanly, and `Holds` what the law promises of runs.
+-- be in, and `kept` the reply that it retains. `Turned` says which events a synchronization's turns are, `Begins` and `Passes`
+-- that a run has synchronized cleanly, and `Holds` what the law promises of runs.
 use Rattle.std.proofs.Common.{◌≡◌, ℕ, ◌≤◌, false, List, [], ◌∷◌, ◌++◌, map, drop, Option, Some, None, refl, sym, ◌∙◌, ap, subst, append_assoc}
 use Rattle.std.proofs.lemmas.List.{append-nil}
 use Rattle.std.specs.List.{AllByRecursion}
@@ -92,8 +92,8 @@ no_restart : (asked : ℕ) (later : List ℕ) (steps : List (Step Asked)) (es : 
 no_restart asked later [] es h = over_none asked later h.0
 no_restart asked later (step ∷ steps) es h = over_none asked later h.0
 
--- events that come in their turn after moves of the field, of a client that has begun, come in their turn without these moves,
--- too
+-- events that come in their turn after moves of the field, of a client that has synchronized, come in their turn without these
+-- moves, too
 went_on : {State : Type 0} (ms : List (Move State)) (es : List Event) → AreInTurn [] (map Went (seen ms) ++ es) → AreInTurn [] es
 went_on [] es h = h
 went_on (Sends target call deadline ∷ ms) es h = went_on ms es h.1
@@ -105,7 +105,7 @@ went_on (field.Anew ∷ ms) es h = went_on ms es h
 went_on (field.Changes state ∷ ms) es h = went_on ms es h
 went_on (Joins line ∷ ms) es h = went_on ms es h
 
--- moves of the field, of a client that has begun, change nothing in which ids aren't answered after further events
+-- moves of the field, of a client that has synchronized, change nothing in which ids aren't answered after further events
 went_left : {State : Type 0} (ms : List (Move State)) (es : List Event) → left_among [] (map Went (seen ms) ++ es) ≡ left_among [] es
 went_left [] es = refl
 went_left (Sends target call deadline ∷ ms) es = went_left ms es
@@ -187,7 +187,7 @@ module _ {State : Type 0} (width : ℕ) (ends : Ends State) where
     clean_down [] h = tt
     clean_down (x ∷ xs) h = (h.0.1, clean_down xs h.1)
 
-    -- a run that has begun is faithful, and leaves lines among which the next run may begin
+    -- a run that has synchronized is faithful, and leaves lines among which the next run may begin
     record Begins (u : UnderWay State) (r : Run State) : Type 0 where
       own : IsOwnIf width ends Good kept [] (stood width ends u r) r.moves
       lines : AreLines Good (left_if width ends [] (stood width ends u r) r.moves)
@@ -208,7 +208,7 @@ module _ {State : Type 0} (width : ℕ) (ends : Ends State) where
           may = rows_have_not (on_line (behind width ends (leaves s) r.moves).wire) (runs_leave_rows ends Good kept is width narrow (leaves s) is_clean r.moves possible);
         }
 
-    -- if this run has begun, it has begun cleanly, and is faithful
+    -- if this run has begun, it has synchronized cleanly, and is faithful
     abbrev OwnPart : Part State → Type 0
     OwnPart p = IsOwnIf width ends Good kept (begun_at width ends p).left (begun_at width ends p) p.run.moves
 
@@ -217,7 +217,7 @@ module _ {State : Type 0} (width : ℕ) (ends : Ends State) where
     OwnAll ps ss = AllByRecursion (IsOwnAnswer width ends Good kept ps) ss
 
     -- what holds of runs (`ps`) and their events: the library settles and leaves what the runs do, each of its answers is its
-    -- own request's, and each run that has begun is faithful
+    -- own request's, and each run that has synchronized is faithful
     record Holds (ps : List (Part State)) (events : List Event) : Type 0 where
       settled : (course width begun (steps_among events)).settlements ≡ settled_over width ends ps
       client : (course width begun (steps_among events)).client ≡ client_over width ends ps
@@ -272,7 +272,7 @@ module _ {State : Type 0} (width : ℕ) (ends : Ends State) where
       done : (begun_at width ends p).left ≡ []
       turns : AreInTurn the_word rest
 
-    -- a restart comes in its turn only after a run that has begun
+    -- a restart comes in its turn only after a run that has synchronized
     passes : (p : Part State) (left : List ℕ) (rest : List Event) → (begun_at width ends p).left ≡ left → AreLines Good p.before → MayBegin p.before
         → AreTurns ends Good kept p.run.turns (begins p.before)
         → ArePossible ends Good kept (by_ids width ends) p.run.moves (ids_begun (leaves (begun_at width ends p)))
@@ -288,7 +288,8 @@ module _ {State : Type 0} (width : ℕ) (ends : Ends State) where
         let turn = (turned_all p.run.turns (begins p.before)).turns (map Went (seen p.run.moves) ++ Went Restart ∷ rest) h in
         absurd (no_restart asked later (seen p.run.moves) rest (subst (λ l. AreInTurn l (map Went (seen p.run.moves) ++ Went Restart ∷ rest)) e turn))
 
-    -- if a run has begun and a restart follows (`Passes`), and `Holds` is true of the later runs, it is true of all of them
+    -- if a run has synchronized and a restart follows (`Passes`), and `Holds` is true of the later runs, it is true of all of
+    -- them
     passed_holds : (p next : Part State) (others : List (Part State)) (rest : List Event) → IsSafeRun width ends Good kept p → Passes p rest → Holds (next ∷ others) rest
         → Holds (p ∷ next ∷ others) (events_of width ends (begins p.before) p.run.turns ++ (map Went (seen p.run.moves) ++ Went Restart ∷ rest))
     passed_holds p next others rest safe pass more =

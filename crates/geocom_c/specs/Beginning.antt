@@ -40,8 +40,7 @@ abbrev pub given : List ℕ → List ℕ → List ℕ → Option (List ℕ)
 given [] before after = asks after
 given (byte ∷ bytes) before after = given_if (nat_eq (length before) (length after)) after
 
--- the line stands with its CR LF at the front of `room`, and `told` has the count of these bytes; if there is none the count is
--- 0
+-- the line is, with its CR LF, at the front of `room`, and `told` has the count of these bytes; if there is none the count is 0
 abbrev pub IsGiven : Option (List ℕ) → GeocomBeginning → List ℕ → Type 0
 IsGiven None told room = told.count ≡ 0
 IsGiven (Some line) told room = (told.count ≡ length (with_end line)) × (take told.count room ≡ with_end line)

@@ -66,8 +66,8 @@ IsInFront Cleared count text = Unit {0}
 IsInFront Overlong count text = Unit {0}
 IsInFront More count text = Unit {0}
 
--- a frame was fed: the result has its kind, its fault and the number of its settlements, a record says of each settlement how the request
--- ended, and a line that settled stands at the front of the text
+-- a frame was fed: the result has its kind, its fault and the number of its settlements, a record says of each settlement how
+-- the request ended, and a line that settled is at the front of the text
 pub record IsFed (c : Windowed Asked) (frame : Frame) (r : GeocomHeard) (records : List GeocomSettlement) (text : List ℕ) : Type 0 where
   pub fault : r.fault ≡ 0
   pub kind : r.kind ≡ frame_kind c frame

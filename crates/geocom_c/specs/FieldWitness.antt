@@ -50,7 +50,7 @@ begin_calls (reply ∷ replies) later = Begin (record { ref_ptr = (0, 0); now = 
 
 -- the calls: a first one of the synchronization without bytes, then one with the old reply and one with each of these replies;
 -- two commands, the second of which is this call; a moment; the lines `one` and `other` as the replies to the commands; a
--- restart; and a resynchronizing
+-- restart; and a resynchronization
 abbrev pub calls : List (List ℕ) → Step → List ℕ → List ℕ → List Step
 calls replies second one other =
     Begin (record { ref_ptr = (0, 0); now = [] })

@@ -50,7 +50,7 @@ pub record IsAt (width : ℕ) (s : Stage) (state : GeocomClient) : Type 0 where
 
 -- over these calls, in order, the client comes from the stage s to the stage t. A send is sent only once the client has
 -- synchronized; the lines of a begin are heard by the synchronization, and not by the client; a restart of a client that has
--- begun has it resynchronize
+-- synchronized has it resynchronize
 abbrev pub CallsReach : ℕ → Stage → List Step → Stage → Type 0
 CallsReach width s [] t = t ≡ s
 CallsReach width s (Send target deadline procedure params ∷ steps) t =

@@ -70,13 +70,13 @@ module _ {State : Type 0} (width : ℕ) (ends : Ends State) (Good : State → Ty
     -- have the same ids
     pub settled : t.reached.settlements ≡ settled_over width ends ps
     pub client : t.reached.client ≡ client_over width ends ps
-    -- the ids that the library's beginning has unanswered are those that the last run has; so its null procedures have the same
-    -- ids, too
+    -- the ids that the library's synchronization has unanswered are those that the last run has; so its null procedures have
+    -- the same ids, too
     pub left : t.left ≡ left_over width ends ps
     -- each answer is its own request's
     pub own : AllByRecursion (IsOwnAnswer ps) t.reached.settlements
-    -- and each run that has begun has begun cleanly, and is faithful: one for one, in order, acts once if the instrument keeps
-    -- its reply, and a first reply in time is booked
+    -- and each run that has synchronized has synchronized cleanly, and is faithful: one for one, in order, acts once if the
+    -- instrument retains its reply, and a first reply in time is booked
     pub each : AllByRecursion (λ p. IsOwnIf width ends Good kept (begun_at width ends p).left (begun_at width ends p) p.run.moves) ps
 
 -- each answer is its own request's (`AreOwn`), for any instrument, every width, all calls on a state that are safe
@@ -101,7 +101,7 @@ SimulatorsAnswersAreTheirOwn =
     AreOwn width ends IsFittingState kept_of (parts width ends u rs) t
 
 -- after a run that measured, or over a line with nothing in flight: as long as fewer than six runs in a row ended while they
--- began, the next one may begin
+-- synchronized, the next one may begin
 abbrev pub FewKilledMayBegin : Type 0 → Type 0
 FewKilledMayBegin State =
     (ends : Ends State) (kept : State → Option KeptReply) → IsAnInstrument ends AnyState kept →
@@ -130,7 +130,7 @@ pub record CallsAreSafe (State : Type 0) : Type 0 where
       (u : UnderWay State) (rs : List (Run State)) → AreEvents the_word [] calls (events_over width ends u rs) →
       AllByRecursion (IsSafeRun width ends AnyState kept) (parts width ends u rs)
 
--- the same of calls over the simulator, which makes its refusals of such procedures again, and keeps what it kept
+-- the same of calls over the simulator, which makes its refusals of such procedures again, and retains what it retained
 abbrev pub SimulatorsCallsAreSafe : Type 0
 SimulatorsCallsAreSafe =
     (width : ℕ) (calls : List Step) → AreOfTheTable calls →

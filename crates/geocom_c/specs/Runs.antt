@@ -1,6 +1,6 @@
 -- What the library's client does over a line, this project's own: run after run, each from one synchronization to the next. A
--- run begins by its null procedures, among whatever is in flight by then, and then sends. After a restart the next run begins
--- among what the run before it left.
+-- run synchronizes by its null procedures, among whatever is in flight by then, and then sends. After a restart the next run
+-- begins among what the run before it left.
 use Rattle.std.specs.Prelude.{ℕ, List, [], ◌∷◌, ◌++◌, map, drop, Option}
 use Rattle.gc_catalogue.specs.declared.asked.Asked.{Asked}
 use Rattle.gc_client.specs.Beginning.{the_word}
@@ -59,7 +59,7 @@ module _ {State : Type 0} (width : ℕ) (ends : Ends State) where
 
   -- Runs, one after the other.
 
-  -- the state of a run's beginning, once that is over or the run was ended while it began
+  -- the state of a run's synchronization, once that is over or the run was ended while it synchronized
   abbrev pub begun_at : Part State → Model State
   begun_at p = stood width ends p.before p.run
 
@@ -77,7 +77,7 @@ module _ {State : Type 0} (width : ℕ) (ends : Ends State) where
   parts u [] = []
   parts u (r ∷ rs) = record { before = u; run = r } ∷ parts (left_by_run width ends u r) rs
 
-  -- what happens is possible, in the beginning of each run and after it. Whether it has begun by then is no premise
+  -- what happens is possible, in the synchronization of each run and after it. Whether it has begun by then is no premise
   abbrev pub ArePossibleRuns : (State → Type 0) → (State → Option KeptReply) → UnderWay State → List (Run State) → Type 0
   ArePossibleRuns Good kept u [] = Unit {0}
   ArePossibleRuns Good kept u (r ∷ rs) =
@@ -86,12 +86,14 @@ module _ {State : Type 0} (width : ℕ) (ends : Ends State) where
 
   -- What they settle.
 
-  -- what the library settles in a run, by the ids that aren't answered: all but the eight null procedures once it has begun, and nothing before
+  -- what the library settles in a run, by the ids that aren't answered: all but the eight null procedures once it has
+  -- synchronized, and nothing before
   abbrev pub settled_if : List ℕ → World (ById Asked) State → List (Settlement Asked)
   settled_if [] w = drop 8 w.wire.settled
   settled_if (asked ∷ later) w = []
 
-  -- what the library settles at the restart after a run: what is outstanding, as lost, if the run has begun, else nothing
+  -- what the library settles at the restart after a run: what is outstanding, as lost, if the run has synchronized, else
+  -- nothing
   abbrev pub lost_if : List ℕ → World (ById Asked) State → List (Settlement Asked)
   lost_if [] w = map lost w.client.waiting
   lost_if (asked ∷ later) w = []
@@ -102,7 +104,7 @@ module _ {State : Type 0} (width : ℕ) (ends : Ends State) where
   settled_over (p ∷ []) = settled_if (begun_at p).left (world p)
   settled_over (p ∷ next ∷ others) = (settled_if (begun_at p).left (world p) ++ lost_if (begun_at p).left (world p)) ++ settled_over (next ∷ others)
 
-  -- the client after a run, which is new if the run hasn't begun
+  -- the client after a run, which is new if the run hasn't synchronized
   abbrev pub client_if : List ℕ → World (ById Asked) State → ById Asked
   client_if [] w = w.client
   client_if (asked ∷ later) w = fresh

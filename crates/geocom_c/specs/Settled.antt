@@ -17,7 +17,7 @@ use Rattle.geocom_c.specs.declared.header.TheConstants.{ANSWERED, LATE, LOST, NO
 use Rattle.geocom_c.specs.declared.listed.GeocomItem.{GeocomItem}
 use Rattle.geocom_c.specs.declared.settled.GeocomSettlement.{GeocomSettlement}
 
--- the item stands in the text where its place says
+-- the item is in the text where its place says
 pub record StandsAt (text : List ℕ) (place : GeocomItem) (item : List ℕ) : Type 0 where
   pub within : place.offset + place.length ≤ length text
   pub stands : take place.length (drop place.offset text) ≡ item
@@ -42,7 +42,8 @@ HasReading asked r text params (Refused code) = (r.reading ≡ REFUSED) × (r.co
 HasReading asked r text params (ComFault code) = (r.reading ≡ COM_FAULT) × (r.code ≡ code) × (r.items ≡ 0)
 HasReading asked r text params (Unreadable fault) = (r.reading ≡ UNREADABLE) × (r.code ≡ fault_number fault) × (r.items ≡ 0)
 
--- a record of an answer: its line stands at the front of the text, and the record has what the line says as a reply to what was asked
+-- a record of an answer: its line is at the front of the text, and the record has what the line says as a reply to what was
+-- asked
 pub record IsAnswered (r : GeocomSettlement) (text : List ℕ) (asked : Asked) (line : List ℕ) : Type 0 where
   pub answered : r.outcome ≡ ANSWERED
   pub length : r.line_length ≡ length line

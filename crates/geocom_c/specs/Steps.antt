@@ -1,5 +1,5 @@
 -- Calls as events, this project's own: what the calls that a caller makes on a state are to a synchronization, and to a client
--- that has begun.
+-- that has synchronized.
 use Rattle.std.specs.Prelude.{◌≡◌, ◌⊎◌, ℕ, List, [], ◌∷◌, ◌++◌, map, Option, Some, None}
 use Rattle.gc_lines.specs.Frames.{rest_behind}
 use Rattle.gc_catalogue.specs.declared.asked.Asked.{Asked}
@@ -18,7 +18,8 @@ use Rattle.geocom_c.specs.Rest.{lines_behind}
 use Rattle.geocom_c.specs.declared.following.Step.{Step}
 use Rattle.geocom_c.specs.declared.following.Step.TheVariants.{Send, SendRaw, Begin, Feed, Expire, Restart}
 
--- what happens to a client: while it begins, a null procedure is sent, or a line comes; once it has begun, it makes a step
+-- what happens to a client: while it synchronizes, a null procedure is sent, or a line comes; once it has synchronized, it
+-- makes a step
 pub data Event : Type 0 where
   Null : Event
   Came : (line : List ℕ) → Event
@@ -36,7 +37,7 @@ abbrev pub begins_by : List ℕ → List ℕ → List ℕ → List Event
 begins_by [] rest bytes = []
 begins_by (asked ∷ later) rest bytes = map Came (lines_behind rest bytes) ++ asked_by (given bytes (asked ∷ later) (left_behind (asked ∷ later) rest bytes))
 
--- the events of steps of the client: none while it begins
+-- the events of steps of the client: none while it synchronizes
 abbrev pub goes_by : List ℕ → List (one.Step Asked) → List Event
 goes_by [] steps = map Went steps
 goes_by (asked ∷ later) steps = []

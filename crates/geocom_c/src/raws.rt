@@ -35,11 +35,11 @@ fn number_of(fault: RawFault) -> u32
     }
 }
 
-/// Sends a request for a procedure that isn't in the table, of a client that has begun, and writes its line with CR LF into `line`: `count`
-/// bytes, and nothing after these. The parameters stand in the line exactly as they are given.
+/// Sends a request for a procedure that isn't in the table, of a client that has synchronized, and writes its line with CR LF
+/// into `line`: `count` bytes, and nothing after these. The parameters stand in the line exactly as they are given.
 ///
-/// An instrument may keep its reply over a procedure that it doesn't know, and ids come round after eight requests. Over such a
-/// one let one of the seven requests before each be an answered one of the table: after six raw requests in a row send a null
+/// An instrument may retain its reply over a procedure that it doesn't know, and ids come round after eight requests. Over such
+/// a one let one of the seven requests before each be an answered one of the table: after six raw requests in a row send a null
 /// procedure, and drop what it says.
 ///
 /// Faults: 62, `line` has fewer than 514 bytes; 63, the state is no client's; 67, the client hasn't synchronized; 68, the

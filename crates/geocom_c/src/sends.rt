@@ -56,8 +56,8 @@ pub(crate) fn send_asked(
     }
 }
 
-/// Sends a request of a client that has begun, and writes its line with CR LF into `line`: `count` bytes, and nothing after
-/// these.
+/// Sends a request of a client that has synchronized, and writes its line with CR LF into `line`: `count` bytes, and nothing
+/// after these.
 ///
 /// Faults: 62, `line` has fewer than 514 bytes; 63, the state is no client's; 67, the client hasn't synchronized; 21, no
 /// procedure has the number; 11 to 15, the parameters don't read; 31, as many requests wait as the width allows. After a fault

@@ -28,7 +28,7 @@ pub struct GeocomWaiting {
 }
 
 /// A client: the outstanding requests, oldest first, the bytes of an incomplete line, its width, the next id, how many are
-/// outstanding, and how many null procedures of its synchronization are answered: 8 once it has begun.
+/// outstanding, and how many null procedures of its synchronization are answered: 8 once it has synchronized.
 #[repr(C)]
 #[derive(Clone, Copy)]
 pub struct GeocomClient {
