@@ -1,7 +1,7 @@
 -- Each act preserves the weaker record `Mid` (see `Midway`), which holds in the midst of an act, before what is outstanding is
 -- lost: the counts, the client, the marks and the records belong together (`Sound`), and the phase fits them (`Placed`). An act
--- is one call on the link, with its result. A mark says which command a waiting request is of, or `None` of a null procedure; a
--- piece is the bytes that one read gave.
+-- is one call on the link, with its result. A mark says which command an outstanding request is of, or `None` of a null
+-- procedure; a piece is the bytes that one read gave.
 use Rattle.std.proofs.Common.{◌≡◌, ℕ, ◌<◌, inl, ◌&&◌, ◌||◌, Bool, true, false, not, List, [], ◌∷◌, length, if◌then◌else◌, nat_eq, nat_lt, Option, Some, None, refl, sym, ap, subst}
 use Rattle.std.proofs.lemmas.Bool.{eqb-true}
 use Rattle.gc_lines.specs.Frames.{rest_behind}

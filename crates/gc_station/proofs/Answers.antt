@@ -53,7 +53,7 @@ puts_still bytes (Cut out n) o d = tt
 puts_still bytes act o d = absurd o
 
 -- the client (the first argument) once a request with this target, call and deadline was sent, if the window has room: the next
--- id is counted on, and one more request waits
+-- id is counted on, and one more request is outstanding
 abbrev pub with_sent : ById Asked → ℕ → Asked → ℕ → ById Asked
 with_sent c target call deadline = record { next = (c.next + 1) % 8; waiting = c.waiting ++ pending_of target call deadline ∷ [] }
 
@@ -64,7 +64,7 @@ client_is c target call deadline room = ap (λ (b : Bool). client_sent c (id_sen
   not_full : (n w : ℕ) → n < w → nat_eq n w ≡ false
   not_full n w low = grind (arith, nat_tests, low)
 
--- an act that sends a request preserves `Honest`: one more request waits, after the others
+-- an act that sends a request preserves `Honest`: one more request is outstanding, after the others
 sent_honest : (plan : Plan) (commands : List Task) (scope : Scope) (acts : List Act) (act : Act) (c : ById Asked) (marks : List (Option Mark))
     (records : List Record) (target : ℕ) (call : Asked) (deadline : ℕ) (mark : Option Mark)
     → ((d : ℕ) → ReadsBefore d act) → c.next < 8 → length c.waiting < 7 → length marks ≡ length c.waiting

@@ -143,8 +143,8 @@ module _ (plan : Plan) (commands : List Task) (scope : Scope) (acts : List Act) 
         left = ap (λ (x : Model). x.progress.word) (after_all-append plan commands (opening plan scope) acts (act ∷ [])) ∙ word_after plan commands here act obeys begins;
       }
 
-  -- an act of a run at which the station resynchronizes is `IsResynchronizing`: it reads the clock where seven requests wait, all timed
-  -- out; after it the client is new, and all eight ids are left
+  -- an act of a run at which the station resynchronizes is `IsResynchronizing`: it reads the clock where seven requests are
+  -- outstanding, all timed out; after it the client is new, and all eight ids are left
   is_anew : Performs commands here (action_at plan here) act → has_begun here.progress ≡ true → has_begun there.progress ≡ false → IsResynchronizing plan commands scope acts act
   is_anew obeys begun begins =
       let far = progress_behind plan commands scope acts act in

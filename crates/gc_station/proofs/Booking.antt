@@ -374,7 +374,7 @@ books_line reads commands c ms rs utc line paired =
 abbrev pub restarting : Part
 restarting = only (Restart ∷ [])
 
--- a restart: all outstanding requests are lost, which takes out their marks and adds their records
+-- a restart: all outstanding requests are lost, which removes their marks and adds their records
 pub books_restart : (reads : Asked → List ℕ → Reading) (commands : List Task) (c : ById Asked) (ms : List (Option Mark)) (rs : List Record) (utc : ℕ) → length ms ≡ length c.waiting
     → Books reads commands c ms rs restarting fresh (drop (length (map lost c.waiting)) ms) (rs ++ records_of reads utc ms (map lost c.waiting))
 books_restart reads commands c ms rs utc paired =

@@ -416,8 +416,8 @@ chain_whole plan commands scope acts runs is chained = of_may needs.4 where
   next_is_chained : s.progress.next_is_chained ≡ true
   next_is_chained = h.next_is_chained chained.0 ∙ ap (λ (b : Bool). s.progress.missed || b) chained.1 ∙ or_true s.progress.missed
 
-  -- the command before the next one, if no command waits: `Whole` says that it was sent, and `Last` that the last record was
-  -- answered well; that record is its own, so `IsLinked` holds of it
+  -- the command before the next one, if no command is outstanding: `Whole` says that it was sent, and `Last` that the last
+  -- record was answered well; that record is its own, so `IsLinked` holds of it
   of_last : commands_in s.marks ≡ 0 → s.progress.chain_unbroken ≡ true → Last s.records → Whole plan commands scope acts s.progress
       → (l : IsLinked plan commands scope acts) × StaysBegun plan commands (state_after plan commands scope l.before) (l.request ∷ l.between)
       × PreparesNothing plan commands (state_after plan commands scope l.before) (l.request ∷ l.between)

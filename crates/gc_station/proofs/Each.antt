@@ -1,6 +1,6 @@
 -- The records and the outstanding commands are, in order, the commands that had their turn, whatever the link does. (`sent`
--- stands for these commands, whether they were sent or were left out.) A mark says which command a waiting request is of, or
--- `None` of a null procedure.
+-- stands for these commands, whether they were sent or were left out.) A mark says which command an outstanding request is of,
+-- or `None` of a null procedure.
 use Rattle.std.proofs.Common.{◌≡◌, ℕ, zero, suc, ◌+◌, ◌-◌, ◌<◌, ◌≤◌, Bool, true, false, nat_eq, List, [], ◌∷◌, ◌++◌, length, take, drop, map, Option, Some, None, refl, sym, ap, ◌∙◌, arith, append_assoc, append-nil}
 use Rattle.std.proofs.lemmas.Bool.Decides.{nat_tests}
 use Rattle.std.proofs.lemmas.List.{length-map, length-drop, map-append}
@@ -116,13 +116,13 @@ pub each_moment : (commands : List Task) (ms : List (Option Mark)) (ws : List (P
     → EachIs commands ms ws rs sent → EachIs commands ms (map (expired m) ws) rs sent
 each_moment commands ms ws rs sent m h = ap (of_text commands) (row_moment ms ws rs m) ∙ h
 
--- if no command waits, the records alone are what was sent
+-- if no command is outstanding, the records alone are what was sent
 pub each_settled : (commands : List Task) (ms : List (Option Mark)) (ws : List (Pending Asked)) (rs : List Record) (sent : List Request)
     → commands_in ms ≡ 0 → EachIs commands ms ws rs sent → of_text commands (map of_record rs) ≡ sent
 each_settled commands ms ws rs sent none h =
     ap (of_text commands) (sym (append-nil (map of_record rs)) ∙ sym (ap (λ xs. map of_record rs ++ xs) (waiting_marked ms ws ∙ marked_none ms (map of_pending ws) none))) ∙ h
 
--- if no command waits, and the records are what was sent, `EachIs` holds
+-- if no command is outstanding, and the records are what was sent, `EachIs` holds
 pub each_nothing : (commands : List Task) (ms : List (Option Mark)) (ws : List (Pending Asked)) (rs : List Record) (sent : List Request)
     → commands_in ms ≡ 0 → of_text commands (map of_record rs) ≡ sent → EachIs commands ms ws rs sent
 each_nothing commands ms ws rs sent none h =
@@ -158,7 +158,7 @@ pub each_settles : (reads : Asked → List ℕ → Reading) (commands : List Tas
     → EachIs commands ms ws rs sent → EachIs commands (drop (length ss) ms) left (rs ++ records_of reads utc ms ss) sent
 each_settles reads commands utc ms ws left ss rs sent parts h = ap (of_text commands) (row_settles reads utc ms ws left ss rs parts) ∙ h
 
--- if one more request waits after the others, its command, if it has one, is added after the outstanding commands
+-- if one more request is outstanding after the others, its command, if it has one, is added after the outstanding commands
 pub more_waiting : (ms : List (Option Mark)) (ws : List (Pending Asked)) (m : Option Mark) (p : Pending Asked) → length ms ≡ length ws
     → still_waiting (ms ++ m ∷ []) (ws ++ p ∷ []) ≡ still_waiting ms ws ++ marked (m ∷ []) (of_pending p ∷ [])
 more_waiting ms ws m p paired =
@@ -251,7 +251,7 @@ each_sent commands begun place utc expected ms ws p rs task others paired at is 
     ∙ ap (λ x. of_text commands (front ++ waits) ++ x ∷ []) (asked_text commands begun place utc task others at)
     ∙ ap (λ xs. xs ++ requests begun place (of_task task ∷ [])) h
 
--- a command that isn't sent preserves `EachIs`: its record is added after the others, and no command waits then
+-- a command that isn't sent preserves `EachIs`: its record is added after the others, and no command is outstanding then
 pub each_skipped : (commands : List Task) (begun place : ℕ) (ms : List (Option Mark)) (ws : List (Pending Asked)) (rs : List Record) (r : Record) (task : Task) (others : List Task)
     → commands_in ms ≡ 0 → drop place commands ≡ task ∷ others → of_record r ∷ [] ≡ requests begun place (of_command task.command ∷ []) → 0 < begun
     → (kept : List Request) → EachIs commands ms ws rs kept → EachIs commands ms ws (rs ++ r ∷ []) (kept ++ requests begun place (of_task task ∷ []))

@@ -1,7 +1,7 @@
--- Each act, and so each run, preserves the invariant of every run (`Invariant`). Most lemmas say that an action preserves the weaker record
--- `Mid` of `Midway`: the counts, the client, the marks and the records belong together, and the phase fits them, before what is
--- outstanding is lost. An act is one call on the link, with its result. A mark says which command a waiting request is of, or
--- `None` of a null procedure.
+-- Each act, and so each run, preserves the invariant of every run (`Invariant`). Most lemmas say that an action preserves the
+-- weaker record `Mid` of `Midway`: the counts, the client, the marks and the records belong together, and the phase fits them,
+-- before what is outstanding is lost. An act is one call on the link, with its result. A mark says which command an outstanding
+-- request is of, or `None` of a null procedure.
 use Rattle.std.proofs.Common.{◌≡◌, ℕ, ◌++◌, ◌-◌, ◌<◌, ◌⊎◌, inl, inr, ◌||◌, ◌&&◌, Bool, true, false, not, List, [], ◌∷◌, length, drop, map, nat_eq, Option, refl, sym, ap, ◌∙◌, subst, arith, append-nil, if◌then◌else◌}
 use Rattle.std.proofs.lemmas.List.{length-drop}
 use Rattle.gc_catalogue.specs.declared.asked.Asked.TheVariants.{Table}

@@ -325,7 +325,7 @@ stands_expired station p q client fresh m s stands e is less = record {
   fresh = λ are. less ∙ ap (λ f. min f m.elapsed) (stands.fresh are);
 }
 
--- as many requests wait at a station as in its model
+-- as many requests are outstanding at a station as in its model
 pub all_same : (station : Station) (s : Model) → Refines station s → (waiting_in station).all ≡ (waiting_of s).all
 all_same station s stands = ap (λ (c : ById Asked). length c.waiting) stands.ids
 

@@ -71,7 +71,8 @@ only_first : (a : Bool) → (not a || false) ≡ true → a ≡ false
 only_first true e = cc
 only_first false e = refl
 
--- if all outstanding requests are lost at an act, the station resynchronizes there, or no act follows; or no command waits
+-- if all outstanding requests are lost at an act, the station resynchronizes there, or no act follows; or no command is
+-- outstanding
 loses_why : (plan : Plan) (commands : List Task) (scope : Scope) (acts : List Act) (act : Act) → Invariant plan commands (state_after plan commands scope acts)
     → Performs commands (state_after plan commands scope acts) (action_at plan (state_after plan commands scope acts)) act
     → loses_all (moved plan commands (action_at plan (state_after plan commands scope acts)) (with_progress turned (state_after plan commands scope acts)) act).progress ≡ true

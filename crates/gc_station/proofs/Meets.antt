@@ -40,7 +40,7 @@ pub record HasPlace (c : ById Asked) (o : Option ℕ) (at : ℕ) : Type 0 where
   pub has : o ≡ Some id
   pub is : at ≡ place_in c id
 
--- after the request with this number and at this place, another one waits, whose id was heard
+-- after the request with this number and at this place, another one is outstanding, whose id was heard
 pub record Overtakes (P : ℕ → ℕ → Pending Asked → Option Mark → Type 0) (c : ById Asked) (o : Option ℕ) (number at : ℕ) : Type 0 where
   pub place : ℕ
   pub above : at < place

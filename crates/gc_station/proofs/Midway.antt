@@ -313,7 +313,7 @@ kept_for : (a o : Bool) → (not a || o) ≡ false → (a ≡ true) × (o ≡ fa
 kept_for true o e = (refl, e)
 kept_for false o e = cc
 
--- if the counts are those of a run that is done, as `Placed` has them, and the run isn't over, no command waits
+-- if the counts are those of a run that is done, as `Placed` has them, and the run isn't over, no command is outstanding
 still_finished : (p : Progress) (marks : List (Option Mark)) → is_over p ≡ false
     → (p.left ≡ 0) × (p.unsent ≡ 0) × ((is_over_in p.phase ≡ true) ⊎ (commands_in marks ≡ 0)) → (p.left ≡ 0) × (p.unsent ≡ 0) × (commands_in marks ≡ 0)
 still_finished p marks not_over (left, unsent, inl over) = absurd (not_both (is_over p) (ap (λ b. b || (not (is_up p.phase) && nat_eq p.turns 0)) over) not_over)

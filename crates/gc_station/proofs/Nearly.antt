@@ -1,8 +1,8 @@
 -- Each request's mark has what its text expects of the answer: where the target is, and which return codes are accepted. Each
 -- record keeps to that: an answer that ends as answered is near the place or has no direction, one that ends as elsewhere isn't
--- near it, and its quality is as listed. An act is one call on the link, with its result. A mark says which command a waiting
--- request is of, and what is expected of its answer. `IsPlaced` says that a mark expects what its command's text says, and
--- `IsSo` that a record keeps to the place, the codes and the quality; `KeepsToText` says both of a model.
+-- near it, and its quality is as listed. An act is one call on the link, with its result. A mark says which command an
+-- outstanding request is of, and what is expected of its answer. `IsPlaced` says that a mark expects what its command's text
+-- says, and `IsSo` that a record keeps to the place, the codes and the quality; `KeepsToText` says both of a model.
 use Rattle.std.proofs.Common.{◌≡◌, ℕ, zero, suc, Bool, true, false, List, [], ◌∷◌, ◌++◌, drop, Option, Some, None, if◌then◌else◌, refl, sym, ap, ◌∙◌, subst}
 use Rattle.std.specs.Prelude.{slice_get}
 use Rattle.std.specs.List.{AllByRecursion}

@@ -1,7 +1,7 @@
--- Records, written one after the other by the marks of requests. A mark says which command a waiting request is of, or `None`
--- of a null procedure; settlements are of the oldest outstanding requests, and have their marks, one for one. `WritesPart text
--- before all old new`: a book that had taken `old` has taken the records `before` whole and broken off within the others of
--- `all`; `new` is what it has taken then.
+-- Records, written one after the other by the marks of requests. A mark says which command an outstanding request is of, or
+-- `None` of a null procedure; settlements are of the oldest outstanding requests, and have their marks, one for one.
+-- `WritesPart text before all old new`: a book that had taken `old` has taken the records `before` whole and broken off within
+-- the others of `all`; `new` is what it has taken then.
 use Rattle.std.proofs.Common.{◌≡◌, ℕ, zero, suc, ◌+◌, ◌<◌, Bool, true, false, List, [], ◌∷◌, ◌++◌, length, take, drop, map, get_or, Option, Some, None, is_some, if◌then◌else◌, refl, sym, ap, ◌∙◌, subst, arith, append_assoc, append-nil}
 use Rattle.std.specs.Prelude.{slice_get}
 use Rattle.std.proofs.lemmas.List.{length-map, length-take, map-append, map_more, take_more, take-append-drop}

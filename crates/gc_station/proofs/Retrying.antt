@@ -1,5 +1,5 @@
 -- Further attempts of a chain are sent for a cause: `listed` of a model is what its records say. An act is one call on the
--- link, with its result. A mark says which command a waiting request is of, and what is expected of its answer.
+-- link, with its result. A mark says which command an outstanding request is of, and what is expected of its answer.
 use Rattle.std.proofs.Common.{◌≡◌, ◌⊎◌, inl, inr, ℕ, zero, suc, ◌+◌, ◌-◌, ◌<◌, ◌≤◌, ◌||◌, Bool, true, false, List, [], ◌∷◌, ◌++◌, length, drop, Option, Some, None, if◌then◌else◌, nat_eq, nat_lt, refl, sym, ap, ◌∙◌, subst, arith, append-nil}
 use Rattle.std.specs.List.{AllByRecursion}
 use Rattle.std.proofs.lemmas.Bool.{ltb-true, ltb-false}

@@ -179,7 +179,7 @@ module _ (plan : Plan) (commands : List Task) where
         by_loss true t e = e
         by_loss false t e = e
 
--- if no command waits and a chain is unbroken, the last record is of a cycle
+-- if no command is outstanding and a chain is unbroken, the last record is of a cycle
 pub last_of_cycle : (plan : Plan) (commands : List Task) (scope : Scope) (acts : List Act) → Runs plan commands (opening plan scope) acts
     → commands_in (state_after plan commands scope acts).marks ≡ 0 → (state_after plan commands scope acts).progress.chain_unbroken ≡ true → (xs : List Request) (x : Request)
     → map of_record (state_after plan commands scope acts).records ≡ xs ++ x ∷ [] → 0 < x.cycle

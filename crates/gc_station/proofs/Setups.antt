@@ -1,6 +1,6 @@
--- Each command of the setup that was sent has one record, or waits; and its attempts count over the run. The row of a station
--- has its records and, after them, the outstanding commands. An act leaves the row, or adds the command that is sent or isn't
--- sent.
+-- Each command of the setup that was sent has one record, or is outstanding; and its attempts count over the run. The row of a
+-- station has its records and, after them, the outstanding commands. An act leaves the row, or adds the command that is sent or
+-- isn't sent.
 use Rattle.std.proofs.Common.{◌≡◌, ◌⊎◌, inl, inr, ℕ, ◌+◌, ◌-◌, ◌<◌, ◌≤◌, Bool, true, false, if◌then◌else◌, nat_eq, min, List, [], ◌∷◌, ◌++◌, length, drop, map, Option, Some, None, refl, sym, ap, ◌∙◌, subst, arith, append_assoc, append-nil}
 use Rattle.std.proofs.lemmas.Bool.Decides.{nat_tests}
 use Rattle.std.proofs.lemmas.List.{length-drop, map-append}
@@ -213,7 +213,8 @@ module _ (plan : Plan) (commands : List Task) where
       setup_from u acts (fine_all plan commands s (act ∷ []) fine) ∙ ap (λ xs. xs ++ setup_sent_by plan commands u acts) one
       ∙ append_assoc (of_setup (row_of s)) (sent_as o commands s) (setup_sent_by plan commands u acts)
 
--- the law: each command of the setup that was sent has one record, or waits; and if the run stopped, none is outstanding
+-- the law: each command of the setup that was sent has one record, or is outstanding; and if the run stopped, none is
+-- outstanding
 pub each_set_up_once : (plan : Plan) (commands : List Task) (scope : Scope) (acts : List Act) → EachSetUpOnce plan commands scope acts
 each_set_up_once plan commands scope acts =
     let s = state_after plan commands scope acts in

@@ -1,5 +1,5 @@
 -- Each record is of the task at its place, and its command is what that task asks at the moment at which its request was sent.
--- A mark says which command a waiting request is of, and when that was sent.
+-- A mark says which command an outstanding request is of, and when that was sent.
 use Rattle.std.proofs.Common.{◌≡◌, ℕ, zero, suc, Bool, true, false, List, [], ◌∷◌, ◌++◌, length, drop, map, Option, Some, None, if◌then◌else◌, refl, sym, ap, subst}
 use Rattle.std.specs.Prelude.{slice_get}
 use Rattle.std.specs.List.{AllByRecursion}

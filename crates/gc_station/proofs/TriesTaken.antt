@@ -25,8 +25,8 @@ use Rattle.gc_station.proofs.Walk.{asked_along, came_along, closed_along, moved_
 -- Each end of a connection takes a try at most, and only a read gives tries back.
 
 -- what a piece does, from s to t: as many commands had their turn; the station doesn't resynchronize by it; and either fewer
--- commands are outstanding, the setup is done, and all tries are left, or as many wait or more, or the setup isn't done, and
--- the tries stay
+-- commands are outstanding, the setup is done, and all tries are left, or as many are outstanding or more, or the setup isn't
+-- done, and the tries stay
 pub record Hears (plan : Plan) (s t : Model) : Type 0 where
   pub left : t.progress.left ≡ s.progress.left
   pub unsent : t.progress.unsent ≡ s.progress.unsent
@@ -40,8 +40,8 @@ abbrev pub Took : Plan → Model → Act → Model → Type 0
 Took plan s (Gave bytes m) t = Hears plan s t
 Took plan s act t = s.progress.tries ≤ t.progress.tries + ends_in (act ∷ [])
 
--- after a read either fewer commands are outstanding, the setup is done, and all tries are left; or as many or more wait (`b`:
--- fewer do), or the setup isn't done (`on`), and the tries stay
+-- after a read either fewer commands are outstanding, the setup is done, and all tries are left; or as many or more are
+-- outstanding (`b`: fewer do), or the setup isn't done (`on`), and the tries stay
 given_back : (b on : Bool) (after before retries new old : ℕ) → nat_lt after before ≡ b → new ≡ old
     → ((after < before) × (on ≡ false) × ((if b && not on then retries else new) ≡ retries)) ⊎ (((before ≤ after) ⊎ (on ≡ true)) × ((if b && not on then retries else new) ≡ old))
 given_back true false after before retries new old e same = inl (ltb-true after before e, refl, refl)

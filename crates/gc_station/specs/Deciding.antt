@@ -120,8 +120,8 @@ action_beginning plan p w =
 abbrev pub action_done : Plan → Progress → Action
 action_done plan p = if nat_eq p.left 0 then Close Done else if is_due plan p then Begin else Read Due
 
--- whether another request may be sent: fewer are in flight than `width_of` allows, and fewer wait in all than the window has
--- places
+-- whether another request may be sent: fewer are in flight than `width_of` allows, and fewer are outstanding in all than the
+-- window has places
 abbrev pub has_room : Plan → Waiting → Bool
 has_room plan w = nat_lt w.current (width_of plan) && nat_lt w.all WINDOW
 
@@ -129,8 +129,8 @@ has_room plan w = nat_lt w.current (width_of plan) && nat_lt w.all WINDOW
 abbrev pub action_room : Plan → Progress → Waiting → Action → Action
 action_room plan p w action = if has_room plan w then action else action_waiting plan p w
 
--- the next action if the next command may be sent: it is sent, if there is room and one of the seven requests before it is a
--- call of the table that a reply ended (`behind`). Else a null procedure is sent first, once no request is in flight that
+-- the next action when the next command may be sent: `Send`, if there is room and one of the seven requests before it is a call
+-- of the table that a reply ended (`behind`). Else a null procedure is sent first (`Flush`), once no request is in flight that
 -- hasn't timed out
 abbrev pub action_next : Plan → Progress → Waiting → Action
 action_next plan p w =
@@ -150,7 +150,7 @@ waits_for_all p = p.next_is_chained || nat_lt 0 p.next_others
 
 -- the next action if the next command begins a further attempt of its chain, and each command that was sent is settled: the
 -- command is sent if a command of the attempt before ended as its rule names; otherwise this attempt and those after it are
--- left out, as they are in a missed cycle, if each command counts as chained
+-- left out, as they are in a missed cycle, in which each command counts as chained
 abbrev pub action_again : Plan → Progress → Waiting → Action
 action_again plan p w = if w.listed && not p.next_is_chained then action_next plan p w else Pass
 
@@ -178,8 +178,8 @@ action_prepare plan p w =
     else if nat_eq w.current 0 then action_room plan p w Flush
     else action_waiting plan p w
 
--- the next action if it is the turn of the next command of the setup, if there is one. If the last one was answered well, the
--- setup is done, so that there always is one
+-- the next action when the setup\'s next command has its turn. There always is one, since the setup is done once the last one
+-- was answered well
 abbrev pub action_turn : Plan → Progress → Waiting → Action
 action_turn plan p w = if nat_lt p.prepared plan.setup then action_prepare plan p w else Read Limit
 
@@ -200,13 +200,14 @@ action_preparing plan p w =
 abbrev pub action_cycle : Plan → Progress → Waiting → Action
 action_cycle plan p w = if nat_lt 0 p.unsent && not (waits_for_all p) then action_next plan p w else action_sent plan p w
 
--- whether the setup is still to be done: since the connection was made and the station synchronized no command of a cycle had
--- its turn (`preparing`), and not all commands of the setup were sent, or the last of them waits, or wasn't answered well
+-- whether the setup is still to be done: no command of a cycle had its turn since the connection was made and the station
+-- synchronized (`preparing`), and a command of the setup wasn\'t sent yet, or the last one sent is outstanding, or wasn\'t
+-- answered well
 abbrev pub is_preparing : Plan → Progress → Waiting → Bool
 is_preparing plan p w = p.preparing && not (nat_le plan.setup p.prepared && nat_eq w.commands 0 && w.well)
 
--- the next action once the station has synchronized: to wait, if the end of the run was asked for, and only what is in flight
--- is left; the setup's until that is done, and then the cycle's
+-- the next action once the station has synchronized: that of a station that waits, if the end of the run was asked for and only
+-- requests in flight are left; that of the setup until it is done; and then that of the cycle
 abbrev pub action_begun : Plan → Progress → Waiting → Action
 action_begun plan p w =
     if is_held_back p w then action_waiting plan p w

@@ -64,8 +64,8 @@ Parted {A} xs ys (z ∷ zs) = ((others : List A) × (xs ≡ z ∷ others) × Par
 abbrev pub of_text : List Task → List Request → List Request
 of_text commands xs = map (in_text commands) (of_cycles xs)
 
--- each command that had its turn, in order, either has its record, or after the records waits; or it is of an attempt that was
--- left out
+-- each command that had its turn, in order, either has its record, or is outstanding after the records; or it is of an attempt
+-- that was left out
 abbrev pub IsEachOnce : Plan → List Task → Model → Type 0
 IsEachOnce plan commands s =
     Parted (of_text commands (map of_record s.records ++ still_waiting s.marks s.client.waiting)) s.passes (sent_by plan.setup commands (cycles_begun plan s.progress) (place_next commands s.progress))

@@ -160,7 +160,7 @@ others_in [] = 0
 others_in (task ∷ others) = task.others
 
 -- whether the command this many places after the next one is sent only once the one before it was answered well. In a missed
--- cycle, if none is sent, this holds of each command
+-- cycle, in which none is sent, this holds of each command
 abbrev pub is_chained_after : ℕ → List Task → Progress → Bool
 is_chained_after count commands p = p.missed || is_chained (drop (place_next commands p + count) commands)
 
@@ -307,7 +307,7 @@ with_listed listed s = record s { listed = listed }
 abbrev pub with_records : List Record → Model → Model
 with_records records s = record s { records = s.records ++ records }
 
--- the model once these settlements of the oldest outstanding requests are recorded, by their marks, which are taken out
+-- the model once these settlements of the oldest outstanding requests are recorded, by their marks, which are removed
 abbrev pub with_settled : List (Settlement Asked) → Model → Model
 with_settled settlements s = record s {
   records = s.records ++ records_of s.reads s.progress.moment.utc s.marks settlements;

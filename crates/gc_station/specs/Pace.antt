@@ -27,7 +27,7 @@ retry_at plan p = if is_idle plan p then max (later p.since p.pause) (due_at pla
 abbrev pub stale_at : Plan → ℕ → ℕ
 stale_at plan fresh = if nat_lt 0 plan.stale then later fresh plan.stale else 18446744073709551615
 
--- how long a read waits at most: a second where somebody may ask for the end of the run, else a minute
+-- how long a read waits at most: a second if somebody may ask for the end of the run, else a minute
 abbrev pub longest : Plan → ℕ
 longest plan = if plan.watched then 1000 else 60000
 

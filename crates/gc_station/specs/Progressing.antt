@@ -190,7 +190,7 @@ abbrev pub line_noted : Bool → Progress → Progress
 line_noted is_reply p = record p { alive = if is_reply then p.moment.elapsed else p.alive; asked = if is_reply then false else p.asked }
 
 -- the progress once a line settled requests, of which `waiting` are still outstanding: if the last of them, which the line
--- answers, is a call of the table (`of_table`), as many requests are after that call as wait
+-- answers, is a call of the table (`of_table`), the outstanding requests are those sent after it
 abbrev pub caught_up : Bool → ℕ → Progress → Progress
 caught_up of_table waiting p = record p { behind = if of_table then waiting else p.behind }
 
@@ -219,8 +219,8 @@ abbrev pub gives_back : ℕ → Waiting → Progress → Bool
 gives_back before after p = nat_lt after.commands before && not p.preparing
 
 -- the progress after bytes that came: `before` commands were outstanding before them, and `after` counts what is outstanding
--- after them. If a command was settled, and since the setup a command of a cycle had its turn, all tries are left again, and
--- the next pause is the quiet time
+-- after them. If a command was settled once a command of a cycle had its turn after the setup, all tries are available again,
+-- and the next pause is the quiet time
 abbrev pub bytes_noted : Plan → Until → ℕ → Waiting → Progress → Progress
 bytes_noted plan until before after p = record p {
   early = early_after until p.early;

@@ -11,7 +11,8 @@ use Rattle.gc_station.specs.declared.progress.Progress.{Progress}
 use Rattle.gc_station.specs.declared.progress.Waiting.{Waiting}
 use Rattle.gc_station.specs.Deciding.{width_of, has_begun, is_up, is_idle, is_dead, is_stale, may_go, is_preparing}
 
--- another request may be sent: fewer are in flight than `width_of` allows, and fewer wait in all than the window has places
+-- another request may be sent: fewer are in flight than `width_of` allows, and fewer are outstanding in all than the window has
+-- places
 abbrev pub HasRoom : Plan → Waiting → Type 0
 HasRoom plan w = (w.current < width_of plan) × (w.all < WINDOW)
 

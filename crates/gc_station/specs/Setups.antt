@@ -66,8 +66,8 @@ abbrev pub setup_sent_by : Plan → List Task → Model → List Act → List Di
 setup_sent_by plan commands s [] = []
 setup_sent_by plan commands s (act ∷ acts) = sent_as (action_at plan s) commands s ++ setup_sent_by plan commands (after plan commands s act) acts
 
--- each command of the setup that was sent, in order, has one record of cycle 0 or, after the records, waits; and if the run
--- stopped, none is outstanding
+-- each command of the setup that was sent, in order, has one record of cycle 0 or, after the records, is outstanding; and if
+-- the run stopped, none is outstanding
 pub record EachSetUpOnce (plan : Plan) (commands : List Task) (scope : Scope) (acts : List Act) : Type 0 where
   pub each :
       of_setup (map dispatch_of_record (state_after plan commands scope acts).records ++ dispatches_of (state_after plan commands scope acts).marks)

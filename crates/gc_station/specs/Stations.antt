@@ -27,7 +27,8 @@ use Rattle.gc_station.specs.Requests.{command_at}
 use Rattle.gc_station.specs.Model.{Model, Performs, moved, ended, with_progress}
 use Rattle.gc_station.specs.Tallies.{nothing_yet, tallied}
 
--- how many requests of a station wait, whether the command that was recorded last was answered well, and when one was last
+-- how many requests of a station are outstanding, whether the command recorded last was answered well, and when one was
+-- answered well last
 abbrev pub waiting_in : Station → Waiting
 waiting_in station =
     record {

@@ -25,7 +25,7 @@ counted (Unreadable line fault) t = record t { unreadable = one_more t.unreadabl
 counted (Elsewhere line) t = record t { elsewhere = one_more t.elsewhere }
 counted Missed t = record t { missed = one_more t.missed }
 
--- the tally of the commands of both tallies
+-- the sum of both tallies, count by count
 abbrev pub sum : Tally → Tally → Tally
 sum a b = record {
   answered = later a.answered b.answered;

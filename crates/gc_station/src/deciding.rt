@@ -200,9 +200,10 @@ impl Progress {
         }
     }
 
-    // The next action if the next command may be sent: it is sent, if there is room and one of the seven requests before it is
-    // a call of the table that a reply ended. Else a null procedure is sent first, once no request is in flight that hasn't
-    // timed out: an instrument that keeps the reply to its last call of the table may still send that for the id that is next.
+    // The next action when the next command may be sent: `Send`, if there is room and one of the seven requests before it is a
+    // call of the table that a reply ended. Else a null procedure is sent first (`Flush`), once no request is in flight that
+    // hasn't timed out: an instrument that retains the reply to its last call of the table may still send that reply for the
+    // next id.
     fn action_next(&self, plan: &Plan, waiting: Waiting) -> Action
         ensures { result ≡ action_next plan.now self.now waiting }
     {
@@ -215,8 +216,8 @@ impl Progress {
         }
     }
 
-    // The next action once the station has synchronized: to wait, if the end of the run was asked for, and only what is in
-    // flight is left; the setup's until that is done, and then the cycle's.
+    // The next action once the station has synchronized: that of a station that waits, if the end of the run was asked for and
+    // only requests in flight are left; that of the setup until it is done; and then that of the cycle.
     fn action_begun(&self, plan: &Plan, waiting: Waiting) -> Action
         ensures { result ≡ action_begun plan.now self.now waiting }
     {
@@ -229,8 +230,8 @@ impl Progress {
         }
     }
 
-    // Whether the setup is still to be done: since the connection was made and the station synchronized no command of a cycle
-    // had its turn, and not all commands of the setup were sent, or the last of them waits, or wasn't answered well.
+    // Whether the setup is still to be done: no command of a cycle had its turn since the connection was made and the station
+    // synchronized, and a command of the setup wasn\'t sent yet, or the last one sent is outstanding, or wasn\'t answered well.
     fn is_preparing(&self, plan: &Plan, waiting: Waiting) -> bool
         ensures { result ≡ is_preparing plan.now self.now waiting }
     {
@@ -250,8 +251,8 @@ impl Progress {
         }
     }
 
-    // The next action if it is the turn of the next command of the setup, if there is one. If the last one was answered well,
-    // the setup is done, so that there always is one.
+    // The next action when the setup\'s next command has its turn. There always is one, since the setup is done once the last
+    // one was answered well.
     fn action_turn(&self, plan: &Plan, waiting: Waiting) -> Action
         ensures { result ≡ action_turn plan.now self.now waiting }
     {
@@ -338,7 +339,7 @@ impl Progress {
     }
 
     // The next action if the next command begins a further attempt of its chain, and all that were sent are settled: it is sent
-    // if a command of the attempt before ended as its rule names. Else, and in a missed cycle, if each command counts as
+    // if a command of the attempt before ended as its rule names. Else, and in a missed cycle, in which each command counts as
     // chained, this attempt and those after it are left out.
     fn action_again(&self, plan: &Plan, waiting: Waiting) -> Action
         ensures { result ≡ action_again plan.now self.now waiting }
@@ -397,8 +398,8 @@ impl Progress {
 }
 
 impl Waiting {
-    // Whether another request may be sent: fewer are in flight than `width` allows, and fewer wait in all than the window has
-    // places.
+    // Whether another request may be sent: fewer are in flight than `width` allows, and fewer are outstanding in all than the
+    // window has places.
     pub(crate) fn has_room(self, plan: &Plan) -> bool
         ensures { result ≡ has_room plan.now self }
     {

@@ -35,7 +35,7 @@ impl Kept {
         Kept {}
     }
 
-    // What was seen so far, with a turn of now added at the end: what the link has recorded, what the book has taken, and
+    // What was seen so far, with what is seen now added at the end: what the link has recorded, what the book has taken, and
     // whether the book is durable.
     pub(crate) fn and<L: Link, B: Book>(&self, link: &L, book: &B) -> Kept
         ensures { result.turns ≡ self.now.turns ++ record { acts = L.acts link.now; taken = B.taken book.now; lasts = B.is_durable book.now } ∷ [] }

@@ -24,7 +24,7 @@ fn stale_at(plan: &Plan, fresh: u64) -> u64
     }
 }
 
-// How long a read waits at most: a second where somebody may ask for the end of the run, else a minute.
+// How long a read waits at most: a second if somebody may ask for the end of the run, else a minute.
 fn longest(plan: &Plan) -> u64
     ensures { result ≡ longest plan.now }
 {

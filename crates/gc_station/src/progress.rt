@@ -74,7 +74,7 @@ pub(crate) enum Until {
     Due,
 }
 
-/// How many requests wait, how the commands that were recorded last ended, and when one was answered well last.
+/// How many requests are outstanding, how the commands that were recorded last ended, and when one was answered well last.
 #[derive(Clone, Copy)]
 pub(crate) struct Waiting {
     /// All outstanding requests.
@@ -153,7 +153,7 @@ pub(crate) struct Progress {
     pub stops: bool,
 }
 
-// How many requests that haven't timed out may be in flight: the plan's width, brought into 1 to 7.
+// How many requests that haven't timed out may be in flight: the plan's width, clamped to 1 to 7.
 pub(crate) fn width(plan: &Plan) -> u8
     ensures { result ≡ width_of plan.now }
 {

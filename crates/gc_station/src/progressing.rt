@@ -272,8 +272,8 @@ impl Progress {
         self.stale = true;
     }
 
-    // Notes that a request was sent. The time after which the line is dead begins with the first request after a reply line. It
-    // is counted as after the last call of the table that a reply ended.
+    // Notes that a request was sent. The time after which the line is dead begins with the first request after a reply line.
+    // The request counts as one more after the last call of the table that a reply ended.
     pub(crate) fn note_request(&mut self)
         ensures { self.new ≡ asking self.old }
     {
@@ -288,7 +288,7 @@ impl Progress {
     }
 
     // Notes that the null procedure of the first id that isn't answered was sent: it is sent again at its deadline. No command
-    // is sent before it is answered, so nothing is after it then.
+    // is sent before it is answered, so the count of requests after the last call of the table starts at 0.
     pub(crate) fn note_null(&mut self, plan: &Plan)
         ensures { self.new ≡ null_sent plan.now self.old }
     {
@@ -344,8 +344,8 @@ impl Progress {
         self.chain_unbroken = false;
     }
 
-    // Notes that a line settled requests, and that `waiting` are still outstanding. If the one that it answers is a call of the
-    // table (`of_table`), as many are after that call as wait.
+    // Notes that a line settled requests, and that `waiting` are still outstanding. If the request that the line answers is a
+    // call of the table (`of_table`), the outstanding requests are those sent after it.
     pub(crate) fn catch_up(&mut self, of_table: bool, waiting: usize)
         ensures { self.new ≡ caught_up of_table waiting self.old }
     {
@@ -365,8 +365,8 @@ impl Progress {
     }
 
     // Notes that a read gave bytes: `before` commands were outstanding before it, and `after` counts what is outstanding now.
-    // If a command was settled, and since the setup a command of a cycle had its turn, all tries are left again, and the next
-    // pause is the quiet time.
+    // If a command was settled once a command of a cycle had its turn after the setup, all tries are available again, and the
+    // next pause is the quiet time.
     pub(crate) fn note_bytes(&mut self, plan: &Plan, until: Until, before: usize, after: Waiting)
         ensures { self.new ≡ bytes_noted plan.now until before after self.old }
     {

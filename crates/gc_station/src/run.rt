@@ -19,8 +19,8 @@ use gc_lines::PortFailed;
 use gc_links::Link;
 use gc_texts::{RunFault, Task};
 
-// Runs a station until no act is next. Returns why it stopped, and how many commands ended how. `Err`: the book failed, and the
-// link was closed.
+// Runs a station until no act is next. Returns why it stopped, and the counts of how commands ended. `Err`: the book failed,
+// and the link was closed.
 pub(crate) fn run<L: Link, B: Book>(
     link: &mut L,
     book: &mut B,
@@ -80,8 +80,8 @@ pub(crate) fn run<L: Link, B: Book>(
 /// the ids go on. Before each new attempt to connect the station pauses: for the quiet time, at each further failure twice as
 /// long, up to a minute. Once a cycle is done it connects again only when the next is due. Each connection is cleared by a line
 /// feed. Unless a synchronization goes on with it, bytes on it are then discarded until none came for the quiet time. The
-/// station resynchronizes where seven requests wait that have all timed out: all of them are lost, and the null procedures are
-/// sent on the same connection. A synchronization whose connection was lost goes on with the next one.
+/// station resynchronizes where seven requests are outstanding that have all timed out: all of them are lost, and the null
+/// procedures are sent on the same connection. A synchronization whose connection was lost goes on with the next one.
 ///
 /// `Ok`: each command of each cycle is settled, and the tally counts how; or the end of the run was asked for, and each command
 /// that was sent is settled or lost. Between two chains nothing more is sent then: what is in flight is waited for until it is

@@ -118,7 +118,8 @@ impl Station {
         }
     }
 
-    // How many requests wait, whether the command that was recorded last was answered well, and when one was last.
+    // How many requests are outstanding, whether the command recorded last was answered well, and when one was answered well
+    // last.
     fn waiting(&self) -> Waiting
         ensures { result ≡ waiting_in self.now }
     {
@@ -272,7 +273,7 @@ impl Station {
         }
     }
 
-    // Writes the records of `settled`, and takes out the marks of the requests that were settled, the oldest first.
+    // Writes the records of `settled`, and removes the marks of the requests that were settled, the oldest first.
     fn write<B: Book>(&mut self, book: &mut B) -> Result<(), PortFailed>
         requires { All (λ s. IsReadBy IsAskedReading s.call s.outcome) self.old.settled.items }
         ensures wrote { WritesNews (B.text book.old) (B.taken book.old) (B.taken book.new) (λ reads. records_of reads self.old.progress.moment.utc self.old.marks.items (map settlement_seen self.old.settled.items)) result }
@@ -307,7 +308,8 @@ impl Station {
         )
     }
 
-    // Closes the connection, and discards half a line that came on it. Requests that wait stay outstanding.
+    // Closes the connection, and discards half a line that came on it. Outstanding requests stay outstanding on the next
+    // connection.
     fn close<L: Link>(&mut self, link: &mut L, plan: &Plan, cause: Cause)
         ensures { (commands : List Task) (text : Record → List ℕ) (known : Option (List ℕ))
             → Does plan.now commands (Close cause) (seen (L.acts link.old) text known self.old) (seen (L.acts link.new) text known self.new) }
@@ -318,8 +320,8 @@ impl Station {
         self.progress.close(plan, waiting, cause);
     }
 
-    // Makes the one call of an action, and takes in what came of it; for `Stop` does nothing. `Err`: the book failed at a
-    // record.
+    // Makes the one call on the link that an action stands for, and handles its result; `Stop` does nothing. `Err`: the book
+    // failed at a record.
     fn perform<L: Link, B: Book>(
         &mut self,
         link: &mut L,
@@ -401,8 +403,8 @@ impl Station {
         self.write(book)
     }
 
-    // Takes a turn: makes the one call of an action, does what comes of it, and records what is lost. When it is called, all
-    // records so far must be durable.
+    // Takes a turn: performs an action, and records as lost what is lost then. When it is called, all records so far must be
+    // durable.
     pub(crate) fn step<L: Link, B: Book>(
         &mut self,
         link: &mut L,

@@ -60,7 +60,7 @@ impl Tally {
         }
     }
 
-    // The tally of the commands of both tallies.
+    // The sum of both tallies, count by count.
     fn sum(&self, other: &Tally) -> Tally
         ensures { result ≡ sum self.now other.now }
     {
@@ -97,7 +97,7 @@ impl Counts {
         }
     }
 
-    // Begins an attempt, in this turn: if it is a further one, the attempt before isn't counted.
+    // Begins an attempt of a chain: a further one replaces the counts of the attempt before.
     fn start(&mut self, turn: Turn)
         ensures { self.new ≡ started turn self.old }
     {
@@ -109,7 +109,7 @@ impl Counts {
         self.attempt = Tally::new();
     }
 
-    // Begins an attempt if a command has the turn of its first.
+    // Begins an attempt if this is the turn of an attempt's first command.
     fn turn_to(&mut self, turn: Turn)
         ensures { self.new ≡ turned_to turn self.old }
     {

@@ -29,7 +29,7 @@ use gc_lines::{Line, PortFailed};
 use gc_links::Moment;
 use gc_texts::{Ending, Expected, Near, Quality, Stamp, Wish, is_elsewhere, reading_as_zero};
 
-// Takes out the mark of the oldest request that waits. `None`: that request is a null procedure, or none is outstanding.
+// Removes the mark of the oldest outstanding request. `None`: that request is a null procedure, or none is outstanding.
 fn take_mark(marks: &mut ArrayVec<Option<Mark>, WINDOW>) -> Option<Mark>
     ensures goes { marks.new.items ≡ drop 1 marks.old.items }
     ensures listed { (reads : Asked → List ℕ → Reading) (listed : Bool) (settlement : Rule.Settlement Asked)
@@ -214,10 +214,10 @@ pub(crate) fn ends_with_table(settlements: &[Settlement<Asked>]) -> bool
     }
 }
 
-// Writes and counts the records of these settlements, which are those of the oldest outstanding requests, and takes out the
-// marks of these requests. `well` becomes whether the command written last was answered well, and stays as it is if none was
-// written. If one was answered well, `fresh` becomes the moment `now`. `listed` becomes whether one of the attempt that was
-// settled last ended as its rule names. `Err`: the book failed at a record, and no record after it was written.
+// Writes and counts the records of these settlements, which are those of the oldest outstanding requests, and removes the marks
+// of these requests. `well` becomes whether the command written last was answered well, and stays as it is if none was written.
+// If one was answered well, `fresh` becomes the moment `now`. `listed` becomes whether one of the attempt that was settled last
+// ended as its rule names. `Err`: the book failed at a record, and no record after it was written.
 pub(crate) fn write_settlements<B: Book>(
     book: &mut B,
     tally: &mut Counts,
