@@ -220,7 +220,7 @@ fn answer<O: Write, E: Write>(
     ensures { IfOk result (λ status. exit_status status ≤ 2) }
 {
     if error.kind() == ErrorKind::OutOfMemory {
-        return want_of_memory(messages);
+        return report_out_of_memory(messages);
     }
     if error.use_stderr() {
         return refuse(error, reads, messages);
@@ -279,14 +279,14 @@ fn refuse_words<E: Write>(error: &io::Error, messages: &mut E) -> io::Result<Exi
     ensures bound { IfOk result (λ status. exit_status status ≤ 2) }
 {
     if error.kind() == io::ErrorKind::OutOfMemory {
-        return want_of_memory(messages);
+        return report_out_of_memory(messages);
     }
     writeln!(messages, "error: a word of the command line is no text")?;
     Ok(ExitCode::from(2))
 }
 
 // Reports that memory ran out as the command line was read, with status 1, as any fault.
-fn want_of_memory<E: Write>(messages: &mut E) -> io::Result<ExitCode>
+fn report_out_of_memory<E: Write>(messages: &mut E) -> io::Result<ExitCode>
     ensures status { IfOk result (λ status. exit_status status ≡ 1) }
     ensures text { OnOk result (Appends (E.contents messages.old) (E.contents messages.new) (fault_line (run_fault_text RunFault.Memory))) }
 {

@@ -75,7 +75,8 @@ keeps_answered z asked (i ∷ later) x rest up kept h e k =
     each_more (HasNone (i ∷ later)) (KeepsIf i kept) (λ y f o g. absurd ((f o).0 (sym g))) rest (each_front (HasNone (i ∷ later)) rest up h.own.0.1)
 
 -- `KeptIdFits` is preserved where x, the front reply, is heard: of what is left then, and of the replies after x
-keeps_heard : (z : ℕ) (left : List ℕ) (x : Sent) (rest up : List Sent) (kept : Option ℕ) → IsLine z left (x ∷ (rest ++ up)) → KeptIdFits z left (x ∷ rest) kept → KeptIdFits z (heard left x.id) rest kept
+keeps_heard : (z : ℕ) (left : List ℕ) (x : Sent) (rest up : List Sent) (kept : Option ℕ) → IsLine z left (x ∷ (rest ++ up)) → KeptIdFits z left (x ∷ rest) kept
+    → KeptIdFits z (heard left x.id) rest kept
 keeps_heard z [] x rest up kept h k = k
 keeps_heard z (asked ∷ later) x rest up kept h k = chosen (nat_eq x.id asked) refl where
   chosen : (b : Bool) → nat_eq x.id asked ≡ b → KeptIdFits z (left_by_one b asked later) rest kept

@@ -196,7 +196,7 @@ fn write_front<K: Durable>(sink: &mut K, layout: Layout) -> Result<(), usize>
 
 // When a good answer was recorded last, in milliseconds since 1970, once a command ended so at the moment `utc`: `fresh` if
 // that was no good answer.
-fn fresh_behind(fresh: u64, utc: u64, ending: Ending<'_>) -> u64 {
+fn fresh_after(fresh: u64, utc: u64, ending: Ending<'_>) -> u64 {
     match ending.quality() {
         Some(quality) if quality.is_good() => utc,
         _ => fresh,
@@ -232,7 +232,7 @@ impl<'a, K: Durable, E: Write> Book for Records<'a, K, E> {
         ending: Ending<'_>,
     ) -> Result<(), PortFailed> {
         self.reporter.count(stamp, ending);
-        self.fresh = fresh_behind(self.fresh, stamp.utc, ending);
+        self.fresh = fresh_after(self.fresh, stamp.utc, ending);
         let when = When {
             run: self.layout.run,
             stamp,

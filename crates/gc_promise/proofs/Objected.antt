@@ -143,7 +143,8 @@ module _ {State : Type 0} (ends : Ends State) (kept : State → Option KeptReply
       }
 
   -- the object of a record is its own, by what is known of the record
-  object_own : IsOwnAnswer ends AnyState kept course.tasks ps ss r → AnswerIsJustified course.plan course.tasks (scope_of course reads) acts r → IsAsListed reads course.tasks r → IsOfItsTask course.tasks r
+  object_own : IsOwnAnswer ends AnyState kept course.tasks ps ss r → AnswerIsJustified course.plan course.tasks (scope_of course reads) acts r → IsAsListed reads course.tasks r
+      → IsOfItsTask course.tasks r
       → IsOwn ends AnyState kept true at course.tasks ps ss r
   object_own own came listed of =
       let word = member_outcome when text r.command r.end in

@@ -221,7 +221,8 @@ module _ {State : Type 0} (ends : Ends State) (kept : State → Option KeptReply
         }
 
     -- the row of a record is its own, by what is known of the record
-    row_own : IsOwnAnswer ends AnyState kept course.tasks ps ss r → AnswerIsJustified course.plan course.tasks (scope_of course reads) acts r → IsAsListed reads course.tasks r → IsOfItsTask course.tasks r
+    row_own : IsOwnAnswer ends AnyState kept course.tasks ps ss r → AnswerIsJustified course.plan course.tasks (scope_of course reads) acts r → IsAsListed reads course.tasks r
+        → IsOfItsTask course.tasks r
         → IsOwn ends AnyState kept columns (at r) course.tasks ps ss r
     row_own own came listed of =
         let word = under_outcome when text r.command r.end columns in

@@ -95,7 +95,8 @@ sent_honest plan commands scope acts act c marks records target call deadline ma
 -- the request that is sent waits as `Waits` says, put as the last of the acts
 asked_here : (plan : Plan) (commands : List Task) (scope : Scope) (acts : List Act) (act : Act) (target : ℕ) (call : Asked) (deadline : ℕ) (mark : Option Mark)
     → Invariant plan commands (state_after plan commands scope acts)
-    → length (state_after plan commands scope acts).client.waiting < 7 → (0 < length (state_after plan commands scope acts).client.waiting → IsAsking (action_at plan (state_after plan commands scope acts)))
+    → length (state_after plan commands scope acts).client.waiting < 7
+    → (0 < length (state_after plan commands scope acts).client.waiting → IsAsking (action_at plan (state_after plan commands scope acts)))
     → ((m : Mark) → mark ≡ Some m → Marked plan commands scope acts m)
     → ((m : Mark) → mark ≡ Some m → deadline ≡ deadline_after plan commands scope acts)
     → Puts (request_text (state_after plan commands scope acts).client call) act
@@ -154,7 +155,8 @@ first_honest plan commands scope acts act next_is_chained behind (task ∷ other
 -- an act that sends a null procedure after commands preserves `IsHonest`
 null_honest : (plan : Plan) (commands : List Task) (scope : Scope) (acts : List Act) (act : Act) (f : Progress → Progress)
     → Invariant plan commands (state_after plan commands scope acts) → IsHonest plan commands scope acts (acts ++ act ∷ []) (state_after plan commands scope acts)
-    → length (state_after plan commands scope acts).client.waiting < 7 → (0 < length (state_after plan commands scope acts).client.waiting → IsAsking (action_at plan (state_after plan commands scope acts)))
+    → length (state_after plan commands scope acts).client.waiting < 7
+    → (0 < length (state_after plan commands scope acts).client.waiting → IsAsking (action_at plan (state_after plan commands scope acts)))
     → Puts (request_text (state_after plan commands scope acts).client (Table NullProc)) act
     → IsHonest plan commands scope (acts ++ act ∷ []) (acts ++ act ∷ []) (with_progress f (asks_null plan (with_progress turned (state_after plan commands scope acts))))
 null_honest plan commands scope acts act f fine h room asks puts =

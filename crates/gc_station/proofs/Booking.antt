@@ -27,6 +27,7 @@ use Rattle.gc_station.specs.Marks.{value_as, warned_as, refused_as, answer_as, e
 use Rattle.gc_station.specs.Records.{Record}
 use Rattle.gc_station.specs.Model.{client_sent}
 use Rattle.gc_station.specs.Parts.{Turn, Part, only_turns, only, nothing, joined, asking, IsOf, AreOf, went_out, sent_with, sent_of, timeless}
+use Rattle.gc_station.proofs.Records.{records-none}
 
 -- Steps.
 
@@ -132,11 +133,6 @@ drop_twice [] ts xs = refl
 drop_twice (s ∷ ss) ts [] = drop_none (length ts) [] refl
 drop_twice (s ∷ ss) ts (x ∷ xs) = drop_twice ss ts xs
 
--- no settlements have no records
-pub records_none : (reads : Asked → List ℕ → Reading) (utc : ℕ) (ms : List (Option Mark)) → records_of reads utc ms [] ≡ []
-records_none reads utc [] = refl
-records_none reads utc (m ∷ ms) = refl
-
 -- records without their moment are those of moment 0
 records_timeless : (reads : Asked → List ℕ → Reading) (utc : ℕ) (ms : List (Option Mark)) (ss : List (Settlement Asked)) → map timeless (records_of reads utc ms ss) ≡ records_of reads 0 ms ss
 records_timeless reads utc [] ss = refl
@@ -155,7 +151,7 @@ records_append reads (Some mark ∷ ms) (s ∷ ss) ts = ap (λ rs. record_of rea
 
 -- settlements have the same records with more marks after those of their requests
 records_more : (reads : Asked → List ℕ → Reading) (ms more : List (Option Mark)) (ss : List (Settlement Asked)) → length ss ≤ length ms → records_of reads 0 (ms ++ more) ss ≡ records_of reads 0 ms ss
-records_more reads [] more [] le = records_none reads 0 more
+records_more reads [] more [] le = records-none reads 0 more
 records_more reads [] more (s ∷ ss) le = absurd (omega (arith, le))
 records_more reads (m ∷ ms) more [] le = refl
 records_more reads (None ∷ ms) more (s ∷ ss) le = records_more reads ms more ss (omega (arith, le))
@@ -320,7 +316,7 @@ wrote_none : (reads : Asked → List ℕ → Reading) (commands : List Task) (ms
 wrote_none reads commands ms rs = record {
   marks = sym (append-nil ms);
   count = omega arith;
-  records = sym (append-nil (map timeless rs)) ∙ ap (λ l. map timeless rs ++ l) (sym (records_none reads 0 (ms ++ [])));
+  records = sym (append-nil (map timeless rs)) ∙ ap (λ l. map timeless rs ++ l) (sym (records-none reads 0 (ms ++ [])));
   sent = tt;
 }
 
@@ -405,7 +401,7 @@ sent_some reads commands c ms rs target call mark x is = (
   record {
     marks = refl;
     count = omega arith;
-    records = sym (append-nil (map timeless rs)) ∙ ap (λ l. map timeless rs ++ l) (sym (records_none reads 0 (ms ++ mark ∷ [])));
+    records = sym (append-nil (map timeless rs)) ∙ ap (λ l. map timeless rs ++ l) (sym (records-none reads 0 (ms ++ mark ∷ [])));
     sent = (is, tt);
   },
 )

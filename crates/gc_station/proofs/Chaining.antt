@@ -117,7 +117,8 @@ still_passes s t before (inr none) e is = absurd (not_both t.progress.chain_unbr
 -- `Chain` is preserved by an act that leaves these fields and doesn't close the connection
 chain_still : (plan : Plan) (commands : List Task) (scope : Scope) (acts : List Act) (act : Act) (p q : Progress)
     → (state_after plan commands scope (acts ++ act ∷ [])).progress ≡ q → Still p q → (has_begun p ≡ true → q.chain_unbroken ≡ true → has_begun q ≡ true)
-    → LeavesNothingOut (state_after plan commands scope acts) (state_after plan commands scope (acts ++ act ∷ [])) → KeepsOpen act → (action_at plan (state_after plan commands scope acts) ≡ Prepare → ⊥)
+    → LeavesNothingOut (state_after plan commands scope acts) (state_after plan commands scope (acts ++ act ∷ [])) → KeepsOpen act
+    → (action_at plan (state_after plan commands scope acts) ≡ Prepare → ⊥)
     → Chain plan commands scope acts p → Chain plan commands scope (acts ++ act ∷ []) q
 chain_still plan commands scope acts act p q there k begins keeps stays other h =
     let place_is : place_next commands q ≡ place_next commands p = ap (λ (n : ℕ). length commands - n) k.unsent in
@@ -230,7 +231,8 @@ chain_sent plan commands scope acts act p q here there is begins n some within k
 -- `Chain` is preserved by an act of any action
 chain_moved : (plan : Plan) (commands : List Task) (scope : Scope) (acts : List Act) (act : Act) (action : Action) (w : Waiting) (q : Progress)
     → Invariant plan commands (state_after plan commands scope acts)
-    → action_at plan (state_after plan commands scope acts) ≡ action → IsFor plan (state_after plan commands scope acts).progress w action → Performs commands (state_after plan commands scope acts) action act
+    → action_at plan (state_after plan commands scope acts) ≡ action → IsFor plan (state_after plan commands scope acts).progress w action
+    → Performs commands (state_after plan commands scope acts) action act
     → (state_after plan commands scope (acts ++ act ∷ [])).progress ≡ q → (has_begun (state_after plan commands scope acts).progress ≡ true → q.chain_unbroken ≡ true → has_begun q ≡ true)
     → Steps plan commands action (turned (state_after plan commands scope acts).progress) q
     → LeavesNothingOut (state_after plan commands scope acts) (state_after plan commands scope (acts ++ act ∷ []))

@@ -295,7 +295,8 @@ decided_last plan commands scope acts c runs e = by_last (last_of acts) where
       let s = state_after plan commands scope earlier in
       let split = runs_split plan commands (opening plan scope) earlier [] last (subst (λ (xs : List Act). Runs plan commands (opening plan scope) xs) some.2 runs) in
       let behind : (state_after plan commands scope acts).progress.phase ≡ (after plan commands s last).progress.phase =
-      ap (λ (xs : List Act). (state_after plan commands scope xs).progress.phase) some.2 ∙ ap (λ (x : Model). x.progress.phase) (after_all-append plan commands (opening plan scope) earlier (last ∷ [])) in (
+      ap (λ (xs : List Act). (state_after plan commands scope xs).progress.phase) some.2 ∙ ap (λ (x : Model). x.progress.phase)
+      (after_all-append plan commands (opening plan scope) earlier (last ∷ [])) in (
         earlier,
         last,
         some.2,

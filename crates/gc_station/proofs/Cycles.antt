@@ -280,7 +280,8 @@ module _ (plan : Plan) (commands : List Task) (scope : Scope) (some : 0 < plan.e
   -- `Begun` holds after the act that begins a cycle
   pub begun_begins : (acts : List Act) (m : Moment) (p : Progress) → action_at plan (state_after plan commands scope acts) ≡ actions.Begin
       → cycles_begun plan (state_after plan commands scope acts).progress ≡ cycles_begun plan p
-      → is_due plan p ≡ true → 0 < p.left → p.left ≤ plan.cycles → ClockRises p.moment.elapsed (Told m ∷ []) → Begun acts p → Cycling (acts ++ Told m ∷ []) (cycle_begun plan (cycle_length plan commands) m p)
+      → is_due plan p ≡ true → 0 < p.left → p.left ≤ plan.cycles → ClockRises p.moment.elapsed (Told m ∷ []) → Begun acts p
+      → Cycling (acts ++ Told m ∷ []) (cycle_begun plan (cycle_length plan commands) m p)
   begun_begins acts m p is same due left within rises h =
       let x = starts acts m p is same due rises h in
       begins_cycle acts m p x.n x.b x.is x.past x.number left within x.late

@@ -17,13 +17,14 @@ use Rattle.gc_station.specs.Parts.{Turn, Part, nothing, joined, acting, in_front
 use Rattle.gc_station.specs.Progressing.{turned, loses_all}
 use Rattle.gc_station.specs.Records.{Record}
 use Rattle.gc_station.specs.Model.{Model, action_at, waiting_of, with_progress, moved, losing, after, after_all, Runs}
-use Rattle.gc_station.proofs.Booking.{Books, books_both, books_nothing, books_restart, records_none, sent_records, restarting}
+use Rattle.gc_station.proofs.Booking.{Books, books_both, books_nothing, books_restart, sent_records, restarting}
 use Rattle.gc_station.proofs.Counts.{losing_progress}
 use Rattle.gc_station.proofs.EachRun.{fine_after, mid_moved}
 use Rattle.gc_station.proofs.Facts.{action_for}
 use Rattle.gc_station.proofs.Invariant.{Invariant}
 use Rattle.gc_station.proofs.Parting.{Leads, leads, keeps_action}
 use Rattle.gc_station.proofs.Readings.{moved_reads, ended_reads}
+use Rattle.gc_station.proofs.Records.{records-none}
 
 -- the steps of these parts, from this client, these marks and these records on, lead to the model `end`: after each part but
 -- the last the client restarts, and what is outstanding is recorded as lost
@@ -81,7 +82,7 @@ leads_idle : (reads : Asked → List ℕ → Reading) (commands : List Task) (c 
 leads_idle reads commands c ms rs utc is =
     subst (λ (d : ById Asked). Books reads commands d ms (sent_of rs) nothing fresh (drop (length (map lost d.waiting)) ms) (sent_of (rs ++ records_of reads utc ms (map lost d.waiting)))) (sym is)
     (subst (λ (l : List Record). Books reads commands fresh ms (sent_of rs) nothing fresh ms (sent_of l))
-    (sym (ap (λ l. rs ++ l) (records_none reads utc ms) ∙ append-nil rs)) (books_nothing reads commands fresh ms (sent_of rs)))
+    (sym (ap (λ l. rs ++ l) (records-none reads utc ms) ∙ append-nil rs)) (books_nothing reads commands fresh ms (sent_of rs)))
 
 -- if the client is new, a loss of what is outstanding leads on by the part in which nothing happens
 idle_lost : (commands : List Task) (t : Model) (b : Bool) → t.client ≡ fresh → Leads commands t nothing (losing b t)

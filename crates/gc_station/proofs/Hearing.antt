@@ -277,7 +277,8 @@ tells_more (Some a) (Some b) None xs ys p q = absurd q
 tells_more (Some a) (Some b) (Some c) xs ys p q = q ∙ ap (λ zs. zs ++ ys) p ∙ append_assoc a xs ys
 
 -- a station that noted whether a line was a reply is as the model that noted it
-pub with_noted : (mid : Station) (p : Progress) (b b' : Bool) (s : Model) → Refines mid s → b ≡ b' → p ≡ line_noted b mid.progress → Refines (record mid { progress = p }) (with_progress (line_noted b') s)
+pub with_noted : (mid : Station) (p : Progress) (b b' : Bool) (s : Model) → Refines mid s → b ≡ b' → p ≡ line_noted b mid.progress
+    → Refines (record mid { progress = p }) (with_progress (line_noted b') s)
 with_noted mid p b b' s stands e is = record {
   progress = is ∙ ap (λ t. line_noted t mid.progress) e ∙ ap (line_noted b') stands.progress;
   ids = stands.ids;

@@ -1,60 +1,39 @@
 -- Whether a command of an attempt ended as the rule of its chain names, by the ends that records have: `listed` of a model is
 -- what its records say.
-use Rattle.std.proofs.Common.{◌≡◌, ◌⊎◌, inl, inr, ℕ, ◌+◌, ◌||◌, Bool, true, false, List, [], ◌∷◌, ◌++◌, Option, if◌then◌else◌, nat_eq, refl, ap, ◌∙◌, arith}
+use Rattle.std.proofs.Common.{◌≡◌, ◌⊎◌, inl, inr, ℕ, ◌+◌, ◌||◌, Bool, true, false, List, [], ◌∷◌, ◌++◌, Option, if◌then◌else◌, nat_eq, refl, sym, ap, ◌∙◌, arith}
 use Rattle.std.specs.List.{AllByRecursion}
 use Rattle.std.proofs.lemmas.Bool.Decides.{nat_tests}
 use Rattle.gc_catalogue.specs.declared.answer.Answer.{Answer}
 use Rattle.gc_catalogue.specs.declared.answer.Reading.{Reading}
-use Rattle.gc_catalogue.specs.declared.answer.Reading.TheVariants as reading
 use Rattle.gc_catalogue.specs.declared.asked.Asked.{Asked}
 use Rattle.gc_client.specs.Rule
 use Rattle.gc_texts.specs.Again.{is_named, has_code}
-use Rattle.gc_texts.specs.Codes.{are_accepted}
 use Rattle.gc_texts.specs.Endings.{End, Answered, Unreadable, Elsewhere, Late, Lost, Skipped, Missed}
-use Rattle.gc_texts.specs.Nears.{is_elsewhere}
 use Rattle.gc_texts.specs.Zeroed.{as_zero}
 use Rattle.gc_texts.specs.declared.again.Again.{Again}
 use Rattle.gc_texts.specs.declared.near.Expected.{Expected}
-use Rattle.gc_texts.specs.declared.near.Near.{Near}
 use Rattle.gc_texts.specs.declared.quality.Quality.{Quality}
 use Rattle.gc_texts.specs.declared.tasks.Task.{Task}
 use Rattle.gc_station.specs.Attempts.{code_in, code_of}
-use Rattle.gc_station.specs.Marks.{end_of, value_as, warned_as, refused_as, answer_as}
+use Rattle.gc_station.specs.Marks.{end_of, answer_as}
 use Rattle.gc_station.specs.Model.{in_attempt}
 use Rattle.gc_station.specs.Records.{Record}
 use Rattle.gc_station.specs.Retries.{turn_as, rule_as, code_said, is_listed, HasListed}
+use Rattle.gc_station.specs.Answers.{answer_of}
 use Rattle.gc_station.proofs.Facts.{or_true}
+use Rattle.gc_station.proofs.Meets.{answer_line}
+use Rattle.gc_station.proofs.SentAt.{some_is}
 
 -- What ends name.
 
--- an answered command ended by the line of its reply, where the answer was measured elsewhere (`true`) or not
-value_line : (b : Bool) (q q' : Quality) (a : Answer) (line l : List ℕ) (said : Option Answer) → value_as q b a line ≡ Answered q' said l → line ≡ l
-value_line true q q' a line l said e = cc
-value_line false q q' a line l said e = cc
-
--- an answered command ended by the line of its reply, where its return code is accepted
-warned_line : (near : Option Near) (x : Reading) (q : Quality) (line l : List ℕ) (said : Option Answer) → warned_as near x line ≡ Answered q said l → line ≡ l
-warned_line near (reading.Value answer) q line l said e = value_line (is_elsewhere near answer) _ q answer line l said e
-warned_line near (reading.Refused code) q line l said e = cc
-warned_line near (reading.ComFault code) q line l said e = cc
-warned_line near (reading.Unreadable fault) q line l said e = cc
-
--- an answered command ended by the line of its reply, whether its return code is accepted (`true`) or not
-refused_line : (b : Bool) (near : Option Near) (x : Reading) (q : Quality) (line l : List ℕ) (said : Option Answer) → refused_as b near x line ≡ Answered q said l → line ≡ l
-refused_line true near x q line l said e = warned_line near x q line l said e
-refused_line false near x q line l said e = cc
-
 -- an answered command ended by the line of its reply
-answer_line : (expected : Expected) (x zeroed : Reading) (q : Quality) (line l : List ℕ) (said : Option Answer) → answer_as expected x zeroed line ≡ Answered q said l → line ≡ l
-answer_line expected (reading.Unreadable fault) zeroed q line l said e = cc
-answer_line expected (reading.Value answer) zeroed q line l said e = value_line (is_elsewhere expected.near answer) _ q answer line l said e
-answer_line expected (reading.Refused code) zeroed q line l said e = refused_line (are_accepted expected.accepted code) expected.near zeroed q line l said e
-answer_line expected (reading.ComFault code) zeroed q line l said e = cc
+answered_line : (expected : Expected) (x zeroed : Reading) (q : Quality) (line l : List ℕ) (said : Option Answer) → answer_as expected x zeroed line ≡ Answered q said l → line ≡ l
+answered_line expected x zeroed q line l said e = some_is line l (sym (answer_line expected x zeroed line) ∙ ap answer_of e)
 
 -- if a request's outcome makes it answered, its code is that of the line
 pub code_there : (reads : Asked → List ℕ → Reading) (expected : Expected) (call : Asked) (outcome : Rule.Outcome) (q : Quality) (said : Option Answer) (l : List ℕ)
     → end_of reads expected call outcome ≡ Answered q said l → code_of reads call outcome ≡ code_in (reads call l)
-code_there reads expected call (Rule.Answered line) q said l e = ap (λ k. code_in (reads call k)) (answer_line expected (reads call line) (reads call (as_zero line)) q line l said e)
+code_there reads expected call (Rule.Answered line) q said l e = ap (λ k. code_in (reads call k)) (answered_line expected (reads call line) (reads call (as_zero line)) q line l said e)
 code_there reads expected call Rule.Late q said l e = cc
 code_there reads expected call Rule.Lost q said l e = cc
 

@@ -203,7 +203,7 @@ refused_line true near x line = warned_line near x line
 refused_line false near x line = refl
 
 -- the ending by a reply in time has the reply's line, whatever it says
-answer_line : (expected : Expected) (x y : Reading) (line : List ℕ) → answer_of (answer_as expected x y line) ≡ Some line
+pub answer_line : (expected : Expected) (x y : Reading) (line : List ℕ) → answer_of (answer_as expected x y line) ≡ Some line
 answer_line expected (reading.Value answer) y line = value_line quality.Fine (is_elsewhere expected.near answer) answer line
 answer_line expected (reading.Refused code) y line = refused_line (are_accepted expected.accepted code) expected.near y line
 answer_line expected (reading.ComFault code) y line = refl

@@ -110,7 +110,8 @@ module _ (plan : Plan) (commands : List Task) (scope : Scope) where
       let old = (at p.before).records in
       let x = dispatch_of_mark (mark_setup commands (at p.before).progress) in
       let all : row_of s ≡ map dispatch_of_record old ++ map dispatch_of_record p.more =
-      ap (λ ys. map dispatch_of_record s.records ++ ys) (none_marked s.marks none) ∙ append-nil (map dispatch_of_record s.records) ∙ ap (map dispatch_of_record) p.written ∙ map-append dispatch_of_record old p.more in
+      ap (λ ys. map dispatch_of_record s.records ++ ys) (none_marked s.marks none) ∙ append-nil (map dispatch_of_record s.records) ∙ ap
+      (map dispatch_of_record) p.written ∙ map-append dispatch_of_record old p.more in
       let it = split_last p.more p.xs x (append_cancel (map dispatch_of_record old) (map dispatch_of_record p.more) (p.xs ++ x ∷ []) (sym all ∙ p.row)) in
       let r : Record = it.1 in
       let written : s.records ≡ old ++ (it.0 ++ r ∷ []) = p.written ∙ ap (λ ys. old ++ ys) it.2 in
@@ -145,7 +146,8 @@ module _ (plan : Plan) (commands : List Task) (scope : Scope) where
       → has_begun (at (acts ++ act ∷ [])).progress ≡ true → (acts ++ act ∷ [] ≡ before ++ (since ++ act ∷ [])) × StaysUp plan commands (at before) (since ++ act ∷ [])
   since_more acts before since act order stays keeps begun =
       let longer : acts ++ act ∷ [] ≡ before ++ (since ++ act ∷ []) = ap (λ xs. xs ++ act ∷ []) order ∙ append_assoc before since (act ∷ []) in
-      let there = ap (λ (x : Model). has_begun x.progress) (sym (ap (state_after plan commands scope) longer ∙ after_all-append plan commands (opening plan scope) before (since ++ act ∷ []))) ∙ begun in
+      let there = ap (λ (x : Model). has_begun x.progress)
+      (sym (ap (state_after plan commands scope) longer ∙ after_all-append plan commands (opening plan scope) before (since ++ act ∷ []))) ∙ begun in
       (longer, stays_more (at before) since act stays keeps there)
 
   -- an act that closes no connection, after which the station is begun, preserves `ArePrepared`
@@ -307,7 +309,8 @@ module _ (plan : Plan) (commands : List Task) (scope : Scope) where
         inr (subst (λ (c : Bool). SetupFits c (at (acts ++ act ∷ [])).progress.prepared (acts ++ act ∷ [])) (sym (ap (λ (p : Progress). p.preparing) (progress_after o is) ∙ b)) (on, prepared_more plan.setup acts act keeps on it.1))
 
     -- after an act that sends a command of the setup, `SetupFitsNow` holds
-    fits_sent : action_at plan s ≡ action.Prepare → Performs commands s action.Prepare act → IsFor plan s.progress (waiting_of s) action.Prepare → SetupFits s.progress.preparing s.progress.prepared acts
+    fits_sent : action_at plan s ≡ action.Prepare → Performs commands s action.Prepare act → IsFor plan s.progress (waiting_of s) action.Prepare
+        → SetupFits s.progress.preparing s.progress.prepared acts
         → SetupFitsNow (acts ++ act ∷ [])
     fits_sent is obeys needs h =
         let k = s.progress.prepared in
@@ -323,7 +326,8 @@ module _ (plan : Plan) (commands : List Task) (scope : Scope) where
         let below : k < plan.setup = may.1 in
         let next : (at (acts ++ act ∷ [])).progress.prepared ≡ suc k = ap (λ (p : Progress). p.prepared) (progress_after action.Prepare is) ∙ omega (arith, prepared, below) in
         let same : (at (acts ++ act ∷ [])).progress.preparing ≡ true =
-        ap (λ (p : Progress). p.preparing) (progress_after action.Prepare is) ∙ ap (λ (x : Model). x.progress.preparing) (moved_changed plan commands action.Prepare (with_progress turned s) act) ∙ preparing in
+        ap (λ (p : Progress). p.preparing) (progress_after action.Prepare is) ∙ ap (λ (x : Model). x.progress.preparing)
+        (moved_changed plan commands action.Prepare (with_progress turned s) act) ∙ preparing in
         inr (subst (λ (n : ℕ). SetupFits (at (acts ++ act ∷ [])).progress.preparing n (acts ++ act ∷ [])) (sym next) (subst (λ (c : Bool). SetupFits c (suc k) (acts ++ act ∷ [])) (sym same) (on, part)))
 
   -- a command of a cycle that is sent ends the setup's turn
@@ -359,7 +363,8 @@ module _ (plan : Plan) (commands : List Task) (scope : Scope) where
         fits_unchanged some within acts act action.Pass is (begins some within acts act action.Pass is obeys (λ e. cc))
         (stays_open plan commands action.Pass (at acts) act obeys (λ why e. cc)) refl refl refl h
     fits_after action.Skip act is obeys needs h =
-        fits_unchanged some within acts act action.Skip is (begins some within acts act action.Skip is obeys (λ e. cc)) (stays_open plan commands action.Skip (at acts) act obeys (λ why e. cc)) refl refl
+        fits_unchanged some within acts act action.Skip is (begins some within acts act action.Skip is obeys (λ e. cc))
+        (stays_open plan commands action.Skip (at acts) act obeys (λ why e. cc)) refl refl
         (ap (λ rs. map dispatch_of_record rs ++ dispatches_of (at acts).marks) (append-nil (at acts).records)) h
     fits_after action.Renew act is obeys needs h =
         fits_unchanged some within acts act action.Renew is (λ begun. ap has_begun (progress_after some within acts act action.Renew is) ∙ begun)
@@ -378,7 +383,8 @@ module _ (plan : Plan) (commands : List Task) (scope : Scope) where
     start = inr (subst (λ (c : Bool). SetupFits c 0 []) (sym (above_zero plan.setup some)) tt)
 
     -- one more act preserves `SetupFitsNow`; if the run is over, no act follows
-    step : (done : List Act) (act : Act) → Runs plan commands (opening plan scope) done → Performs commands (at done) (action_at plan (at done)) act → SetupFitsNow done → SetupFitsNow (done ++ act ∷ [])
+    step : (done : List Act) (act : Act) → Runs plan commands (opening plan scope) done → Performs commands (at done) (action_at plan (at done)) act → SetupFitsNow done
+        → SetupFitsNow (done ++ act ∷ [])
     step done act before obeys (inl over) =
         let p = (at done).progress in absurd (over_stays plan commands (at done) act (ap (λ b. b || (not (is_up p.phase) && nat_eq p.turns 0)) over) obeys)
     step done act before obeys (inr h) = fits_after some within done (action_at plan (at done)) act refl obeys (action_for plan (at done).progress (waiting_of (at done))) h

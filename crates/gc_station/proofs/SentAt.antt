@@ -21,7 +21,7 @@ use Rattle.gc_station.specs.Model.{Model, opening, action_at, place_next, mark_n
 use Rattle.gc_station.proofs.Facts.{either}
 use Rattle.gc_station.proofs.Going.{after_all-append}
 use Rattle.gc_station.proofs.Growing.{losing_records, moved_grew}
-use Rattle.gc_station.proofs.Records.{Grew, grew_none}
+use Rattle.gc_station.proofs.Records.{Grew, grew_none, grew_then}
 
 -- Lists.
 
@@ -70,21 +70,17 @@ fronts (x ∷ xs) ys (f ∷ fs) gs e =
 
 -- What is recorded stays.
 
--- a front of a front is a front
-pub grew_both : (xs ys zs : List Record) → Grew xs ys → Grew ys zs → Grew xs zs
-grew_both xs ys zs g h = (g.0 ++ h.0, h.1 ∙ ap (λ l. l ++ h.0) g.1 ∙ append_assoc xs g.0 h.0)
-
 -- the records before an act are the first of those after it
 pub after_grew : (plan : Plan) (commands : List Task) (s : Model) (act : Act) → Grew s.records (after plan commands s act).records
 after_grew plan commands s act =
     let t = moved plan commands (action_at plan s) (with_progress turned s) act in
-    grew_both s.records t.records (after plan commands s act).records (moved_grew plan commands (action_at plan s) (with_progress turned s) act) (losing_records (loses_all t.progress) t)
+    grew_then s.records t.records (after plan commands s act).records (moved_grew plan commands (action_at plan s) (with_progress turned s) act) (losing_records (loses_all t.progress) t)
 
 -- the records before acts are the first of those after them
 pub all_grew : (plan : Plan) (commands : List Task) (s : Model) (acts : List Act) → Grew s.records (after_all plan commands s acts).records
 all_grew plan commands s [] = grew_none s.records
 all_grew plan commands s (act ∷ acts) =
-    grew_both s.records (after plan commands s act).records (after_all plan commands s (act ∷ acts)).records (after_grew plan commands s act) (all_grew plan commands (after plan commands s act) acts)
+    grew_then s.records (after plan commands s act).records (after_all plan commands s (act ∷ acts)).records (after_grew plan commands s act) (all_grew plan commands (after plan commands s act) acts)
 
 -- the law: the records after some acts stay, before those of the acts that follow
 pub records_stay : RecordsStay

@@ -53,7 +53,8 @@ row_settles : (reads : Asked → List ℕ → Reading) (utc : ℕ) (ms : List (O
 row_settles reads utc ms ss rs =
     let left = dispatches_of (drop (length ss) ms) in
     let news = records_of reads utc ms ss in
-    ap (λ xs. xs ++ left) (map-append dispatch_of_record rs news) ∙ append_assoc (map dispatch_of_record rs) (map dispatch_of_record news) left ∙ ap (λ xs. map dispatch_of_record rs ++ xs) (settled_row reads utc ms ss)
+    ap (λ xs. xs ++ left) (map-append dispatch_of_record rs news) ∙ append_assoc (map dispatch_of_record rs) (map dispatch_of_record news) left ∙ ap
+    (λ xs. map dispatch_of_record rs ++ xs) (settled_row reads utc ms ss)
 
 -- a line that is heard leaves the row
 row_line : (s : Model) (line : List ℕ) → row_of (line_came s line) ≡ row_of s
@@ -79,7 +80,8 @@ marks_append (None ∷ xs) ys = marks_append xs ys
 marks_append (Some mark ∷ xs) ys = ap (λ zs. dispatch_of_mark mark ∷ zs) (marks_append xs ys)
 
 -- one mark more adds its command to the row, after the others
-row_more : (rs : List Record) (ms : List (Option Mark)) (m : Option Mark) → map dispatch_of_record rs ++ dispatches_of (ms ++ m ∷ []) ≡ (map dispatch_of_record rs ++ dispatches_of ms) ++ dispatches_of (m ∷ [])
+row_more : (rs : List Record) (ms : List (Option Mark)) (m : Option Mark)
+    → map dispatch_of_record rs ++ dispatches_of (ms ++ m ∷ []) ≡ (map dispatch_of_record rs ++ dispatches_of ms) ++ dispatches_of (m ∷ [])
 row_more rs ms m = ap (λ xs. map dispatch_of_record rs ++ xs) (marks_append ms (m ∷ [])) ∙ sym (append_assoc (map dispatch_of_record rs) (dispatches_of ms) (dispatches_of (m ∷ [])))
 
 -- the first of these commands adds itself to the row if it is sent
@@ -158,7 +160,8 @@ between_none : (rs news : List Record) (ms : List (Option Mark)) → of_setup (m
     → of_setup (map dispatch_of_record (rs ++ news) ++ dispatches_of ms) ≡ of_setup (map dispatch_of_record rs ++ dispatches_of ms)
 between_none rs news ms none =
     ap (λ xs. of_setup (xs ++ dispatches_of ms)) (map-append dispatch_of_record rs news) ∙ setup_append (map dispatch_of_record rs ++ map dispatch_of_record news) (dispatches_of ms)
-    ∙ ap (λ xs. xs ++ of_setup (dispatches_of ms)) (setup_append (map dispatch_of_record rs) (map dispatch_of_record news) ∙ ap (λ xs. of_setup (map dispatch_of_record rs) ++ xs) none ∙ append-nil (of_setup (map dispatch_of_record rs)))
+    ∙ ap (λ xs. xs ++ of_setup (dispatches_of ms))
+    (setup_append (map dispatch_of_record rs) (map dispatch_of_record news) ∙ ap (λ xs. of_setup (map dispatch_of_record rs) ++ xs) none ∙ append-nil (of_setup (map dispatch_of_record rs)))
     ∙ sym (setup_append (map dispatch_of_record rs) (dispatches_of ms))
 
 -- if no mark is of a command, none is outstanding

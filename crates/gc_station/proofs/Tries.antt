@@ -410,7 +410,8 @@ stop_tried plan commands scope acts last why runs stop tried ending = by_decided
   over : (state_after plan commands scope (acts ++ last ∷ [])).progress.phase ≡ phase.Over why
   over = by_needs (needs_of plan (state_after plan commands scope (acts ++ last ∷ [])) (actions.Stop why) stop).1 where
     -- the phase says that the run is over, or all turns are used up, for which no such run stops
-    by_needs : ((state_after plan commands scope (acts ++ last ∷ [])).progress.phase ≡ phase.Over why) ⊎ ((why ≡ cause.Turns) × ((state_after plan commands scope (acts ++ last ∷ [])).progress.turns ≡ 0))
+    by_needs : ((state_after plan commands scope (acts ++ last ∷ [])).progress.phase ≡ phase.Over why)
+        ⊎ ((why ≡ cause.Turns) × ((state_after plan commands scope (acts ++ last ∷ [])).progress.turns ≡ 0))
         → (state_after plan commands scope (acts ++ last ∷ [])).progress.phase ≡ phase.Over why
     by_needs (inl is) = is
     by_needs (inr turns) = absurd (subst IsTried turns.0 tried)

@@ -182,7 +182,8 @@ module _ (plan : Plan) (commands : List Task) (scope : Scope) (some : 0 < plan.e
       ((λ e. skip_missed acts m p _ cycle_begun here refl refl refl (ends.0 e), λ e. skip_skipped acts m _ cycle_begun is refl refl refl refl (ends.1 e)), tt)
 
   -- the records after an act, before what is outstanding is lost, are justified
-  moved_truly : (acts : List Act) (next : Action) (act : Act) → (Begun plan commands scope some) acts (state_after plan commands scope acts).progress → action_at plan (state_after plan commands scope acts) ≡ next
+  moved_truly : (acts : List Act) (next : Action) (act : Act) → (Begun plan commands scope some) acts (state_after plan commands scope acts).progress
+      → action_at plan (state_after plan commands scope acts) ≡ next
       → AllByRecursion (Truly (acts ++ act ∷ [])) (state_after plan commands scope acts).records
       → AllByRecursion (Truly (acts ++ act ∷ [])) (moved plan commands next (with_progress turned (state_after plan commands scope acts)) act).records
   moved_truly acts actions.Skip (Told m) cycle_begun is all =

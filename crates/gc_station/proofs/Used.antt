@@ -80,6 +80,7 @@ stop_used plan commands scope acts runs is = by_shown (stopped_for plan commands
 
 -- the law: a connection is closed, or a run stops, for its turns only after as many acts as the run had turns
 pub turns_used : (plan : Plan) (commands : List Task) (scope : Scope) (acts : List Act) → Runs plan commands (opening plan scope) acts
-    → (action_at plan (state_after plan commands scope acts) ≡ actions.Close cause.Turns) ⊎ (action_at plan (state_after plan commands scope acts) ≡ actions.Stop cause.Turns) → scope.turns ≤ length acts
+    → (action_at plan (state_after plan commands scope acts) ≡ actions.Close cause.Turns) ⊎ (action_at plan (state_after plan commands scope acts) ≡ actions.Stop cause.Turns)
+    → scope.turns ≤ length acts
 turns_used plan commands scope acts runs (inl is) = close_used plan commands scope acts runs is
 turns_used plan commands scope acts runs (inr is) = stop_used plan commands scope acts runs is

@@ -77,4 +77,5 @@ pub record GoesOutAgainForACause : Type 0 where
 -- each record has the turn of the command at its place of its cycle; one of the setup has the attempt of the setup in it
 abbrev pub TurnsAreTheTexts : Type 0
 TurnsAreTheTexts =
-    (plan : Plan) (commands : List Task) (scope : Scope) (acts : List Act) → AllByRecursion (λ r. r.turn ≡ turn_at commands r.cycle r.turn.attempt r.place) (state_after plan commands scope acts).records
+    (plan : Plan) (commands : List Task) (scope : Scope) (acts : List Act)
+    → AllByRecursion (λ r. r.turn ≡ turn_at commands r.cycle r.turn.attempt r.place) (state_after plan commands scope acts).records

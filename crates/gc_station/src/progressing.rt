@@ -25,7 +25,7 @@ pub(crate) fn later(moment: u64, wait: u64) -> u64
 
 // Whether the cycle counts as done early after a read. A read `Until::Due` shows that the cycle was done early, because only
 // after a done cycle is there such a read. After any other read the cycle counts as it did before (`early`).
-fn early_behind(until: Until, early: bool) -> bool
+fn early_after(until: Until, early: bool) -> bool
     ensures { result ≡ early_after until early }
 {
     match until {
@@ -374,7 +374,7 @@ impl Progress {
             self.tries = plan.retries;
             self.pause = 0;
         }
-        self.early = early_behind(until, self.early);
+        self.early = early_after(until, self.early);
     }
 
     // Ends a pause that was long enough, if a connection is wanted: the next action connects.
@@ -421,7 +421,7 @@ impl Progress {
         self.began = self.began.min(moment.elapsed);
         self.stale = false;
         self.stops = self.stops || moment.stops;
-        self.early = early_behind(until, self.early);
+        self.early = early_after(until, self.early);
     }
 
     // Notes that a read gave nothing until this moment, which may end a pause or a draining.

@@ -186,7 +186,7 @@ impl Station {
 
     // Whether the command `count` places after the next one is sent only once the one before it was answered well. In a missed
     // cycle the result is true for each command, because none is sent.
-    fn is_chained_behind(&self, count: usize, commands: &[Task]) -> bool
+    fn is_chained_after(&self, count: usize, commands: &[Task]) -> bool
         ensures { result ≡ is_chained_after count commands.now self.now.progress }
     {
         self.progress.missed || is_chained(commands, self.place(commands).saturating_add(count))
@@ -194,7 +194,7 @@ impl Station {
 
     // If the command `count` places after the next one begins a further attempt of its chain: how many commands this attempt
     // and those after it have. Else 0.
-    fn others_behind(&self, count: usize, commands: &[Task]) -> usize
+    fn others_after(&self, count: usize, commands: &[Task]) -> usize
         ensures { result ≡ others_after count commands.now self.now.progress }
     {
         others_at(commands, self.place(commands).saturating_add(count))

@@ -43,8 +43,8 @@ impl Station {
                     return Err(failed);
                 }
                 let waiting = self.commands();
-                let next_is_chained = self.is_chained_behind(1, commands);
-                let others = self.others_behind(1, commands);
+                let next_is_chained = self.is_chained_after(1, commands);
+                let others = self.others_after(1, commands);
                 self.progress.skip(next_is_chained, others, moment);
                 self.progress.note_early(plan, waiting);
                 self.client.expire(moment.elapsed);
@@ -68,8 +68,8 @@ impl Station {
             Ok(moment) => {
                 let waiting = self.commands();
                 let count = self.progress.next_others;
-                let next_is_chained = self.is_chained_behind(count, commands);
-                let others = self.others_behind(count, commands);
+                let next_is_chained = self.is_chained_after(count, commands);
+                let others = self.others_after(count, commands);
                 self.progress.leave_out(next_is_chained, others, moment);
                 self.progress.note_early(plan, waiting);
                 self.client.expire(moment.elapsed);

@@ -36,8 +36,8 @@ returns-in-Ok g c text known =
           let progress =
           c.note_early.ensures ∙ ap (λ k. reckoned_early plan k c.leave_out.new.self) waiting
           ∙ ap (reckoned_early plan (commands_in s.marks)) (c.leave_out.ensures
-          ∙ ap (λ b. attempts_left_out b c.others_behind-others.result m old.progress) c.is_chained_behind-next_is_chained.ensures
-          ∙ ap (λ k. attempts_left_out (is_chained_after n commands old.progress) k m old.progress) c.others_behind-others.ensures
+          ∙ ap (λ b. attempts_left_out b c.others_after-others.result m old.progress) c.is_chained_after-next_is_chained.ensures
+          ∙ ap (λ k. attempts_left_out (is_chained_after n commands old.progress) k m old.progress) c.others_after-others.ensures
           ∙ ap goes_on stands.progress) in (
             tt,
             stands_expired old c.note_early.new.self (reckoned_early plan (commands_in s.marks) (goes_on s.progress)) c.expire.new.self c.min-self.result m

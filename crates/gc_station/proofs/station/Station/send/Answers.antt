@@ -25,8 +25,8 @@ returns g c text known =
     let mark = c.mark-mark.result in
     let command = c.command_at-command.result in
     let line = request_text old.client.ids command.call in
-    let next_is_chained = c.is_chained_behind-next_is_chained in
-    let behind = c.others_behind-others in
+    let next_is_chained = c.is_chained_after-next_is_chained in
+    let behind = c.others_after-others in
     record {
       act = put_as put line;
       tells = c.ask-put.ensures.tells;

@@ -49,8 +49,8 @@ returns-in_default-clause-does g c =
           let progress =
           c.note_early.ensures ∙ ap (λ n. reckoned_early plan n c.skip.new.self) waiting
           ∙ ap (reckoned_early plan (commands_in s.marks)) (c.skip.ensures
-          ∙ ap (λ b. skipped b c.others_behind-others.result m mid.progress) (c.is_chained_behind-next_is_chained.ensures ∙ ap (is_chained_after_next commands) same)
-          ∙ ap (λ n. skipped next_is_chained n m mid.progress) (c.others_behind-others.ensures ∙ ap (others_after_next commands) same)
+          ∙ ap (λ b. skipped b c.others_after-others.result m mid.progress) (c.is_chained_after-next_is_chained.ensures ∙ ap (is_chained_after_next commands) same)
+          ∙ ap (λ n. skipped next_is_chained n m mid.progress) (c.others_after-others.ensures ∙ ap (others_after_next commands) same)
           ∙ ap (skipped next_is_chained behind m) same) in (
             tt,
             stands_expired mid c.note_early.new.self (reckoned_early plan (commands_in s.marks) (skipped next_is_chained behind m q)) c.expire.new.self c.min-self.result m
