@@ -15,7 +15,7 @@ pub record Sent : Type 0 where
   pub old : Bool
 
 -- the state of a synchronization: the requests and the replies in flight, the front of each queue first; the id of the reply
--- that the instrument retains; and the ids of the word that aren't answered. If none is left, it has begun
+-- that the instrument retains; and the ids of the word that aren't answered. If none is left, the synchronization is done
 pub record Model : Type 0 where
   pub up : List Sent
   pub down : List Sent
@@ -140,6 +140,6 @@ upward i (suc n) = i % 8 ∷ upward (i + 1) n
 abbrev pub aged : List Sent → List Sent
 aged xs = map (λ x. record { id = x.id; old = true }) xs
 
--- the state in which a beginning with this word begins over what is in flight
+-- the state in which a synchronization with this word starts over what is in flight
 abbrev pub begun_anew : List ℕ → Model → Model
 begun_anew word s = record { up = aged s.up; down = aged s.down; kept = s.kept; left = word }

@@ -394,7 +394,7 @@ module _ {State : Type 0} (ends : Ends State) (Good : State → Type 0) (kept : 
     keeps = λ k e. c.kept k.id (g.keeps k e);
   }
 
-  -- a synchronization that has begun has synchronized cleanly, unless the ids in flight at its start contain the word
+  -- a synchronization that is done ended cleanly, unless the ids in flight at its start contain the word
   pub begins_cleanly : (u : UnderWay State) (ts : List (Turn State)) → AreLines Good u → AreTurns ends Good kept ts (begins u)
       → (IsSubsequence the_word (ids_under_way u) → ⊥) → (turned ends ts (begins u)).left ≡ []
       → HasBegunCleanly kept (turned ends ts (begins u))

@@ -251,7 +251,7 @@ no_longer z word first left line a b more c tail e d none h s =
     third [] d s p g = over_short p left [] line a b c d g s
     third (m ∷ more) d s p g = over_short p left (more ++ c ∷ []) line a b m d g s
 
--- One beginning after the other.
+-- One synchronization after the other.
 
 -- making requests old leaves their ids
 ids_aged : (xs : List Sent) → ids_of (aged xs) ≡ ids_of xs

@@ -1,5 +1,5 @@
--- A whole beginning: the invariant of its line (`IsLine`) holds through each move, and so does what is known of the id of the
--- reply that the instrument retains (`KeptIdFits`). `IsSound` is both.
+-- A whole synchronization: the invariant of its line (`IsLine`) holds through each move, and so does what is known of the id of
+-- the reply that the instrument retains (`KeptIdFits`). `IsSound` is both.
 use Rattle.std.proofs.Common.{◌≡◌, ℕ, Bool, true, false, List, [], ◌∷◌, ◌++◌, Option, Some, None, nat_eq, refl, sym, ◌∙◌, subst}
 use Rattle.std.proofs.lemmas.Bool.{eqb-true}
 use Rattle.gc_client.specs.Beginning.{left_by_one, IsSubsequence, the_word}
@@ -200,12 +200,12 @@ clean_if z s left e f h =
       kept = λ i e. subst (λ k. IsFor z k) e keeps;
     }
 
--- a beginning with a word without an id twice synchronizes cleanly, if what is in flight at its start doesn't contain the word
+-- a synchronization with a word without an id twice ends cleanly, if what is in flight at its start doesn't contain the word
 pub begins_cleanly : (word : List ℕ) (s : Model) (ms : List Move) → AllDiffer word → Begins word s → (moved ms s).left ≡ [] → IsClean (last 0 word) (moved ms s)
 begins_cleanly word s ms differ begins done = clean_if (last 0 word) (moved ms s) (moved ms s).left refl done (sound_moved (last 0 word) ms s (sound_at_start word s differ begins))
 
 -- The word.
 
--- a beginning with the word that a station uses synchronizes cleanly
+-- a synchronization with the word that a station uses ends cleanly
 pub the_word_begins_cleanly : (s : Model) (ms : List Move) → Begins the_word s → (moved ms s).left ≡ [] → IsClean 7 (moved ms s)
 the_word_begins_cleanly s ms begins done = begins_cleanly the_word s ms word_differs begins done

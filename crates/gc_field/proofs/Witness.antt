@@ -126,7 +126,7 @@ abbrev pub asked_each : List (List ℕ) → List part.Turn
 asked_each [] = []
 asked_each (line ∷ lines) = part.Asks ∷ part.Hears line ∷ asked_each lines
 
--- what the turns of this run's beginning show
+-- what the turns of this run's synchronization show
 abbrev all_turns : List part.Turn
 all_turns = part.Asks ∷ part.Hears (codes "%R1P,0,0:0,654321") ∷ part.Hears answer ∷ part.Hears (codes "%R1P,0,6:0") ∷ asked_each (drop 1 replies)
 

@@ -50,7 +50,7 @@ pub record Run (State : Type 0) : Type 0 where
   pub moves : List (Move State)
 
 module _ {State : Type 0} (width : ℕ) (ends : Ends State) where
-  -- the state of a run's synchronization when the run has begun, or is killed before
+  -- the state of a run's synchronization when the run has synchronized, or is killed before
   abbrev pub stood : UnderWay State → Run State → Model State
   stood u r = turned ends r.turns (begins u)
 
@@ -65,7 +65,7 @@ module _ {State : Type 0} (width : ℕ) (ends : Ends State) where
   left_by_run u r = left_if (stood u r).left (stood u r) r.moves
 
   -- how many runs in a row were killed while they synchronized, counted at the end of a run, where `n` were before it. No id of
-  -- its word is left: none, because the run has begun. Some ids are left: one more
+  -- its word is left: none, because the run has synchronized. Some ids are left: one more
   abbrev pub killed_if : List ℕ → ℕ → ℕ
   killed_if [] n = 0
   killed_if (asked ∷ rest) n = n + 1

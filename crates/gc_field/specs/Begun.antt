@@ -165,7 +165,7 @@ module _ {State : Type 0} (width : ℕ) (ends : Ends State) (u : UnderWay State)
     -- its own, from the first request on, if it is `IsSafe`: an answer is among the lines that the instrument made for that request, and is its
     -- reply to that very call
     pub booked : (m : ℕ) (s : Settlement Asked) → 8 ≤ m → IsSafe Good kept ms m → slice_get (behind ms).wire.settled m ≡ Some s → IsBooked ends Good (behind ms).wire.made m s
-    -- and the instrument executed request m at one of these moves, not before the client began
+    -- and the instrument executed request m at one of these moves, not before the client synchronized
     pub executed :
         (m : ℕ) (s : Settlement Asked) (line : List ℕ) → 8 ≤ m → IsSafe Good kept ms m → slice_get (behind ms).wire.settled m ≡ Some s → s.outcome ≡ Answered line
         → WasExecuted (behind ms).wire.executed m

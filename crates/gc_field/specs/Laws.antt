@@ -50,7 +50,7 @@ module _ {State : Type 0} (width : ℕ) (ends : Ends State) (state : State) (ms 
     -- call; but for the first request, which an instrument that retained an older reply with its id may have answered with that
     pub booked :
         (m : ℕ) (s : Settlement Asked) → 0 < m → slice_get left.wire.settled m ≡ Some s → IsBooked ends Good left.wire.made m s
-    -- and the instrument executed request m at one of these moves, not before the client began
+    -- and the instrument executed request m at one of these moves, not before the client synchronized
     pub executed :
         (m : ℕ) (s : Settlement Asked) (line : List ℕ) → 0 < m → slice_get left.wire.settled m ≡ Some s → s.outcome ≡ Answered line → WasExecuted left.wire.executed m
     -- made on it: its line was made on executing request m. At one of these moves that request, with this call, reached the instrument,

@@ -89,8 +89,9 @@ module _ {State : Type 0} (ends : Ends State) where
   written_over reads _ _ = []
 
 -- the part p is what an act means, which takes the station from the model s to t. While the station synchronizes (`false`) the
--- part has turns, and the turn of the next null procedure comes exactly if the one before it is answered. Once it has begun
--- (`true`) the part has steps of the client, as `Means` says: a request that is sent is one whose line the bytes are
+-- part has turns, and the turn of the next null procedure comes exactly if the one before it is answered. Once it has
+-- synchronized (`true`) the part has steps of the client, as `Means` says: a request that is sent is one whose line the bytes
+-- are
 abbrev pub IsMeant : Bool → Model → Act → Part → Model → Type 0
 IsMeant true s act p t = (p.turns ≡ []) × Means s.client s.rest act p.steps t.rest
 IsMeant false s act p t = (p.steps ≡ []) × MeansTurns s.progress.word s.rest act p.turns t.rest × (t.progress.word ≡ unanswered_after s.progress.word (heard_in p.turns))

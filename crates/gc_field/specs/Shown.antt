@@ -15,8 +15,8 @@ first_heard [] = []
 first_heard (x ∷ rest) = part.Hears x.line ∷ []
 
 module _ {State : Type 0} where
-  -- what a turn of the field shows to the station that begins: its null procedure is sent, or a line is heard; what happens on
-  -- the line is nothing to the station
+  -- what a turn of the field shows to the synchronizing station: its null procedure is sent, or a line is heard; what happens
+  -- on the line is nothing to the station
   abbrev pub shows : Model State → Turn State → List part.Turn
   shows s Asks = part.Asks ∷ []
   shows s Comes = first_heard s.down
@@ -29,7 +29,7 @@ module _ {State : Type 0} where
   shows s Anew = []
   shows s (Changes state) = []
 
-  -- what these turns of the field show to the station that begins, in order
+  -- what these turns of the field show to the synchronizing station, in order
   abbrev pub shown : Ends State → List (Turn State) → Model State → List part.Turn
   shown ends [] s = []
   shown ends (t ∷ ts) s = shows s t ++ shown ends ts (turns ends s t)

@@ -42,7 +42,7 @@ heard_lines : (lines : List (List ℕ)) → heard_in (map part.Hears lines) ≡ 
 heard_lines [] = refl
 heard_lines (line ∷ lines) = ap (λ l. line ∷ l) (heard_lines lines)
 
--- What an act does while it begins.
+-- What an act does while it synchronizes.
 
 -- if no id is left, the word is empty
 pub word_of : (w : List ℕ) → is_none_left w ≡ true → w ≡ []
@@ -55,7 +55,7 @@ module _ (plan : Plan) (commands : List Task) where
   heard_piece true lines = heard_lines lines
   heard_piece false lines = refl
 
-  -- the lines that a station hears by an act while it begins are those that the act brings
+  -- the lines that a station hears by an act while it synchronizes are those that the act brings
   heard_by : (s : Model) (o : Action) (act : Act) → Performs commands s o act → heard_in (beginning s o act).turns ≡ lines_heard_at s act
   heard_by s action.Ask (Put bytes) obeys = refl
   heard_by s action.Ask (Cut bytes count) obeys = refl
@@ -120,21 +120,22 @@ FirstHasNone (p ∷ ps) = p.turns ≡ []
 left_both : (word : List ℕ) (xs ys : List part.Turn) → unanswered_after word (heard_in (xs ++ ys)) ≡ unanswered_after (unanswered_after word (heard_in xs)) (heard_in ys)
 left_both word xs ys = ap (λ l. unanswered_after word l) (heard_append xs ys) ∙ left_append word (heard_in xs) (heard_in ys)
 
--- if the part p of an act of a synchronization is joined to the front of the first part: the parts then have begun from `word`
--- (`AreBegun`), if without p they have begun from the ids that the lines of p leave of `word`
+-- if the part p of an act of a synchronization is joined to the front of the first part: the parts then have synchronized from
+-- `word` (`AreBegun`), if without p they have synchronized from the ids that the lines of p leave of `word`
 begun_on : (word : List ℕ) (p : Part) (ps : List Part) → p.steps ≡ [] → AreBegun (unanswered_after word (heard_in p.turns)) ps → AreBegun word (in_front p false ps)
 begun_on word p [] e h = inl e
 begun_on word p (q ∷ []) e (inl f) = inl (nil_both p.steps q.steps e f)
 begun_on word p (q ∷ []) e (inr f) = inr (left_both word p.turns q.turns ∙ f)
 begun_on word p (q ∷ r ∷ ps) e h = (left_both word p.turns q.turns ∙ h.0, h.1)
 
--- if the parts have begun with no id left (`AreBegun []`), they still have with p joined to the front of the first part
+-- if the parts have synchronized with no id left (`AreBegun []`), they still have with p joined to the front of the first part
 begun_in : (p : Part) (ps : List Part) → AreBegun [] ps → AreBegun [] (in_front p false ps)
 begun_in p [] h = inr (left_none (heard_in p.turns))
 begun_in p (q ∷ []) h = inr (left_none (heard_in (p.turns ++ q.turns)))
 begun_in p (q ∷ r ∷ ps) h = (left_none (heard_in (p.turns ++ q.turns)), h.1)
 
--- where parts have begun from all eight ids, p and these parts after it have begun with no id left: p had begun already
+-- where parts have synchronized from all eight ids, p and these parts after it have synchronized with no id left: p had
+-- synchronized already
 begun_out : (p : Part) (ps : List Part) → AreBegun the_word ps → AreBegun [] (p ∷ ps)
 begun_out p [] h = inr (left_none (heard_in p.turns))
 begun_out p (q ∷ ps) h = (left_none (heard_in p.turns), h)
@@ -163,9 +164,9 @@ module _ (plan : Plan) (commands : List Task) where
     by_case true e over = none_over acts over runs
     by_case false e over = subst (λ w. AreBegun w (parts_of plan commands t acts)) (anew e) h
 
-  -- if the parts of the acts after `act` have begun from the ids that it leaves, the parts with `act` before it have begun from
-  -- the ids before it. `begun` is whether the station had synchronized before the act, and `lost` whether all that is
-  -- outstanding is lost at its end
+  -- if the parts of the acts after `act` have synchronized from the ids that it leaves, the parts with `act` before it have
+  -- synchronized from the ids before it. `begun` is whether the station had synchronized before the act, and `lost` whether all
+  -- that is outstanding is lost at its end
   parts_begun_with : (s : Model) (act : Act) (acts : List Act) (begun lost : Bool) → has_begun s.progress ≡ begun → loses_all (after plan commands s act).progress ≡ lost
       → Performs commands s (action_at plan s) act → Runs plan commands (after plan commands s act) acts
       → AreBegun (after plan commands s act).progress.word (parts_of plan commands (after plan commands s act) acts)
@@ -187,13 +188,13 @@ module _ (plan : Plan) (commands : List Task) where
       subst (λ w. AreBegun w (p ∷ parts_of plan commands t acts)) (sym (word_of s.progress.word e))
       (begun_out p (parts_of plan commands t acts) (next_begun t acts f (λ begins. word_anew plan commands s act obeys e begins) runs h))
 
-  -- all parts of a run have begun, as `AreBegun` says
+  -- all parts of a run have synchronized, as `AreBegun` says
   pub parts_begun : (s : Model) (acts : List Act) → Runs plan commands s acts → AreBegun s.progress.word (parts_of plan commands s acts)
   parts_begun s [] runs = inl refl
   parts_begun s (act ∷ acts) runs =
       parts_begun_with s act acts (has_begun s.progress) (loses_all (after plan commands s act).progress) refl refl runs.0 runs.1 (parts_begun (after plan commands s act) acts runs.1)
 
-  -- Once it has begun there are no turns.
+  -- Once it has synchronized there are no turns.
 
   -- parts of which the first has no turns stay so with a part without turns before it
   none_in_front : (p : Part) (b : Bool) (ps : List Part) → p.turns ≡ [] → (b ≡ false → FirstHasNone ps) → FirstHasNone (in_front p b ps)

@@ -58,7 +58,7 @@ lines_answered word [] ids h = h
 lines_answered word (line ∷ others) ids h = left_answered word line others ids (lines_answered (left_by word (heard line)) others ids h)
 
 module _ (plan : Plan) (commands : List Task) where
-  -- a station that begins doesn't resynchronize
+  -- a synchronizing station doesn't resynchronize
   begins_not : (s : Model) (o : Action) → IsFor plan s.progress (waiting_of s) o → has_begun s.progress ≡ false → o ≡ actions.Renew → ⊥
   begins_not s o needs begins is = let it = subst (λ (x : Action). IsFor plan s.progress (waiting_of s) x) is needs in not_both (has_begun s.progress) it.1 begins
 
@@ -118,7 +118,7 @@ none_before_the_last plan commands scope earlier between runs asks =
     none_before plan commands (state_after plan commands scope earlier) between (runs_behind plan commands (opening plan scope) earlier between runs)
     (ap (λ (x : Model). has_begun x.progress) (sym (after_all-append plan commands (opening plan scope) earlier between)) ∙ begun)
 
--- Each act while it begins, and if it resynchronizes.
+-- Each act while it synchronizes, and if it resynchronizes.
 
 module _ (plan : Plan) (commands : List Task) (scope : Scope) (acts : List Act) (act : Act) where
   -- the model before the act

@@ -85,8 +85,8 @@ record Whole (plan : Plan) (commands : List Task) (scope : Scope) (acts : List A
   keeps : StaysBegun plan commands (state_after plan commands scope before) (request ∷ between)
   cycles : PreparesNothing plan commands (state_after plan commands scope before) (request ∷ between)
 
--- if all acts (`all`) are `before` and then `behind`, and the station has synchronized after all of them, it has begun after
--- `behind`, counted from the model after `before`
+-- if all acts (`all`) are `before` and then `behind`, and the station has synchronized after all of them, it has synchronized
+-- after `behind`, counted from the model after `before`
 begun_there : (plan : Plan) (commands : List Task) (scope : Scope) (before behind all : List Act) (q : Progress) → all ≡ before ++ behind
     → (state_after plan commands scope all).progress ≡ q → has_begun q ≡ true
     → has_begun (after_all plan commands (state_after plan commands scope before) behind).progress ≡ true

@@ -58,7 +58,7 @@ mid_begun plan commands s m is none settled some mid =
 -- a line feed that was sent preserves the weaker record
 mid_cleared : (plan : Plan) (commands : List Task) (s : Model) → s.progress.phase ≡ Clearing → Mid plan commands s → Mid plan commands (with_progress cleared s)
 mid_cleared plan commands s is mid = (mid.0, by_word (has_begun s.progress)) where
-  -- the lemma above, whether the station has synchronized (`true`) or begins
+  -- the lemma above, whether the station has synchronized (`true`) or is synchronizing
   by_word : (cycle_begun : Bool) → Placed (if cycle_begun then Draining else Ready) s.progress.left s.progress.unsent s.rest s.marks
   by_word true = record { empty = λ e. mid.1.empty (ap is_bare is); finished = λ e. cc }
   by_word false = record { empty = λ e. cc; finished = λ e. cc }

@@ -276,7 +276,7 @@ module _ (plan : Plan) (commands : List Task) (s : Model) (o : Action) (act : Ac
 -- if nothing is lost, the station has synchronized
 not_lost : (p : Progress) → loses_all p ≡ false → has_begun p ≡ true
 not_lost p e = by_test (has_begun p) _ e where
-  -- the lemma above, by whether it has begun
+  -- the lemma above, by whether it has synchronized
   by_test : (b over : Bool) → (not b || over) ≡ false → b ≡ true
   by_test true over e = refl
   by_test false over e = cc

@@ -3,7 +3,7 @@
 -- records of the model, and has taken `taken` (and later `taken'`) with them; `text` is how a record is written. `left` is what
 -- is not heard yet of the piece, `rest` the bytes since the last line feed. A piece is the bytes that one read gave, and a
 -- frame what a line feed ends. `Refines station s`: the station stands for the model s. `Hearing` and `Asking` say how far a
--- piece was heard, once the station has synchronized and while it begins.
+-- piece was heard, once the station has synchronized and while it synchronizes.
 use Rattle.std.proofs.Common.{◌≡◌, ℕ, zero, suc, ◌+◌, ◌-◌, min, List, [], ◌∷◌, ◌++◌, Bool, true, false, length, drop, map, Option, Some, None, Result, Ok, Err, OnOk, refl, sym, ap, ◌∙◌, subst, append_assoc, length-drop, arith}
 use Rattle.std.specs.List.{filter_map}
 use Rattle.std.specs.Option.{option_to_list}
@@ -363,8 +363,8 @@ pub lines_asked-append : (p : Progress) (xs ys : List (List ℕ)) → lines_aske
 lines_asked-append p [] ys = refl
 lines_asked-append p (x ∷ xs) ys = lines_asked-append (line_asked p x) xs ys
 
--- a station that has heard a piece but for `left` while it begins, and is as the model `now`: hearing what is left comes to what
--- hearing the whole piece from the model s comes to
+-- a station that has heard a piece but for `left` while it synchronizes, and is as the model `now`: hearing what is left comes
+-- to what hearing the whole piece from the model s comes to
 pub record Asking (station : Station) (s : Model) (piece left : List ℕ) : Type 0 where
   pub now : Model
   pub stands : Refines station now

@@ -205,8 +205,8 @@ module _ (plan : Plan) (commands : List Task) (all : AreOfTable commands) where
   do_tables s o (Cut bytes count) = put_tables s o
   do_tables s o act = tt
 
-  -- what every run of calls of the table keeps: while it begins nothing is after; and once it has begun, and isn't over, as
-  -- many are after as wait
+  -- what every run of calls of the table keeps: while it synchronizes nothing is after; and once it has begun, and isn't over,
+  -- as many are after as wait
   record Free (s : Model) : Type 0 where
     begins : has_begun s.progress ≡ false → s.progress.behind ≡ 0
     level : has_begun s.progress ≡ true → is_over s.progress ≡ false → Level s.client s.progress.behind
@@ -280,7 +280,7 @@ module _ (plan : Plan) (commands : List Task) (all : AreOfTable commands) where
     far : u.progress ≡ t.progress
     far = losing_progress (loses_all t.progress) t
 
-    -- the act so far, at a station that has begun
+    -- the act so far, at a synchronized station
     moves : has_begun s.progress ≡ true → has_begun t.progress ≡ true → is_over s.progress ≡ false → Level t.client t.progress.behind
     moves begun still going =
         let steps = (doing plan commands s o act).steps in

@@ -48,7 +48,7 @@ pub record Invariant (plan : Plan) (commands : List Task) (s : Model) : Type 0 w
   pub paired : length s.marks ≡ length s.client.waiting
   pub window : length s.client.waiting ≤ 7
   pub digit : s.client.next < 8
-  -- while it begins nothing is outstanding, and the client is new
+  -- while it synchronizes nothing is outstanding, and the client is new
   pub begins : has_begun s.progress ≡ false → s.client ≡ fresh
   pub rest : is_bare s.progress.phase ≡ true → s.rest ≡ []
   pub over : is_over s.progress ≡ true → s.client.waiting ≡ []

@@ -392,7 +392,7 @@ module _ (plan : Plan) (commands : List Task) (scope : Scope) where
     p : Progress
     p = s.progress
 
-    -- if a request is outstanding, by whether the station has synchronized: no request is outstanding while it begins
+    -- if a request is outstanding, by whether the station has synchronized: no request is outstanding while it synchronizes
     by_begun : (b : Bool) → has_begun p ≡ b → nat_lt 0 (length s.client.waiting) ≡ true → is_sought p.word p.again p.asked ≡ true
     by_begun true begun some = sought_begun p.word p.again p.asked begun
     by_begun false begins some =

@@ -141,7 +141,7 @@ module _ (plan : Plan) (commands : List Task) (scope : Scope) where
   stays_more s [] act h keeps begun = (keeps, begun, tt)
   stays_more s (x ∷ xs) act h keeps begun = (h.0, h.1, stays_more (after plan commands s x) xs act h.2 keeps begun)
 
-  -- the acts since a request, with one more, if no connection was closed and the station is begun after it
+  -- the acts since a request, with one more, if no connection was closed and the station is synchronized after it
   since_more : (acts before since : List Act) (act : Act) → acts ≡ before ++ since → StaysUp plan commands (at before) since → KeepsOpen act
       → has_begun (at (acts ++ act ∷ [])).progress ≡ true → (acts ++ act ∷ [] ≡ before ++ (since ++ act ∷ [])) × StaysUp plan commands (at before) (since ++ act ∷ [])
   since_more acts before since act order stays keeps begun =
@@ -150,7 +150,7 @@ module _ (plan : Plan) (commands : List Task) (scope : Scope) where
       (sym (ap (state_after plan commands scope) longer ∙ after_all-append plan commands (opening plan scope) before (since ++ act ∷ []))) ∙ begun in
       (longer, stays_more (at before) since act stays keeps there)
 
-  -- an act that closes no connection, after which the station is begun, preserves `ArePrepared`
+  -- an act that closes no connection, after which the station is synchronized, preserves `ArePrepared`
   prepared_more : (n : ℕ) (acts : List Act) (act : Act) → KeepsOpen act → has_begun (at (acts ++ act ∷ [])).progress ≡ true → ArePrepared plan commands scope acts n
       → ArePrepared plan commands scope (acts ++ act ∷ []) n
   prepared_more n acts act keeps begun h place below =

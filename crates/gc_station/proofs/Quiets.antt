@@ -86,7 +86,8 @@ listening_stays (Silent m) e = tt
 listening_stays act e = absurd e
 
 module _ (plan : Plan) (commands : List Task) (scope : Scope) where
-  -- these acts end with a connection that was made when the station had synchronized (`true`), or while it began (`false`)
+  -- these acts end with a connection that was made when the station had synchronized (`true`), or while it synchronized
+  -- (`false`)
   abbrev pub IsOpenedSo : Bool → List Act → Type 0
   IsOpenedSo begun acts = (before : List Act) × (acts ≡ before ++ Opened ∷ []) × (has_begun (state_after plan commands scope before).progress ≡ begun)
 

@@ -39,7 +39,7 @@ word_came true [] piece s e =
 word_came true (asked ∷ others) piece s e = word_asked s.progress (lines_completed s.rest piece) ∙ ap (λ (w : List ℕ). unanswered_after w (lines_completed s.rest piece)) e
 word_came false word piece s e = e
 
--- if a station synchronizes after a piece, it began before it
+-- if a station synchronizes after a piece, it was synchronizing before it
 pub begins_before : (h : Bool) (word piece : List ℕ) (s : Model) → s.progress.word ≡ word → has_begun (after_piece h word piece s).progress ≡ false → is_none_left word ≡ false
 begins_before h [] piece s e f =
     let lines = if h then lines_completed s.rest piece else [] in absurd (not_both (has_begun (after_piece h [] piece s).progress) (ap is_none_left (word_came h [] piece s e ∙ left_none lines)) f)
@@ -68,7 +68,7 @@ module _ (plan : Plan) (commands : List Task) where
   word_moved s (actions.Stop why) act obeys other = absurd obeys
   word_moved s o act obeys other = walk plan commands (Leaves s) o (with_progress turned s) act obeys (λ m. refl, λ n. refl)
 
-  -- an act of any action but `Renew` leaves a station begun
+  -- an act of any action but `Renew` leaves a synchronized station synchronized
   pub begun_other : (s : Model) (o : Action) (act : Act) → Performs commands s o act → (o ≡ actions.Renew → ⊥) → has_begun s.progress ≡ true
       → has_begun (moved plan commands o (with_progress turned s) act).progress ≡ true
   begun_other s o act obeys other begun = by_word s.progress.word refl begun where

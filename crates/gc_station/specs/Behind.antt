@@ -47,8 +47,8 @@ CommandsGoOutBehindTheTable =
 abbrev pub AreOfTable : List Task → Type 0
 AreOfTable tasks = AllByRecursion (λ task. is_of_table task.command.call ≡ true) tasks
 
--- if all commands are calls of the table, and a run has begun and isn't over, the outstanding requests are those sent after the
--- last call of the table that a reply ended; so a command that may be sent is sent as soon as there is room
+-- if all commands are calls of the table, and a run has synchronized and isn't over, the outstanding requests are those sent
+-- after the last call of the table that a reply ended; so a command that may be sent is sent as soon as there is room
 abbrev pub TheTableIsNeverHeldUp : Type 0
 TheTableIsNeverHeldUp =
     (plan : Plan) (commands : List Task) (scope : Scope) (acts : List Act) → Runs plan commands (opening plan scope) acts → AreOfTable commands

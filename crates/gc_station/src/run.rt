@@ -63,14 +63,15 @@ pub(crate) fn run<L: Link, B: Book>(
 /// Sends the commands over a link, in cycles, by the plan, and writes into a book how each command ended.
 ///
 /// What a station does next is a function of what its link recorded: `action_at`. It connects, sends a lone line feed, and
-/// begins: eight null procedures are sent one after the other, with ids 6, 5, 4, 3, 2, 1, 0 and 7. One that isn't answered by
-/// its deadline is sent again with the same id, also on the next connection. Any reply with that id answers it; all other bytes
-/// are discarded. After the eighth answer the client is new, with next id 0. Then the commands of a cycle are sent, each once,
-/// while fewer requests are in flight than the plan's width, and fewer than seven are outstanding in all. Each moment times out
-/// the requests whose deadline has come, before the bytes that came with it are heard. A request that has timed out keeps its
-/// id and no longer holds up the others: its own reply settles it as late, and the reply to a later request as lost. If no
-/// command may be sent before those that are outstanding are settled, and all outstanding requests have timed out, a null
-/// procedure is sent after them. Its reply settles them; it is in no record. A command is never sent again in its cycle.
+/// synchronizes: eight null procedures are sent one after the other, with ids 6, 5, 4, 3, 2, 1, 0 and 7. One that isn't
+/// answered by its deadline is sent again with the same id, also on the next connection. Any reply with that id answers it; all
+/// other bytes are discarded. After the eighth answer the client is new, with next id 0. Then the commands of a cycle are sent,
+/// each once, while fewer requests are in flight than the plan's width, and fewer than seven are outstanding in all. Each
+/// moment times out the requests whose deadline has come, before the bytes that came with it are heard. A request that has
+/// timed out keeps its id and no longer holds up the others: its own reply settles it as late, and the reply to a later request
+/// as lost. If no command may be sent before those that are outstanding are settled, and all outstanding requests have timed
+/// out, a null procedure is sent after them. Its reply settles them; it is in no record. A command is never sent again in its
+/// cycle.
 ///
 /// A command is sent only if one of the seven requests before it is a call of the table that a reply ended, or the last null
 /// procedure of the synchronization. Else a null procedure is sent first, once no request is in flight that hasn't timed out.
