@@ -1,8 +1,8 @@
-//! The subcommands that ask over a connection. None of them begins where a standard stream is closed.
+//! The subcommands that ask over a connection. None of them begins if a standard stream is closed.
 
 ghost use Rattle.std.specs.Prelude.{◌≡◌, ◌≤◌, false, IfOk};
 ghost use Rattle.std.specs.Process.{exit_status};
-ghost use Rattle.gc_messages.specs.Streams.{are_open, TellsClosed};
+ghost use Rattle.gc_messages.specs.Streams.{are_open, ReportsClosed};
 
 use gc_lines::{Durable, Source};
 use gc_links::Place;
@@ -36,8 +36,8 @@ pub(crate) fn run_asking<
     asking: Asking<'_>,
     mut streams: Streams<S, K, E>,
 ) -> (Streams<S, K, E>, io::Result<ExitCode>)
-    // Where a stream is closed, that is reported with status 1, and nothing was read or written.
-    ensures closed { are_open standard ≡ false → IfOk result.1 (λ status. TellsClosed standard (exit_status status) (E.contents streams.messages) (E.contents result.0.messages)) }
+    // If a stream is closed, that is reported with status 1, and nothing was read or written.
+    ensures closed { are_open standard ≡ false → IfOk result.1 (λ status. ReportsClosed standard (exit_status status) (E.contents streams.messages) (E.contents result.0.messages)) }
     ensures untouched { are_open standard ≡ false → (result.0.input ≡ streams.input) × (result.0.output ≡ streams.output) }
     ensures bound { IfOk result.1 (λ status. exit_status status ≤ 2) }
 {
@@ -152,15 +152,15 @@ fn measure_site<
     };
     let lossy = lossy_of(streams);
     let (mut lossy, ended) = measure_recorded(rt, alloc, spot, site, station, recording, lossy);
-    let _ = spot.tell(&mut lossy.messages);
-    // The system's reason is told only where the place couldn't be reached, or no run stopped for a fault.
+    let _ = spot.report(&mut lossy.messages);
+    // The system's reason is reported only if the place couldn't be reached, or no run stopped for a fault.
     if !spot.is_unreached() {
         rt.forget();
     }
     (lossless_of(lossy), ended)
 }
 
-// Measures at a site, with the records in a file where one is named. The streams are handed back.
+// Measures at a site, with the records in a file if one is named. The streams are handed back.
 fn measure_recorded<
     R: Net<Listener = TcpListener, Stream = TcpStream> + Clock + Files<File = File>,
     S: Source,

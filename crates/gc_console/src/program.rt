@@ -1,4 +1,4 @@
-//! The command line of `geocom`: which subcommand runs, and the exit status where none does.
+//! The command line of `geocom`: which subcommand runs, and the exit status if none does.
 
 ghost use Rattle.std.specs.Prelude.{◌≡◌, ◌≤◌, ◌⊎◌, IfOk, OnOk};
 ghost use Rattle.std.specs.Io.KnownBytes.{Appends};
@@ -27,11 +27,10 @@ use std::rt::Files;
 use std::time::Clock;
 
 /// Runs a command line, whose first word is the program's name, over the net, the clock and the files, and over an input, an
-/// output and a place for messages, and gives the exit status: 0 where it is done or asked for help or the version, 1 after a
-/// fault, which is one line on the messages, and 2 for words that don't parse. It fails itself only where a text can't be
-/// written.
+/// output and a place for messages, and gives the exit status: 0 if it is done or asked for help or the version, 1 after a
+/// fault, which is one line on the messages, and 2 for words that don't parse. It fails itself only if a text can't be written.
 ///
-/// `standard` says which of the three streams are open. Where one isn't, `station`, `ask` and `loop` only report it, and `serve`
+/// `standard` says which of the three streams are open. If one isn't, `station`, `ask` and `loop` only report it, and `serve`
 /// fills its place.
 pub fn run_program<
     R: Net<Listener = TcpListener, Stream = TcpStream> + Clock + Files<File = File>,
@@ -104,7 +103,7 @@ fn run_asked<
     }
 }
 
-// Answers requests as the instrument of the file `scene`, or as the simulator where none is named. The input is read ahead.
+// Answers requests as the instrument of the file `scene`, or as the simulator if none is named. The input is read ahead.
 fn run_exec<R: Files, I: Read + Drop, O: Write + Drop, E: Write + Drop>(
     rt: &R,
     alloc: Global,
@@ -176,7 +175,7 @@ fn run_serve<
 {
     let noting = Noting::new(rt);
     let ended = serve_filled(&noting, alloc, standard, serving, &mut streams.messages);
-    noting.tell(standard, ended, &mut streams.messages)
+    noting.report(standard, ended, &mut streams.messages)
 }
 
 // Runs a subcommand that asks over a connection, and reports how that ended; after a fault also what the system refused last, and
@@ -207,7 +206,7 @@ fn run_over<
         messages,
     };
     let (mut streams, ended) = run_asking(&noting, alloc, standard, asking, streams);
-    noting.tell(standard, ended, &mut streams.messages)
+    noting.report(standard, ended, &mut streams.messages)
 }
 
 // Reports why words ask for no subcommand: memory ran out, they don't parse, or they ask for the help or the version. `reads`
@@ -221,7 +220,7 @@ fn answer<O: Write, E: Write>(
     ensures { IfOk result (λ status. exit_status status ≤ 2) }
 {
     if error.kind() == ErrorKind::OutOfMemory {
-        return want_of_memory(messages);
+        return report_out_of_memory(messages);
     }
     if error.use_stderr() {
         return refuse(error, reads, messages);
@@ -254,8 +253,8 @@ fn reads_a_text(words: &[String]) -> bool {
     }
 }
 
-// Writes why a command line doesn't parse. Where an argument is unknown, and the subcommand reads a text (`reads`), a second
-// line says that the text comes on standard input. The status is 2.
+// Writes why a command line doesn't parse. If an argument is unknown, and the subcommand reads a text (`reads`), a second line
+// says that the text comes on standard input. The status is 2.
 fn refuse<E: Write>(error: &Error, reads: bool, messages: &mut E) -> io::Result<ExitCode>
     ensures { IfOk result (λ status. exit_status status ≡ 2) }
 {
@@ -269,25 +268,25 @@ fn refuse<E: Write>(error: &Error, reads: bool, messages: &mut E) -> io::Result<
     Ok(ExitCode::from(2))
 }
 
-// The words of the command line in a vector. It fails where one isn't UTF-8, or where memory ran out.
+// The words of the command line in a vector. It fails if one isn't UTF-8, or if memory ran out.
 fn all_words(alloc: Global, words: io::Result<Args>) -> io::Result<Vec<String>> {
     Ok(words?.collect(alloc)?)
 }
 
-// Reports that the words couldn't be read: with status 2 where one isn't UTF-8, and with status 1 where memory ran out.
+// Reports that the words couldn't be read: with status 2 if one isn't UTF-8, and with status 1 if memory ran out.
 fn refuse_words<E: Write>(error: &io::Error, messages: &mut E) -> io::Result<ExitCode>
     ensures refused { IfOk result (λ status. 1 ≤ exit_status status) }
     ensures bound { IfOk result (λ status. exit_status status ≤ 2) }
 {
     if error.kind() == io::ErrorKind::OutOfMemory {
-        return want_of_memory(messages);
+        return report_out_of_memory(messages);
     }
     writeln!(messages, "error: a word of the command line is no text")?;
     Ok(ExitCode::from(2))
 }
 
 // Reports that memory ran out as the command line was read, with status 1, as any fault.
-fn want_of_memory<E: Write>(messages: &mut E) -> io::Result<ExitCode>
+fn report_out_of_memory<E: Write>(messages: &mut E) -> io::Result<ExitCode>
     ensures status { IfOk result (λ status. exit_status status ≡ 1) }
     ensures text { OnOk result (Appends (E.contents messages.old) (E.contents messages.new) (fault_line (run_fault_text RunFault.Memory))) }
 {

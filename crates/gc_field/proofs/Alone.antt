@@ -1,5 +1,5 @@
--- Two requests go out at once, and the instrument keeps a reply with the second one's id: that reply is booked for the second
--- request.
+-- Two requests are sent at once, and the instrument retains a reply with the second one's id: that reply is booked for the
+-- second request.
 use Rattle.std.proofs.Common.{◌≡◌, ℕ, true, false, List, [], ◌∷◌, ◌++◌, Option, Some, sym, ◌∙◌, ap, subst, lit<}
 use Rattle.gc_catalogue.specs.declared.asked.Asked.TheVariants.{Table}
 use Rattle.gc_catalogue.specs.declared.call.Call.TheVariants.{NullProc}
@@ -17,7 +17,7 @@ use Rattle.gc_field.specs.Alone.{IsBookedUnexecuted, two_at_once}
 use Rattle.gc_field.specs.Made.{WasMadeOn, wire_behind}
 
 module _ (s : State) (line : List ℕ) where
-  -- the world in which the second request alone is under way
+  -- the world in which the second request alone is in flight
   abbrev out : World (ById Asked) State
   out = moved ends (by_ids 7 ends) (Sends 1 (Table NullProc) 9 ∷ Sends 2 (Table NullProc) 9 ∷ OnLine (Up_lose 0) ∷ []) (ids_open s)
 
@@ -37,7 +37,7 @@ module _ (s : State) (line : List ℕ) where
   abbrev heard_as : Option ℕ → World (ById Asked) State
   heard_as o = with_settled (record (reached again).wire { down = [] }) (hears (reached again).client line o)
 
-  -- where the instrument keeps a reply with id 1, it sends that reply again for a request with that id
+  -- if the instrument retains a reply with id 1, it sends that reply again for a request with that id
   handed_is : kept_line (kept_of s) (Some 1) ≡ Some line → ends.handed s 1 (Table NullProc) ≡ again
   handed_is k = keeper.again s 1 NullProc line k
 
@@ -73,7 +73,7 @@ module _ (s : State) (line : List ℕ) where
       sym (ap (λ (h : Handed State). h.executed) (handed_is k)) ∙ subst (λ i. (ends.handed s i (Table NullProc)).executed ≡ true) (sym id) executed in
       cc
 
-  -- the reply that is kept is booked for the second request
+  -- the reply that is retained is booked for the second request
   pub booked : IsFittingState s → kept_line (kept_of s) (Some 1) ≡ Some line → IsBookedUnexecuted s line
   booked fits k =
       record {

@@ -10,6 +10,7 @@ use Rattle.gc_station.specs.Records.{Record}
 use Rattle.gc_field.specs.World.{Sent}
 use Rattle.gc_world.proofs.Options.{none_is_not}
 use Rattle.gc_field.specs.Laws.{asked}
+use Rattle.gc_field.proofs.Once.{true_is_not}
 
 -- an answer among settlements and lost requests is among the settlements
 pub among_settled : (xs : List (Settlement Asked)) (ps : List (Pending Asked)) (n : ℕ) (x : Settlement Asked) (line : List ℕ) → slice_get (xs ++ map lost ps) n ≡ Some x
@@ -27,10 +28,6 @@ among_settled [] ps n x line got answered = absurd (never ps n got) where
   never [] n e = cc
   never (p ∷ ps) zero e = lost_not p (some_same (lost p) x e)
   never (p ∷ ps) (suc n) e = never ps n e
-
--- true isn't false
-pub true_is_not : true ≡ false → ⊥
-true_is_not e = cc
 
 -- a late settlement among settlements and lost requests is among the settlements
 pub among_late : (xs : List (Settlement Asked)) (ps : List (Pending Asked)) (n : ℕ) (x : Settlement Asked) → slice_get (xs ++ map lost ps) n ≡ Some x → x.outcome ≡ Late → slice_get xs n ≡ Some x

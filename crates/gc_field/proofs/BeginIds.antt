@@ -1,5 +1,6 @@
--- A beginning over a line of ids alone: the line, its two ends, what may happen, and a run. The *word* of a beginning is the
--- list of the ids of its null procedures. The *beginner* asks them one after the other, each until it is answered.
+-- A synchronization over a line of ids alone: the line, its two ends, what may happen, and a run. The *word* of a
+-- synchronization is the list of the ids of its null procedures. The *beginner* asks them one after the other, each until it is
+-- answered.
 use Rattle.std.specs.Prelude.{◌≡◌, ℕ, zero, suc, ◌+◌, ◌%◌, nat_eq, Bool, true, false, List, [], ◌∷◌, ◌++◌, map, Option, Some, None}
 use Rattle.gc_client.specs.Beginning.{IsSubsequence, left_by_one}
 use Rattle.gc_world.specs.Order.{Each}
@@ -7,14 +8,14 @@ use Rattle.gc_field.specs.World.{without, doubled}
 
 -- The line.
 
--- a request under way, or a reply: its id, and whether the request (or the one for which the reply was sent) is from before
--- this beginning
+-- a request in flight, or a reply: its id, and whether the request (or the one for which the reply was sent) is from before
+-- this synchronization
 pub record Sent : Type 0 where
   pub id : ℕ
   pub old : Bool
 
--- the state of a beginning: the requests and the replies under way, the front of each queue first; the id of the reply that the
--- instrument keeps; and the ids of the word that aren't answered. If none is left, it has begun
+-- the state of a synchronization: the requests and the replies in flight, the front of each queue first; the id of the reply
+-- that the instrument retains; and the ids of the word that aren't answered. If none is left, the synchronization is done
 pub record Model : Type 0 where
   pub up : List Sent
   pub down : List Sent
@@ -23,13 +24,14 @@ pub record Model : Type 0 where
 
 -- What may happen.
 
--- one step of a beginning, by the ids of the lines alone
+-- one step of a synchronization, by the ids of the lines alone
 pub data Move : Type 0 where
-  -- a null procedure goes out, with the id that is asked for now: the first time or again
+  -- a null procedure is sent, with the id that is asked for now: the first time or again
   Ask : Move
-  -- the front request reaches the instrument, whose reply goes out, or is lost at once
+  -- the front request reaches the instrument, whose reply is sent, or is lost at once
   Reach : (replies : Bool) → Move
-  -- the front request reaches the instrument, whose reply goes out, and which still keeps what it kept, if that request is old
+  -- the front request reaches the instrument, whose reply is sent, and which still retains what it retained, if that request is
+  -- old
   Pass : Move
   -- the front reply comes
   Come : Move
@@ -38,11 +40,11 @@ pub data Move : Type 0 where
   Up_repeat : (which : ℕ) → Move
   Down_lose : (which : ℕ) → Move
   Down_repeat : (which : ℕ) → Move
-  -- the instrument starts anew, whatever is under way
+  -- the instrument starts again, whatever is in flight
   Anew : Move
 
 -- the ids that are left of the word once a reply with this id came: the reply answers the first of them if it has that id, and
--- else is dropped
+-- else is discarded
 abbrev pub heard : List ℕ → ℕ → List ℕ
 heard [] id = []
 heard (asked ∷ rest) id = left_by_one (nat_eq id asked) asked rest
@@ -52,20 +54,20 @@ abbrev pub asks : Model → List ℕ → Model
 asks s [] = s
 asks s (asked ∷ rest) = record s { up = s.up ++ record { id = asked; old = false } ∷ [] }
 
--- the state once the front request of this queue reached the instrument (true: its reply goes out; false: it is lost), which
--- replies with the request's id: by the reply that it keeps, if that has this id, and else by executing the request, whose
--- reply it then keeps. So what it keeps has this id from now on, and what it sends is for this request
+-- the state once the front request of this queue reached the instrument (true: its reply is sent; false: it is lost), which
+-- replies with the request's id: by the reply that it retains, if that has this id, and else by executing the request, whose
+-- reply it then keeps. So what it retains has this id from now on, and what it sends is for this request
 abbrev pub reaches : Model → Bool → List Sent → Model
 reaches s replies [] = s
 reaches s true (x ∷ rest) = record s { up = rest; down = s.down ++ x ∷ []; kept = Some x.id }
 reaches s false (x ∷ rest) = record s { up = rest; kept = Some x.id }
 
--- the id of what is kept once a request with this id was passed over (`k` before): an old one leaves it
+-- the id of what is retained once a request with this id was left out (`k` before): an old one leaves it
 abbrev pub kept_past : Bool → ℕ → Option ℕ → Option ℕ
 kept_past true id k = k
 kept_past false id k = Some id
 
--- the state once the front request of this queue was passed over: its reply goes out, and if it is old, what is kept stays
+-- the state once the front request of this queue was left out: its reply is sent, and if it is old, what is retained stays
 abbrev pub passes : Model → List Sent → Model
 passes s [] = s
 passes s (x ∷ rest) = record s { up = rest; down = s.down ++ x ∷ []; kept = kept_past x.old x.id s.kept }
@@ -105,23 +107,23 @@ AllDiffer ids = Pairs (λ i j. i ≡ j → ⊥) ids
 abbrev pub ids_of : List Sent → List ℕ
 ids_of xs = map (λ x. x.id) xs
 
--- `last z word` is the last id of the word, or z where the word is empty
+-- `last z word` is the last id of the word, or z if the word is empty
 abbrev pub last : ℕ → List ℕ → ℕ
 last z [] = z
 last z (i ∷ ids) = last i ids
 
--- A beginning.
+-- A synchronization.
 
--- the start of a beginning: all that is in flight is old, and the ids in flight, those of replies first, don't contain the
--- word
+-- the start of a synchronization: all that is in flight is old, and the ids in flight, those of replies first, don't contain
+-- the word
 pub record Begins (word : List ℕ) (s : Model) : Type 0 where
   pub left : s.left ≡ word
   pub up : Each (λ x. x.old ≡ true) s.up
   pub down : Each (λ x. x.old ≡ true) s.down
   pub absent : IsSubsequence word (ids_of s.down ++ ids_of s.up) → ⊥
 
--- a beginning that has begun cleanly: nothing old is in flight, and all that is in flight has this id; so has what the
--- instrument keeps, if it keeps anything
+-- a synchronization that ended cleanly: nothing old is in flight, and all that is in flight has this id; so has what
+-- the instrument retains, if it retains anything
 pub record IsClean (id : ℕ) (s : Model) : Type 0 where
   pub up : Each (λ x. (x.old ≡ false) × (x.id ≡ id)) s.up
   pub down : Each (λ x. (x.old ≡ false) × (x.id ≡ id)) s.down
@@ -138,6 +140,6 @@ upward i (suc n) = i % 8 ∷ upward (i + 1) n
 abbrev pub aged : List Sent → List Sent
 aged xs = map (λ x. record { id = x.id; old = true }) xs
 
--- the state in which a beginning with this word begins over what is under way
+-- the state in which a synchronization with this word starts over what is in flight
 abbrev pub begun_anew : List ℕ → Model → Model
 begun_anew word s = record { up = aged s.up; down = aged s.down; kept = s.kept; left = word }

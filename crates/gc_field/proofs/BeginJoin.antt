@@ -1,5 +1,5 @@
--- A beginning over lines of bytes is one over their ids: any turns of the former are some moves of the latter. `Shows` says
--- that the state of the one over ids is that of the one over lines.
+-- A synchronization over lines of bytes is one over their ids: any turns of the former are some moves of the latter. `Shows`
+-- says that the state of the one over ids is that of the one over lines.
 use Rattle.std.proofs.Common.{◌≡◌, ℕ, zero, suc, ◌<◌, ◌⊎◌, inl, inr, Bool, true, false, List, [], ◌∷◌, ◌++◌, map, Option, Some, None, refl, sym, ◌∙◌, ap, subst, arith}
 use mathlib.Core.Path.{ap₂}
 use Rattle.std.specs.List.{filter_map, cons_option}
@@ -24,6 +24,7 @@ use Rattle.gc_field.proofs.BeginIds.{Sent, Begins, IsClean, aged, begun_anew, id
 use Rattle.gc_field.proofs.BeginKilled.{begins_anew, behind_one, under_way}
 use Rattle.gc_field.proofs.BeginLists.{each_append, each_front, each_without, each_doubled}
 use Rattle.gc_field.proofs.BeginSound.{the_word_begins_cleanly}
+use Rattle.gc_field.proofs.Once.{true_is_not}
 
 -- Lists.
 
@@ -55,11 +56,11 @@ id_or (Some id) = id
 abbrev IsSmall : List ℕ → Type 0
 IsSmall word = Each (λ i. i < 8) word
 
--- the id of a request under way, and whether it is old
+-- the id of a request in flight, and whether it is old
 abbrev mark_up : Aged Request → Sent
 mark_up x = record { id = x.line.id; old = x.old }
 
--- the id of a reply under way, and whether it is old
+-- the id of a reply in flight, and whether it is old
 abbrev mark_down : Aged (List ℕ) → Sent
 mark_down x = record { id = id_or (rule.heard x.line); old = x.old }
 
@@ -77,7 +78,7 @@ small_left : (left : List ℕ) (o : Option ℕ) → IsSmall left → IsSmall (le
 small_left [] o h = tt
 small_left (asked ∷ rest) o h = small_if (is_answered (asked ∷ rest) o) asked rest h
 
--- a reply leaves of the ids of the word what the beginning over ids leaves for this reply's id, or for 8 where it has none
+-- a reply leaves of the ids of the word what the synchronization over ids leaves for this reply's id, or for 8 if it has none
 same_left : (left : List ℕ) (o : Option ℕ) → IsSmall left → ids.heard left (id_or o) ≡ left_by left o
 same_left [] o h = refl
 same_left (asked ∷ rest) (Some id) h = refl
@@ -88,18 +89,14 @@ none_left : (left : List ℕ) → left_by left None ≡ left
 none_left [] = refl
 none_left (asked ∷ rest) = refl
 
--- true isn't false
-true_is_not : true ≡ false → ⊥
-true_is_not e = cc
-
 -- One state shows another.
 
--- a request's id is below 8, and if the request is of this beginning, it is a null procedure
+-- a request's id is below 8, and if the request is of this synchronization, it is a null procedure
 abbrev IsKnown : Aged Request → Type 0
 IsKnown x = (x.line.id < 8) × (x.old ≡ false → x.line.call ≡ (Table NullProc))
 
 module _ {State : Type 0} (ends : Ends State) (Good : State → Type 0) (kept : State → Option KeptReply) (is : IsAnInstrument ends Good kept) where
-  -- the state p of a beginning over ids is that of the beginning over lines, s, with the ids of its lines
+  -- the state p of a synchronization over ids is that of the synchronization over lines, s, with the ids of its lines
   pub record Shows (s : Model State) (p : ids.Model) : Type 0 where
     pub up : p.up ≡ map mark_up s.up
     pub down : p.down ≡ map mark_down s.down
@@ -109,7 +106,7 @@ module _ {State : Type 0} (ends : Ends State) (Good : State → Type 0) (kept : 
     pub known : Each IsKnown s.up
     pub small : IsSmall s.left
 
-  -- `Shows` lasts where the beginner asks
+  -- `Shows` is preserved if the beginner asks
   shows_asks : (s : Model State) (p : ids.Model) (left : List ℕ) → s.left ≡ left → Shows s p → Shows (asks s left) (ids.asks p left)
   shows_asks s p [] e g = g
   shows_asks s p (asked ∷ rest) e g =
@@ -124,7 +121,7 @@ module _ {State : Type 0} (ends : Ends State) (Good : State → Type 0) (kept : 
         small = g.small;
       }
 
-  -- `Shows` lasts where a reply comes
+  -- `Shows` is preserved if a reply comes
   shows_comes : (s : Model State) (p : ids.Model) (q : List (Aged (List ℕ))) → s.down ≡ q → Shows s p → Shows (comes s q) (ids.comes p (map mark_down q))
   shows_comes s p [] e g = g
   shows_comes s p (x ∷ rest) e g = record {
@@ -137,7 +134,7 @@ module _ {State : Type 0} (ends : Ends State) (Good : State → Type 0) (kept : 
     small = small_left s.left (rule.heard x.line) g.small;
   }
 
-  -- `Shows` lasts where a line without an id comes
+  -- `Shows` is preserved if a line without an id comes
   shows_foreign : (s : Model State) (p : ids.Model) (line : List ℕ) → rule.heard line ≡ None → Shows s p → Shows (record s { left = left_by s.left (rule.heard line) }) p
   shows_foreign s p line e g = record {
     up = g.up;
@@ -149,7 +146,7 @@ module _ {State : Type 0} (ends : Ends State) (Good : State → Type 0) (kept : 
     small = small_left s.left (rule.heard line) g.small;
   }
 
-  -- what is kept after a request, its reply or nothing, has the request's id
+  -- what is retained after a request, its reply or nothing, has the request's id
   kept_behind : (k : Option KeptReply) (id : ℕ) (line : List ℕ) (r : KeptReply) → (k ≡ None) ⊎ (k ≡ Some (record { id = id; line = line })) → k ≡ Some r → Some id ≡ Some r.id
   kept_behind k id line r (inl none) e = absurd (none_is_not r (sym none ∙ e))
   kept_behind k id line r (inr some) e = ap (λ (x : KeptReply). Some x.id) (some_is (record { id = id; line = line }) r (sym some ∙ e))
@@ -161,7 +158,8 @@ module _ {State : Type 0} (ends : Ends State) (Good : State → Type 0) (kept : 
     by_case true e = refl
     by_case false e = absurd (true_is_not (sym (ap is_of_table (known.1 e)) ∙ raw))
 
-  -- where a request reaches the instrument, and `p` shows it, the state of the ids that goes out of it shows what the instrument makes of it
+  -- if a request reaches the instrument, and `p` shows it, the state of the ids that comes of it shows what the instrument
+  -- makes of it
   shows_reached : (s : Model State) (p q : ids.Model) (x : Aged Request) (rest : List (Aged Request)) → s.up ≡ x ∷ rest → Shows s p → q.up ≡ map mark_up rest
       → q.down ≡ p.down ++ mark_up x ∷ [] → q.left ≡ p.left
       → ((k : KeptReply) → kept (ends.handed s.state x.line.id x.line.call).state ≡ Some k → q.kept ≡ Some k.id) → Shows (reaches ends s (x ∷ rest)) q
@@ -183,7 +181,7 @@ module _ {State : Type 0} (ends : Ends State) (Good : State → Type 0) (kept : 
         small = g.small;
       }
 
-  -- where a request reaches the instrument, it reaches it over ids, too; or it is passed over there
+  -- if a request reaches the instrument, it reaches it over ids, too; or it is left out there
   shows_reaches : (s : Model State) (p : ids.Model) (q : List (Aged Request)) → s.up ≡ q → Shows s p
       → Shows (reaches ends s q) (ids.reaches p true (map mark_up q)) ⊎ Shows (reaches ends s q) (ids.passes p (map mark_up q))
   shows_reaches s p [] e g = inl g
@@ -196,21 +194,21 @@ module _ {State : Type 0} (ends : Ends State) (Good : State → Type 0) (kept : 
             (λ k f. ap (λ b. ids.kept_past b x.line.id p.kept) (old_raw x known.0 third.0) ∙ g.keeps k (sym third.1 ∙ f)))
       ]
 
-  -- `Shows` lasts where the requests under way change alike in both
+  -- `Shows` is preserved if the requests in flight change alike in both
   shows_up : (s : Model State) (p : ids.Model) (up : List (Aged Request)) (ups : List Sent) → ups ≡ map mark_up up → Each IsKnown up → Shows s p → Shows (record s { up = up }) (record p { up = ups })
   shows_up s p up ups e known g = record { up = e; down = g.down; left = g.left; keeps = g.keeps; good = g.good; known = known; small = g.small }
 
-  -- `Shows` lasts where the replies under way change alike in both
+  -- `Shows` is preserved if the replies in flight change alike in both
   shows_down : (s : Model State) (p : ids.Model) (down : List (Aged (List ℕ))) (downs : List Sent) → downs ≡ map mark_down down → Shows s p
       → Shows (record s { down = down }) (record p { down = downs })
   shows_down s p down downs e g = record { up = g.up; down = e; left = g.left; keeps = g.keeps; good = g.good; known = g.known; small = g.small }
 
-  -- what is kept afterwards, the same as before or nothing, has the id that was noted before
+  -- what is retained afterwards, the same as before or nothing, has the id that was noted before
   still_kept : (k after : Option KeptReply) (o : Option ℕ) → (after ≡ None) ⊎ (after ≡ k) → ((r : KeptReply) → k ≡ Some r → o ≡ Some r.id) → (r : KeptReply) → after ≡ Some r → o ≡ Some r.id
   still_kept k after o (inl none) f r e = absurd (none_is_not r (sym none ∙ e))
   still_kept k after o (inr same) f r e = f r (sym same ∙ e)
 
-  -- `Shows` lasts where the instrument's state changes, and it then keeps the same or nothing
+  -- `Shows` is preserved if the instrument's state changes, and it then keeps the same or nothing
   shows_state : (s : Model State) (p : ids.Model) (state : State) → Good state → (kept state ≡ None) ⊎ (kept state ≡ kept s.state) → Shows s p → Shows (record s { state = state }) p
   shows_state s p state good same g =
       record { up = g.up; down = g.down; left = g.left; keeps = still_kept (kept s.state) (kept state) p.kept same g.keeps; good = good; known = g.known; small = g.small }
@@ -257,12 +255,12 @@ module _ {State : Type 0} (ends : Ends State) (Good : State → Type 0) (kept : 
 
   -- Its start.
 
-  -- the id of the reply that is kept
+  -- the id of the reply that is retained
   abbrev kept_id : Option KeptReply → Option ℕ
   kept_id None = None
   kept_id (Some k) = Some k.id
 
-  -- what is under way, as ids
+  -- what is in flight, as ids
   abbrev marks : UnderWay State → ids.Model
   marks u = record {
     up = map (λ x. record { id = x.id; old = true }) u.up;
@@ -286,7 +284,7 @@ module _ {State : Type 0} (ends : Ends State) (Good : State → Type 0) (kept : 
   known_old [] h = tt
   known_old (x ∷ xs) h = ((h.0, (λ o. absurd (true_is_not o))), known_old xs h.1)
 
-  -- `Shows` holds at the start of a beginning
+  -- `Shows` holds at the start of a synchronization
   shows_begins : (u : UnderWay State) → AreLines Good u → Shows (begins u) (begun_anew the_word (marks u))
   shows_begins u h = record {
     up = up_marks u.up;
@@ -305,8 +303,8 @@ module _ {State : Type 0} (ends : Ends State) (Good : State → Type 0) (kept : 
   ids_up [] = refl
   ids_up (x ∷ xs) = ap (λ l. x.id ∷ l) (ids_up xs)
 
-  -- `ids` are the ids of some lines, with 8 for a line without one; `others` are the ids that these lines have. If each word that
-  -- `ids` contain is contained in `others`, the same holds with one line more in front, whose id, if any, is `o`
+  -- `ids` are the ids of some lines, with 8 for a line without one; `others` are the ids that these lines have. If each word
+  -- that `ids` contain is contained in `others`, the same holds with one line more before it, whose id, if any, is `o`
   of_lines : (o : Option ℕ) (word ids : List ℕ) (others : List ℕ) → IsSmall word → ((w : List ℕ) → IsSmall w → IsSubsequence w ids → IsSubsequence w others)
       → IsSubsequence word (id_or o ∷ ids) → IsSubsequence word (cons_option o others)
   of_lines o [] ids others s f h = tt
@@ -315,7 +313,7 @@ module _ {State : Type 0} (ends : Ends State) (Good : State → Type 0) (kept : 
   of_lines None (w ∷ word) ids others s f (inl h) = absurd (let low = s.0 in omega (arith, h.0, low))
   of_lines None (w ∷ word) ids others s f (inr h) = f (w ∷ word) s h
 
-  -- the other way: if each word that `others` contain is contained in `ids`, the same holds with one line more in front, whose
+  -- the other way: if each word that `others` contain is contained in `ids`, the same holds with one line more before it, whose
   -- id, if any, is `o`
   to_lines : (o : Option ℕ) (word ids others : List ℕ) → ((w : List ℕ) → IsSubsequence w others → IsSubsequence w ids) → IsSubsequence word (cons_option o others) → IsSubsequence word (id_or o ∷ ids)
   to_lines o [] ids others f h = tt
@@ -351,16 +349,16 @@ module _ {State : Type 0} (ends : Ends State) (Good : State → Type 0) (kept : 
       split None word h = h
       split (Some id) word h = h
 
-  -- a word that isn't in the ids under way isn't in those of the marks
+  -- a word that isn't in the ids in flight isn't in those of the marks
   absent_marks : (u : UnderWay State) (word : List ℕ) → IsSmall word → (IsSubsequence word (ids_under_way u) → ⊥) → IsSubsequence word (under_way (marks u)) → ⊥
   absent_marks u word s none h = none (marked_lines u.down word (ids_of (marks u).up) (map (λ x. x.id) u.up) (ids_up u.up) s h)
 
-  -- the ids of the requests that a beginning leaves are those of their marks
+  -- the ids of the requests that a synchronization leaves are those of their marks
   up_left : (xs : List (Aged Request)) → map (λ x. x.id) (map (λ x. x.line) xs) ≡ ids_of (map mark_up xs)
   up_left [] = refl
   up_left (x ∷ xs) = ap (λ l. x.line.id ∷ l) (up_left xs)
 
-  -- a word that is in what a beginning leaves is in what the beginning over ids leaves
+  -- a word that is in what a synchronization leaves is in what the synchronization over ids leaves
   left_marks : (s : Model State) (p : ids.Model) (word : List ℕ) → Shows s p → IsSubsequence word (ids_under_way (leaves s)) → IsSubsequence word (under_way p)
   left_marks s p word g h =
       subst (λ l. IsSubsequence word (ids_of l ++ ids_of p.up)) (sym g.down)
@@ -369,7 +367,7 @@ module _ {State : Type 0} (ends : Ends State) (Good : State → Type 0) (kept : 
 
   -- Its end.
 
-  -- a line whose id, or 8 where it has none, is 7 has the id 7
+  -- a line whose id, or 8 if it has none, is 7 has the id 7
   heard_seven : (o : Option ℕ) → id_or o ≡ 7 → o ≡ Some 7
   heard_seven None e = absurd (omega (arith, e))
   heard_seven (Some id) e = ap Some e
@@ -378,17 +376,17 @@ module _ {State : Type 0} (ends : Ends State) (Good : State → Type 0) (kept : 
   request_is : (x : Request) → x.id ≡ 7 → x.call ≡ (Table NullProc) → x ≡ eighth
   request_is x e f = ap₂ (λ (i : ℕ) (c : Asked). record { id = i; call = c }) e f
 
-  -- the requests under way are copies of the eighth null procedure, if their marks say so
+  -- the requests in flight are copies of the eighth null procedure, if their marks say so
   clean_up : (xs : List (Aged Request)) → Each IsKnown xs → Each (λ x. (x.old ≡ false) × (x.id ≡ 7)) (map mark_up xs) → Each (λ x. (x.old ≡ false) × (x.line ≡ eighth)) xs
   clean_up [] k h = tt
   clean_up (x ∷ xs) k h = ((h.0.0, request_is x.line h.0.1 (k.0.1 h.0.0)), clean_up xs k.1 h.1)
 
-  -- the replies under way are replies to the eighth null procedure, if their marks say so
+  -- the replies in flight are replies to the eighth null procedure, if their marks say so
   clean_down : (xs : List (Aged (List ℕ))) → Each (λ x. (x.old ≡ false) × (x.id ≡ 7)) (map mark_down xs) → Each (λ x. (x.old ≡ false) × (rule.heard x.line ≡ Some 7)) xs
   clean_down [] h = tt
   clean_down (x ∷ xs) h = ((h.0.0, heard_seven (rule.heard x.line) h.0.1), clean_down xs h.1)
 
-  -- a beginning that is clean over ids is clean over lines
+  -- a synchronization that is clean over ids is clean over lines
   clean : (s : Model State) (p : ids.Model) → Shows s p → IsClean 7 p → HasBegunCleanly kept s
   clean s p g c = record {
     up = clean_up s.up g.known (subst (Each (λ x. (x.old ≡ false) × (x.id ≡ 7))) g.up c.up);
@@ -396,7 +394,7 @@ module _ {State : Type 0} (ends : Ends State) (Good : State → Type 0) (kept : 
     keeps = λ k e. c.kept k.id (g.keeps k e);
   }
 
-  -- a beginning that has begun has begun cleanly, unless the ids under way at its start contain the word
+  -- a synchronization that is done ended cleanly, unless the ids in flight at its start contain the word
   pub begins_cleanly : (u : UnderWay State) (ts : List (Turn State)) → AreLines Good u → AreTurns ends Good kept ts (begins u)
       → (IsSubsequence the_word (ids_under_way u) → ⊥) → (turned ends ts (begins u)).left ≡ []
       → HasBegunCleanly kept (turned ends ts (begins u))
@@ -405,7 +403,7 @@ module _ {State : Type 0} (ends : Ends State) (Good : State → Type 0) (kept : 
       clean (turned ends ts (begins u)) (moved r.0 (begun_anew the_word (marks u))) r.1
       (the_word_begins_cleanly (begun_anew the_word (marks u)) r.0 (begins_anew (marks u) (absent_marks u the_word word_small none)) (r.1.left ∙ done))
 
-  -- what a beginning leaves, killed or not, is `AreLines`: ids below 8, and an instrument in a good state
+  -- what a synchronization leaves, killed or not, is `AreLines`: ids below 8, and an instrument in a good state
   pub left_lines : (u : UnderWay State) (ts : List (Turn State)) → AreLines Good u → AreTurns ends Good kept ts (begins u) → AreLines Good (leaves (turned ends ts (begins u)))
   left_lines u ts lines possible =
       let r = shown ts (begins u) (begun_anew the_word (marks u)) possible (shows_begins u lines) in
@@ -416,7 +414,7 @@ module _ {State : Type 0} (ends : Ends State) (Good : State → Type 0) (kept : 
       only [] h = tt
       only (x ∷ xs) h = (h.0.0, only xs h.1)
 
-  -- where the ids under way don't contain the front a, b, `more` of the word, those that a beginning leaves, killed or not,
+  -- if the ids in flight don't contain the front a, b, `more` of the word, those that a synchronization leaves, killed or not,
   -- don't contain that front with the next id, c
   pub left_absent : (u : UnderWay State) (ts : List (Turn State)) (a b : ℕ) (more : List ℕ) (c : ℕ) (tail : List ℕ) → the_word ≡ a ∷ b ∷ (more ++ c ∷ tail)
       → AreLines Good u → AreTurns ends Good kept ts (begins u)

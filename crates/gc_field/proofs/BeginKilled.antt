@@ -1,6 +1,7 @@
--- Beginnings that are killed: each makes the front of the word that the ids under way contain longer by one id at most. (The
--- word has the ids of a beginning's null procedures.) `first` has the ids under way at the start of a beginning, and `left`
--- those of the word that aren't answered yet; old lines are from before it, own ones are its own. `IsTrying` is the invariant.
+-- Synchronizations that are killed: each makes the front of the word that the ids in flight contain longer by one id at most.
+-- (The word has the ids of a synchronization's null procedures.) `first` has the ids in flight at the start of a
+-- synchronization, and `left` those of the word that aren't answered yet; old lines are from before it, own ones are its own.
+-- `IsTrying` is the invariant.
 use Rattle.std.proofs.Common.{◌≡◌, ℕ, zero, ◌⊎◌, inl, inr, Bool, true, false, List, [], ◌∷◌, ◌++◌, nat_eq, refl, sym, ◌∙◌, ap, subst, append-nil}
 use Rattle.std.proofs.lemmas.Bool.{eqb-true}
 use Rattle.gc_client.specs.Beginning.{left_by_one, IsSubsequence, the_word}
@@ -13,7 +14,7 @@ use Rattle.gc_field.proofs.BeginMoves.{Lasts, holds_moved}
 use Rattle.gc_field.proofs.BeginLines.{IsLine, IsOld, IsOwn, IsBefore, HasNone, KeepsTheId, AreOwn, old_if, olds, olds_all, olds_push, has_without, has_doubled, line_without, line_doubled, line_asked, line_came}
 use Rattle.gc_field.proofs.BeginSound.{sound_at_start}
 
--- The invariant of one beginning.
+-- The invariant of one synchronization.
 
 -- only old replies have answered yet, with the ids `done`: each word that is in the old ids now was in `first`, and so was
 -- `done` with that word after it
@@ -30,12 +31,12 @@ IsAsked i (asked ∷ later) = i ≡ asked
 abbrev pub IsNear : ℕ → List ℕ → ℕ → Type 0
 IsNear p left i = (i ≡ p) ⊎ IsAsked i left
 
--- once an own reply answered: all that is under way is of this beginning, and has two ids at most
+-- once an own reply answered: all that is in flight is of this synchronization, and has two ids at most
 abbrev pub IsOver : List ℕ → List Sent → Type 0
 IsOver left line = (p : ℕ) × Each (λ x. IsOwn x × IsNear p left x.id) line
 
--- the invariant of a beginning that may be killed: the ids `done` of the word are answered; and either only old replies have
--- answered yet, or an own one has, and no old line is under way any more
+-- the invariant of a synchronization that may be killed: the ids `done` of the word are answered; and either only old replies
+-- have answered yet, or an own one has, and no old line is in flight any more
 pub record IsTrying (z : ℕ) (word first left : List ℕ) (line : List Sent) : Type 0 where
   pub sound : IsLine z left line
   pub done : List ℕ
@@ -44,7 +45,7 @@ pub record IsTrying (z : ℕ) (word first left : List ℕ) (line : List Sent) : 
 
 -- Old lines are lost or repeated.
 
--- `IsHearing` lasts where the old lines change, and their ids contain no more words
+-- `IsHearing` is preserved if the old lines change, and their ids contain no more words
 hearing_has : (first done : List ℕ) (line other : List Sent) → Has (olds other) (olds line) → IsHearing first done line → IsHearing first done other
 hearing_has first done line other has h =
     record {
@@ -53,7 +54,7 @@ hearing_has first done line other has h =
     }
 
 module _ (z : ℕ) (word first : List ℕ) where
-  -- `IsTrying` lasts where a line is lost
+  -- `IsTrying` is preserved if a line is lost
   trying_lost : (left : List ℕ) (k : ℕ) (line : List Sent) → IsTrying z word first left line → IsTrying z word first left (without k line)
   trying_lost left k line h =
       record {
@@ -67,7 +68,7 @@ module _ (z : ℕ) (word first : List ℕ) where
             ];
       }
 
-  -- `IsTrying` lasts where a line comes twice
+  -- `IsTrying` is preserved if a line comes twice
   trying_twice : (left : List ℕ) (k : ℕ) (line : List Sent) → IsTrying z word first left line → IsTrying z word first left (doubled k line)
   trying_twice left k line h =
       record {
@@ -81,7 +82,7 @@ module _ (z : ℕ) (word first : List ℕ) where
             ];
       }
 
-  -- `IsTrying` lasts where the beginner asks
+  -- `IsTrying` is preserved if the beginner asks
   trying_asked : (id : ℕ) (later : List ℕ) (line : List Sent) → IsTrying z word first (id ∷ later) line → IsTrying z word first (id ∷ later) (line ++ record { id = id; old = false } ∷ [])
   trying_asked id later line h =
       let new : Sent = record { id = id; old = false } in
@@ -98,13 +99,13 @@ module _ (z : ℕ) (word first : List ℕ) where
 
   -- a reply comes, and is the answer
 
-  -- where a word v is in the ids of old lines, `id` and then v are in those of a line with that id, if it is old, and of those
+  -- if a word v is in the ids of old lines, `id` and then v are in those of a line with that id, if it is old, and of those
   -- lines after it
   old_stands : (b : Bool) (i id : ℕ) (ids v : List ℕ) → b ≡ true → i ≡ id → IsSubsequence v ids → IsSubsequence (id ∷ v) (old_if b i ids)
   old_stands true i id ids v o e s = inl (sym e, s)
   old_stands false i id ids v o e s = absurd (never o)
 
-  -- `IsHearing` lasts where an old reply answers
+  -- `IsHearing` is preserved if an old reply answers
   old_answers : (id : ℕ) (done : List ℕ) (x : Sent) (rest : List Sent) → IsOld x → x.id ≡ id → IsHearing first done (x ∷ rest) → IsHearing first (done ++ id ∷ []) rest
   old_answers id done x rest o e h =
       record {
@@ -113,19 +114,19 @@ module _ (z : ℕ) (word first : List ℕ) where
             (h.heard (id ∷ v) (subst AllDiffer (goes_over done id v) d) (old_stands x.old x.id id (olds rest) v o e s));
       }
 
-  -- where an own reply answers, the beginning is `IsOver`
+  -- if an own reply answers, the synchronization is `IsOver`
   own_answers : (id : ℕ) (later : List ℕ) (x : Sent) (rest : List Sent) → IsLine z (id ∷ later) (x ∷ rest) → IsOwn x → x.id ≡ id → IsOver later rest
   own_answers id later x rest h o e =
       (id, each_both (IsBefore x) (KeepsTheId id x) (λ y. IsOwn y × IsNear id later y.id) (λ y f g. (f o, inl (g o e))) rest h.ordered.0 h.own.1.0)
 
-  -- where a reply answers, old or own, still only old replies have answered, or the old lines are over
+  -- if a reply answers, old or own, still only old replies have answered, or the old lines are over
   phase_answered : (id : ℕ) (later done : List ℕ) (x : Sent) (rest : List Sent) (b : Bool) → x.old ≡ b → IsLine z (id ∷ later) (x ∷ rest) → x.id ≡ id
       → IsHearing first done (x ∷ rest) ⊎ IsOver (id ∷ later) (x ∷ rest) → IsHearing first (done ++ id ∷ []) rest ⊎ IsOver later rest
   phase_answered id later done x rest false o h e p = inr (own_answers id later x rest h o e)
   phase_answered id later done x rest true o h e (inl g) = inl (old_answers id done x rest o e g)
   phase_answered id later done x rest true o h e (inr g) = absurd (never (sym g.1.0.0 ∙ o))
 
-  -- `IsTrying` lasts where a reply comes
+  -- `IsTrying` is preserved if a reply comes
   trying_came : (left : List ℕ) (x : Sent) (rest : List Sent) → IsTrying z word first left (x ∷ rest) → IsTrying z word first (heard left x.id) rest
   trying_came [] x rest h = trying_lost [] zero (x ∷ rest) h
   trying_came (id ∷ later) x rest h = chosen (nat_eq x.id id) refl (line_came z (id ∷ later) x rest h.sound) where
@@ -140,14 +141,14 @@ module _ (z : ℕ) (word first : List ℕ) where
         }
     chosen false e line = trying_lost (id ∷ later) zero (x ∷ rest) h
 
-  -- `IsTrying` lasts over all that happens to the line
+  -- `IsTrying` is preserved by all that happens to the line
   trying_lasts : Lasts (IsTrying z word first)
   trying_lasts = record { lost = trying_lost; twice = trying_twice; asked = trying_asked; came = trying_came }
 
--- What can stand in the line meanwhile.
+-- What can be in flight meanwhile.
 
--- where a word is split into `done` and `left`, and also into `front`, an id c, and `tail`: `front` is a front of `done`, or c
--- is in `left`, after its first id
+-- if a word is split into `done` and `left`, and also into `front`, an id c, and `tail`: `front` is a front of `done`, or c is
+-- in `left`, after its first id
 fronts : (done left front : List ℕ) (c : ℕ) (tail : List ℕ) → done ++ left ≡ front ++ c ∷ tail
     → ((more : List ℕ) × (done ≡ front ++ more)) ⊎ ((asked : ℕ) × (more : List ℕ) × (left ≡ asked ∷ (more ++ c ∷ tail)))
 fronts [] left [] c tail e = inl ([], refl)
@@ -205,7 +206,7 @@ not_three p left a b c ab ac bc (inl x) (inr y) (inr z) = bc (same_asked left b 
 not_three p left a b c ab ac bc (inr x) (inl y) (inl z) = bc (y ∙ sym z)
 not_three p left a b c ab ac bc (inr x) (inl y) (inr z) = ac (same_asked left a c x z)
 
--- where a beginning is over, no three ids that differ are in flight
+-- if a synchronization is done, no three ids that differ are in flight
 over_short : (p : ℕ) (left word : List ℕ) (line : List Sent) (a b c : ℕ) → AllDiffer (a ∷ b ∷ c ∷ word)
     → Each (λ x. IsOwn x × IsNear p left x.id) line → IsSubsequence (a ∷ b ∷ c ∷ word) (ids_of line) → ⊥
 over_short p left word line a b c d h s =
@@ -213,8 +214,8 @@ over_short p left word line a b c d h s =
     (each_id (IsNear p left) line (each_more (λ x. IsOwn x × IsNear p left x.id) (λ x. IsNear p left x.id) (λ x g. g.1) line h)) s in
     not_three p left a b c d.0.0 d.0.1.0 d.1.0.0 near.0 near.1.0 near.1.1.0
 
--- where the ids at the start didn't contain the front a, b, `more` of the word, the ids under way later don't contain that
--- front with the next id, c
+-- if the ids at the start didn't contain the front a, b, `more` of the word, the ids in flight later don't contain that front
+-- with the next id, c
 no_longer : (z : ℕ) (word first left : List ℕ) (line : List Sent) (a b : ℕ) (more : List ℕ) (c : ℕ) (tail : List ℕ) → word ≡ a ∷ b ∷ (more ++ c ∷ tail) → AllDiffer word
     → (IsSubsequence (a ∷ b ∷ more) first → ⊥) → IsTrying z word first left line → IsSubsequence (a ∷ b ∷ (more ++ c ∷ [])) (ids_of line) → ⊥
 no_longer z word first left line a b more c tail e d none h s =
@@ -250,7 +251,7 @@ no_longer z word first left line a b more c tail e d none h s =
     third [] d s p g = over_short p left [] line a b c d g s
     third (m ∷ more) d s p g = over_short p left (more ++ c ∷ []) line a b m d g s
 
--- One beginning after the other.
+-- One synchronization after the other.
 
 -- making requests old leaves their ids
 ids_aged : (xs : List Sent) → ids_of (aged xs) ≡ ids_of xs
@@ -267,15 +268,15 @@ ids_append : (xs ys : List Sent) → ids_of (xs ++ ys) ≡ ids_of xs ++ ids_of y
 ids_append [] ys = refl
 ids_append (x ∷ xs) ys = ap (λ l. x.id ∷ l) (ids_append xs ys)
 
--- the ids under way, those of replies first
+-- the ids in flight, those of replies first
 abbrev pub under_way : Model → List ℕ
 under_way s = ids_of s.down ++ ids_of s.up
 
--- where a beginning begins anew, the ids under way stay the same
+-- if a synchronization starts again, the ids in flight stay the same
 ids_anew : (s : Model) → under_way (begun_anew the_word s) ≡ under_way s
 ids_anew s = ap (λ l. l ++ ids_of (aged s.up)) (ids_aged s.down) ∙ ap (λ l. ids_of s.down ++ l) (ids_aged s.up)
 
--- a beginning begins over what is under way, if the word isn't in that
+-- a synchronization begins over what is in flight, if the word isn't in that
 pub begins_anew : (s : Model) → (IsSubsequence the_word (under_way s) → ⊥) → Begins the_word (begun_anew the_word s)
 begins_anew s none = record { left = refl; up = all_aged s.up; down = all_aged s.down; absent = λ h. none (subst (λ ids. IsSubsequence the_word ids) (ids_anew s) h) }
 
@@ -290,7 +291,7 @@ trying_at_start s h =
       phase = inl (record { from = λ v d g. subst (λ ids. IsSubsequence v ids) same g; heard = λ v d g. subst (λ ids. IsSubsequence v ids) same g });
     }
 
--- where the ids under way don't contain the front a, b, `more` of the word, those after a beginning that is killed anywhere
+-- if the ids in flight don't contain the front a, b, `more` of the word, those after a synchronization that is killed anywhere
 -- don't contain that front with the next id, c
 pub behind_one : (s : Model) (ms : List Move) (a b : ℕ) (more : List ℕ) (c : ℕ) (tail : List ℕ) → the_word ≡ a ∷ b ∷ (more ++ c ∷ tail)
     → (IsSubsequence (a ∷ b ∷ more) (under_way s) → ⊥) → IsSubsequence (a ∷ b ∷ (more ++ c ∷ [])) (under_way (moved ms (begun_anew the_word s))) → ⊥

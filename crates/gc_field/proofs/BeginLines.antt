@@ -1,6 +1,6 @@
--- The whole line, replies first: what holds of it from the beginning on, whatever it loses or repeats, and whatever comes. A
--- line, be it a request or a reply, is old where it is from before this beginning, and else own. `left` has the ids of the word
--- that aren't answered yet, and z is the word's last id. `IsLine` is the invariant.
+-- The whole line, replies first: what holds of it from the synchronization on, whatever it loses or repeats, and whatever
+-- comes. A line, be it a request or a reply, is old if it is from before this synchronization, and else own. `left` has the ids
+-- of the word that aren't answered yet, and z is the word's last id. `IsLine` is the invariant.
 use Rattle.std.proofs.Common.{◌≡◌, ℕ, zero, suc, inl, Bool, true, false, List, [], ◌∷◌, ◌++◌, nat_eq, refl, sym, ◌∙◌, ap, subst}
 use Rattle.std.proofs.lemmas.Bool.{eqb-true}
 use Rattle.gc_client.specs.Beginning.{left_by_one, IsSubsequence}
@@ -9,18 +9,19 @@ use Rattle.gc_world.specs.Order.{Each}
 use Rattle.gc_field.specs.World.{without, doubled}
 use Rattle.gc_field.proofs.BeginLists.{each_more, each_append, each_without, each_doubled, pairs_without, pairs_doubled, pairs_push, pairs_of_each}
 use Rattle.gc_field.proofs.BeginWords.{Has, has_behind, has_twice, stands_more, never, not_over}
+use Rattle.gc_field.proofs.Once.{true_is_not}
 
 -- The invariant.
 
--- this line is from before the beginning
+-- this line is from before the synchronization
 abbrev pub IsOld : Sent → Type 0
 IsOld x = x.old ≡ true
 
--- this line is of the beginning
+-- this line is of the synchronization
 abbrev pub IsOwn : Sent → Type 0
 IsOwn x = x.old ≡ false
 
--- these ids, with i in front if that is the id of an old line (true)
+-- these ids, with i before it if that is the id of an old line (true)
 abbrev pub old_if : Bool → ℕ → List ℕ → List ℕ
 old_if true i ids = i ∷ ids
 old_if false i ids = ids
@@ -42,33 +43,29 @@ HasNone ids x = IsOwn x → Each (λ i. i ≡ x.id → ⊥) ids
 abbrev pub KeepsTheId : ℕ → Sent → Sent → Type 0
 KeepsTheId asked x y = IsOwn x → x.id ≡ asked → y.id ≡ asked
 
--- what holds of the own lines. Where no id is left, each has the last id of the word. Else none has one of the ids `later`, and
+-- what holds of the own lines. If no id is left, each has the last id of the word. Else none has one of the ids `later`, and
 -- after a line with the id `asked` each line has that id
 abbrev pub AreOwn : ℕ → List ℕ → List Sent → Type 0
 AreOwn z [] line = Each (λ x. IsOwn x → x.id ≡ z) line
 AreOwn z (asked ∷ later) line = Each (HasNone later) line × Pairs (KeepsTheId asked) line
 
--- the invariant of all that is under way, replies first
+-- the invariant of all that is in flight, replies first
 pub record IsLine (z : ℕ) (left : List ℕ) (line : List Sent) : Type 0 where
   pub differ : AllDiffer left
   pub ends : last z left ≡ z
   pub ordered : Pairs IsBefore line
-  -- the ids of the old lines contain the ids left only where no id is left, and then there is no old line
+  -- the ids of the old lines contain the ids left only if no id is left, and then there is no old line
   pub clear : IsSubsequence left (olds line) → olds line ≡ []
   pub own : AreOwn z left line
 
 -- The ids of the old lines.
 
--- true isn't false
-neither : true ≡ false → ⊥
-neither e = cc
-
--- where the front line is own, and those after it have no old ids, there are no old ids
+-- if the front line is own, and those after it have no old ids, there are no old ids
 none_if : (b : Bool) (i : ℕ) (ids : List ℕ) → b ≡ false → ids ≡ [] → old_if b i ids ≡ []
-none_if true i ids e f = absurd (neither e)
+none_if true i ids e f = absurd (true_is_not e)
 none_if false i ids e f = f
 
--- where there are no old ids, the front line is own, and those after it have no old ids
+-- if there are no old ids, the front line is own, and those after it have no old ids
 own_if : (b : Bool) (i : ℕ) (ids : List ℕ) → old_if b i ids ≡ [] → (b ≡ false) × (ids ≡ [])
 own_if true i ids e = absurd (not_over i ids e)
 own_if false i ids e = (refl, e)
@@ -78,17 +75,17 @@ pub olds_none : (xs : List Sent) → Each IsOwn xs → olds xs ≡ []
 olds_none [] h = refl
 olds_none (x ∷ xs) h = none_if x.old x.id (olds xs) h.0 (olds_none xs h.1)
 
--- where there are no old ids, each line is own
+-- if there are no old ids, each line is own
 pub each_own : (xs : List Sent) → olds xs ≡ [] → Each IsOwn xs
 each_own [] e = tt
 each_own (x ∷ xs) e = let h = own_if x.old x.id (olds xs) e in (h.0, each_own xs h.1)
 
--- where the front line is old, the old ids are its id and those of the lines after it
+-- if the front line is old, the old ids are its id and those of the lines after it
 all_if : (b : Bool) (i : ℕ) (ids others : List ℕ) → b ≡ true → ids ≡ others → old_if b i ids ≡ i ∷ others
 all_if true i ids others e f = ap (λ l. i ∷ l) f
 all_if false i ids others e f = absurd (never e)
 
--- where all lines are old, the old ids are those of all lines
+-- if all lines are old, the old ids are those of all lines
 pub olds_all : (xs ys : List Sent) → Each IsOld xs → Each IsOld ys → olds (xs ++ ys) ≡ ids_of xs ++ ids_of ys
 olds_all [] [] h g = refl
 olds_all [] (y ∷ ys) h g = all_if y.old y.id (olds ys) (ids_of ys) g.0 (olds_all [] ys tt g.1)
@@ -99,7 +96,7 @@ pub olds_push : (i : ℕ) (xs : List Sent) → olds (xs ++ record { id = i; old 
 olds_push i [] = refl
 olds_push i (x ∷ xs) = ap (λ l. old_if x.old x.id l) (olds_push i xs)
 
--- `Has` lasts where the same line, old or own, is put in front of both
+-- `Has` is preserved if the same line, old or own, is put before both
 has_if : (b : Bool) (i : ℕ) (ids others : List ℕ) → Has ids others → Has (old_if b i ids) (old_if b i others)
 has_if true i ids others h = has_behind i ids others h
 has_if false i ids others h = h
@@ -109,18 +106,18 @@ has_less_if : (b : Bool) (i : ℕ) (ids : List ℕ) → Has ids (old_if b i ids)
 has_less_if true i ids = λ word d h. stands_more word ids i h
 has_less_if false i ids = λ word d h. h
 
--- where the front line, old or own, comes twice, no more words without an id twice are in the old ids
+-- if the front line, old or own, comes twice, no more words without an id twice are in the old ids
 has_twice_if : (b : Bool) (i : ℕ) (ids : List ℕ) → Has (old_if b i (old_if b i ids)) (old_if b i ids)
 has_twice_if true i ids = has_twice i ids
 has_twice_if false i ids = λ word d h. h
 
--- where a line is lost, no more words without an id twice are in the old ids
+-- if a line is lost, no more words without an id twice are in the old ids
 pub has_without : (k : ℕ) (line : List Sent) → Has (olds (without k line)) (olds line)
 has_without k [] = λ word d h. h
 has_without zero (x ∷ xs) = has_less_if x.old x.id (olds xs)
 has_without (suc k) (x ∷ xs) = has_if x.old x.id (olds (without k xs)) (olds xs) (has_without k xs)
 
--- where a line comes twice, no more words without an id twice are in the old ids
+-- if a line comes twice, no more words without an id twice are in the old ids
 pub has_doubled : (k : ℕ) (line : List Sent) → Has (olds (doubled k line)) (olds line)
 has_doubled k [] = λ word d h. h
 has_doubled zero (x ∷ xs) = has_twice_if x.old x.id (olds xs)
@@ -128,17 +125,17 @@ has_doubled (suc k) (x ∷ xs) = has_if x.old x.id (olds (doubled k xs)) (olds x
 
 -- The line loses one, or repeats one.
 
--- `AreOwn` lasts where a line is lost
+-- `AreOwn` is preserved if a line is lost
 own_without : (z : ℕ) (left : List ℕ) (k : ℕ) (line : List Sent) → AreOwn z left line → AreOwn z left (without k line)
 own_without z [] k line h = each_without (λ x. IsOwn x → x.id ≡ z) k line h
 own_without z (asked ∷ later) k line h = (each_without (HasNone later) k line h.0, pairs_without (KeepsTheId asked) k line h.1)
 
--- `AreOwn` lasts where a line comes twice
+-- `AreOwn` is preserved if a line comes twice
 own_doubled : (z : ℕ) (left : List ℕ) (k : ℕ) (line : List Sent) → AreOwn z left line → AreOwn z left (doubled k line)
 own_doubled z [] k line h = each_doubled (λ x. IsOwn x → x.id ≡ z) k line h
 own_doubled z (asked ∷ later) k line h = (each_doubled (HasNone later) k line h.0, pairs_doubled (KeepsTheId asked) (λ x o e. e) k line h.1)
 
--- `IsLine` lasts where a line is lost
+-- `IsLine` is preserved if a line is lost
 pub line_without : (z : ℕ) (left : List ℕ) (k : ℕ) (line : List Sent) → IsLine z left line → IsLine z left (without k line)
 line_without z left k line h =
     record {
@@ -149,7 +146,7 @@ line_without z left k line h =
       own = own_without z left k line h.own;
     }
 
--- `IsLine` lasts where a line comes twice
+-- `IsLine` is preserved if a line comes twice
 pub line_doubled : (z : ℕ) (left : List ℕ) (k : ℕ) (line : List Sent) → IsLine z left line → IsLine z left (doubled k line)
 line_doubled z left k line h =
     record {
@@ -160,9 +157,9 @@ line_doubled z left k line h =
       own = own_doubled z left k line h.own;
     }
 
--- A null procedure goes out.
+-- A null procedure is sent.
 
--- `IsLine` lasts where the beginner asks
+-- `IsLine` is preserved if the beginner asks
 pub line_asked : (z asked : ℕ) (later : List ℕ) (line : List Sent) → IsLine z (asked ∷ later) line → IsLine z (asked ∷ later) (line ++ record { id = asked; old = false } ∷ [])
 line_asked z asked later line h =
     let new : Sent = record { id = asked; old = false } in
@@ -185,7 +182,7 @@ no_old : (b : Bool) (i asked : ℕ) (ids word : List ℕ) → b ≡ true → i �
 no_old true i asked ids word o e f s = not_over i ids (f (inl (sym e, s)))
 no_old false i asked ids word o e f s = never o
 
--- where one id is left, a reply with that id is of this beginning
+-- if one id is left, a reply with that id is of this synchronization
 pub is_own : (z asked : ℕ) (x : Sent) (rest : List Sent) → IsLine z (asked ∷ []) (x ∷ rest) → x.id ≡ asked → IsOwn x
 is_own z asked x rest h e = chosen x.old refl where
   chosen : (b : Bool) → x.old ≡ b → x.old ≡ false
@@ -197,7 +194,7 @@ ends_behind : (z asked : ℕ) (later : List ℕ) → last asked later ≡ z → 
 ends_behind z asked [] e = refl
 ends_behind z asked (i ∷ later) e = e
 
--- `AreOwn` lasts where a reply answers
+-- `AreOwn` is preserved if a reply answers
 own_answered : (z asked : ℕ) (later : List ℕ) (x : Sent) (rest : List Sent) → IsLine z (asked ∷ later) (x ∷ rest) → x.id ≡ asked → AreOwn z later rest
 own_answered z asked [] x rest h e =
     each_more (KeepsTheId asked x) (λ y. IsOwn y → y.id ≡ z) (λ y f o. f (is_own z asked x rest h e) e ∙ h.ends) rest h.own.1.0
@@ -206,14 +203,14 @@ own_answered z asked (i ∷ later) x rest h e = (
   pairs_of_each (HasNone (i ∷ later)) (KeepsTheId i) (λ y w f o g. absurd ((f o).0 (sym g))) rest h.own.0.1,
 )
 
--- once a reply answered, the ids that are left then are in the old ids only where there is no old line
+-- once a reply answered, the ids that are left then are in the old ids only if there is no old line
 clear_answered : (z asked : ℕ) (later : List ℕ) (x : Sent) (rest : List Sent) → IsLine z (asked ∷ later) (x ∷ rest) → x.id ≡ asked → IsSubsequence later (olds rest) → olds rest ≡ []
 clear_answered z asked later x rest h e s = chosen x.old refl where
   chosen : (b : Bool) → x.old ≡ b → olds rest ≡ []
   chosen true o = absurd (no_old x.old x.id asked (olds rest) later o e h.clear s)
   chosen false o = olds_none rest (each_more (IsBefore x) IsOwn (λ y f. f o) rest h.ordered.0)
 
--- `IsLine` lasts where a reply answers
+-- `IsLine` is preserved if a reply answers
 line_answered : (z asked : ℕ) (later : List ℕ) (x : Sent) (rest : List Sent) → IsLine z (asked ∷ later) (x ∷ rest) → x.id ≡ asked → IsLine z later rest
 line_answered z asked later x rest h e =
     record {
@@ -224,7 +221,7 @@ line_answered z asked later x rest h e =
       own = own_answered z asked later x rest h e;
     }
 
--- `IsLine` lasts where a reply comes
+-- `IsLine` is preserved if a reply comes
 pub line_came : (z : ℕ) (left : List ℕ) (x : Sent) (rest : List Sent) → IsLine z left (x ∷ rest) → IsLine z (heard left x.id) rest
 line_came z [] x rest h = line_without z [] zero (x ∷ rest) h
 line_came z (asked ∷ later) x rest h = chosen (nat_eq x.id asked) refl where

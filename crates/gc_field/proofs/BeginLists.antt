@@ -1,5 +1,5 @@
--- What holds of each element, and of each two, when one is lost, comes twice, or comes at the end; and where a queue's element
--- stands in the whole line. `Pairs R` says R of each element and each one after it; `without k` is the loss of element k, and
+-- What holds of each element, and of each two, when one is lost, comes twice, or comes at the end; and if a queue's element
+-- is in the whole line. `Pairs R` says R of each element and each one after it; `without k` is the loss of element k, and
 -- `doubled k` its repeat.
 use Rattle.std.proofs.Common.{◌≡◌, ℕ, zero, suc, ◌⊎◌, inl, inr, List, [], ◌∷◌, ◌++◌, refl, ap}
 use Rattle.gc_field.proofs.BeginIds.{Pairs}
@@ -44,19 +44,19 @@ module _ {A : Type 0} where
   each_both P Q R f [] h g = tt
   each_both P Q R f (x ∷ xs) h g = (f x h.0 g.0, each_both P Q R f xs h.1 g.1)
 
-  -- `Pairs` lasts where an element is lost
+  -- `Pairs` is preserved if an element is lost
   pub pairs_without : (R : A → A → Type 0) (k : ℕ) (xs : List A) → Pairs R xs → Pairs R (without k xs)
   pairs_without R k [] h = tt
   pairs_without R zero (x ∷ xs) h = h.1
   pairs_without R (suc k) (x ∷ xs) h = (each_without (R x) k xs h.0, pairs_without R k xs h.1)
 
-  -- `Pairs` lasts where an element is repeated, if R holds of each element and itself
+  -- `Pairs` is preserved if an element is repeated, if R holds of each element and itself
   pub pairs_doubled : (R : A → A → Type 0) → ((x : A) → R x x) → (k : ℕ) (xs : List A) → Pairs R xs → Pairs R (doubled k xs)
   pairs_doubled R same k [] h = tt
   pairs_doubled R same zero (x ∷ xs) h = ((same x, h.0), (h.0, h.1))
   pairs_doubled R same (suc k) (x ∷ xs) h = (each_doubled (R x) k xs h.0, pairs_doubled R same k xs h.1)
 
-  -- `Pairs` lasts where an element is added at the end to which every one has the relation
+  -- `Pairs` is preserved if an element is added at the end to which every one has the relation
   pub pairs_push : (R : A → A → Type 0) (y : A) → ((x : A) → R x y) → (xs : List A) → Pairs R xs → Pairs R (xs ++ y ∷ [])
   pairs_push R y f [] h = (tt, tt)
   pairs_push R y f (x ∷ xs) h = (each_append (R x) xs (y ∷ []) h.0 (f x, tt), pairs_push R y f xs h.1)
@@ -71,12 +71,12 @@ module _ {A : Type 0} where
   pairs_back R [] ys h = h
   pairs_back R (x ∷ xs) ys h = pairs_back R xs ys h.1
 
-  -- where `Pairs` holds, each element in front of y has the relation to y
+  -- where `Pairs` holds, each element before y has the relation to y
   pub pairs_before : (R : A → A → Type 0) (xs : List A) (y : A) (ys : List A) → Pairs R (xs ++ y ∷ ys) → Each (λ x. R x y) xs
   pairs_before R [] y ys h = tt
   pairs_before R (x ∷ xs) y ys h = ((each_back (R x) xs (y ∷ ys) h.0).0, pairs_before R xs y ys h.1)
 
-  -- where all elements satisfy P, and R holds of any two that do, `Pairs` holds
+  -- if all elements satisfy P, and R holds of any two that do, `Pairs` holds
   pub pairs_of_each : (P : A → Type 0) (R : A → A → Type 0) → ((x y : A) → P x → R x y) → (xs : List A) → Each P xs → Pairs R xs
   pairs_of_each P R f [] h = tt
   pairs_of_each P R f (x ∷ xs) h = (every xs, pairs_of_each P R f xs h.1) where

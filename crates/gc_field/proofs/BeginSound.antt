@@ -1,5 +1,5 @@
--- A whole beginning: the invariant of its line (`IsLine`) holds through each move, and so does what is known of the id of the
--- reply that the instrument keeps (`Keeps`). `IsSound` is both.
+-- A whole synchronization: the invariant of its line (`IsLine`) holds through each move, and so does what is known of the id of
+-- the reply that the instrument retains (`KeptIdFits`). `IsSound` is both.
 use Rattle.std.proofs.Common.{◌≡◌, ℕ, Bool, true, false, List, [], ◌∷◌, ◌++◌, Option, Some, None, nat_eq, refl, sym, ◌∙◌, subst}
 use Rattle.std.proofs.lemmas.Bool.{eqb-true}
 use Rattle.gc_client.specs.Beginning.{left_by_one, IsSubsequence, the_word}
@@ -13,87 +13,89 @@ use Rattle.gc_field.proofs.BeginLines.{IsLine, IsOld, IsOwn, IsBefore, HasNone, 
 
 -- The invariant.
 
--- what is kept has this id, if anything is kept
+-- what is retained has this id, if anything is retained
 abbrev pub IsFor : ℕ → Option ℕ → Type 0
 IsFor id None = Unit {0}
 IsFor id (Some i) = i ≡ id
 
--- if this is an own reply with this id, what is kept has that id
+-- if this is an own reply with this id, what is retained has that id
 abbrev pub KeepsIf : ℕ → Option ℕ → Sent → Type 0
 KeepsIf asked kept x = IsOwn x → x.id ≡ asked → IsFor asked kept
 
--- what is known of the id `kept` of the reply that the instrument keeps, if it keeps one. Where no id of the word is left, it is z, the
--- word's last. Else, as soon as a reply under way (`down`) is of this beginning and has the first id that is left, `asked`, it is `asked`
-abbrev pub Keeps : ℕ → List ℕ → List Sent → Option ℕ → Type 0
-Keeps z [] down kept = IsFor z kept
-Keeps z (asked ∷ later) down kept = Each (KeepsIf asked kept) down
+-- what is known of the id `kept` of the reply that the instrument retains, if it retains one. If no id of the word is left, it
+-- is z, the word's last. Else, as soon as a reply in flight (`down`) is of this synchronization and has the first id that is
+-- left, `asked`, it is `asked`
+abbrev pub KeptIdFits : ℕ → List ℕ → List Sent → Option ℕ → Type 0
+KeptIdFits z [] down kept = IsFor z kept
+KeptIdFits z (asked ∷ later) down kept = Each (KeepsIf asked kept) down
 
--- what holds of a state of a beginning, where z is the word's last id: of the line, and of what is kept
+-- what holds of a state of a synchronization, where z is the word's last id: of the line, and of what is retained
 pub record IsSound (z : ℕ) (s : Model) : Type 0 where
   pub line : IsLine z s.left (s.down ++ s.up)
-  pub keeps : Keeps z s.left s.down s.kept
+  pub keeps : KeptIdFits z s.left s.down s.kept
 
 -- What is kept.
 
--- `Keeps` lasts where a reply is lost
-keeps_without : (z : ℕ) (left : List ℕ) (k : ℕ) (down : List Sent) (kept : Option ℕ) → Keeps z left down kept → Keeps z left (without k down) kept
+-- `KeptIdFits` is preserved if a reply is lost
+keeps_without : (z : ℕ) (left : List ℕ) (k : ℕ) (down : List Sent) (kept : Option ℕ) → KeptIdFits z left down kept → KeptIdFits z left (without k down) kept
 keeps_without z [] k down kept h = h
 keeps_without z (asked ∷ later) k down kept h = each_without (KeepsIf asked kept) k down h
 
--- `Keeps` lasts where a reply comes twice
-keeps_doubled : (z : ℕ) (left : List ℕ) (k : ℕ) (down : List Sent) (kept : Option ℕ) → Keeps z left down kept → Keeps z left (doubled k down) kept
+-- `KeptIdFits` is preserved if a reply comes twice
+keeps_doubled : (z : ℕ) (left : List ℕ) (k : ℕ) (down : List Sent) (kept : Option ℕ) → KeptIdFits z left down kept → KeptIdFits z left (doubled k down) kept
 keeps_doubled z [] k down kept h = h
 keeps_doubled z (asked ∷ later) k down kept h = each_doubled (KeepsIf asked kept) k down h
 
--- `Keeps` holds where nothing is kept
-keeps_nothing : (z : ℕ) (left : List ℕ) (down : List Sent) → Keeps z left down None
+-- `KeptIdFits` holds if nothing is retained
+keeps_nothing : (z : ℕ) (left : List ℕ) (down : List Sent) → KeptIdFits z left down None
 keeps_nothing z [] down = tt
 keeps_nothing z (asked ∷ later) down = every down where
   every : (xs : List Sent) → Each (KeepsIf asked None) xs
   every [] = tt
   every (x ∷ xs) = ((λ o e. tt), every xs)
 
--- where a request reaches the instrument, what is kept has its id, and `Keeps` lasts: the own replies in front of it with the first id
--- that is left have its id, too
-keeps_reached : (z : ℕ) (left : List ℕ) (down : List Sent) (x : Sent) (rest : List Sent) → IsLine z left (down ++ x ∷ rest) → Keeps z left down (Some x.id)
+-- if a request reaches the instrument, what is retained has its id, and `KeptIdFits` lasts: the own replies before it with the
+-- first id that is left have its id, too
+keeps_reached : (z : ℕ) (left : List ℕ) (down : List Sent) (x : Sent) (rest : List Sent) → IsLine z left (down ++ x ∷ rest) → KeptIdFits z left down (Some x.id)
 keeps_reached z [] down x rest h =
     let own : IsOwn x = (each_back IsOwn down (x ∷ rest) (each_own (down ++ x ∷ rest) (h.clear tt))).0 in
     (each_back (λ y. IsOwn y → y.id ≡ z) down (x ∷ rest) h.own).0 own
 keeps_reached z (asked ∷ later) down x rest h = pairs_before (KeepsTheId asked) down x rest h.own.1
 
--- `Keeps` lasts where the reply to that request goes out
-keeps_replied : (z : ℕ) (left : List ℕ) (down : List Sent) (x : Sent) → Keeps z left down (Some x.id) → Keeps z left (down ++ x ∷ []) (Some x.id)
+-- `KeptIdFits` is preserved if the reply to that request is sent
+keeps_replied : (z : ℕ) (left : List ℕ) (down : List Sent) (x : Sent) → KeptIdFits z left down (Some x.id) → KeptIdFits z left (down ++ x ∷ []) (Some x.id)
 keeps_replied z [] down x h = h
 keeps_replied z (asked ∷ later) down x h = each_append (KeepsIf asked (Some x.id)) down (x ∷ []) h ((λ o e. e), tt)
 
--- `Keeps` lasts where a reply comes and answers
+-- `KeptIdFits` is preserved if a reply comes and answers
 keeps_answered : (z asked : ℕ) (later : List ℕ) (x : Sent) (rest up : List Sent) (kept : Option ℕ) → IsLine z (asked ∷ later) (x ∷ (rest ++ up))
-    → x.id ≡ asked → Keeps z (asked ∷ later) (x ∷ rest) kept → Keeps z later rest kept
+    → x.id ≡ asked → KeptIdFits z (asked ∷ later) (x ∷ rest) kept → KeptIdFits z later rest kept
 keeps_answered z asked [] x rest up kept h e k = subst (λ i. IsFor i kept) h.ends (k.0 (is_own z asked x (rest ++ up) h e) e)
 keeps_answered z asked (i ∷ later) x rest up kept h e k =
     each_more (HasNone (i ∷ later)) (KeepsIf i kept) (λ y f o g. absurd ((f o).0 (sym g))) rest (each_front (HasNone (i ∷ later)) rest up h.own.0.1)
 
--- `Keeps` lasts where x, the front reply, is heard: of what is left then, and of the replies behind x
-keeps_heard : (z : ℕ) (left : List ℕ) (x : Sent) (rest up : List Sent) (kept : Option ℕ) → IsLine z left (x ∷ (rest ++ up)) → Keeps z left (x ∷ rest) kept → Keeps z (heard left x.id) rest kept
+-- `KeptIdFits` is preserved where x, the front reply, is heard: of what is left then, and of the replies after x
+keeps_heard : (z : ℕ) (left : List ℕ) (x : Sent) (rest up : List Sent) (kept : Option ℕ) → IsLine z left (x ∷ (rest ++ up)) → KeptIdFits z left (x ∷ rest) kept
+    → KeptIdFits z (heard left x.id) rest kept
 keeps_heard z [] x rest up kept h k = k
 keeps_heard z (asked ∷ later) x rest up kept h k = chosen (nat_eq x.id asked) refl where
-  chosen : (b : Bool) → nat_eq x.id asked ≡ b → Keeps z (left_by_one b asked later) rest kept
+  chosen : (b : Bool) → nat_eq x.id asked ≡ b → KeptIdFits z (left_by_one b asked later) rest kept
   chosen true e = keeps_answered z asked later x rest up kept h (eqb-true x.id asked e) k
   chosen false e = k.1
 
 -- Each move.
 
--- `IsLine` lasts over all that happens to the line
+-- `IsLine` is preserved by all that happens to the line
 line_lasts : (z : ℕ) → Lasts (IsLine z)
 line_lasts z = record { lost = line_without z; twice = line_doubled z; asked = line_asked z; came = line_came z }
 
--- `Keeps` lasts where the beginner asks
-keeps_asks : (z : ℕ) (s : Model) (left : List ℕ) → IsSound z s → Keeps z (asks s left).left (asks s left).down (asks s left).kept
+-- `KeptIdFits` is preserved if the beginner asks
+keeps_asks : (z : ℕ) (s : Model) (left : List ℕ) → IsSound z s → KeptIdFits z (asks s left).left (asks s left).down (asks s left).kept
 keeps_asks z s [] h = h.keeps
 keeps_asks z s (asked ∷ later) h = h.keeps
 
--- `Keeps` lasts where a request reaches the instrument
-keeps_reaches : (z : ℕ) (s : Model) (replies : Bool) (up : List Sent) → s.up ≡ up → IsSound z s → Keeps z (reaches s replies up).left (reaches s replies up).down (reaches s replies up).kept
+-- `KeptIdFits` is preserved if a request reaches the instrument
+keeps_reaches : (z : ℕ) (s : Model) (replies : Bool) (up : List Sent) → s.up ≡ up → IsSound z s → KeptIdFits z (reaches s replies up).left (reaches s replies up).down (reaches s replies up).kept
 keeps_reaches z s replies [] e h = h.keeps
 keeps_reaches z s true (x ∷ rest) e h = keeps_replied z s.left s.down x (keeps_reached z s.left s.down x rest (subst (λ q. IsLine z s.left (s.down ++ q)) e h.line))
 keeps_reaches z s false (x ∷ rest) e h = keeps_reached z s.left s.down x rest (subst (λ q. IsLine z s.left (s.down ++ q)) e h.line)
@@ -102,27 +104,27 @@ keeps_reaches z s false (x ∷ rest) e h = keeps_reached z s.left s.down x rest 
 both : (x : Sent) → IsOld x → IsOwn x → ⊥
 both x old own = never (sym own ∙ old)
 
--- `Keeps` lasts where the reply to an old request goes out, and what is kept stays
-keeps_old : (z : ℕ) (left : List ℕ) (down : List Sent) (x : Sent) (kept : Option ℕ) → IsOld x → Keeps z left down kept → Keeps z left (down ++ x ∷ []) kept
+-- `KeptIdFits` is preserved if the reply to an old request is sent, and what is retained stays
+keeps_old : (z : ℕ) (left : List ℕ) (down : List Sent) (x : Sent) (kept : Option ℕ) → IsOld x → KeptIdFits z left down kept → KeptIdFits z left (down ++ x ∷ []) kept
 keeps_old z [] down x kept old h = h
 keeps_old z (asked ∷ later) down x kept old h = each_append (KeepsIf asked kept) down (x ∷ []) h ((λ own e. absurd (both x old own)), tt)
 
--- `Keeps` lasts where a request is passed over
-keeps_passes : (z : ℕ) (s : Model) (up : List Sent) → s.up ≡ up → IsSound z s → Keeps z (passes s up).left (passes s up).down (passes s up).kept
+-- `KeptIdFits` is preserved if a request is left out
+keeps_passes : (z : ℕ) (s : Model) (up : List Sent) → s.up ≡ up → IsSound z s → KeptIdFits z (passes s up).left (passes s up).down (passes s up).kept
 keeps_passes z s [] e h = h.keeps
 keeps_passes z s (x ∷ rest) e h = by_case x.old refl where
-  by_case : (old : Bool) → x.old ≡ old → Keeps z s.left (s.down ++ x ∷ []) (kept_past old x.id s.kept)
+  by_case : (old : Bool) → x.old ≡ old → KeptIdFits z s.left (s.down ++ x ∷ []) (kept_past old x.id s.kept)
   by_case true old = keeps_old z s.left s.down x s.kept old h.keeps
   by_case false own = keeps_replied z s.left s.down x (keeps_reached z s.left s.down x rest (subst (λ q. IsLine z s.left (s.down ++ q)) e h.line))
 
--- the same of a whole state: `Keeps` lasts where a reply comes
-keeps_comes : (z : ℕ) (s : Model) (down : List Sent) → s.down ≡ down → IsSound z s → Keeps z (comes s down).left (comes s down).down (comes s down).kept
+-- the same of a whole state: `KeptIdFits` is preserved if a reply comes
+keeps_comes : (z : ℕ) (s : Model) (down : List Sent) → s.down ≡ down → IsSound z s → KeptIdFits z (comes s down).left (comes s down).down (comes s down).kept
 keeps_comes z s [] e h = h.keeps
 keeps_comes z s (x ∷ rest) e h =
-    keeps_heard z s.left x rest s.up s.kept (subst (λ q. IsLine z s.left (q ++ s.up)) e h.line) (subst (λ q. Keeps z s.left q s.kept) e h.keeps)
+    keeps_heard z s.left x rest s.up s.kept (subst (λ q. IsLine z s.left (q ++ s.up)) e h.line) (subst (λ q. KeptIdFits z s.left q s.kept) e h.keeps)
 
--- `Keeps` lasts over each move
-keeps_moves : (z : ℕ) (s : Model) (m : Move) → IsSound z s → Keeps z (moves s m).left (moves s m).down (moves s m).kept
+-- `KeptIdFits` is preserved by each move
+keeps_moves : (z : ℕ) (s : Model) (m : Move) → IsSound z s → KeptIdFits z (moves s m).left (moves s m).down (moves s m).kept
 keeps_moves z s Ask h = keeps_asks z s s.left h
 keeps_moves z s (Reach replies) h = keeps_reaches z s replies s.up refl h
 keeps_moves z s Pass h = keeps_passes z s s.up refl h
@@ -133,11 +135,11 @@ keeps_moves z s (Down_lose k) h = keeps_without z s.left k s.down s.kept h.keeps
 keeps_moves z s (Down_repeat k) h = keeps_doubled z s.left k s.down s.kept h.keeps
 keeps_moves z s Anew h = keeps_nothing z s.left s.down
 
--- `IsSound` lasts over each move
+-- `IsSound` is preserved by each move
 sound_moves : (z : ℕ) (s : Model) (m : Move) → IsSound z s → IsSound z (moves s m)
 sound_moves z s m h = record { line = holds_moves (IsLine z) (line_lasts z) s m h.line; keeps = keeps_moves z s m h }
 
--- `IsSound` lasts over moves
+-- `IsSound` is preserved by moves
 pub sound_moved : (z : ℕ) (ms : List Move) (s : Model) → IsSound z s → IsSound z (moved ms s)
 sound_moved z [] s h = h
 sound_moved z (m ∷ ms) s h = sound_moved z ms (moves s m) (sound_moves z s m h)
@@ -149,7 +151,7 @@ last_of_last : (z : ℕ) (word : List ℕ) → last (last z word) word ≡ last 
 last_of_last z [] = refl
 last_of_last z (i ∷ word) = refl
 
--- `AreOwn` holds at the start, where all are old
+-- `AreOwn` holds at the start, if all are old
 own_at_start : (z : ℕ) (word : List ℕ) (line : List Sent) → Each IsOld line → AreOwn z word line
 own_at_start z [] line h = each_more IsOld (λ x. IsOwn x → x.id ≡ z) (λ x old own. absurd (both x old own)) line h
 own_at_start z (asked ∷ later) line h = (
@@ -157,8 +159,8 @@ own_at_start z (asked ∷ later) line h = (
   pairs_of_each IsOld (KeepsTheId asked) (λ x y old own e. absurd (both x old own)) line h,
 )
 
--- `Keeps` holds at the start, where all are old
-keeps_at_start : (z : ℕ) (word : List ℕ) (down : List Sent) (kept : Option ℕ) → (word ≡ [] → ⊥) → Each IsOld down → Keeps z word down kept
+-- `KeptIdFits` holds at the start, if all are old
+keeps_at_start : (z : ℕ) (word : List ℕ) (down : List Sent) (kept : Option ℕ) → (word ≡ [] → ⊥) → Each IsOld down → KeptIdFits z word down kept
 keeps_at_start z [] down kept some h = absurd (some refl)
 keeps_at_start z (asked ∷ later) down kept some h = each_more IsOld (KeepsIf asked kept) (λ x old own e. absurd (both x old own)) down h
 
@@ -179,17 +181,17 @@ sound_at_start word s differ h =
     let some : word ≡ [] → ⊥ = λ e. h.absent (subst (λ w. IsSubsequence w (ids_of s.down ++ ids_of s.up)) (sym e) tt) in
     record {
       line = subst (λ l. IsLine z l line) (sym h.left) starts;
-      keeps = subst (λ l. Keeps z l s.down s.kept) (sym h.left) (keeps_at_start z word s.down s.kept some h.down);
+      keeps = subst (λ l. KeptIdFits z l s.down s.kept) (sym h.left) (keeps_at_start z word s.down s.kept some h.down);
     }
 
 -- Its end.
 
--- where no id is left, a sound state is clean
+-- if no id is left, a sound state is clean
 clean_if : (z : ℕ) (s : Model) (left : List ℕ) → s.left ≡ left → left ≡ [] → IsSound z s → IsClean z s
 clean_if z s left e f h =
     let done : s.left ≡ [] = e ∙ f in
     let line : IsLine z [] (s.down ++ s.up) = subst (λ l. IsLine z l (s.down ++ s.up)) done h.line in
-    let keeps : IsFor z s.kept = subst (λ l. Keeps z l s.down s.kept) done h.keeps in
+    let keeps : IsFor z s.kept = subst (λ l. KeptIdFits z l s.down s.kept) done h.keeps in
     let each : Each (λ x. (x.old ≡ false) × (x.id ≡ z)) (s.down ++ s.up) =
     each_both IsOwn (λ x. IsOwn x → x.id ≡ z) (λ x. (x.old ≡ false) × (x.id ≡ z)) (λ x o f. (o, f o)) (s.down ++ s.up) (each_own (s.down ++ s.up) (line.clear tt)) line.own in
     record {
@@ -198,12 +200,12 @@ clean_if z s left e f h =
       kept = λ i e. subst (λ k. IsFor z k) e keeps;
     }
 
--- a beginning with a word without an id twice begins cleanly, if what is under way at its start doesn't contain the word
+-- a synchronization with a word without an id twice ends cleanly, if what is in flight at its start doesn't contain the word
 pub begins_cleanly : (word : List ℕ) (s : Model) (ms : List Move) → AllDiffer word → Begins word s → (moved ms s).left ≡ [] → IsClean (last 0 word) (moved ms s)
 begins_cleanly word s ms differ begins done = clean_if (last 0 word) (moved ms s) (moved ms s).left refl done (sound_moved (last 0 word) ms s (sound_at_start word s differ begins))
 
 -- The word.
 
--- a beginning with the word that a station uses begins cleanly
+-- a synchronization with the word that a station uses ends cleanly
 pub the_word_begins_cleanly : (s : Model) (ms : List Move) → Begins the_word s → (moved ms s).left ≡ [] → IsClean 7 (moved ms s)
 the_word_begins_cleanly s ms begins done = begins_cleanly the_word s ms word_differs begins done

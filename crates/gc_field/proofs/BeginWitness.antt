@@ -69,7 +69,7 @@ some_runs =
       made_on = was_made;
     }
 
--- where the word is under way, a reply from before is booked
+-- if the word is in flight, a reply from before is booked
 pub from_before : IsBookedFromBefore
 unfolding header_at reply_at handed exec digits
 from_before = record { begun = refl; possible = (tt, ((7, [], refl), tt)); settled = refl; executed = refl }

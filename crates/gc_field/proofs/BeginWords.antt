@@ -1,5 +1,5 @@
--- When a list of ids contains a word as a subsequence ("the word is in the ids"). Where it doesn't, it doesn't either once ids
--- are lost; nor once an id is repeated directly after itself, if no id is in the word twice.
+-- When a list of ids contains a word as a subsequence ("the word is in the ids"). If it doesn't, it doesn't either once ids are
+-- lost; nor once an id is repeated directly after itself, if no id is in the word twice.
 use Rattle.std.proofs.Common.{◌≡◌, ℕ, zero, suc, ◌+◌, ◌-◌, ◌%◌, ◌<◌, ◌≤◌, inl, inr, Bool, true, false, List, [], ◌∷◌, ◌++◌, nat_eq, cond, refl, sym, ◌∙◌, subst, arith, map}
 use mathlib.Core.Path.{ap₂}
 use Rattle.std.proofs.lemmas.Bool.{eq-eqb, eqb-true, eqb-false}
@@ -17,12 +17,12 @@ not_over i ids e = cc
 
 -- Fewer ids, and repeats.
 
--- a word that is in ids is in them with one more id in front
+-- a word that is in ids is in them with one more id before it
 pub stands_more : (word ids : List ℕ) (i : ℕ) → IsSubsequence word ids → IsSubsequence word (i ∷ ids)
 stands_more [] ids i h = tt
 stands_more (w ∷ word) ids i h = inr h
 
--- where a word is in ids, the word without its first id is in them, too
+-- if a word is in ids, the word without its first id is in them, too
 pub stands_behind : (w : ℕ) (word ids : List ℕ) → IsSubsequence (w ∷ word) ids → IsSubsequence word ids
 stands_behind w word [] h = absurd h
 stands_behind w word (i ∷ ids) (inl h) = stands_more word ids i h.1
@@ -46,13 +46,14 @@ stands_each P (w ∷ word) (i ∷ ids) h (inr s) = stands_each P (w ∷ word) id
 abbrev pub Has : List ℕ → List ℕ → Type 0
 Has ids others = (word : List ℕ) → AllDiffer word → IsSubsequence word ids → IsSubsequence word others
 
--- `Has` lasts where the same id is put in front of both lists
+-- `Has` is preserved if the same id is put before both lists
 pub has_behind : (i : ℕ) (ids others : List ℕ) → Has ids others → Has (i ∷ ids) (i ∷ others)
 has_behind i ids others f [] d h = tt
 has_behind i ids others f (w ∷ word) d (inl h) = inl (h.0, f word d.1 h.1)
 has_behind i ids others f (w ∷ word) d (inr h) = inr (f (w ∷ word) d h)
 
--- repeating the first of some ids adds no word without an id twice: `Has` of the ids with i twice in front and those with i once
+-- repeating the first of some ids adds no word without an id twice: `Has` of the ids with i twice before it and those with i
+-- once
 pub has_twice : (i : ℕ) (ids : List ℕ) → Has (i ∷ i ∷ ids) (i ∷ ids)
 has_twice i ids [] d h = tt
 has_twice i ids (w ∷ []) d (inl h) = inl (h.0, tt)
@@ -63,7 +64,7 @@ has_twice i ids (w ∷ v ∷ word) d (inl h) =
     ]
 has_twice i ids (w ∷ word) d (inr h) = h
 
--- A test that no id stands twice.
+-- A test that no id occurs twice.
 
 -- whether this id isn't among these
 abbrev pub is_new : ℕ → List ℕ → Bool
@@ -75,7 +76,7 @@ abbrev pub are_new : List ℕ → Bool
 are_new [] = true
 are_new (i ∷ ids) = cond (is_new i ids) (are_new ids) false
 
--- the step of `is_new` at an id j, where `rest` is its value for the ids after j, and b whether i equals j: where the whole value
+-- the step of `is_new` at an id j, where `rest` is its value for the ids after j, and b whether i equals j: if the whole value
 -- is true, i differs from j, and `rest` is true
 new_if : (i j : ℕ) (rest : Bool) (b : Bool) → nat_eq i j ≡ b → cond b false rest ≡ true → (i ≡ j → ⊥) × (rest ≡ true)
 new_if i j rest true t e = absurd (never e)
@@ -102,12 +103,12 @@ word_differs = all_differ the_word refl
 
 -- The greedy way: replies with these ids, heard one after the other, answer the whole word, if it is in them.
 
--- what is left of a word after replies with these ids, of which each answers the first id that is left, or is dropped
+-- what is left of a word after replies with these ids, of which each answers the first id that is left, or is discarded
 abbrev pub hears : List ℕ → List ℕ → List ℕ
 hears word [] = word
 hears word (i ∷ ids) = hears (heard word i) ids
 
--- the step of the next lemma: where replies with these ids answer each word that the ids contain, a reply with id i in front of
+-- the step of the next lemma: where replies with these ids answer each word that the ids contain, a reply with id i before
 -- them, followed by them, answers the word `w ∷ word` if `i ∷ ids` contain it, whether i is w (`b`) or not
 hears_next : (i w : ℕ) (ids word : List ℕ) (b : Bool) → nat_eq i w ≡ b → ((v : List ℕ) → IsSubsequence v ids → hears v ids ≡ [])
     → IsSubsequence (w ∷ word) (i ∷ ids) → hears (left_by_one b w word) ids ≡ []
@@ -152,7 +153,7 @@ rising_lower : (low high : ℕ) (ns : List ℕ) → low ≤ high → Rising high
 rising_lower low high [] le h = tt
 rising_lower low high (n ∷ ns) le h = (omega (arith, le, h.0), h.1)
 
--- where a equals b, numbers below a are below b
+-- if a equals b, numbers below a are below b
 each_below : (a b : ℕ) (ns : List ℕ) → a ≡ b → Each (λ m. m < a) ns → Each (λ m. m < b) ns
 each_below a b ns e h = subst (λ c. Each (λ m. m < c) ns) e h
 
@@ -161,7 +162,7 @@ each_below a b ns e h = subst (λ c. Each (λ m. m < c) ns) e h
 abbrev InRow : ℕ → ℕ → List ℕ → Type 0
 InRow a k ns = Rising (a + 1) ns → Each (λ m. m < a + k) ns → Has (ids_at ns) (upward a k)
 
--- `InRow` lasts where one number more, m, is put in front: either m is a (`b`), or all of the numbers are above a
+-- `InRow` is preserved if one number more, m, is put before it: either m is a (`b`), or all of the numbers are above a
 row_first : (a k m : ℕ) (ns : List ℕ) (b : Bool) → nat_eq m a ≡ b → InRow (a + 1) k (m ∷ ns) → InRow a (suc k) ns → InRow a (suc k) (m ∷ ns)
 row_first a k m ns true e above more h low = λ word d s.
     let same : m ≡ a = eqb-true m a e in
@@ -190,7 +191,7 @@ upward_round : (n a b : ℕ) → a % 8 ≡ b % 8 → upward a n ≡ upward b n
 upward_round zero a b e = refl
 upward_round (suc n) a b e = ap₂ (λ i ids. i ∷ ids) e (upward_round n (a + 1) (b + 1) (omega (arith, e)))
 
--- numbers that never fall, within seven from `low` on, as a run that measures has under way: modulo 8 they don't contain 6 5 4
+-- numbers that never fall, within seven from `low` on, as a run that measures has in flight: modulo 8 they don't contain 6 5 4
 pub three_within : (low : ℕ) (ns : List ℕ) → 0 < low → Rising low ns → Each (λ n. n < low + 7) ns → IsSubsequence (6 ∷ 5 ∷ 4 ∷ []) (map (λ n. n % 8) ns) → ⊥
 three_within low ns some h below s =
     let a : ℕ = low - 1 in
@@ -198,7 +199,7 @@ three_within low ns some h below s =
     let row = in_row 8 a ns (subst (λ l. Rising l ns) first h) (each_below (low + 7) (a + 8) ns (omega (arith, first)) below) (6 ∷ 5 ∷ 4 ∷ []) (all_differ (6 ∷ 5 ∷ 4 ∷ []) refl) s in
     three_upward (a % 8) (omega arith) (subst (λ ids. IsSubsequence (6 ∷ 5 ∷ 4 ∷ []) ids) (upward_round 8 a (a % 8) (omega arith)) row)
 
--- numbers that never fall, within seven from `low` on, as a run that measures has under way: modulo 8 they don't contain the
+-- numbers that never fall, within seven from `low` on, as a run that measures has in flight: modulo 8 they don't contain the
 -- word
 pub none_within : (low : ℕ) (ns : List ℕ) → 0 < low → Rising low ns → Each (λ n. n < low + 7) ns → IsSubsequence the_word (map (λ n. n % 8) ns) → ⊥
 none_within low ns some h below s = three_within low ns some h below (stands_front (6 ∷ 5 ∷ 4 ∷ []) (3 ∷ 2 ∷ 1 ∷ 0 ∷ 7 ∷ []) (map (λ n. n % 8) ns) s)

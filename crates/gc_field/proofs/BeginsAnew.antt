@@ -1,4 +1,4 @@
--- A run that begins anew, in the field, computed.
+-- A run that resynchronizes, in the field, computed.
 use Rattle.std.proofs.Common.{◌≡◌, List, [], ◌∷◌, refl, sym, subst}
 use Rattle.std.specs.Prelude.{codes, map, take, drop}
 use Rattle.std.specs.Fmt.{digits}
@@ -7,7 +7,7 @@ use Rattle.gc_catalogue.specs.declared.asked.Asked.TheVariants.{Table}
 use Rattle.gc_catalogue.specs.declared.call.Call.TheVariants.{InstrumentNo}
 use Rattle.gc_client.specs.declared.window.TheConstants.{WINDOW}
 use Rattle.gc_texts.specs.Nears.{is_elsewhere}
-use Rattle.gc_station.specs.Beginnings.{IsAnew}
+use Rattle.gc_station.specs.Beginnings.{IsResynchronizing}
 use Rattle.gc_station.specs.Parts as part
 use Rattle.gc_station.specs.Parts.{Part, parts_of}
 use Rattle.gc_station.specs.Model.{Runs, after_all, opening}
@@ -22,12 +22,12 @@ use Rattle.gc_field.specs.Witness.{at, begun_with, eight}
 use Rattle.gc_field.proofs.CountingChain.{counted, opens_counting}
 use Rattle.gc_field.proofs.Witness.{asked_each, one_part, part_of, run_on, units}
 
--- what the turns of the second beginning show to the station
+-- what the turns of the second synchronization show to the station
 abbrev all_turns : List part.Turn
 all_turns =
     part.Asks ∷ part.Hears first ∷ part.Hears seventh ∷ part.Asks ∷ part.Hears seventh ∷ part.Hears (codes "%R1P,0,5:0,38") ∷ asked_each (drop 1 replies)
 
--- the parts of the run: until the station begins anew, from there on, and the empty one after the end
+-- the parts of the run: until the station resynchronizes, from there on, and the empty one after the end
 abbrev parts : List Part
 parts =
     part_of (asked_each begun) (seen moves) (map (λ place. (place, 15)) (0 ∷ 1 ∷ 2 ∷ 3 ∷ 4 ∷ 5 ∷ 6 ∷ []))
@@ -43,19 +43,19 @@ shown_are : shown counting eight (begins before) ≡ asked_each begun
 unfolding is_elsewhere header_at reply_at digits
 shown_are = refl
 
--- the turns of the second beginning show this
+-- the turns of the second synchronization show this
 shown_anew : shown counting turns (begins left) ≡ all_turns
 unfolding is_elsewhere header_at reply_at digits
 shown_anew = refl
 
--- the acts until the station begins anew are a run
+-- the acts until the station resynchronizes are a run
 given_up_runs : Runs plan commands (opening plan scope) given_up
 unfolding is_elsewhere header_at reply_at digits
 given_up_runs =
     run_on plan commands (opening plan scope) (begun_with begun []) (drop 27 given_up) (opens_counting 7 commands scope.reads)
     (tt, (refl, (tt, (refl, (tt, (refl, (tt, (refl, (tt, (refl, (tt, (refl, (tt, (refl, (tt, (tt, tt))))))))))))))))
 
--- the acts from there on, where the station begins anew, are a run
+-- the acts from there on, if the station resynchronizes, are a run
 anew_runs : Runs plan commands (after_all plan commands (opening plan scope) given_up) anew
 unfolding is_elsewhere header_at reply_at digits
 anew_runs =
@@ -63,17 +63,17 @@ anew_runs =
     (tt, (refl, (tt, (tt, (tt, (refl, (tt, (tt, (tt, tt)))))))))
     (refl, (tt, (tt, (refl, (tt, (tt, (refl, (tt, (tt, (refl, (tt, (tt, (refl, (tt, (tt, (refl, (tt, (tt, (refl, (tt, (tt, (refl, tt))))))))))))))))))))))
 
--- after the acts until seven requests are given up, the next act is one at which the station begins anew
-begins_anew : IsAnew plan commands scope given_up (Told (at 115))
+-- after the acts until seven requests have timed out, the next act is one at which the station resynchronizes
+begins_anew : IsResynchronizing plan commands scope given_up (Told (at 115))
 unfolding is_elsewhere header_at reply_at digits
 begins_anew = record { renews = refl; moment = at 115; told = refl; seven = refl; given_up = refl; word = refl; client = refl }
 
--- the answer was made on executing the last command's request, the client's first one after the new beginning
+-- the answer was made on executing the last command's request, the client's first one after the new synchronization
 was_made : WasMadeOn WINDOW counting from moves_anew 8 (Table InstrumentNo) answer
 unfolding is_elsewhere header_at reply_at digits
 was_made = record { front = take 2 moves_anew; later = drop 3 moves_anew; split = refl; id = 0; rest = []; reaches = refl; executed = refl; reply = refl }
 
--- this run begins anew, and the last command has its own answer
+-- this run resynchronizes, and the last command has its own answer
 pub answered_anew : IsAnsweredAnew
 unfolding is_elsewhere header_at reply_at digits
 answered_anew =

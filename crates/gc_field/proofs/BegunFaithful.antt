@@ -1,5 +1,5 @@
--- After a clean beginning any possible moves are faithful. The eight null procedures count as requests 0 to 7, which are
--- settled, and what is under way belongs to the last of them.
+-- After a clean synchronization any possible moves are faithful. The eight null procedures count as requests 0 to 7, which are
+-- settled, and what is in flight belongs to the last of them.
 use Rattle.std.proofs.Common.{◌≡◌, ℕ, ◌+◌, ◌<◌, ◌≤◌, inl, inr, Bool, true, List, [], ◌∷◌, ◌++◌, map, length, Option, Some, None, refl, sym, ◌∙◌, ap, subst, arith, append_assoc}
 use Rattle.std.specs.Prelude.{slice_get}
 use Rattle.gc_catalogue.specs.declared.asked.Asked.{Asked}
@@ -30,29 +30,30 @@ use Rattle.gc_field.proofs.Instruments.{alike_is, exchange_of}
 use Rattle.gc_field.proofs.Moving.{Both, both_all, first_reply, IsOwn, IsVouchedFor, AreOn, are_on_later, vouched_for, whole_all}
 use Rattle.gc_field.proofs.Possible.{possible_behind, possible_front}
 use Rattle.gc_field.proofs.Seen.{same_all}
-use Rattle.gc_field.proofs.Vouched.{IsNear, KeptIs, True, Vouched}
+use Rattle.gc_field.proofs.KeptReplies.{KeptIs}
+use Rattle.gc_field.proofs.Vouched.{IsNear, AllVouched, Vouched}
 
 -- The course of a client, after what was sent and settled before.
 
--- course x is course y, with these requests and these settlements in front
+-- course x is course y, with these requests and these settlements before it
 record Behind (before : List (Wanted Asked)) (old : List (Settlement Asked)) (x y : Course Asked) : Type 0 where
   sent : x.sent ≡ before ++ y.sent
   settled : x.settlements ≡ old ++ y.settlements
   client : x.client ≡ y.client
 
--- `Behind` lasts over a send
+-- `Behind` is preserved by a send
 behind_send : (before : List (Wanted Asked)) (old : List (Settlement Asked)) (x y : Course Asked) (target : ℕ) (call : Asked) (o : Option (Sending (ById Asked))) → Behind before old x y
     → Behind before old (sent_on x target call o) (sent_on y target call o)
 behind_send before old x y target call None h = h
 behind_send before old x y target call (Some s) h =
     record { sent = ap (λ l. l ++ record { target = target; call = call } ∷ []) h.sent ∙ append_assoc before y.sent (record { target = target; call = call } ∷ []); settled = h.settled; client = refl }
 
--- `Behind` lasts over settlements
+-- `Behind` is preserved by settlements
 behind_settled : (before : List (Wanted Asked)) (old : List (Settlement Asked)) (x y : Course Asked) (s : Settled Asked (ById Asked)) → Behind before old x y
     → Behind before old (settled_on x s) (settled_on y s)
 behind_settled before old x y s h = record { sent = h.sent; settled = ap (λ l. l ++ s.settlements) h.settled ∙ append_assoc old y.settlements s.settlements; client = refl }
 
--- `Behind` lasts over a step
+-- `Behind` is preserved by a step
 behind_step : (width : ℕ) (before : List (Wanted Asked)) (old : List (Settlement Asked)) (x y : Course Asked) (step : Step Asked) → Behind before old x y
     → Behind before old (goes width x step) (goes width y step)
 behind_step width before old x y (Send target call deadline) h =
@@ -65,7 +66,7 @@ behind_step width before old x y (Expire now) h = record { sent = h.sent; settle
 behind_step width before old x y Restart h =
     subst (λ c. Behind before old (settled_on x (restarts c)) (settled_on y (restarts y.client))) (sym h.client) (behind_settled before old x y (restarts y.client) h)
 
--- `Behind` lasts over steps
+-- `Behind` is preserved by steps
 behind_all : (width : ℕ) (before : List (Wanted Asked)) (old : List (Settlement Asked)) (steps : List (Step Asked)) (x y : Course Asked) → Behind before old x y
     → Behind before old (course width x steps) (course width y steps)
 behind_all width before old [] x y h = h
@@ -75,7 +76,7 @@ behind_all width before old (step ∷ steps) x y h = behind_all width before old
 abbrev begun_course : Course Asked
 begun_course = record { sent = map of_sent nulls; settlements = nulls_settled; client = fresh }
 
--- `begun_course` is the course `begun` of a new client, with the null procedures in front
+-- `begun_course` is the course `begun` of a new client, with the null procedures before it
 begun_behind : Behind (map of_sent nulls) nulls_settled begun_course begun
 begun_behind = record { sent = refl; settled = refl; client = refl }
 
@@ -114,7 +115,7 @@ module _ {State : Type 0} (ends : Ends State) (Good : State → Type 0) (kept : 
       sym one.sent ∙ (behind_all width (map of_sent nulls) nulls_settled (seen ms) begun_course begun begun_behind).sent
 
   module _ (u : UnderWay State) (clean : IsClean Good kept u) where
-    -- after a clean beginning the world of the client that is given numbers is `Sound`
+    -- after a clean synchronization the world of the client that is given numbers is `Sound`
     sound_begun : Sound width ends Good (numbers_begun u)
     sound_begun =
         let within : 8 ≤ 8 = omega arith in
@@ -132,7 +133,7 @@ module _ {State : Type 0} (ends : Ends State) (Good : State → Type 0) (kept : 
           coming = each_last (IsComing width ends Good 0 8) (λ line. heard line ≡ Some 7) (λ x e. record { recent = omega arith; sent = omega arith; id = keeper.hears x ∙ e }) u.down clean.down;
         }
 
-    -- after a clean beginning the world of the client that knows ids and that of the client that is given numbers agree
+    -- after a clean synchronization the world of the client that knows ids and that of the client that is given numbers agree
     pub both_begun : Both width narrow ends Good ex kept (ids_begun u) (numbers_begun u)
     both_begun = record { agree = record { wire = refl; client = record { window = refl; next = refl } }; sound = sound_begun }
 
@@ -140,7 +141,7 @@ module _ {State : Type 0} (ends : Ends State) (Good : State → Type 0) (kept : 
     never : (j n : ℕ) → slice_get [] j ≡ Some n → ⊥
     never j n e = cc
 
-    -- the eighth null procedure is among the requests of a beginning, with the number 7
+    -- the eighth null procedure is among the requests of a synchronization, with the number 7
     line_is : (x : Request) → x ≡ eighth → IsOf written nulls (record { number = 7; line = x })
     line_is x e = record {
       request = record { target = 0; call = Table NullProc; line = asked_line (Some 7) (Table NullProc) };
@@ -151,7 +152,7 @@ module _ {State : Type 0} (ends : Ends State) (Good : State → Type 0) (kept : 
     }
 
     module _ (knows : Asked → Bool) (is : IsAnInstrumentFor ends Good kept knows) (E : ℕ → Type 0) (early : (n : ℕ) → n < 8 → E n) (Plain : Type 0) (M : ℕ → Asked → List ℕ → Type 0) where
-      -- what is vouched for right after a beginning: all of it is excepted
+      -- what is vouched for right after a synchronization: all of it is excepted
       abbrev First : ℕ → List ℕ → Type 0
       First n line = Vouched width narrow knows ends Good kept is 8 E Plain M nulls [] [] 7 n line
 
@@ -159,14 +160,14 @@ module _ {State : Type 0} (ends : Ends State) (Good : State → Type 0) (kept : 
       first_is : (line : List ℕ) → First 7 line
       first_is line = (inl (omega arith), inl (early 7 (omega arith)))
 
-      -- after a clean beginning, what the instrument keeps, if anything, is the reply to the eighth null procedure
+      -- after a clean synchronization, what the instrument retains, if anything, is the reply to the eighth null procedure
       kept_begun : (k : Option KeptReply) → kept u.state ≡ k → KeptIs First 0 8 7 k
       kept_begun None e = tt
       kept_begun (Some k) e = record { number = 7; recent = omega arith; before = omega arith; behind = omega arith; id = clean.keeps k e; line = first_is k.line }
 
-      -- after a clean beginning the invariant `True` of `Vouched` holds of the world of the client that is given numbers: each
-      -- reply under way was made for its request
-      true_begun : IsNear width narrow knows ends Good kept is 8 E Plain M nulls 8 7 → True width narrow knows ends Good kept is 8 E Plain M (numbers_begun u)
+      -- after a clean synchronization the invariant `AllVouched` of `Vouched` holds of the world of the client that is given numbers:
+      -- each reply in flight was made for its request
+      true_begun : IsNear width narrow knows ends Good kept is 8 E Plain M nulls 8 7 → AllVouched width narrow knows ends Good kept is 8 E Plain M (numbers_begun u)
       true_begun near =
           let within : 8 ≤ 8 = omega arith in
           record {
@@ -214,7 +215,7 @@ module _ {State : Type 0} (ends : Ends State) (Good : State → Type 0) (kept : 
     any_on : (ms : List (Move State)) (b : World (ByNumber Asked) State) → AreOn width ends AnyLine ms b
     any_on ms b front later e x rest q exe = tt
 
-    -- where all requests are known, each settlement of a client's request is its own
+    -- if all requests are known, each settlement of a client's request is its own
     plain : (knows : Asked → Bool) → IsAnInstrumentFor ends Good kept knows → knows (Table NullProc) ≡ true → (ms : List (Move State)) → ArePossible ends Good kept (by_ids width ends) ms (ids_begun u)
         → AsksOnly knows ms
         → IsVouchedFor ends Good kept (λ n. n < 8) (λ n call line. WasMadeOn width ends u ms n call line) (moved ends (by_numbers width) ms (numbers_begun u)).wire
@@ -232,7 +233,7 @@ module _ {State : Type 0} (ends : Ends State) (Good : State → Type 0) (kept : 
         whole_all width narrow is_of_table ends Good ex kept keeper 8 EachOne ⊥ AnyLine ms (ids_begun u) (numbers_begun u) both_begun p (λ never. absurd never) (any_on ms (numbers_begun u))
         (true_begun is_of_table keeper EachOne (λ n l. tt) ⊥ AnyLine (inr (λ n. inl tt)))
 
-    -- the settlement of a request that went out behind the table is its own
+    -- the settlement of a request that was sent after the table is its own
     behind_own : (ms : List (Move State)) → ArePossible ends Good kept (by_ids width ends) ms (ids_begun u) → (m : ℕ) → WentOutBehindTheTable width ends u ms m
         → IsVouchedFor ends Good kept (AllBut m) (λ n call line. WasMadeOn width ends u ms n call line) (moved ends (by_numbers width) ms (numbers_begun u)).wire
     behind_own ms p m h =
@@ -264,7 +265,7 @@ module _ {State : Type 0} (ends : Ends State) (Good : State → Type 0) (kept : 
     safe_own ms p m s ge (inr (inl alike)) e = (plain all_known (alike_is ends Good kept keeper alike) refl ms p (asks_all ms)).own m s (λ l. omega (arith, l, ge)) e
     safe_own ms p m s ge (inr (inr went)) e = (behind_own ms p m went).own m s (λ other. other refl) e
 
-    -- moves after a clean beginning are faithful
+    -- moves after a clean synchronization are faithful
     pub faithful : (ms : List (Move State)) → ArePossible ends Good kept (by_ids width ends) ms (ids_begun u) → IsFaithful width ends u ms Good kept
     faithful ms p =
         let a = moved ends (by_ids width ends) ms (ids_begun u) in

@@ -1,6 +1,6 @@
--- What a client has under way after a clean beginning is an `IsRow`: requests and replies whose numbers, from the eighth null
--- procedure's on, never fall in the order of the line, and whose ids are these numbers modulo 8. The *word* is the list of the
--- ids of a beginning's eight null procedures: 6 down to 0, and then 7.
+-- What a client has in flight after a clean synchronization is an `IsRow`: requests and replies whose numbers, from the eighth
+-- null procedure's on, never fall in the order of the line, and whose ids are these numbers modulo 8. The *word* is the list of
+-- the ids of a synchronization's eight null procedures: 6 down to 0, and then 7.
 use Rattle.std.proofs.Common.{◌≡◌, ℕ, ◌+◌, ◌-◌, ◌%◌, ◌<◌, ◌≤◌, Bool, true, false, List, [], ◌∷◌, ◌++◌, length, map, Option, Some, refl, sym, ◌∙◌, ap, subst, arith, ltb, eqb}
 use mathlib.Core.Path.{ap₂}
 use Rattle.std.specs.List.{filter_map, cons_option}
@@ -35,7 +35,7 @@ rows_have_not u h s = none_within h.low h.numbers h.some h.rising h.few (subst (
 pub rows_have_not_three : {State : Type 0} (u : UnderWay State) → IsRow u → IsSubsequence (6 ∷ 5 ∷ 4 ∷ []) (ids_under_way u) → ⊥
 rows_have_not_three u h s = three_within h.low h.numbers h.some h.rising h.few (subst (IsSubsequence (6 ∷ 5 ∷ 4 ∷ [])) h.ids s)
 
--- The client that is told the numbers never restarts, and what it settled doesn't become less.
+-- The client that is given the numbers never restarts, and what it settled doesn't become less.
 
 -- a client that is given the numbers, whose eight null procedures are settled, and which never restarted
 pub record IsBased (c : ByNumber Asked) : Type 0 where
@@ -47,22 +47,22 @@ module _ {State : Type 0} (width : ℕ) (ends : Ends State) where
   abbrev Based : World (ByNumber Asked) State → Type 0
   Based w = IsBased w.client
 
-  -- a send keeps `Based`
+  -- a send preserves `Based`
   based_sent : (w : World (ByNumber Asked) State) (target : ℕ) (call : Asked) (deadline : ℕ) (full : Bool) → Based w → Based (requested w target call (number_send w.client target call deadline full))
   based_sent w target call deadline true h = h
   based_sent w target call deadline false h = record { since = h.since; count = h.count }
 
-  -- a reply keeps `IsBased`
+  -- a reply preserves `IsBased`
   based_reply : (c : ByNumber Asked) (x : Numbered (List ℕ)) (old : Bool) → ltb x.number c.count ≡ old → IsBased c → IsBased (number_reply c x old).client
   based_reply c x true t h = h
   based_reply c x false t h = record { since = h.since; count = (let ge : c.count ≤ x.number = ltb-false _ _ t in let low = h.count in omega (arith, ge, low)) }
 
-  -- a reply that comes keeps `Based`
+  -- a reply that comes preserves `Based`
   based_down : (w : World (ByNumber Asked) State) (q : List (Numbered (List ℕ))) → Based w → Based (down_delivered (by_numbers width) w q)
   based_down w [] h = h
   based_down w (x ∷ rest) h = based_reply w.client x (ltb x.number w.client.count) refl h
 
-  -- a step of the line keeps `Based`
+  -- a step of the line preserves `Based`
   based_line : (w : World (ByNumber Asked) State) (step : Step) → IsOfLine step → Based w → Based (happens ends (by_numbers width) w step)
   based_line w (Send target call deadline) p h = absurd p
   based_line w Up_deliver p h = h
@@ -77,7 +77,7 @@ module _ {State : Type 0} (width : ℕ) (ends : Ends State) where
   based_line w Nothing p h = h
 
   module _ (Good : State → Type 0) (kept : State → Option KeptReply) where
-    -- moves that are possible for the client that knows ids keep `Based`
+    -- moves that are possible for the client that knows ids preserve `Based`
     based_all : (ms : List (Move State)) (a : World (ById Asked) State) (w : World (ByNumber Asked) State) → ArePossible ends Good kept (by_ids width ends) ms a → Based w
         → Based (moved ends (by_numbers width) ms w)
     based_all [] a w p h = h
@@ -96,7 +96,7 @@ module _ {State : Type 0} (width : ℕ) (ends : Ends State) where
 abbrev ids_at : List ℕ → List ℕ
 ids_at ns = map (λ n. n % 8) ns
 
--- the ids of the requests under way are their numbers modulo 8
+-- the ids of the requests in flight are their numbers modulo 8
 ids_up : (since total : ℕ) (xs : List (Numbered Request)) → since ≡ 0 → Each (IsGoing since total) xs → map (λ x. x.id) (map (λ x. x.line) xs) ≡ ids_at (numbers xs)
 ids_up since total [] e h = refl
 ids_up since total (x ∷ xs) e h =
@@ -104,14 +104,14 @@ ids_up since total (x ∷ xs) e h =
     ap₂ (λ i ids. i ∷ ids) (h.0.id ∙ ap (λ n. n % 8) plain) (ids_up since total xs e h.1)
 
 module _ {State : Type 0} (width : ℕ) (ends : Ends State) (Good : State → Type 0) (same_heard : (line : List ℕ) → ends.heard line ≡ rule.heard line) where
-  -- the ids of the replies under way are their numbers modulo 8
+  -- the ids of the replies in flight are their numbers modulo 8
   ids_down : (since total : ℕ) (xs : List (Numbered (List ℕ))) → since ≡ 0 → Each (IsComing width ends Good since total) xs → filter_map rule.heard (map (λ x. x.line) xs) ≡ ids_at (numbers xs)
   ids_down since total [] e h = refl
   ids_down since total (x ∷ xs) e h =
       let plain : x.number - since ≡ x.number = omega (arith, e) in
       ap₂ (λ o ids. cons_option o ids) (sym (same_heard x.line) ∙ h.0.id ∙ ap (λ n. Some (n % 8)) plain) (ids_down since total xs e h.1)
 
-  -- what is under way in a sound world whose client is `IsBased` is an `IsRow`
+  -- what is in flight in a sound world whose client is `IsBased` is an `IsRow`
   row : (c : ByNumber Asked) (w : Wire State) (narrow : width ≤ 7) → IsBased c → Sound width ends Good (record { wire = w; client = c }) → IsRow (on_line w)
   row c w narrow base s =
       let total = length c.requests in
@@ -128,7 +128,7 @@ module _ {State : Type 0} (width : ℕ) (ends : Ends State) (Good : State → Ty
       }
 
 module _ {State : Type 0} (ends : Ends State) (Good : State → Type 0) (kept : State → Option KeptReply) (is : IsAnInstrument ends Good kept) (width : ℕ) (narrow : width ≤ 7) where
-  -- what is under way after possible moves of a clean beginning is an `IsRow`
+  -- what is in flight after possible moves of a clean synchronization is an `IsRow`
   pub runs_leave_rows : (u : UnderWay State) → IsClean Good kept u → (ms : List (Move State))
       → ArePossible ends Good kept (by_ids width ends) ms (ids_begun u) → IsRow (on_line (behind width ends u ms).wire)
   runs_leave_rows u clean ms p =
@@ -146,7 +146,7 @@ module _ {State : Type 0} (ends : Ends State) (Good : State → Type 0) (kept : 
       subst (λ (w : Wire State). Good w.state × Each (λ x. x.id < 8) (map (λ x. x.line) w.up)) (sym both.agree.wire)
       (both.sound.good, small _ _ (moved ends (by_numbers width) ms (numbers_begun u)).wire.up both.sound.going)
     where
-      -- requests under way in a sound world have ids below 8
+      -- requests in flight in a sound world have ids below 8
       small : (since total : ℕ) (xs : List (Numbered Request)) → Each (IsGoing since total) xs → Each (λ x. x.id < 8) (map (λ x. x.line) xs)
       small since total [] h = tt
       small since total (x ∷ xs) h = ((let id = h.0.id in omega (arith, id)), small since total xs h.1)

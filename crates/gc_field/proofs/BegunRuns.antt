@@ -1,5 +1,5 @@
--- One run after the other: each that is killed while it begins makes the front of the word that may be under way longer by one id
--- at most. The *word* is the list of the ids of a beginning's eight null procedures: 6 down to 0, and then 7.
+-- One run after the other: each that is killed while it synchronizes makes the front of the word that may be in flight longer
+-- by one id at most. The *word* is the list of the ids of a synchronization's eight null procedures: 6 down to 0, and then 7.
 use Rattle.std.proofs.Common.{◌≡◌, ℕ, suc, ◌+◌, ◌≤◌, false, List, [], ◌∷◌, ◌++◌, length, map, Option, Some, refl, sym, ◌∙◌, ap, subst, arith}
 use Rattle.gc_client.specs.Beginning.{IsSubsequence, the_word}
 use Rattle.gc_client.specs.Rule.{heard}
@@ -16,8 +16,8 @@ use Rattle.gc_field.proofs.BeginWords.{stands_front}
 use Rattle.gc_field.proofs.BegunFaithful.{faithful}
 use Rattle.gc_field.proofs.BegunRows.{rows_have_not_three, runs_leave_rows, runs_leave_good}
 
--- what is in flight after n runs in a row that were killed while they began: its ids don't contain the first n + 3 ids of the
--- word, which are 6, 5 and `more`
+-- what is in flight after n runs in a row that were killed while they synchronized: its ids don't contain the first n + 3 ids
+-- of the word, which are 6, 5 and `more`
 pub record IsShort {State : Type 0} (n : ℕ) (u : UnderWay State) : Type 0 where
   pub more : List ℕ
   pub tail : List ℕ
@@ -34,22 +34,22 @@ pub short_word : {State : Type 0} (n : ℕ) (u : UnderWay State) → IsShort n u
 short_word n u h s = h.none (stands_front (6 ∷ 5 ∷ h.more) h.tail (ids_under_way u) (subst (λ w. IsSubsequence w (ids_under_way u)) h.split s))
 
 module _ {State : Type 0} (ends : Ends State) (Good : State → Type 0) (kept : State → Option KeptReply) (is : IsAnInstrument ends Good kept) (width : ℕ) (narrow : width ≤ 7) where
-  -- the requests that a clean beginning leaves are copies of the eighth null procedure
+  -- the requests that a clean synchronization leaves are copies of the eighth null procedure
   clean_up : (xs : List (Aged Request)) → Each (λ x. (x.old ≡ false) × (x.line ≡ eighth)) xs → Each (λ x. x ≡ eighth) (map (λ x. x.line) xs)
   clean_up [] h = tt
   clean_up (x ∷ xs) h = (h.0.1, clean_up xs h.1)
 
-  -- the replies that a clean beginning leaves are replies to the eighth null procedure
+  -- the replies that a clean synchronization leaves are replies to the eighth null procedure
   clean_down : (xs : List (Aged (List ℕ))) → Each (λ x. (x.old ≡ false) × (heard x.line ≡ Some 7)) xs → Each (λ line. heard line ≡ Some 7) (map (λ x. x.line) xs)
   clean_down [] h = tt
   clean_down (x ∷ xs) h = (h.0.1, clean_down xs h.1)
 
-  -- what a clean beginning leaves is `IsClean`
+  -- what a clean synchronization leaves is `IsClean`
   pub clean_lines : (s : Model State) → Good s.state → HasBegunCleanly kept s → IsClean Good kept (leaves s)
   clean_lines s good h = record { good = good; up = clean_up s.up h.up; down = clean_down s.down h.down; keeps = h.keeps }
 
-  -- where what is under way is `IsShort` for n killed runs, and one more run is killed while it begins, what that run leaves is
-  -- `IsShort` for n + 1
+  -- where what is in flight is `IsShort` for n killed runs, and one more run is killed while it synchronizes, what that run
+  -- leaves is `IsShort` for n + 1
   short_killed : (n : ℕ) (u : UnderWay State) (r : Run State) → AreLines Good u → AreTurns ends Good kept r.turns (begins u) → n + 1 ≤ 5 → (tail : List ℕ)
       → (h : IsShort n u) → h.tail ≡ tail → IsShort (n + 1) (leaves (stood width ends u r))
   short_killed n u r lines turns few [] h e = absurd (let size = h.few in let none : length h.tail ≡ 0 = ap length e in omega (arith, size, none, few))
@@ -63,8 +63,9 @@ module _ {State : Type 0} (ends : Ends State) (Good : State → Type 0) (kept : 
         none = left_absent ends Good kept is u r.turns 6 5 h.more c tail split lines turns h.none;
       }
 
-  -- what a run comes to, by the ids that are left of its word. Where no id is left, it has begun cleanly, is faithful, and the
-  -- count n of runs killed in a row starts again at 0. Where ids are left, it was killed while it began, and n is one more
+  -- what a run comes to, by the ids that are left of its word. If no id is left, it has synchronized cleanly, is faithful, and
+  -- the count n of runs killed in a row starts again at 0. If ids are left, it was killed while it synchronized, and n is one
+  -- more
   pub record Goes (n : ℕ) (u : UnderWay State) (r : Run State) (left : List ℕ) : Type 0 where
     pub own : IsOwnIf width ends Good kept left (stood width ends u r) r.moves
     pub lines : AreLines Good (left_if width ends left (stood width ends u r) r.moves)
@@ -89,14 +90,14 @@ module _ {State : Type 0} (ends : Ends State) (Good : State → Type 0) (kept : 
     short = short_killed n u r lines turns few short.tail short refl;
   }
 
-  -- runs one after the other have begun cleanly, and are faithful, as long as few are killed
+  -- runs one after the other have synchronized cleanly, and are faithful, as long as few are killed
   all_own : (rs : List (Run State)) (n : ℕ) (u : UnderWay State) → AreLines Good u → IsShort n u → AreRuns width ends Good kept u rs → AreFewKilled width ends n u rs → AreOwn width ends Good kept u rs
   all_own [] n u lines short runs few = tt
   all_own (r ∷ rs) n u lines short runs few =
       let one = goes n u r (stood width ends u r).left refl lines short runs.0.0 runs.0.1 few.0 in
       (one.own, all_own rs (killed_if width ends (stood width ends u r).left n) (left_by_run width ends u r) one.lines one.short runs.1 few.1)
 
-  -- runs one after the other are their own, after an `IsRow`, as long as few are killed while they begin
+  -- runs one after the other are their own, after an `IsRow`, as long as few are killed while they synchronize
   pub runs_are_their_own : (u : UnderWay State) → AreLines Good u → IsRow u → (rs : List (Run State)) → AreRuns width ends Good kept u rs
       → AreFewKilled width ends 0 u rs → AreOwn width ends Good kept u rs
   runs_are_their_own u lines row rs runs few = all_own rs 0 u lines (short_row u row) runs few

@@ -1,6 +1,6 @@
--- What is executed between two moves of a stretch, and what it makes of the instrument. A *stretch* is a run once it has begun:
--- what is under way then, and its moves. `Did` says of two wires, an earlier and a later one, what was executed between them;
--- `Goes` says it, too, and that the later wire is in order (`Refines`) as the earlier one was.
+-- What is executed between two moves of a stretch, and what it makes of the instrument. A *stretch* is a run once it has
+-- synchronized: what is in flight then, and its moves. `Did` says of two wires, an earlier and a later one, what was executed
+-- between them; `Goes` says it, too, and that the later wire is in order (`Refines`) as the earlier one was.
 use Rattle.std.proofs.Common.{◌≡◌, ℕ, ◌+◌, ◌≤◌, Bool, true, false, cond, List, [], ◌∷◌, ◌++◌, length, Option, Some, None, refl, sym, ◌∙◌, ap, subst, arith, append_assoc, append-nil, ltb}
 use Rattle.std.specs.Prelude.{slice_get}
 use Rattle.std.proofs.lemmas.List.{length-append}
@@ -30,13 +30,13 @@ executing_append effect [] ys s = refl
 executing_append effect (call ∷ xs) ys s = executing_append effect xs ys (effect s call)
 
 module _ {State : Type 0} (ends : Ends State) where
-  -- two states that are alike apart from what is kept are still so after the same calls
+  -- two states that are alike apart from what is retained are still so after the same calls
   executing_alike : (apart : State → State) (effect : State → Asked → State) → HasEffect ends apart effect → (calls : List Asked) (s t : State)
       → apart s ≡ apart t → apart (executing effect s calls) ≡ apart (executing effect t calls)
   executing_alike apart effect has [] s t e = e
   executing_alike apart effect has (call ∷ calls) s t e = executing_alike apart effect has calls (effect s call) (effect t call) (has.alike s t call e)
 
-  -- executing these calls makes the second state of the first, apart from what is kept, for each effect that executing has
+  -- executing these calls makes the second state of the first, apart from what is retained, for each effect that executing has
   abbrev pub IsMadeBy : State → List Asked → State → Type 0
   IsMadeBy s calls t = (apart : State → State) (effect : State → Asked → State) → HasEffect ends apart effect → apart t ≡ apart (executing effect s calls)
 
@@ -53,7 +53,7 @@ module _ {State : Type 0} (ends : Ends State) where
   made_one : (s : State) (id : ℕ) (call : Asked) → (ends.handed s id call).executed ≡ true → IsMadeBy s (call ∷ []) (ends.handed s id call).state
   made_one s id call e apart effect has = has.executes s id call e
 
-  -- a line that is sent again changes nothing but what is kept
+  -- a line that is sent again changes nothing but what is retained
   made_again : (s : State) (id : ℕ) (call : Asked) → (ends.handed s id call).executed ≡ false → IsMadeBy s [] (ends.handed s id call).state
   made_again s id call e apart effect has = has.repeats s id call e
 
@@ -73,7 +73,7 @@ calls_append sent [] ks (x ∷ xs) ys h g = absurd h
 calls_append sent (n ∷ ns) ks [] ys h g = absurd h
 calls_append sent (n ∷ ns) ks (x ∷ xs) ys h g = (h.0, calls_append sent ns ks xs ys h.1 g)
 
--- a request under way is one that was sent, with its call
+-- a request in flight is one that was sent, with its call
 abbrev IsKnown : List Sent → Numbered Request → Type 0
 IsKnown sent x = (r : Sent) × (slice_get sent x.number ≡ Some r) × (r.call ≡ x.line.call)
 
@@ -81,13 +81,13 @@ IsKnown sent x = (r : Sent) × (slice_get sent x.number ≡ Some r) × (r.call �
 known_more : (sent more : List Sent) (x : Numbered Request) → IsKnown sent x → IsKnown (sent ++ more) x
 known_more sent more x h = (h.0, get_more sent more x.number h.0 h.1, h.2)
 
--- where each start had at most as many executions before it as there are in all (`xs`), the same holds when more follow (`ys`)
+-- if each start had at most as many executions before it as there are in all (`xs`), the same holds when more follow (`ys`)
 begun_more : (xs ys starts : List ℕ) → Each (λ s. s ≤ length xs) starts → Each (λ s. s ≤ length (xs ++ ys)) starts
 begun_more xs ys starts h = let size : length (xs ++ ys) ≡ length xs + length ys = length-append xs ys in
     each_more (λ s. s ≤ length xs) (λ s. s ≤ length (xs ++ ys)) (λ s l. omega (arith, l, size)) starts h
 
 module _ {State : Type 0} (ends : Ends State) where
-  -- what happened between two wires: which requests were executed; no start where it is `quiet`; and where it is `still`, the
+  -- what happened between two wires: which requests were executed; no start if it is `quiet`; and if it is `still`, the
   -- instrument's state is what these made of it
   pub record Did (v w : Wire State) (quiet still : Type 0) : Type 0 where
     pub numbers : List ℕ
@@ -100,7 +100,7 @@ module _ {State : Type 0} (ends : Ends State) where
     pub state : still → IsMadeBy ends v.state calls w.state
 
   -- `Did` of one interval, from u to v, and of another after it, from v to w, gives `Did` of both as one, under the premises q
-  -- and s of the second, where these imply the premises p and r of the first
+  -- and s of the second, if these imply the premises p and r of the first
   did_both : (u v w : Wire State) (q p s r : Type 0) → (q → p) → (s → r) → Did u v p r → Did v w q s → Did u w q s
   did_both u v w q p s r f g h i = record {
     numbers = h.numbers ++ i.numbers;
@@ -113,7 +113,7 @@ module _ {State : Type 0} (ends : Ends State) where
     state = λ still. made_both ends u.state v.state w.state h.calls i.calls (h.state (g still)) (i.state still);
   }
 
-  -- where nothing was executed, `Did` holds
+  -- if nothing was executed, `Did` holds
   did_none : (v w : Wire State) (quiet still : Type 0) (more : List Sent) → w.executed ≡ v.executed → w.sent ≡ v.sent ++ more → (quiet → w.starts ≡ v.starts)
       → (still → IsMadeBy ends v.state [] w.state) → Did v w quiet still
   did_none v w quiet still more executed sent starts state = record {
@@ -127,12 +127,13 @@ module _ {State : Type 0} (ends : Ends State) where
     state = state;
   }
 
-  -- where the executions, the requests, the starts and the state are the same, `Did` holds
+  -- if the executions, the requests, the starts and the state are the same, `Did` holds
   did_same : (v w : Wire State) (quiet still : Type 0) → w.executed ≡ v.executed → w.sent ≡ v.sent → w.starts ≡ v.starts → w.state ≡ v.state → Did v w quiet still
   did_same v w quiet still executed sent starts state =
       did_none v w quiet still [] executed (sent ∙ sym (append-nil v.sent)) (λ q. starts) (λ s. made_none ends v.state w.state state)
 
-  -- each request under way is one that was sent, with its call; and no start had more executions before it than there are in all
+  -- each request in flight is one that was sent, with its call; and no start had more executions before it than there are in
+  -- all
   pub record Refines (w : Wire State) : Type 0 where
     pub known : Each (IsKnown w.sent) w.up
     pub begun : Each (λ s. s ≤ length w.executed) w.starts
@@ -142,7 +143,7 @@ module _ {State : Type 0} (ends : Ends State) where
     did : Did v w quiet still
     stands : Refines w
 
-  -- where the lines under way alone changed, `Goes` holds: nothing was executed
+  -- if the lines in flight alone changed, `Goes` holds: nothing was executed
   goes_same : (v w : Wire State) (quiet still : Type 0) → w.executed ≡ v.executed → w.sent ≡ v.sent → w.starts ≡ v.starts → w.state ≡ v.state
       → Each (IsKnown v.sent) w.up → Refines v → Goes v w quiet still
   goes_same v w quiet still executed sent starts state known k = record {
@@ -153,13 +154,13 @@ module _ {State : Type 0} (ends : Ends State) where
     };
   }
 
-  -- the request in front reaches the instrument
+  -- the front request reaches the instrument
   module _ (v : Wire State) (x : Numbered Request) (rest : List (Numbered Request)) (quiet still : Type 0) (q : v.up ≡ x ∷ rest) (k : Refines v) where
-    -- the request in front, and those after it, were sent
+    -- the front request, and those after it, were sent
     known_here : IsKnown v.sent x × Each (IsKnown v.sent) rest
     known_here = subst (λ l. Each (IsKnown v.sent) l) q k.known
 
-    -- where the instrument is handed the front request, and executes it (`b`) or sends a line again, `Goes` holds
+    -- if the instrument is handed the front request, and executes it (`b`) or sends a line again, `Goes` holds
     reached_by : (hd : Handed State) (b : Bool) → hd.executed ≡ b → (hd.executed ≡ true → IsMadeBy ends v.state (x.line.call ∷ []) hd.state)
         → (hd.executed ≡ false → IsMadeBy ends v.state [] hd.state) → Goes v (replied v x.number rest hd) quiet still
     reached_by hd true e new same =
@@ -186,33 +187,33 @@ module _ {State : Type 0} (ends : Ends State) where
           stands = record { known = known_here.1; begun = subst (λ l. Each (λ s. s ≤ length l) v.starts) (sym acted) k.begun };
         }
 
-    -- where the front request reaches the instrument, `Goes` holds
+    -- if the front request reaches the instrument, `Goes` holds
     reached : Goes v (replied v x.number rest (ends.handed v.state x.line.id x.line.call)) quiet still
     reached =
         let hd = ends.handed v.state x.line.id x.line.call in
         reached_by hd hd.executed refl (λ e. made_one ends v.state x.line.id x.line.call e) (λ e. made_again ends v.state x.line.id x.line.call e)
 
-  -- where the request in front reaches the instrument, if one is under way, `Goes` holds
+  -- if the front request reaches the instrument, if one is in flight, `Goes` holds
   goes_up : (v : Wire State) (quiet still : Type 0) (q : List (Numbered Request)) → v.up ≡ q → Refines v → Goes v (up_delivered ends v q) quiet still
   goes_up v quiet still [] e k = goes_same v _ quiet still refl refl refl refl k.known k
   goes_up v quiet still (x ∷ rest) e k = reached v x rest quiet still e k
 
-  -- where the requests under way change, or stay, `Goes` holds
+  -- if the requests in flight change, or stay, `Goes` holds
   goes_with_up : (v : Wire State) (quiet still : Type 0) (up : List (Numbered Request)) (b : Bool) → Each (IsKnown v.sent) up → Refines v → Goes v (with_up v up b) quiet still
   goes_with_up v quiet still up true known k = goes_same v _ quiet still refl refl refl refl known k
   goes_with_up v quiet still up false known k = goes_same v _ quiet still refl refl refl refl k.known k
 
-  -- where the replies under way change, or stay, `Goes` holds
+  -- if the replies in flight change, or stay, `Goes` holds
   goes_with_down : (v : Wire State) (quiet still : Type 0) (down : List (Numbered (List ℕ))) (b : Bool) → Refines v → Goes v (with_down v down b) quiet still
   goes_with_down v quiet still down true k = goes_same v _ quiet still refl refl refl refl k.known k
   goes_with_down v quiet still down false k = goes_same v _ quiet still refl refl refl refl k.known k
 
-  -- where the reply in front comes, `Goes` holds
+  -- if the front reply comes, `Goes` holds
   goes_down : (w : World (ById Asked) State) (quiet still : Type 0) (q : List (Numbered (List ℕ))) → Refines w.wire → Goes w.wire (down_delivered (by_ids 7 ends) w q).wire quiet still
   goes_down w quiet still [] k = goes_same w.wire _ quiet still refl refl refl refl k.known k
   goes_down w quiet still (x ∷ rest) k = goes_same w.wire _ quiet still refl refl refl refl k.known k
 
-  -- where a request is sent, or refused, `Goes` holds
+  -- if a request is sent, or refused, `Goes` holds
   goes_sent : (w : World (ById Asked) State) (quiet still : Type 0) (target : ℕ) (call : Asked) (o : Option (Sending (ById Asked))) → Refines w.wire
       → Goes w.wire (requested w target call o).wire quiet still
   goes_sent w quiet still target call None k = goes_same w.wire _ quiet still refl refl refl refl k.known k
@@ -227,7 +228,7 @@ module _ {State : Type 0} (ends : Ends State) where
         };
       }
 
-  -- where a step of the line happens, `Goes` holds
+  -- if a step of the line happens, `Goes` holds
   goes_line : (w : World (ById Asked) State) (quiet still : Type 0) (step : Step) → IsOfLine step → Refines w.wire → Goes w.wire (happens ends (by_ids 7 ends) w step).wire quiet still
   goes_line w quiet still (Send target call deadline) p k = absurd p
   goes_line w quiet still Up_deliver p k = goes_up w.wire quiet still w.wire.up refl k
@@ -265,14 +266,14 @@ module _ {State : Type 0} (ends : Ends State) where
     stands = h.stands;
   }
 
-  -- where the instrument starts, `Goes` holds: the stretch is neither quiet nor still
+  -- if the instrument starts, `Goes` holds: the stretch is neither quiet nor still
   goes_anew : (v : Wire State) → Refines v → Goes v (started ends v true) ⊥ ⊥
   goes_anew v k = record {
     did = did_none v (started ends v true) ⊥ ⊥ [] refl (sym (append-nil v.sent)) (λ e. absurd e) (λ e. absurd e);
     stands = record { known = k.known; begun = each_append (λ s. s ≤ length v.executed) v.starts (length v.executed ∷ []) k.begun (omega arith, tt) };
   }
 
-  -- where the instrument's state changes by itself, `Goes` holds: the stretch isn't still
+  -- if the instrument's state changes by itself, `Goes` holds: the stretch isn't still
   goes_changed : (v : Wire State) (quiet : Type 0) (state : State) → Refines v → Goes v (record v { state = state }) quiet ⊥
   goes_changed v quiet state k = record {
     did = did_none v (record v { state = state }) quiet ⊥ [] refl (sym (append-nil v.sent)) (λ q. refl) (λ e. absurd e);
@@ -280,7 +281,7 @@ module _ {State : Type 0} (ends : Ends State) where
   }
 
   module _ (Good : State → Type 0) (kept : State → Option KeptReply) where
-    -- `Goes` holds over any possible moves, quiet where the instrument doesn't start, and still where it isn't disturbed
+    -- `Goes` holds over any possible moves, quiet if the instrument doesn't start, and still if it isn't disturbed
     goes_all : (ms : List (Move State)) (w : World (ById Asked) State) → ArePossible ends Good kept (by_ids 7 ends) ms w → Refines w.wire
         → Goes w.wire (moved ends (by_ids 7 ends) ms w).wire (HasNoStartBetween ms) (IsUndisturbed ms)
     goes_all [] w p k = goes_same w.wire w.wire (Unit {0}) (Unit {0}) refl refl refl refl k.known k
@@ -307,22 +308,22 @@ module _ {State : Type 0} (ends : Ends State) where
     known_last : (x : Request) → x ≡ eighth → IsKnown nulls (record { number = 7; line = x })
     known_last x e = (record { target = 0; call = Table NullProc; line = asked_line (Some 7) (Table NullProc) }, refl, sym (ap (λ (r : Request). r.call) e))
 
-    -- after a clean beginning the wire `Refines`
+    -- after a clean synchronization the wire `Refines`
     stands_begun : (u : UnderWay State) → IsClean Good kept u → Refines (ids_begun u).wire
     stands_begun u clean = record { known = each_last (IsKnown nulls) (λ x. x ≡ eighth) known_last u.up clean.up; begun = tt }
 
-    -- after a clean beginning, and moves, the wire `Refines`
+    -- after a clean synchronization, and moves, the wire `Refines`
     pub stands_all : (ms : List (Move State)) (u : UnderWay State) → IsClean Good kept u → ArePossible ends Good kept (by_ids 7 ends) ms (ids_begun u)
         → Refines (moved ends (by_ids 7 ends) ms (ids_begun u)).wire
     stands_all ms u clean p = (goes_all ms (ids_begun u) p (stands_begun u clean)).stands
 
-    -- `Did` holds over any possible moves, quiet where the instrument doesn't start, and still where it isn't disturbed
+    -- `Did` holds over any possible moves, quiet if the instrument doesn't start, and still if it isn't disturbed
     pub did_all : (ms : List (Move State)) (w : World (ById Asked) State) → ArePossible ends Good kept (by_ids 7 ends) ms w → Refines w.wire
         → Did w.wire (moved ends (by_ids 7 ends) ms w).wire (HasNoStartBetween ms) (IsUndisturbed ms)
     did_all ms w p k = (goes_all ms w p k).did
 
-  -- where the front request is executed on reaching the instrument, it is the next one executed, the state becomes what its
-  -- call makes of it, and there is no start
+  -- if the front request is executed on reaching the instrument, it is the next one executed, the state becomes what its call
+  -- makes of it, and there is no start
   pub acted : (w : World (ById Asked) State) (x : Numbered Request) (rest : List (Numbered Request)) → w.wire.up ≡ x ∷ rest → (ends.handed w.wire.state x.line.id x.line.call).executed ≡ true
       → ((moves ends (by_ids 7 ends) w (OnLine Up_deliver)).wire.executed ≡ w.wire.executed ++ x.number ∷ [])
       × IsMadeBy ends w.wire.state (x.line.call ∷ []) (moves ends (by_ids 7 ends) w (OnLine Up_deliver)).wire.state

@@ -42,12 +42,12 @@ parts_are : parts_of plan commands (opening plan scope) acts ≡ one_part (asked
 unfolding is_elsewhere header_at reply_at digits rounded
 parts_are = refl
 
--- what the line does while the station begins shows the null procedures and these replies
+-- what the line does while the station synchronizes shows the null procedures and these replies
 shown_are : shown ends eight (begins before) ≡ asked_each replies
 unfolding is_elsewhere header_at reply_at handed exec digits rounded
 shown_are = refl
 
--- this run of a chain is in the field, and the telescope points where the first command pointed it
+-- this run of a chain is in the field, and the telescope points if the first command pointed it
 pub chain : IsPointedInField
 unfolding is_elsewhere header_at reply_at handed exec digits rounded
 chain =

@@ -1,8 +1,8 @@
 -- Chains in the field: the acts of a run up to a request are a run in the field, too, whose last stretch is a front of the
--- whole run's stretch at that place. So when a chained command goes out, the answer of the command before it is settled there.
--- A *part* is what happens in a run from one beginning to the next, as the station sees it; a *stretch* is what happens then on
--- the line. The *marks* of a part say for which command each of its requests is, in order.
-use Rattle.std.proofs.Common.{◌≡◌, ◌⊎◌, inl, inr, ℕ, zero, suc, ◌+◌, ◌-◌, ◌<◌, ◌≤◌, ◌&&◌, Bool, true, false, if◌then◌else◌, drop, length-drop, List, [], ◌∷◌, ◌++◌, length, map, Option, Some, refl, sym, ◌∙◌, ap, subst, arith, append_assoc, ltb}
+-- whole run's stretch at that place. So when a chained command is sent, the answer of the command before it is settled there. A
+-- *part* is what happens in a run from one synchronization to the next, as the station sees it; a *stretch* is what happens
+-- then on the line. The *marks* of a part say for which command each of its requests is, in order.
+use Rattle.std.proofs.Common.{◌≡◌, ◌⊎◌, inl, inr, ℕ, zero, suc, ◌+◌, ◌-◌, ◌<◌, ◌≤◌, Bool, true, false, drop, length-drop, List, [], ◌∷◌, ◌++◌, length, map, Option, Some, refl, sym, ◌∙◌, ap, subst, arith, ltb}
 use Rattle.std.specs.Prelude.{slice_get}
 use Rattle.std.specs.List.{AllByRecursion}
 use Rattle.std.proofs.lemmas.Bool.{ltb-true, ltb-false}
@@ -18,15 +18,12 @@ use Rattle.gc_texts.specs.declared.tasks.Task.{Task}
 use Rattle.gc_station.specs.declared.plan.Plan.{Plan}
 use Rattle.gc_links.specs.Acts.{Act}
 use Rattle.gc_station.specs.Answers.{answer_of}
-use Rattle.gc_station.specs.Deciding.{has_begun}
 use Rattle.gc_station.specs.Parts as part
-use Rattle.gc_station.specs.Parts.{Part, AreOf, joined, nothing, in_front, acting, beginning, doing, ends_part, parts_of, mark_of}
-use Rattle.gc_station.specs.Progressing.{loses_all}
+use Rattle.gc_station.specs.Parts.{Part, AreOf, mark_of}
 use Rattle.gc_station.specs.Records.{Record}
-use Rattle.gc_station.specs.Runs.{stood}
+use Rattle.gc_station.specs.Runs.{state_after}
 use Rattle.gc_station.specs.Scopes.{Scope}
-use Rattle.gc_station.specs.Model.{Model, Runs, opening, action_at, after}
-use Rattle.gc_station.proofs.Asked.{FirstHasNone, goes_begun, marks_none, nil_both, no_turns}
+use Rattle.gc_station.specs.Model.{Runs, opening}
 use Rattle.gc_station.proofs.Booking.{of_length}
 use Rattle.gc_world.specs.Clients.{by_ids}
 use Rattle.gc_field.specs.World.{Ends, Up_deliver}
@@ -41,7 +38,7 @@ use Rattle.gc_field.specs.Chains.{AreExecutedInChain, IsChainedTo, IsExecutedInC
 use Rattle.gc_field.specs.Field.{Move, Sends, Tells, Comes, Foreign, OnLine, Anew, Changes, Joins, ArePossible, seen}
 use Rattle.gc_field.specs.Instrument.{IsAnInstrument}
 use Rattle.gc_field.specs.Laws.{asked}
-use Rattle.gc_station.specs.Links.{AreChained, IsBefore, IsAnsweredBack, ChainsStay, MarksGoOn, RecordsStay, parts}
+use Rattle.gc_station.specs.Links.{AreChained, IsBefore, IsAnsweredEarlier, ChainsStay, MarksGoOn, RecordsStay, parts}
 use Rattle.gc_field.specs.Runs.{IsInField, IsItsOwn, IsOwnAnswer, AreSentAs, own_sent, own_settled, world}
 use Rattle.gc_field.specs.Shown.{AreShownAs, Stretch, shown, stretches}
 use Rattle.gc_field.proofs.InTime.{clean_of, front_nil}
@@ -49,131 +46,7 @@ use Rattle.gc_field.proofs.Possible.{possible_front}
 use Rattle.gc_field.proofs.Among.{get_drop}
 use Rattle.gc_field.proofs.Joining.{AllFit, Fits, all_fitting, run_faithful, safe_at, safe_in}
 use Rattle.gc_field.proofs.Ordered.{executed_behind}
-
--- The front of a run.
-
--- the parts `ps`, at least one, are the first of the parts `qs`; but the last of them may be only the front of the part at its
--- place
-abbrev IsFront : List Part → List Part → Type 0
-IsFront [] qs = ⊥
-IsFront (p ∷ ps) [] = ⊥
-IsFront (p ∷ []) (q ∷ qs) = (more : Part) × (q ≡ joined p more)
-IsFront (p ∷ next ∷ ps) (q ∷ qs) = (q ≡ p) × IsFront (next ∷ ps) qs
-
--- of three parts in a row, the first two or the last two may be joined first
-joined_assoc : (p q r : Part) → joined (joined p q) r ≡ joined p (joined q r)
-joined_assoc p q r =
-    ap (λ (turns : List part.Turn). record { turns = turns; steps = (p.steps ++ q.steps) ++ r.steps; marks = (p.marks ++ q.marks) ++ r.marks }) (append_assoc p.turns q.turns r.turns)
-    ∙ ap (λ (steps : List (step.Step Asked)). record { turns = p.turns ++ (q.turns ++ r.turns); steps = steps; marks = (p.marks ++ q.marks) ++ r.marks }) (append_assoc p.steps q.steps r.steps)
-    ∙ ap (λ (marks : List _). record { turns = p.turns ++ (q.turns ++ r.turns); steps = p.steps ++ (q.steps ++ r.steps); marks = marks }) (append_assoc p.marks q.marks r.marks)
-
--- `IsFront` lasts where the same part is put in front of both lists
-front_more : (p : Part) (b : Bool) (ps qs : List Part) → IsFront ps qs → IsFront (in_front p b ps) (in_front p b qs)
-front_more p b [] qs h = absurd h
-front_more p true (x ∷ ps) [] h = absurd h
-front_more p false (x ∷ ps) [] h = absurd h
-front_more p true (x ∷ ps) (y ∷ qs) h = (refl, h)
-front_more p false (x ∷ []) (y ∷ qs) h = (h.0, ap (joined p) h.1 ∙ sym (joined_assoc p x h.0))
-front_more p false (x ∷ next ∷ ps) (y ∷ qs) h = (ap (joined p) h.0, h.1)
-
--- the part in which nothing happens is a front of any parts
-front_none : (p : Part) (b : Bool) (ps : List Part) → IsFront (nothing ∷ []) (in_front p b ps)
-front_none p true ps = (p, refl)
-front_none p false [] = (p, refl)
-front_none p false (q ∷ ps) = (joined p q, refl)
-
--- the parts of the first acts are a front of the parts of all
-front_parts : (plan : Plan) (commands : List Task) (s : Model) (xs ys : List Act) → IsFront (parts_of plan commands s xs) (parts_of plan commands s (xs ++ ys))
-front_parts plan commands s [] [] = (nothing, refl)
-front_parts plan commands s [] (act ∷ ys) =
-    front_none (acting plan commands s (action_at plan s) act) (ends_part plan commands s act) (parts_of plan commands (after plan commands s act) ys)
-front_parts plan commands s (act ∷ xs) ys =
-    front_more (acting plan commands s (action_at plan s) act) (ends_part plan commands s act) (parts_of plan commands (after plan commands s act) xs)
-    (parts_of plan commands (after plan commands s act) (xs ++ ys))
-    (front_parts plan commands (after plan commands s act) xs ys)
-
--- the first acts of a run are a run
-runs_front : (plan : Plan) (commands : List Task) (s : Model) (xs ys : List Act) → Runs plan commands s (xs ++ ys) → Runs plan commands s xs
-runs_front plan commands s [] ys h = tt
-runs_front plan commands s (act ∷ xs) ys h = (h.0, runs_front plan commands (after plan commands s act) xs ys h.1)
-
--- the last part of a front of parts is the front of the part at its place in all
-front_last : (ps qs : List Part) (i : ℕ) (p q : Part) → IsFront ps qs → length ps ≡ suc i → slice_get ps i ≡ Some p → slice_get qs i ≡ Some q → (more : Part) × (q ≡ joined p more)
-front_last [] qs i p q h size e f = absurd h
-front_last (x ∷ ps) [] i p q h size e f = absurd h
-front_last (x ∷ []) (y ∷ qs) zero p q h size e f = (h.0, sym (some_is y q f) ∙ h.1 ∙ ap (λ r. joined r h.0) (some_is x p e))
-front_last (x ∷ []) (y ∷ qs) (suc i) p q h size e f = absurd (omega (arith, size))
-front_last (x ∷ next ∷ ps) (y ∷ qs) zero p q h size e f = absurd (omega (arith, size))
-front_last (x ∷ next ∷ ps) (y ∷ qs) (suc i) p q h size e f = front_last (next ∷ ps) qs i p q h.1 (omega (arith, size)) e f
-
--- Where a request went out in the last part of a front, the station had begun by then, and no turn came after that.
-
--- if the last part of the first list has requests, its turns are those of the part at its place in the second
-abbrev AreWhole : List Part → List Part → Type 0
-AreWhole [] qs = ⊥
-AreWhole (p ∷ ps) [] = ⊥
-AreWhole (p ∷ []) (q ∷ qs) = (p.marks ≡ []) ⊎ (q.turns ≡ p.turns)
-AreWhole (p ∷ next ∷ ps) (q ∷ qs) = AreWhole (next ∷ ps) qs
-
--- `AreWhole` holds of the one part in which nothing happens, and any parts
-whole_none : (p : Part) (b : Bool) (ps : List Part) → AreWhole (nothing ∷ []) (in_front p b ps)
-whole_none p true ps = inl refl
-whole_none p false [] = inl refl
-whole_none p false (q ∷ ps) = inl refl
-
--- two parts without turns, joined to the same one, give parts with the same turns
-turns_alike : (p x y : Part) → x.turns ≡ [] → y.turns ≡ [] → (joined p y).turns ≡ (joined p x).turns
-turns_alike p x y e f = ap (λ l. p.turns ++ l) (f ∙ sym e)
-
--- `AreWhole` holds with part p in front of both lists, too, if p has no marks, or if the parts that it is joined to have no turns
-whole_more : (p : Part) (b : Bool) (ps qs : List Part) → (p.marks ≡ []) ⊎ (b ≡ false → FirstHasNone ps × FirstHasNone qs) → AreWhole ps qs → AreWhole (in_front p b ps) (in_front p b qs)
-whole_more p b [] qs k h = absurd h
-whole_more p true (x ∷ ps) [] k h = absurd h
-whole_more p false (x ∷ ps) [] k h = absurd h
-whole_more p true (x ∷ ps) (y ∷ qs) k h = h
-whole_more p false (x ∷ []) (y ∷ qs) k (inr e) = inr (ap (λ l. p.turns ++ l) e)
-whole_more p false (x ∷ []) (y ∷ qs) (inl e) (inl f) = inl (nil_both p.marks x.marks e f)
-whole_more p false (x ∷ []) (y ∷ qs) (inr g) (inl f) = inr (turns_alike p x y (g refl).0 (g refl).1)
-whole_more p false (x ∷ next ∷ ps) (y ∷ qs) k h = h
-
-module _ (plan : Plan) (commands : List Task) where
-  -- an act sends nothing while the station begins; and once the station has begun, no turn comes until the next part
-  sends_or_not : (s : Model) (act : Act) (xs ys : List Act) (b : Bool) → has_begun s.progress ≡ b → let t = after plan commands s act in
-      ((if b then doing plan commands s (action_at plan s) act else beginning s (action_at plan s) act).marks ≡ [])
-      ⊎ ((b && loses_all t.progress) ≡ false → FirstHasNone (parts_of plan commands t xs) × FirstHasNone (parts_of plan commands t ys))
-  sends_or_not s act xs ys false e = inl (marks_none plan commands s (action_at plan s) act)
-  sends_or_not s act xs ys true e =
-      let t = after plan commands s act in
-      inr (λ f. (no_turns plan commands t xs (goes_begun plan commands t f), no_turns plan commands t ys (goes_begun plan commands t f)))
-
-  -- `AreWhole` holds of the parts of a run's first acts, and the parts of all of its acts
-  whole_parts : (s : Model) (xs ys : List Act) → AreWhole (parts_of plan commands s xs) (parts_of plan commands s (xs ++ ys))
-  whole_parts s [] [] = inl refl
-  whole_parts s [] (act ∷ ys) = whole_none (acting plan commands s (action_at plan s) act) (ends_part plan commands s act) (parts_of plan commands (after plan commands s act) ys)
-  whole_parts s (act ∷ xs) ys =
-      whole_more (acting plan commands s (action_at plan s) act) (ends_part plan commands s act) (parts_of plan commands (after plan commands s act) xs)
-      (parts_of plan commands (after plan commands s act) (xs ++ ys))
-      (sends_or_not s act xs (xs ++ ys) (has_begun s.progress) refl)
-      (whole_parts (after plan commands s act) xs ys)
-
--- the last of these parts has a request
-abbrev LastIsMarked : List Part → Type 0
-LastIsMarked [] = Unit {0}
-LastIsMarked (p ∷ []) = p.marks ≡ [] → ⊥
-LastIsMarked (p ∷ next ∷ ps) = LastIsMarked (next ∷ ps)
-
--- a list with an element isn't empty
-marked : {A : Type 0} (xs : List A) (m : ℕ) (x : A) → slice_get xs m ≡ Some x → xs ≡ [] → ⊥
-marked [] m x got e = none_is_not x got
-marked (y ∷ xs) m x got e = cc
-
--- where the last part has a mark, `LastIsMarked` holds
-last_marked : (ps : List Part) (i m : ℕ) (p : Part) (mark : _) → length ps ≡ suc i → slice_get ps i ≡ Some p → slice_get p.marks m ≡ Some mark → LastIsMarked ps
-last_marked [] i m p mark size e got = tt
-last_marked (x ∷ []) zero m p mark size e got = marked x.marks m mark (subst (λ (y : Part). slice_get y.marks m ≡ Some mark) (sym (some_is x p e)) got)
-last_marked (x ∷ []) (suc i) m p mark size e got = absurd (omega (arith, size))
-last_marked (x ∷ next ∷ ps) zero m p mark size e got = absurd (omega (arith, size))
-last_marked (x ∷ next ∷ ps) (suc i) m p mark size e got = last_marked (next ∷ ps) i m p mark (omega (arith, size)) e got
+use Rattle.gc_field.proofs.PartFronts.{IsFront, front_parts, runs_front, front_last, AreWhole, LastIsMarked, marked, last_marked}
 
 -- The stretches of a front.
 
@@ -192,7 +65,7 @@ record SplitSeen {State : Type 0} (ms : List (Move State)) (xs : List (step.Step
   order : ms ≡ front ++ later
   steps : seen front ≡ xs
 
--- `SplitSeen` lasts where a move that the client sees is put in front
+-- `SplitSeen` is preserved if a move that the client sees is put before it
 split_visible : {State : Type 0} (m : Move State) (st x : step.Step Asked) (ms : List (Move State)) (xs ys : List (step.Step Asked))
     → ((l : List (Move State)) → seen (m ∷ l) ≡ st ∷ seen l) → (seen ms ≡ xs ++ ys → SplitSeen ms xs) → seen (m ∷ ms) ≡ x ∷ (xs ++ ys)
     → SplitSeen (m ∷ ms) (x ∷ xs)
@@ -227,7 +100,7 @@ record IsCutOf {State : Type 0} (t s : Stretch State) : Type 0 where
   is : t ≡ record { from = s.from; moves = front }
   order : s.moves ≡ front ++ later
 
--- where one list has a front of the stretch s as its only stretch, and another list begins with s, the stretch at place 0 of the
+-- if one list has a front of the stretch s as its only stretch, and another list begins with s, the stretch at place 0 of the
 -- first is a cut (`IsCutOf`) of the one at place 0 of the second
 first_cut : {State : Type 0} (s : Stretch State) (ss : List (Stretch State)) (front later : List (Move State)) → s.moves ≡ front ++ later → (i : ℕ) (u v : Stretch State) → i ≡ 0
     → slice_get (record { from = s.from; moves = front } ∷ []) i ≡ Some u → slice_get (s ∷ ss) i ≡ Some v → IsCutOf u v
@@ -236,7 +109,7 @@ first_cut s ss front later order zero u v is a b =
 first_cut s ss front later order (suc i) u v is a b = absurd (omega (arith, is))
 
 module _ {State : Type 0} (ends : Ends State) (Good : State → Type 0) (kept : State → Option KeptReply) where
-  -- what a run leaves under way once it has begun
+  -- what a run leaves in flight once it has synchronized
   abbrev from_of : UnderWay State → Run State → UnderWay State
   from_of u r = leaves (turned ends r.turns (begins u))
 
@@ -263,14 +136,14 @@ module _ {State : Type 0} (ends : Ends State) (Good : State → Type 0) (kept : 
     last = λ i t v size a b. first_cut (record { from = from_of u r; moves = r.moves }) (stretches ends (left_by_run 7 ends u r) rs) x.front x.later x.order i t v (omega (arith, size)) a b;
   }
 
-  -- where the last stretch of the later runs is cut, so is the last stretch of these runs with one more in front
+  -- if the last stretch of the later runs is cut, so is the last stretch of these runs with one more before it
   later_cut : (p next : Part) (ps : List Part) (u : UnderWay State) (r : Run State) (rs : List (Run State)) (c : Cut (next ∷ ps) (left_by_run 7 ends u r) rs)
       (i : ℕ) (t v : Stretch State) → length (p ∷ next ∷ ps) ≡ suc i
       → slice_get (stretches ends u (r ∷ c.runs)) i ≡ Some t → slice_get (stretches ends u (r ∷ rs)) i ≡ Some v → IsCutOf t v
   later_cut p next ps u r rs c zero t v size a b = absurd (omega (arith, size))
   later_cut p next ps u r rs c (suc i) t v size a b = c.last i t v (omega (arith, size)) a b
 
-  -- `Cut` of one part that is a front of the first part that possible runs show, where it has a request
+  -- `Cut` of one part that is a front of the first part that possible runs show, if it has a request
   cut_last : (p : Part) (qs : List Part) (u : UnderWay State) (rs : List (Run State)) → IsFront (p ∷ []) qs → AreWhole (p ∷ []) qs → (p.marks ≡ [] → ⊥)
       → AreShownAs ends u rs qs → AreRuns 7 ends Good kept u rs → Cut (p ∷ []) u rs
   cut_last p [] u rs h w marked e good = absurd h
@@ -280,7 +153,7 @@ module _ {State : Type 0} (ends : Ends State) (Good : State → Type 0) (kept : 
       let here : seen r.moves ≡ p.steps ++ h.0.steps = e.1 ∙ ap (λ (x : Part). x.steps) h.1 in
       cut_one p u r rs (e.0 ∙ same) (split_seen r.moves p.steps h.0.steps here) good.0.0 good.0.1
 
-  -- `Cut` lasts where the run of a part is put in front
+  -- `Cut` is preserved if the run of a part is put before it
   cut_more : (p next : Part) (ps : List Part) (u : UnderWay State) (r : Run State) (rs : List (Run State)) → shown ends r.turns (begins u) ≡ p.turns → seen r.moves ≡ p.steps
       → AreTurns ends Good kept r.turns (begins u) × ArePossibleIf 7 ends Good kept (stood_by 7 ends u r).left (stood_by 7 ends u r) r.moves
       → Cut (next ∷ ps) (left_by_run 7 ends u r) rs → Cut (p ∷ next ∷ ps) u (r ∷ rs)
@@ -291,7 +164,7 @@ module _ {State : Type 0} (ends : Ends State) (Good : State → Type 0) (kept : 
     last = λ i t v size a b. later_cut p next ps u r rs c i t v size a b;
   }
 
-  -- `Cut` of a front of at least two parts, where any front `next ∷ ps` has a `Cut`
+  -- `Cut` of a front of at least two parts, if any front `next ∷ ps` has a `Cut`
   cut_on : (p next : Part) (ps qs : List Part) (u : UnderWay State) (rs : List (Run State)) → IsFront (p ∷ next ∷ ps) qs → AreWhole (p ∷ next ∷ ps) qs
       → AreShownAs ends u rs qs → AreRuns 7 ends Good kept u rs
       → ((xs : List Part) (v : UnderWay State) (ts : List (Run State)) → IsFront (next ∷ ps) xs → AreWhole (next ∷ ps) xs → AreShownAs ends v ts xs
@@ -301,14 +174,14 @@ module _ {State : Type 0} (ends : Ends State) (Good : State → Type 0) (kept : 
   cut_on p next ps (q ∷ qs) u (r ∷ rs) h w e good again =
       cut_more p next ps u r rs (e.0 ∙ ap (λ (x : Part). x.turns) h.0) (e.1 ∙ ap (λ (x : Part). x.steps) h.0) good.0 (again qs (left_by_run 7 ends u r) rs h.1 w e.2 good.1)
 
-  -- `Cut` of any parts that are a front of those that possible runs show, where the last of them has a request
+  -- `Cut` of any parts that are a front of those that possible runs show, if the last of them has a request
   cut_field : (ps qs : List Part) (u : UnderWay State) (rs : List (Run State)) → IsFront ps qs → AreWhole ps qs → LastIsMarked ps → AreShownAs ends u rs qs
       → AreRuns 7 ends Good kept u rs → Cut ps u rs
   cut_field [] qs u rs h w marked e good = absurd h
   cut_field (p ∷ []) qs u rs h w marked e good = cut_last p qs u rs h w marked e good
   cut_field (p ∷ next ∷ ps) qs u rs h w marked e good = cut_on p next ps qs u rs h w e good (λ xs v ts g x f well. cut_field (next ∷ ps) xs v ts g x marked f well)
 
--- What stands at a place.
+-- What is at a place.
 
 -- what holds of all elements holds of the one at a place
 all_at : {A : Type 0} (P : A → Type 0) (xs : List A) (k : ℕ) (x : A) → AllByRecursion P xs → slice_get xs k ≡ Some x → P x
@@ -327,7 +200,7 @@ in_more [] ys i x e = absurd (none_is_not x e)
 in_more (y ∷ xs) ys zero x e = e
 in_more (y ∷ xs) ys (suc i) x e = in_more xs ys i x e
 
--- what is at a place of the first of two lists in a row, where that has so many, is there in it
+-- what is at a place of the first of two lists in a row, if that has so many, is there in it
 in_front_at : {A : Type 0} (xs ys : List A) (i : ℕ) (x : A) → i < length xs → slice_get (xs ++ ys) i ≡ Some x → slice_get xs i ≡ Some x
 in_front_at [] ys i x less e = absurd (omega (arith, less))
 in_front_at (y ∷ xs) ys zero x less e = e
@@ -366,7 +239,7 @@ one_of x y = by_test (ltb x y) (ltb y x) refl refl where
   by_test false true e f = inr (inr (ltb-true y x f))
   by_test false false e f = let le : y ≤ x = ltb-false x y e in let ge : x ≤ y = ltb-false y x f in inr (inl (omega (arith, le, ge)))
 
--- where neither of the pairs i, m and j, n comes before the other, they are the same
+-- if neither of the pairs i, m and j, n comes before the other, they are the same
 same_place : (i j m n : ℕ) → (IsBefore i m j n → ⊥) → (IsBefore j n i m → ⊥) → (i ≡ j) × (m ≡ n)
 same_place i j m n f g =
     elim (one_of i j) [
@@ -420,17 +293,17 @@ module _ {State : Type 0} (ends : Ends State) (Good : State → Type 0) (kept : 
       let c = cut_field ends Good kept (parts plan commands scope before) (parts plan commands scope acts) u rs front whole marked h.shown h.possible in
       (c, record { runs = runs; lines = h.lines; none = h.none; shown = c.shown; possible = c.possible })
 
-  -- when a chained command's request of a cycle is about to go out, as request n of its stretch, the command before it in the chain is
-  -- settled, with the answer that its record has
+  -- when a chained command's request of a cycle is about to be sent, as request n of its stretch, the command before it in the
+  -- chain is settled, with the answer that its record has
   settled_there : (before : List Act) (u : UnderWay State) (rs : List (Run State)) → IsInField ends Good kept plan commands scope before u rs
       → (i n cycle a : ℕ) (first : Part) → slice_get (parts plan commands scope before) i ≡ Some first → length first.marks ≡ n
-      → (back : IsAnsweredBack plan commands scope before first cycle a) → 0 < cycle → (t : Stretch State) × (slice_get (stretches ends u rs) i ≡ Some t) × (length (own_sent ends t) ≡ n)
+      → (back : IsAnsweredEarlier plan commands scope before first cycle a) → 0 < cycle → (t : Stretch State) × (slice_get (stretches ends u rs) i ≡ Some t) × (length (own_sent ends t) ≡ n)
       × (slice_get (own_settled ends t) back.m ≡ Some (record { target = back.answer.command.target; call = back.answer.command.call; outcome = Answered back.line }))
   settled_there before u rs h i n cycle a first of_first count back many =
       let ss = stretches ends u rs in
       let f = run_faithful ends Good kept is plan commands scope before u rs h in
       let o = all_at (IsOwnAnswer ends Good kept commands (parts plan commands scope before) ss)
-      (stood plan commands scope before).records back.k back.answer f.own back.among back.line (ap answer_of back.answered) in
+      (state_after plan commands scope before).records back.k back.answer f.own back.among back.line (ap answer_of back.answered) in
       let at = own_place before h.runs i back.m first back.expected back.answer ss back.line of_first back.mark (subst (λ c. 0 < c) (sym back.own_cycle) many) o in
       let of_ss : slice_get ss i ≡ Some o.stretch = subst (λ k. slice_get ss k ≡ Some o.stretch) at.0 o.of_stretches in
       let size : length first.marks ≡ length (own_sent ends o.stretch) =
@@ -453,11 +326,11 @@ module _ {State : Type 0} (ends : Ends State) (Good : State → Type 0) (kept : 
       (get_drop 8 o.m w.sent o.request o.sent)).1 ∙ ap (λ (z : Wanted Asked). z.call) o.asks in
       subst (λ call. WasMadeOn 7 ends o.stretch.from o.stretch.moves (8 + o.m) call line) (sym right) o.made_on
 
-  -- where the answer of record b is its own, the command at each place a, from which b is chained, was executed before that of b
+  -- if the answer of record b is its own, the command at each place a, from which b is chained, was executed before that of b
   chained_to : (acts : List Act) (v : UnderWay State) (rs : List (Run State)) → IsInField ends Good kept plan commands scope acts v rs
       → (b : Record) (line : List ℕ) (u : IsItsOwn ends Good kept commands (parts plan commands scope acts) (stretches ends v rs) b line) (a : ℕ)
       → 0 < b.cycle → plan.setup ≤ a → a < b.place → AreChained commands a b.place
-      → IsChainedTo ends Good kept scope.reads commands (parts plan commands scope acts) (stretches ends v rs) (stood plan commands scope acts).records a b line
+      → IsChainedTo ends Good kept scope.reads commands (parts plan commands scope acts) (stretches ends v rs) (state_after plan commands scope acts).records a b line
   chained_to acts v rs h b line u a many low less chained =
       let ss = stretches ends v rs in
       let sent = stay plan commands scope acts h.runs u.k u.m u.part (mark_of u.expected b) u.of_parts u.mark many in
@@ -490,8 +363,8 @@ module _ {State : Type 0} (ends : Ends State) (Good : State → Type 0) (kept : 
       record {
         k = back.k;
         record_a = back.answer;
-        among = ap (λ l. slice_get (stood plan commands scope l).records back.k) sent.order ∙ ap (λ l. slice_get l back.k) grown.1
-            ∙ in_more (stood plan commands scope sent.before).records grown.0 back.k back.answer back.among;
+        among = ap (λ l. slice_get (state_after plan commands scope l).records back.k) sent.order ∙ ap (λ l. slice_get l back.k) grown.1
+            ∙ in_more (state_after plan commands scope sent.before).records grown.0 back.k back.answer back.among;
         cycle = same_cycle;
         place = back.own_place;
         line_a = back.line;
@@ -533,4 +406,4 @@ module _ {State : Type 0} (ends : Ends State) (Good : State → Type 0) (kept : 
   chains_executed acts u rs h =
       all_so (IsOwnAnswer ends Good kept commands (parts plan commands scope acts) (stretches ends u rs)) (IsExecutedInChain ends Good kept plan commands scope acts u rs)
       (λ b own line a answered many low less chained. chained_to acts u rs h b line (own line answered) a many low less chained)
-      (stood plan commands scope acts).records (run_faithful ends Good kept is plan commands scope acts u rs h).own
+      (state_after plan commands scope acts).records (run_faithful ends Good kept is plan commands scope acts u rs h).own

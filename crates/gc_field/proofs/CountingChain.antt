@@ -27,10 +27,7 @@ use Rattle.gc_field.specs.Shown.{AreShownAs, shown}
 use Rattle.gc_field.specs.Begin.{begins}
 use Rattle.gc_field.specs.Witness.{begun_with, eight, plan, plan_of}
 use Rattle.gc_field.proofs.Witness.{asked_each, one_part, run_on, units}
-
--- true isn't false
-true_is_not : true ≡ false → ⊥
-true_is_not e = cc
+use Rattle.gc_field.proofs.Once.{true_is_not}
 
 -- each reply of the counting instrument has its request's id
 reads : (s : Counter) (id : ℕ) (o : Option ℕ) → id < 8 → heard (counted_or s id o).reply ≡ Some id
@@ -47,7 +44,7 @@ reply_is_kept : (s : Counter) (id : ℕ) (o : Option ℕ) → held s.keeps id �
 reply_is_kept s id (Some n) e = kept_own s.keeps id n e
 reply_is_kept s id None e = refl
 
--- where a number is kept with this id, it can't be that none is held for the id
+-- if a number is kept with this id, it can't be that none is held for the id
 none_held : (x : ℕ × ℕ) (id : ℕ) → x.0 ≡ id → held (Some x) id ≡ None → ⊥
 none_held x id same e = let e' : Some x.1 ≡ None = sym (ap (λ b. cond b (Some x.1) None) (eq-eqb x.0 id same)) ∙ e in cc
 
@@ -80,7 +77,7 @@ is =
       starts_good = λ s good. tt;
     }
 
--- `counting` keeps its reply
+-- `counting` retains its reply
 keeps_its : KeepsItsReply counting AnyState kept_by all_known
 keeps_its =
     record {
@@ -120,7 +117,7 @@ parts_are : parts_of plan commands (opening plan scope) acts ≡ one_part (asked
 unfolding is_elsewhere header_at reply_at digits
 parts_are = refl
 
--- what the line does while the station begins shows these turns
+-- what the line does while the station synchronizes shows these turns
 shown_are : shown counting eight (begins before) ≡ asked_each begun
 unfolding is_elsewhere header_at reply_at digits
 shown_are = refl

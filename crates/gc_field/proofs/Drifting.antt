@@ -1,4 +1,4 @@
--- A run over an instrument that keeps no reply, computed.
+-- A run over an instrument that retains no reply, computed.
 use Rattle.std.proofs.Common.{◌≡◌, true, false, Some, [], ◌∷◌, inl, refl, sym, ap, subst, lit<}
 use Rattle.std.specs.Prelude.{take, drop}
 use Rattle.std.specs.Fmt.{decimal, digits}
@@ -19,10 +19,7 @@ use Rattle.gc_field.specs.Field.{seen}
 use Rattle.gc_field.specs.Shown.{AreShownAs, shown}
 use Rattle.gc_station.specs.Parts as part
 use Rattle.gc_field.proofs.Witness.{asked_each, one_part, run_on, units}
-
--- true isn't false
-true_is_not : true ≡ false → ⊥
-true_is_not e = cc
+use Rattle.gc_field.proofs.Once.{true_is_not}
 
 -- `drifting` is an instrument
 is : IsAnInstrument drifting AnyState nothing
@@ -48,7 +45,7 @@ module _ (raw : RawCall) where
   unfolding is_elsewhere header_at reply_at digits
   parts_are = refl
 
-  -- what the line does while the station begins shows these turns
+  -- what the line does while the station synchronizes shows these turns
   shown_are : shown drifting turns (begins (none_under_way 5)) ≡ part.Asks ∷ part.Asks ∷ asked_each begun
   unfolding is_elsewhere header_at reply_at digits
   shown_are = refl

@@ -48,7 +48,7 @@ module _ {State : Type 0} (ends : Ends State) (same_heard : (line : List ℕ) �
         reply = ap (λ t. (ends.handed t x.line.id x.line.call).reply) (sym stands);
       }
 
-  -- possible moves whose first request goes out alone are faithful
+  -- possible moves whose first request is sent alone are faithful
   pub faithful : (state : State) → Good state → (ms : List (Move State)) → ArePossible ends Good kept (by_ids width ends) ms (ids_open state) → AsksTheTable ms
       → IsFirstAlone false ms → IsFaithful width ends state ms Good kept
   faithful state good ms p table l =

@@ -1,5 +1,5 @@
--- What holds of one request, m, from the moment at which it goes out behind the table: it is near the last call of the table that the instrument
--- was handed, so the line that answers it was made for it. Of what was sent before nothing need be known.
+-- What holds of one request, m, from the moment at which it is sent after the table: it is near the last call of the table that
+-- the instrument was handed, so the line that answers it was made for it. Of what was sent before nothing need be known.
 use Rattle.std.proofs.Common.{◌≡◌, ℕ, ◌+◌, ◌<◌, ◌≤◌, ◌⊎◌, inl, inr, Bool, true, false, List, [], ◌∷◌, ◌++◌, length, Option, Some, None, refl, subst, arith, ltb}
 use Rattle.std.proofs.lemmas.Bool.{ltb-true, ltb-false}
 use Rattle.gc_catalogue.specs.Asked.{is_of_table}
@@ -15,9 +15,10 @@ use Rattle.gc_field.specs.Instrument.{IsAnInstrument, all_known}
 use Rattle.gc_field.proofs.Answered.{AllSo, IsSo, all_so_get}
 use Rattle.gc_field.proofs.BeginLists.{each_both}
 use Rattle.gc_field.proofs.Once.{known_not}
-use Rattle.gc_field.proofs.Vouched.{IsDealt, KeptIs, True, Vouched}
+use Rattle.gc_field.proofs.KeptReplies.{IsDealt, KeptIs}
+use Rattle.gc_field.proofs.Vouched.{AllVouched, Vouched}
 
--- all moves ask only what is known, where all is
+-- all moves ask only what is known, if all is
 pub asks_all : {State : Type 0} (ms : List (Move State)) → AsksOnly all_known ms
 asks_all [] = tt
 asks_all (Sends target call deadline ∷ ms) = (refl, asks_all ms)
@@ -35,20 +36,21 @@ pub numbers_append : {State : Type 0} (width : ℕ) (ends : Ends State) (front l
 numbers_append width ends [] later b = refl
 numbers_append width ends (m ∷ front) later b = numbers_append width ends front later (moves ends (by_numbers width) b m)
 
--- `IsSo` of one property gives `IsSo` of another, where the one gives the other of this number
+-- `IsSo` of one property gives `IsSo` of another, if the one gives the other of this number
 so_at : (P Q : ℕ → List ℕ → Type 0) (n : ℕ) (o : Outcome) → ((line : List ℕ) → P n line → Q n line) → IsSo P n o → IsSo Q n o
 so_at P Q n (Answered line) f h = f line h
 so_at P Q n Late f h = (h.0, f h.0 h.1)
 so_at P Q n Lost f h = tt
 
--- `AllSo` of one property gives `AllSo` of another, where the one gives the other of each number below `top`, and no settlement has another number
+-- `AllSo` of one property gives `AllSo` of another, if the one gives the other of each number below `top`, and no settlement
+-- has another number
 all_so_below : (P Q : ℕ → List ℕ → Type 0) (top : ℕ) → ((n : ℕ) (line : List ℕ) → n < top → P n line → Q n line) → (n : ℕ) (ss : List (Settlement Asked)) → n + length ss ≤ top
     → AllSo P n ss → AllSo Q n ss
 all_so_below P Q top f n [] low h = tt
 all_so_below P Q top f n (s ∷ ss) low h =
     (so_at P Q n s.outcome (λ line p. f n line (omega (arith, low)) p) h.0, all_so_below P Q top f (n + 1) ss (omega (arith, low)) h.1)
 
--- `KeptIs` of one property gives `KeptIs` of another, where the one gives the other of each number below `top`
+-- `KeptIs` of one property gives `KeptIs` of another, if the one gives the other of each number below `top`
 kept_below : (P Q : ℕ → List ℕ → Type 0) (since top table : ℕ) → ((n : ℕ) (line : List ℕ) → n < top → P n line → Q n line) → (k : Option KeptReply)
     → KeptIs P since top table k → KeptIs Q since top table k
 kept_below P Q since top table f None h = tt
@@ -68,15 +70,16 @@ abbrev pub AnyLine : ℕ → Asked → List ℕ → Type 0
 AnyLine n call line = Unit {0}
 
 module _ {State : Type 0} (width : ℕ) (narrow : width ≤ 7) (ends : Ends State) (Good : State → Type 0) (kept : State → Option KeptReply) (keeper : IsAnInstrument ends Good kept) (low : ℕ) where
-  -- `True`, with all requests excepted
+  -- `AllVouched`, with all requests excepted
   abbrev pub TrueOfNone : World (ByNumber Asked) State → Type 0
-  TrueOfNone w = True width narrow is_of_table ends Good kept keeper low EachOne ⊥ AnyLine w
+  TrueOfNone w = AllVouched width narrow is_of_table ends Good kept keeper low EachOne ⊥ AnyLine w
 
-  -- `True`, with all requests excepted but m
+  -- `AllVouched`, with all requests excepted but m
   abbrev pub TrueOfOne : (ℕ → Asked → List ℕ → Type 0) → ℕ → World (ByNumber Asked) State → Type 0
-  TrueOfOne M m w = True width narrow is_of_table ends Good kept keeper low (AllBut m) ⊥ M w
+  TrueOfOne M m w = AllVouched width narrow is_of_table ends Good kept keeper low (AllBut m) ⊥ M w
 
-  -- before request m goes out, nothing is of it: so `True` holds with all requests excepted but m, if m is near the last call of the table
+  -- before request m is sent, nothing is of it: so `AllVouched` holds with all requests excepted but m, if m is near the last call of
+  -- the table
   pub renewed : (M : ℕ → Asked → List ℕ → Type 0) (m : ℕ) (w : World (ByNumber Asked) State) → Sound width ends Good w → (t : TrueOfNone w) → length w.wire.sent ≡ m → m ≤ t.table + 7
       → TrueOfOne M m w
   renewed M m w s t size near =
@@ -117,7 +120,7 @@ module _ {State : Type 0} (width : ℕ) (narrow : width ≤ 7) (ends : Ends Stat
   dealt_of P D n Late f by h = f h.0 h.1
   dealt_of P D n Lost f by h = absurd by
 
-  -- a request that goes out behind the table is near the last call of the table that the instrument was handed
+  -- a request that is sent after the table is near the last call of the table that the instrument was handed
   pub near_the_table : (m : ℕ) (w : World (ByNumber Asked) State) → (t : TrueOfNone w) → 8 ≤ low → length w.wire.sent ≡ m → IsBehindTheTable w.wire → m ≤ t.table + 7
   near_the_table m w t eight size is =
       elim is.3 [

@@ -41,7 +41,7 @@ use Rattle.gc_field.specs.Fronts.{request_bytes, IsWholeOrNothing}
 abbrev pub AreAbove : List ℕ → Type 0
 AreAbove bytes = AllByRecursion (λ b. 37 < b) bytes
 
--- where each byte of two lists has a property, so has each byte of the joined list
+-- if each byte of two lists has a property, so has each byte of the joined list
 pub joined : (P : ℕ → Type 0) (xs ys : List ℕ) → AllByRecursion P xs → AllByRecursion P ys → AllByRecursion P (xs ++ ys)
 joined P [] ys h k = k
 joined P (x ∷ xs) ys h k = (h.0, joined P xs ys h.1 k)
@@ -73,7 +73,7 @@ pub above_decimal_digits : (ds : List ℕ) → AllDigits 10 ds → AreAbove ds
 above_decimal_digits [] h = tt
 above_decimal_digits (c ∷ cs) h = (omega (arith, digit_at (c ∷ cs) 0 h (omega arith)), above_decimal_digits cs h.1)
 
--- a minus, where there is one, is above `%`, the sign with which each request begins
+-- a minus, if there is one, is above `%`, the sign with which each request begins
 above_minus : (z : ℤ) → AreAbove (minus_text z)
 above_minus (pos n) = tt
 above_minus (negsuc n) = (lit< tt, tt)
@@ -189,7 +189,7 @@ frame_line bytes line e = chosen (ends_in_return bytes) (ltb 512 (length bytes -
   chosen true true e = let never : ⊥ = cc in absurd never
   chosen true false e = cc
 
--- where a frame's line, if it has one, has the property P, and so has each line of the later frames, all of these lines have P
+-- if a frame's line, if it has one, has the property P, and so has each line of the later frames, all of these lines have P
 framed : (P : List ℕ → Type 0) (f : Frame) (fs : List Frame) → ((line : List ℕ) → line_in f ≡ Some line → P line) → AllByRecursion P (lines_in fs) → AllByRecursion P (lines_in (f ∷ fs))
 framed P (Line line) fs h g = (h line.items refl, g)
 framed P Cleared fs h g = g
@@ -238,7 +238,7 @@ no_return (b ∷ bytes) h =
 no_line : (bytes : List ℕ) → AllByRecursion (λ b. b ≢ 13) bytes → frame_of bytes ≡ Cleared
 no_line bytes h = ap (λ t. cond t (cond (ltb 512 (length bytes - 1)) Overlong (Line (record { items = take (length bytes - 1) bytes }))) Cleared) (no_return bytes h)
 
--- where the frame that a byte would end is no line, and the later frames have no lines, whether the byte ends a frame (`t`) or
+-- if the frame that a byte would end is no line, and the later frames have no lines, whether the byte ends a frame (`t`) or
 -- not, there are no lines
 one_by_one : (t : Bool) (before : List ℕ) (here later : List (List ℕ)) → frame_of before ≡ Cleared → lines_in (map frame_of here) ≡ []
     → lines_in (map frame_of later) ≡ [] → lines_in (map frame_of (cond t (before ∷ here) later)) ≡ []
@@ -252,7 +252,7 @@ no_lines before (b ∷ bytes) h g =
     one_by_one (is_line_feed b) before (pieces_behind [] bytes) (pieces_behind (before ++ b ∷ []) bytes) (no_line before h) (no_lines [] bytes tt g.1)
     (no_lines (before ++ b ∷ []) bytes (joined (λ b. b ≢ 13) before (b ∷ []) h (g.0, tt)) g.1)
 
--- the first n bytes of a list that has as many don't change where another list follows
+-- the first n bytes of a list that has as many don't change if another list follows
 take_front : (xs ys : List ℕ) (n : ℕ) → n ≤ length xs → take n (xs ++ ys) ≡ take n xs
 take_front xs ys zero le = refl
 take_front [] ys (suc n) le = absurd (omega (arith, le))

@@ -1,6 +1,6 @@
--- Stations one after the other: no beginning finds the word under way, as long as few runs in a row are killed while they begin.
--- The *word* is the list of the ids of a beginning's null procedures; `IsShort` says that what is under way doesn't contain a
--- certain front of it, which is one id longer for each run in a row that was killed.
+-- Stations one after the other: no synchronization finds the word in flight, as long as few runs in a row are killed while they
+-- synchronize. The *word* is the list of the ids of a synchronization's null procedures; `IsShort` says that what is in flight
+-- doesn't contain a certain front of it, which is one id longer for each run in a row that was killed.
 use Rattle.std.proofs.Common.{◌≡◌, ℕ, ◌≤◌, true, List, [], ◌∷◌, ◌++◌, map, Option, refl, ap, ap₂, subst, arith}
 use Rattle.std.specs.List.{filter_map}
 use Rattle.gc_client.specs.Beginning.{IsSubsequence}
@@ -21,7 +21,7 @@ same_lines : {Line : Type 0} (xs : List Line) → map (λ (x : Aged Line). x.lin
 same_lines [] = refl
 same_lines (x ∷ xs) = ap (λ l. x ∷ l) (same_lines xs)
 
--- a beginning in which nothing happened leaves the ids under way
+-- a synchronization in which nothing happened leaves the ids in flight
 same_ids : {State : Type 0} (u : UnderWay State) → ids_under_way (leaves (begins u)) ≡ ids_under_way u
 same_ids u = ap₂ (λ (d : List (List ℕ)) (q : List Request). filter_map heard d ++ map (λ x. x.id) q) (same_lines u.down) (same_lines u.up)
 
@@ -30,8 +30,8 @@ module _ {State : Type 0} (ends : Ends State) (Good : State → Type 0) (kept : 
   abbrev run : List (Turn State) → List (Move State) → Run State
   run ts ms = record { turns = ts; moves = ms }
 
-  -- what one run of a station leaves under way is `AreLines`, and `IsShort` by the number of runs in a row that were killed
-  -- while they began
+  -- what one run of a station leaves in flight is `AreLines`, and `IsShort` by the number of runs in a row that were killed
+  -- while they synchronized
   step : (ts : List (Turn State)) (ms : List (Move State)) (n : ℕ) (u : UnderWay State) → AreLines Good u → IsShort n u → AreTurns ends Good kept ts (begins u)
       → ArePossibleIf 7 ends Good kept (stood 7 ends u (run ts ms)).left (stood 7 ends u (run ts ms)) ms → killed_by ends n u (run ts ms) ts ≤ 5
       → AreLines Good (left_by_run 7 ends u (run ts ms)) × IsShort (killed_by ends n u (run ts ms) ts) (left_by_run 7 ends u (run ts ms))
@@ -44,8 +44,8 @@ module _ {State : Type 0} (ends : Ends State) (Good : State → Type 0) (kept : 
       let one = goes ends Good kept is 7 (omega arith) n u r (stood 7 ends u r).left refl lines short turns p few in
       (one.lines, one.short)
 
-  -- what all runs of a station leave under way is `AreLines`, and `IsShort` by the number of runs in a row that were killed
-  -- while they began
+  -- what all runs of a station leave in flight is `AreLines`, and `IsShort` by the number of runs in a row that were killed
+  -- while they synchronized
   steps : (rs : List (Run State)) (n : ℕ) (u : UnderWay State) → AreLines Good u → IsShort n u → AreRuns 7 ends Good kept u rs → AreFew ends n u rs
       → AreLines Good (left_over ends u rs) × IsShort (killed_over ends n u rs) (left_over ends u rs)
   steps [] n u lines short runs few = (lines, short)
@@ -62,6 +62,6 @@ module _ {State : Type 0} (ends : Ends State) (Good : State → Type 0) (kept : 
         all xs (killed_over ends n u x.runs) (left_over ends u x.runs) next.0 next.1 h.1,
       )
 
-  -- stations one after the other are faithful after an `IsRow`, as long as few are killed while they begin
+  -- stations one after the other are faithful after an `IsRow`, as long as few are killed while they synchronize
   pub in_a_row : (u : UnderWay State) → AreLines Good u → IsRow u → (xs : List (Program State)) → AreInARow ends Good kept 0 u xs → AreFaithful ends Good kept u xs
   in_a_row u lines row xs h = all xs 0 u lines (short_row u row) h

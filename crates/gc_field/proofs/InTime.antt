@@ -1,5 +1,5 @@
--- The first reply to a request that comes while the request isn't settled settles it. A *stretch* is a run once it has begun:
--- what is under way then, and its moves.
+-- The first reply to a request that comes while the request isn't settled settles it. A *stretch* is a run once it has
+-- synchronized: what is in flight then, and its moves.
 use Rattle.std.proofs.Common.{◌≡◌, ◌⊎◌, inl, inr, ℕ, zero, suc, ◌+◌, ◌-◌, ◌<◌, ◌≤◌, Bool, true, false, List, [], ◌∷◌, ◌++◌, length, map, nat_eq, Option, Some, refl, sym, ◌∙◌, ap, subst, arith, append_assoc, length-drop}
 use Rattle.std.specs.Prelude.{slice_get}
 use Rattle.std.proofs.lemmas.Bool.{ne_eqb}
@@ -41,7 +41,8 @@ seen_append (Anew ∷ front) later = seen_append front later
 seen_append (Changes state ∷ front) later = seen_append front later
 seen_append (Joins line ∷ front) later = seen_append front later
 
--- where a reply meets the request at place k of those that wait, the settlement at place k is that of this request by the reply
+-- if a reply meets the request at place k of those that are outstanding, the settlement at place k is that of this request by
+-- the reply
 met_at : (k : ℕ) (line : List ℕ) (ps : List (Pending Asked)) → k < length ps → (p : Pending Asked) × (slice_get ps k ≡ Some p) × (slice_get (settle k line ps) k ≡ Some (met p line))
 met_at k line [] low = absurd (omega (arith, low))
 met_at zero line (p ∷ ps) low = (p, refl, refl)
@@ -85,12 +86,12 @@ module _ {State : Type 0} (ends : Ends State) (Good : State → Type 0) (kept : 
       → ArePossible ends Good kept (by_ids 7 ends) front (ids_begun u)
   front_of u ms front later e p = possible_front 7 ends Good kept front later (ids_begun u) (subst (λ xs. ArePossible ends Good kept (by_ids 7 ends) xs (ids_begun u)) e p)
 
-  -- a stretch has begun cleanly, or nothing happens in it; and its moves are possible
+  -- a stretch has synchronized cleanly, or nothing happens in it; and its moves are possible
   pub record Sound (s : Stretch State) : Type 0 where
     pub possible : ArePossible ends Good kept (by_ids 7 ends) s.moves (ids_begun s.from)
     pub clean : IsClean Good kept s.from ⊎ (s.moves ≡ [])
 
-  -- a stretch in which something happens has begun cleanly
+  -- a stretch in which something happens has synchronized cleanly
   pub clean_of : (s : Stretch State) → Sound s → (front later : List (Move State)) (m : Move State) → s.moves ≡ front ++ m ∷ later → IsClean Good kept s.from
   clean_of s sound front later m e =
       elim sound.clean [
@@ -106,7 +107,7 @@ module _ {State : Type 0} (ends : Ends State) (Good : State → Type 0) (kept : 
         | inr none ↦ subst (λ ms. IsFaithful 7 ends s.from ms Good kept) (sym (front_nil front later (sym none ∙ e))) (faithful_none ends Good kept s.from)
       ]
 
-  -- what is settled after the first moves of a stretch stays in front of what is settled after more of them
+  -- what is settled after the first moves of a stretch stays before what is settled after more of them
   settled_more : (u : UnderWay State) → IsClean Good kept u → (ms front later : List (Move State)) → ms ≡ front ++ later → ArePossible ends Good kept (by_ids 7 ends) ms (ids_begun u)
       → (more : List (Settlement Asked)) × ((behind 7 ends u ms).wire.settled ≡ (behind 7 ends u front).wire.settled ++ more)
   settled_more u clean ms front later e p =
@@ -122,7 +123,7 @@ module _ {State : Type 0} (ends : Ends State) (Good : State → Type 0) (kept : 
         whole.settled ∙ ap (λ l. nulls_settled ++ l) grown ∙ sym (append_assoc nulls_settled own more) ∙ ap (λ l. l ++ more) (sym part.settled),
       )
 
-  -- where the front reply is to a request that isn't settled, that request waits
+  -- if the front reply is to a request that isn't settled, that request waits
   below_sent : (u : UnderWay State) → IsClean Good kept u → (front : List (Move State)) → ArePossible ends Good kept (by_ids 7 ends) front (ids_begun u)
       → (line : List ℕ) (n : ℕ) (rest : List (Numbered (List ℕ))) → (behind 7 ends u front).wire.down ≡ record { number = n; line = line } ∷ rest
       → length (behind 7 ends u front).wire.settled ≤ n → n - length (behind 7 ends u front).wire.settled < length (behind 7 ends u front).client.waiting
@@ -138,7 +139,7 @@ module _ {State : Type 0} (ends : Ends State) (Good : State → Type 0) (kept : 
       ap (λ (l : List (Pending Asked)). length l) both.agree.client.window ∙ length-drop b.client.count b.client.requests in
       omega (arith, coming.0.sent, size, waits, le)
 
-  -- where a reply comes to a request that isn't settled, the settlement of that request is that by this reply
+  -- if a reply comes to a request that isn't settled, the settlement of that request is that by this reply
   abbrev MetAt : Stretch State → Type 0
   MetAt s =
       (front later : List (Move State)) (line : List ℕ) (n : ℕ) (rest : List (Numbered (List ℕ))) → s.moves ≡ front ++ Comes line ∷ later
@@ -173,13 +174,13 @@ module _ {State : Type 0} (ends : Ends State) (Good : State → Type 0) (kept : 
       let c : length xs + length ys ≡ length w.wire.sent = sym (length-append xs ys) ∙ ap length e ∙ length-map w.wire.sent asked in
       omega (arith, a, b, c)
 
-  -- a request that goes out where the client doesn't refuse it waits, after the others
+  -- a request that is sent if the client doesn't refuse it waits, after the others
   sent_by_test : (w : World (ById Asked) State) (target : ℕ) (call : Asked) (deadline : ℕ) (b : Bool) → b ≡ false → length w.wire.settled + length w.client.waiting ≡ length w.wire.sent
       → Waits (requested w target call (id_send w.client target call deadline b)) (length w.wire.sent) (pending_of target call deadline)
   sent_by_test w target call deadline true e counts = cc
   sent_by_test w target call deadline false e counts = λ le. get_last w.client.waiting (length w.wire.sent - length w.wire.settled) (pending_of target call deadline) (omega (arith, counts))
 
-  -- a request that goes out waits, after the others
+  -- a request that is sent waits, after the others
   sent_waits : (u : UnderWay State) (before : List (Move State)) (target : ℕ) (call : Asked) (deadline : ℕ) → IsFaithful 7 ends u before Good kept → length (behind 7 ends u before).client.waiting < 7
       → Waits (moves ends (by_ids 7 ends) (behind 7 ends u before) (Sends target call deadline)) (length (behind 7 ends u before).wire.sent) (pending_of target call deadline)
   sent_waits u before target call deadline f room =

@@ -1,5 +1,5 @@
--- Instruments: each meets what the proofs of the world ask of an instrument; the simulator is one; and so is any that keeps no
--- reply.
+-- Instruments: each meets what the proofs of the world ask of an instrument; the simulator is one; and so is any that retains
+-- no reply.
 use Rattle.std.proofs.Common.{◌≡◌, ◌⊎◌, ℕ, ◌<◌, inl, inr, Bool, true, false, List, [], Option, Some, None, cond, refl, sym, ◌∙◌, ap, subst, eqb, lit<}
 use Rattle.std.proofs.lemmas.Bool.{eqb-true, eq-eqb}
 use Rattle.gc_lines.proofs.Written.{reply_back}
@@ -23,6 +23,7 @@ use Rattle.gc_world.proofs.Handing.{exchange}
 use Rattle.gc_world.proofs.Options.{some_is}
 use Rattle.gc_field.specs.Instrument.{IsAnInstrument, IsAnInstrumentFor, KeepingNothingSuffices, KeepsItsOwn, TreatsRawsAlike, all_known}
 use Rattle.gc_field.specs.Laws.{SimulatorIsAnInstrument, kept_of}
+use Rattle.gc_field.proofs.Once.{true_is_not}
 
 -- an instrument meets what the proofs of the world ask of one, `IsExchange`
 pub exchange_of : {State : Type 0} (ends : Ends State) (Good : State → Type 0) (kept : State → Option KeptReply) → IsAnInstrument ends Good kept → IsExchange ends Good
@@ -49,11 +50,7 @@ alike_is e Good kept is alike =
 
 -- The simulator.
 
--- true isn't false
-true_is_not : true ≡ false → ⊥
-true_is_not e = cc
-
--- where the kept line for an id is this one (`kept_line`), this line is kept, with that id
+-- if the kept line for an id is this one (`kept_line`), this line is kept, with that id
 kept_own : (k : Option KeptReply) (id : ℕ) (line : List ℕ) → kept_line k (Some id) ≡ Some line → k ≡ Some (record { id = id; line = line })
 kept_own None id line e = let never : ⊥ = cc in absurd never
 kept_own (Some k) id line e = chosen (eqb k.id id) refl e where
@@ -61,18 +58,18 @@ kept_own (Some k) id line e = chosen (eqb k.id id) refl e where
   chosen true t e = ap (λ i. Some (record { id = i; line = k.line })) (eqb-true k.id id t) ∙ ap (λ l. Some (record { id = id; line = l })) (some_is k.line line e)
   chosen false t e = let never : ⊥ = cc in absurd never
 
--- where this line is kept, with this id, it is the kept line for the id (`kept_line`)
+-- if this line is kept, with this id, it is the kept line for the id (`kept_line`)
 kept_for : (k : Option KeptReply) (id : ℕ) (line : List ℕ) → k ≡ Some (record { id = id; line = line }) → kept_line k (Some id) ≡ Some line
 kept_for k id line e = ap (λ k. kept_line k (Some id)) e ∙ ap (λ b. cond b (Some line) None) (eq-eqb id id refl)
 
--- where the simulator doesn't execute a request, its reply is the line that it keeps for the request's id
+-- if the simulator doesn't execute a request, its reply is the line that it retains for the request's id
 repeated : (s : State) (id : ℕ) (call : Call) (o : Option (List ℕ)) → kept_line s.kept (Some id) ≡ o → (calls.handed s id call).executed ≡ false
     → s.kept ≡ Some (record { id = id; line = (calls.handed s id call).reply })
 repeated s id call None e not = absurd (true_is_not (sym (ap (λ (h : Handed State). h.executed) (handed_new s id call e)) ∙ not))
 repeated s id call (Some line) e not =
     kept_own s.kept id line e ∙ sym (ap (λ (h : Handed State). Some (record { id = id; line = h.reply })) (handed_again s id call line e))
 
--- after a request the simulator keeps its reply to that request
+-- after a request the simulator retains its reply to that request
 behind : (s : State) (id : ℕ) (call : Call) (o : Option (List ℕ)) → kept_line s.kept (Some id) ≡ o
     → (calls.handed s id call).state.kept ≡ Some (record { id = id; line = (calls.handed s id call).reply })
 behind s id call None e = subst (λ (x : Handed State). x.state.kept ≡ Some (record { id = id; line = x.reply })) (sym (handed_new s id call e)) refl
@@ -85,12 +82,12 @@ asked_reads s id (Table call) good small = exchange.reads s id call good small
 asked_reads s id (Raw raw) good small =
     ap id_in (reply_back (record { rc_com = 3081; id = Some id; rc = 0; params = [] }) (record { rc_com = lit< tt; id = small; rc = lit< tt }))
 
--- a line that the simulator sends again is the one that it keeps
+-- a line that the simulator sends again is the one that it retains
 asked_repeats : (s : State) (id : ℕ) (asked : Asked) → (handed s id asked).executed ≡ false → s.kept ≡ Some (record { id = id; line = (handed s id asked).reply })
 asked_repeats s id (Table call) not = repeated s id call (kept_line s.kept (Some id)) refl not
 asked_repeats s id (Raw raw) not = absurd (true_is_not not)
 
--- after a call of the table the simulator keeps its reply, and after another request what it kept
+-- after a call of the table the simulator retains its reply, and after another request what it retained
 asked_keeps : (s : State) (id : ℕ) (asked : Asked) → KeepsItsOwn ends IsFittingState kept_of s id asked ⊎ ((is_of_table asked ≡ false) × ((handed s id asked).state.kept ≡ s.kept))
 asked_keeps s id (Table call) = inl (inr (behind s id call (kept_line s.kept (Some id)) refl))
 asked_keeps s id (Raw raw) = inr (refl, refl)
@@ -100,12 +97,12 @@ asked_good : (s : State) (id : ℕ) (asked : Asked) → IsFittingState s → id 
 asked_good s id (Table call) good small = exchange.stays_good s id call good small
 asked_good s id (Raw raw) good small = good
 
--- the simulator doesn't execute a call of the table with the id of the line that it keeps
+-- the simulator doesn't execute a call of the table with the id of the line that it retains
 not_again : (s : State) (id : ℕ) (asked : Asked) (line : List ℕ) → is_of_table asked ≡ true → s.kept ≡ Some (record { id = id; line = line }) → (handed s id asked).executed ≡ false
 not_again s id (Table call) line of e = ap (λ (h : Handed State). h.executed) (handed_again s id call line (kept_for s.kept id line e))
 not_again s id (Raw raw) line of e = absurd (true_is_not (sym of))
 
--- after a call of the table the simulator keeps its reply
+-- after a call of the table the simulator retains its reply
 asked_always : (s : State) (id : ℕ) (asked : Asked) → is_of_table asked ≡ true → (handed s id asked).state.kept ≡ Some (record { id = id; line = (handed s id asked).reply })
 asked_always s id (Table call) of = behind s id call (kept_line s.kept (Some id)) refl
 asked_always s id (Raw raw) of = absurd (true_is_not (sym of))
@@ -117,7 +114,7 @@ refused s id raw small =
     let back = asked_again (Some id) (Raw raw) small raw.is in
     answers q (request_found (asked_line (Some id) (Raw raw)) q back.line) (refusal_line id Unknown) (refuses Unknown raw.is.no_procedure refl refl) refl
 
--- the simulator is an instrument, and one that keeps its reply to each call of the table
+-- the simulator is an instrument, and one that retains its reply to each call of the table
 pub simulator : SimulatorIsAnInstrument
 simulator =
     record {
@@ -139,9 +136,9 @@ simulator =
       refuses = refused;
     }
 
--- An instrument that deals with each request anew and keeps no reply, whatever its replies say.
+-- An instrument that deals with each request again and retains no reply, whatever its replies say.
 
--- what keeps no reply is an instrument
+-- what retains no reply is an instrument
 pub keeps_none : (State : Type 0) → KeepingNothingSuffices State
 keeps_none State e hears replies anew =
     record {

@@ -1,6 +1,6 @@
--- A run of a station and what happens on its line, joined: each part of the run, from one beginning to the next, goes with a
--- stretch of the line, and each answer that is written down was made in one of the stretches. The *marks* of a part say for which
--- command each of its requests is, in order.
+-- A run of a station and what happens on its line, joined: each part of the run, from one synchronization to the next, goes
+-- with a stretch of the line, and each answer that is recorded was made in one of the stretches. The *marks* of a part say for
+-- which command each of its requests is, in order.
 use Rattle.std.proofs.Common.{◌≡◌, inl, inr, ℕ, zero, suc, ◌<◌, ◌+◌, ◌≤◌, Bool, true, false, List, [], ◌∷◌, ◌++◌, map, length, Option, Some, refl, sym, ◌∙◌, ap, subst, arith, append_assoc, append-nil, drop}
 use Rattle.std.specs.Prelude.{slice_get}
 use Rattle.std.specs.List.{AllByRecursion}
@@ -19,12 +19,12 @@ use Rattle.gc_station.specs.declared.plan.Plan.{Plan}
 use Rattle.gc_station.specs.Behind.{IsNearTheTable}
 use Rattle.gc_links.specs.Acts.{Act}
 use Rattle.gc_station.specs.Answers.{answer_of}
-use Rattle.gc_station.specs.Beginnings.{left_behind}
+use Rattle.gc_station.specs.Beginnings.{unanswered_after}
 use Rattle.gc_station.specs.Begun.{AreBegun, heard_in}
 use Rattle.gc_station.specs.Marks.{record_of, records_of}
 use Rattle.gc_station.specs.Parts.{Part, joined, AreOf, parts_of, went_out, sent_with, sent_of, timeless}
 use Rattle.gc_station.specs.Records.{Record}
-use Rattle.gc_station.specs.Runs.{stood}
+use Rattle.gc_station.specs.Runs.{state_after}
 use Rattle.gc_station.specs.Model.{Model, opening}
 use Rattle.gc_station.proofs.Asked.{parts_begun}
 use Rattle.gc_station.proofs.GoesBehind.{behind_the_table}
@@ -56,19 +56,20 @@ use Rattle.gc_field.proofs.Meant.{are_meant}
 use Rattle.gc_field.proofs.Safe.{goes_out}
 use Rattle.gc_field.proofs.Shown.{left_is}
 use Rattle.gc_field.proofs.Unbegun.{faithful_none}
-use Rattle.gc_field.proofs.Among.{among_settled, true_is_not, among_late, asked_at, all_append, get_drop, map_drop}
+use Rattle.gc_field.proofs.Among.{among_settled, among_late, asked_at, all_append, get_drop, map_drop}
+use Rattle.gc_field.proofs.Once.{true_is_not}
 
 module _ {State : Type 0} (ends : Ends State) (Good : State → Type 0) (kept : State → Option KeptReply) (is : IsAnInstrument ends Good kept) where
   -- One part.
 
-  -- what a run comes to, by the ids that are left of its word: if it has begun, it has begun cleanly; and its stretch is sound
-  -- and faithful
+  -- what a run comes to, by the ids that are left of its word: if it has synchronized, it has synchronized cleanly; and its
+  -- stretch is sound and faithful
   record One (u : UnderWay State) (r : Run State) (left : List ℕ) : Type 0 where
     own : IsOwnIf 7 ends Good kept left (stood_by 7 ends u r) r.moves
     sound : Sound ends Good kept is (record { from = leaves (turned ends r.turns (begins u)); moves = r.moves })
     faithful : IsFaithful 7 ends (leaves (turned ends r.turns (begins u))) r.moves Good kept
 
-  -- a run that has begun over lines without the word in their ids has begun cleanly
+  -- a run that has synchronized over lines without the word in their ids has synchronized cleanly
   begun_clean : (u : UnderWay State) (r : Run State) → AreLines Good u → (IsSubsequence the_word (ids_under_way u) → ⊥)
       → AreTurns ends Good kept r.turns (begins u) → (stood_by 7 ends u r).left ≡ [] → IsClean Good kept (leaves (stood_by 7 ends u r))
   begun_clean u r lines none turns e =
@@ -91,7 +92,7 @@ module _ {State : Type 0} (ends : Ends State) (Good : State → Type 0) (kept : 
         faithful = subst (λ ms. IsFaithful 7 ends from ms Good kept) (sym p) (faithful_none ends Good kept from);
       }
 
-  -- a run that has begun leaves lines without the word in their ids
+  -- a run that has synchronized leaves lines without the word in their ids
   leaves_next : (u : UnderWay State) (r : Run State) → AreLines Good u → (IsSubsequence the_word (ids_under_way u) → ⊥)
       → AreTurns ends Good kept r.turns (begins u) → ArePossibleIf 7 ends Good kept (stood_by 7 ends u r).left (stood_by 7 ends u r) r.moves
       → (stood_by 7 ends u r).left ≡ [] → AreLines Good (left_by_run 7 ends u r) × (IsSubsequence the_word (ids_under_way (left_by_run 7 ends u r)) → ⊥)
@@ -120,8 +121,8 @@ module _ {State : Type 0} (ends : Ends State) (Good : State → Type 0) (kept : 
   AllFit _ _ = ⊥
 
   -- the ids that are left of a run's word are those that its part leaves
-  left_so : (u : UnderWay State) (r : Run State) (p : Part) → shown ends r.turns (begins u) ≡ p.turns → (stood_by 7 ends u r).left ≡ left_behind the_word (heard_in p.turns)
-  left_so u r p e = left_is ends r.turns (begins u) ∙ ap (λ l. left_behind the_word (heard_in l)) e
+  left_so : (u : UnderWay State) (r : Run State) (p : Part) → shown ends r.turns (begins u) ≡ p.turns → (stood_by 7 ends u r).left ≡ unanswered_after the_word (heard_in p.turns)
+  left_so u r p e = left_is ends r.turns (begins u) ∙ ap (λ l. unanswered_after the_word (heard_in l)) e
 
   -- the parts of a run in the field fit the stretches
   pub all_fit : (ps : List Part) (rs : List (Run State)) (u : UnderWay State) → AreLines Good u → (IsSubsequence the_word (ids_under_way u) → ⊥)
@@ -143,13 +144,13 @@ module _ {State : Type 0} (ends : Ends State) (Good : State → Type 0) (kept : 
   abbrev pub IsSafePart : Part → Stretch State → Type 0
   IsSafePart p s = (n : ℕ) (mark : _) → slice_get p.marks n ≡ Some (Some mark) → IsSafe 7 ends s.from Good kept s.moves (8 + n)
 
-  -- so it is in each part with its stretch
+  -- `IsSafePart` holds of each part with its stretch
   abbrev pub AllSafe : List Part → List (Stretch State) → Type 0
   AllSafe [] [] = Unit {0}
   AllSafe (p ∷ ps) (s ∷ ss) = IsSafePart p s × AllSafe ps ss
   AllSafe _ _ = ⊥
 
-  -- so it is at each place
+  -- if all parts are safe, so is the one at each place
   pub safe_at : (ps : List Part) (ss : List (Stretch State)) (i : ℕ) (p : Part) (s : Stretch State) → AllSafe ps ss → slice_get ps i ≡ Some p → slice_get ss i ≡ Some s → IsSafePart p s
   safe_at [] ss i p s h e f = absurd (none_is_not p e)
   safe_at (q ∷ ps) [] i p s h e f = absurd h
@@ -177,7 +178,7 @@ module _ {State : Type 0} (ends : Ends State) (Good : State → Type 0) (kept : 
       ap (sent_by fresh) (sym f.steps) ∙ sym (course_sent (seen s.moves) begun) ∙ sym (ap (drop 8) (sent_is ends Good kept is 7 (omega arith) s.from s.moves f.sound.possible))
       ∙ sym (map_drop asked 8 (world ends s).wire.sent)
 
-  -- a part's steps, and a restart after them, settle what its stretch settled, and as lost what waits
+  -- a part's steps, and a restart after them, settle what its stretch settled, and as lost what is outstanding
   fit_ended : (p : Part) (s : Stretch State) → Fits p s → settled_by fresh (p.steps ++ Restart ∷ []) ≡ own_settled ends s ++ map lost (world ends s).client.waiting
   fit_ended p s f =
       let c = client_after fresh p.steps in
@@ -185,13 +186,13 @@ module _ {State : Type 0} (ends : Ends State) (Good : State → Type 0) (kept : 
       ∙ ap (λ l. settled_by fresh p.steps ++ l) (append-nil (map lost c.waiting) ∙ ap (λ (d : ById Asked). map lost d.waiting) (fit_client p s f))
       ∙ ap (λ l. l ++ map lost (world ends s).client.waiting) (fit_settled p s f)
 
-  -- the station's rule holds of a part: wherever a command goes out, it goes out near the table
+  -- the station's rule holds of a part: wherever a command is sent, it is sent near the table
   abbrev IsRuled : Part → Type 0
   IsRuled p =
       (front later : List (Step Asked)) (target : ℕ) (call : Asked) (deadline : ℕ) (mark : _) → p.steps ≡ front ++ Send target call deadline ∷ later
       → slice_get p.marks (length (course 7 begun front).sent) ≡ Some (Some mark) → IsNearTheTable (course 7 begun front)
 
-  -- where the station's rule holds of a part, each request of its stretch that is a command is safe
+  -- if the station's rule holds of a part, each request of its stretch that is a command is safe
   safe_part : (commands : List Task) (p : Part) (s : Stretch State) → IsRuled p → Fits p s → AreOf commands p.marks (map asked (own_sent ends s)) → IsSafePart p s
   safe_part commands p s rule f sent n mark at =
       let a = of_at commands p.marks (map asked (own_sent ends s)) n (Some mark) sent at in
@@ -200,7 +201,7 @@ module _ {State : Type 0} (ends : Ends State) (Good : State → Type 0) (kept : 
       inr (inr (goes_out ends Good kept is s f.sound p.steps f.steps n (omega (arith, size, low))
       (λ front later target call deadline e count. rule front later target call deadline mark e (subst (λ k. slice_get p.marks k ≡ Some (Some mark)) (sym count) at))))
 
-  -- where the station's rule holds of each part, each request of a stretch that is a command is safe
+  -- if the station's rule holds of each part, each request of a stretch that is a command is safe
   all_safe : (commands : List Task) (ps : List Part) (ss : List (Stretch State)) → ((i : ℕ) (p : Part) → slice_get ps i ≡ Some p → IsRuled p) → AllFit ps ss
       → AreSentAs ends commands ps ss → AllSafe ps ss
   all_safe commands [] [] rules fit sent = tt
@@ -243,7 +244,7 @@ module _ {State : Type 0} (ends : Ends State) (Good : State → Type 0) (kept : 
     sent_all (p ∷ q ∷ ps) (s ∷ []) rs end f h = absurd f.1
     sent_all (p ∷ q ∷ ps) (s ∷ t ∷ ss) rs end f h = (of_ended rs h.0 p s f.0 h.1, sent_all (q ∷ ps) (t ∷ ss) h.0 end f.1 h.2)
 
-    -- the records are those that the stretches write down
+    -- the records are those that the stretches record
     pub written_all : (ps : List Part) (ss : List (Stretch State)) (rs : List Record) (end : Model) → AllFit ps ss
         → BooksInParts reads commands fresh [] rs ps end → map timeless (sent_of end.records) ≡ map timeless rs ++ written_over ends reads ps ss
     written_all [] [] rs end f h = absurd h
@@ -258,7 +259,7 @@ module _ {State : Type 0} (ends : Ends State) (Good : State → Type 0) (kept : 
 
   -- Its own.
 
-  -- an answer that is its own in the later stretches is its own in these with one more in front
+  -- an answer that is its own in the later stretches is its own in these with one more before it
   own_later : (commands : List Task) (p : Part) (s : Stretch State) (ps : List Part) (ss : List (Stretch State)) (r : Record) (line : List ℕ)
       → IsItsOwn ends Good kept commands ps ss r line → IsItsOwn ends Good kept commands (p ∷ ps) (s ∷ ss) r line
   own_later commands p s ps ss r line h = record {
@@ -282,7 +283,7 @@ module _ {State : Type 0} (ends : Ends State) (Good : State → Type 0) (kept : 
     made_on = h.made_on;
   }
 
-  -- whether an answer is its own doesn't depend on the moment at which it was written down
+  -- whether an answer is its own doesn't depend on the moment at which it was recorded
   own_timeless : (commands : List Task) (ps : List Part) (ss : List (Stretch State)) (r : Record) (line : List ℕ)
       → IsItsOwn ends Good kept commands ps ss (timeless r) line → IsItsOwn ends Good kept commands ps ss r line
   own_timeless commands ps ss r line h = record {
@@ -306,13 +307,13 @@ module _ {State : Type 0} (ends : Ends State) (Good : State → Type 0) (kept : 
     made_on = h.made_on;
   }
 
-  -- whether answers are their own doesn't depend on the moments at which they were written down
+  -- whether answers are their own doesn't depend on the moments at which they were recorded
   all_timeless : (commands : List Task) (ps : List Part) (ss : List (Stretch State)) (rs : List Record)
       → AllByRecursion (IsOwnAnswer ends Good kept commands ps ss) (map timeless rs) → AllByRecursion (IsOwnAnswer ends Good kept commands ps ss) rs
   all_timeless commands ps ss [] h = tt
   all_timeless commands ps ss (r ∷ rs) h = (λ line answered. own_timeless commands ps ss r line (h.0 line answered), all_timeless commands ps ss rs h.1)
 
-  -- answers that are their own in the later stretches are their own in these with one more in front
+  -- answers that are their own in the later stretches are their own in these with one more before it
   all_later : (commands : List Task) (p : Part) (s : Stretch State) (ps : List Part) (ss : List (Stretch State)) (rs : List Record)
       → AllByRecursion (IsOwnAnswer ends Good kept commands ps ss) rs → AllByRecursion (IsOwnAnswer ends Good kept commands (p ∷ ps) (s ∷ ss)) rs
   all_later commands p s ps ss [] h = tt
@@ -333,7 +334,8 @@ module _ {State : Type 0} (ends : Ends State) (Good : State → Type 0) (kept : 
       let a = of_at commands p.marks (map asked (own_sent ends s)) n (Some mark) sent at in
       let r = asked_at (own_sent ends s) n a.0 a.1 in
       let b = f.faithful.booked (8 + n) x beyond (safe n mark at) there line answered in
-      let right : x.call ≡ call_at a.2.0 mark.sent = (f.faithful.one_for_one.same (8 + n) x r.0 there (get_drop 8 n (world ends s).wire.sent r.0 r.1)).1 ∙ ap (λ (o : Wanted Asked). o.call) (r.2 ∙ a.2.2) in
+      let right : x.call ≡ call_at a.2.0 mark.sent = (f.faithful.one_for_one.same (8 + n) x r.0 there (get_drop 8 n (world ends s).wire.sent r.0 r.1)).1 ∙ ap
+      (λ (o : Wanted Asked). o.call) (r.2 ∙ a.2.2) in
       record {
         k = 0;
         part = p;
@@ -355,7 +357,7 @@ module _ {State : Type 0} (ends : Ends State) (Good : State → Type 0) (kept : 
         made_on = subst (λ call. WasMadeOn 7 ends s.from s.moves (8 + n) call line) right (f.faithful.made_on (8 + n) x line beyond (safe n mark at) there answered);
       })
 
-  -- the answers that the stretches write down are their own
+  -- the answers that the stretches record are their own
   pub own_all : (reads : Asked → List ℕ → Reading) (commands : List Task) (ps : List Part) (ss : List (Stretch State)) → AllFit ps ss → AllSafe ps ss
       → AreSentAs ends commands ps ss → AllByRecursion (IsOwnAnswer ends Good kept commands ps ss) (written_over ends reads ps ss)
   own_all reads commands [] [] f g h = tt
@@ -372,10 +374,10 @@ module _ {State : Type 0} (ends : Ends State) (Good : State → Type 0) (kept : 
 
   -- A command that wasn't sent has no answer.
 
-  -- a record of a command that didn't go out is no answer
+  -- a record of a command that wasn't sent is no answer
   unsent_own : (commands : List Task) (ps : List Part) (ss : List (Stretch State)) (r : Record) → went_out r.end ≡ false → IsOwnAnswer ends Good kept commands ps ss r
   unsent_own commands ps ss r out line answered = absurd (none r.end out answered) where
-    -- the end of a command that didn't go out is no answer
+    -- the end of a command that wasn't sent is no answer
     none : (e : End) → went_out e ≡ false → answer_of e ≡ Some line → ⊥
     none (end.Answered quality said l) out answered = cc
     none (end.Unreadable l fault) out answered = cc
@@ -385,7 +387,7 @@ module _ {State : Type 0} (ends : Ends State) (Good : State → Type 0) (kept : 
     none end.Skipped out answered = cc
     none end.Missed out answered = cc
 
-  -- if the answers of commands that went out are their own, all are
+  -- if the answers of commands that were sent are their own, all are
   all_sent : (commands : List Task) (ps : List Part) (ss : List (Stretch State)) (rs : List Record)
       → AllByRecursion (IsOwnAnswer ends Good kept commands ps ss) (sent_of rs) → AllByRecursion (IsOwnAnswer ends Good kept commands ps ss) rs
   all_sent commands ps ss [] h = tt
@@ -397,7 +399,7 @@ module _ {State : Type 0} (ends : Ends State) (Good : State → Type 0) (kept : 
 
   -- Dealt with, though late.
 
-  -- if the instrument dealt with a late record in the later stretches, it did so in these stretches with one more in front
+  -- if the instrument dealt with a late record in the later stretches, it did so in these stretches with one more before it
   late_later : (commands : List Task) (p : Part) (s : Stretch State) (ps : List Part) (ss : List (Stretch State)) (r : Record)
       → IsDealtWith ends Good kept commands ps ss r → IsDealtWith ends Good kept commands (p ∷ ps) (s ∷ ss) r
   late_later commands p s ps ss r f = λ late.
@@ -418,13 +420,13 @@ module _ {State : Type 0} (ends : Ends State) (Good : State → Type 0) (kept : 
         made_on = h.made_on;
       }
 
-  -- if the instrument dealt with all late records in the later stretches, it did so in these stretches with one more in front
+  -- if the instrument dealt with all late records in the later stretches, it did so in these stretches with one more before it
   late_all_later : (commands : List Task) (p : Part) (s : Stretch State) (ps : List Part) (ss : List (Stretch State)) (rs : List Record)
       → AllByRecursion (IsDealtWith ends Good kept commands ps ss) rs → AllByRecursion (IsDealtWith ends Good kept commands (p ∷ ps) (s ∷ ss)) rs
   late_all_later commands p s ps ss [] h = tt
   late_all_later commands p s ps ss (r ∷ rs) h = (late_later commands p s ps ss r h.0, late_all_later commands p s ps ss rs h.1)
 
-  -- whether the instrument dealt with late records doesn't depend on the moments at which they were written down
+  -- whether the instrument dealt with late records doesn't depend on the moments at which they were recorded
   late_timeless : (commands : List Task) (ps : List Part) (ss : List (Stretch State)) (rs : List Record)
       → AllByRecursion (IsDealtWith ends Good kept commands ps ss) (map timeless rs) → AllByRecursion (IsDealtWith ends Good kept commands ps ss) rs
   late_timeless commands ps ss [] h = tt
@@ -448,7 +450,7 @@ module _ {State : Type 0} (ends : Ends State) (Good : State → Type 0) (kept : 
     late_timeless commands ps ss rs h.1,
   )
 
-  -- the instrument dealt with the late records among those that the first stretch writes down
+  -- the instrument dealt with the late records among those that the first stretch records
   late_first : (reads : Asked → List ℕ → Reading) (commands : List Task) (p : Part) (s : Stretch State) (ps : List Part) (ss : List (Stretch State))
       (waiting : List (Pending Asked)) (xs : List (Settlement Asked)) → xs ≡ own_settled ends s ++ map lost waiting → Fits p s → IsSafePart p s
       → AreOf commands p.marks (map asked (own_sent ends s))
@@ -462,7 +464,8 @@ module _ {State : Type 0} (ends : Ends State) (Good : State → Type 0) (kept : 
       let there = get_drop 8 n (world ends s).wire.settled x here in
       let a = of_at commands p.marks (map asked (own_sent ends s)) n (Some mark) sent at in
       let r = asked_at (own_sent ends s) n a.0 a.1 in
-      let right : x.call ≡ call_at a.2.0 mark.sent = (f.faithful.one_for_one.same (8 + n) x r.0 there (get_drop 8 n (world ends s).wire.sent r.0 r.1)).1 ∙ ap (λ (o : Wanted Asked). o.call) (r.2 ∙ a.2.2) in
+      let right : x.call ≡ call_at a.2.0 mark.sent = (f.faithful.one_for_one.same (8 + n) x r.0 there (get_drop 8 n (world ends s).wire.sent r.0 r.1)).1 ∙ ap
+      (λ (o : Wanted Asked). o.call) (r.2 ∙ a.2.2) in
       let made = f.faithful.late (8 + n) x beyond (safe n mark at) there late in
       record {
         k = 0;
@@ -479,7 +482,7 @@ module _ {State : Type 0} (ends : Ends State) (Good : State → Type 0) (kept : 
         made_on = subst (λ call. WasMadeOn 7 ends s.from s.moves (8 + n) call made.0) right made.1;
       })
 
-  -- the instrument dealt with all late records that the stretches write down
+  -- the instrument dealt with all late records that the stretches record
   pub late_all : (reads : Asked → List ℕ → Reading) (commands : List Task) (ps : List Part) (ss : List (Stretch State)) → AllFit ps ss → AllSafe ps ss
       → AreSentAs ends commands ps ss → AllByRecursion (IsDealtWith ends Good kept commands ps ss) (written_over ends reads ps ss)
   late_all reads commands [] [] f g h = tt
@@ -494,7 +497,7 @@ module _ {State : Type 0} (ends : Ends State) (Good : State → Type 0) (kept : 
       (late_first reads commands p s (q ∷ ps) (t ∷ ss) (world ends s).client.waiting xs refl f.0 g.0 h.0)
       (late_all_later commands p s (q ∷ ps) (t ∷ ss) (written_over ends reads (q ∷ ps) (t ∷ ss)) (late_all reads commands (q ∷ ps) (t ∷ ss) f.1 g.1 h.1))
 
-  -- if the instrument dealt with all late records of commands that went out, it dealt with all late records: no other command
+  -- if the instrument dealt with all late records of commands that were sent, it dealt with all late records: no other command
   -- is late
   late_sent : (commands : List Task) (ps : List Part) (ss : List (Stretch State)) (rs : List Record)
       → AllByRecursion (IsDealtWith ends Good kept commands ps ss) (sent_of rs) → AllByRecursion (IsDealtWith ends Good kept commands ps ss) rs
@@ -523,7 +526,7 @@ module _ {State : Type 0} (ends : Ends State) (Good : State → Type 0) (kept : 
       let fit = all_fitting plan commands scope acts u rs h in
       let on = follows plan commands scope.reads start acts refl (fine_opening plan commands scope) h.runs in
       all_safe commands ps ss (λ i p e front later target call deadline mark. behind_the_table plan commands scope acts h.runs i p e front later target call deadline mark) fit.0
-      (sent_all scope.reads commands ps ss [] (stood plan commands scope acts) fit.0 on)
+      (sent_all scope.reads commands ps ss [] (state_after plan commands scope acts) fit.0 on)
 
   -- a run in the field is faithful
   pub run_faithful : (plan : Plan) (commands : List Task) (scope : Scope) (acts : List Act) (u : UnderWay State) (rs : List (Run State))
@@ -532,7 +535,7 @@ module _ {State : Type 0} (ends : Ends State) (Good : State → Type 0) (kept : 
       let start = opening plan scope in
       let ps = parts_of plan commands start acts in
       let ss = stretches ends u rs in
-      let end = stood plan commands scope acts in
+      let end = state_after plan commands scope acts in
       let fine = fine_opening plan commands scope in
       let fit = all_fitting plan commands scope acts u rs h in
       let on = follows plan commands scope.reads start acts refl fine h.runs in

@@ -35,12 +35,12 @@ parts_are : parts_of plan commands (opening plan scope) acts ≡ one_part (asked
 unfolding is_elsewhere header_at reply_at digits
 parts_are = refl
 
--- what the line does while the station begins shows these turns
+-- what the line does while the station synchronizes shows these turns
 shown_are : shown ends eight (begins before) ≡ asked_each replies
 unfolding is_elsewhere header_at reply_at handed exec digits
 shown_are = refl
 
--- this run is in the field, and writes down a late record and an answer
+-- this run is in the field, and records a late record and an answer
 pub come_late : IsLateInField
 unfolding is_elsewhere header_at reply_at handed exec digits
 come_late =

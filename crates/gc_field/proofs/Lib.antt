@@ -2,6 +2,7 @@ pub mod Fronts
 pub mod Joined
 pub mod Answered
 pub mod Once
+pub mod KeptReplies
 pub mod Vouched
 pub mod Instruments
 pub mod Possible
@@ -35,6 +36,7 @@ pub mod InARow
 pub mod Witness
 pub mod Between
 pub mod Ordered
+pub mod PartFronts
 pub mod Chained
 pub mod Pointed
 pub mod ChainWitness

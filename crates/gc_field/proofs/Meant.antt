@@ -1,4 +1,5 @@
--- Each act of a run means what its part says: turns while the station begins, steps of the client once it has begun.
+-- Each act of a run means what its part says: turns while the station synchronizes, steps of the client once it has
+-- synchronized.
 use Rattle.std.proofs.Common.{◌≡◌, ◌⊎◌, inl, inr, ℕ, Bool, true, false, if◌then◌else◌, List, [], ◌∷◌, map, refl, sym, ◌∙◌, ap, subst}
 use Rattle.gc_catalogue.specs.declared.asked.Asked.{Asked}
 use Rattle.gc_client.specs.Rule.{ById}
@@ -9,7 +10,7 @@ use Rattle.gc_station.specs.declared.plan.Plan.{Plan}
 use Rattle.gc_links.specs.Acts.{Act, Told, Untold, Put, Cut, Gave, Silent, Ended, Broke, Closed, Opened, Unopened}
 use Rattle.gc_station.specs.Deciding.{has_begun}
 use Rattle.gc_station.specs.Parts.{Part, Asks, Hears, beginning, doing, hearing, nothing, only_turns, putting}
-use Rattle.gc_station.specs.Model.{Model, action_at, is_heard, lines_behind, null_text, Performs, after, Runs}
+use Rattle.gc_station.specs.Model.{Model, action_at, is_heard, lines_completed, null_text, Performs, after, Runs}
 use Rattle.gc_station.proofs.Asked.{none_doing, steps_none, turns_gave, turns_plain, word_after}
 use Rattle.gc_station.proofs.Booking.{sending_of, sends_with_room}
 use Rattle.gc_station.proofs.EachRun.{fine_after}
@@ -20,7 +21,7 @@ use Rattle.gc_field.specs.Asking.{IsAskedFor, IsTaken, MeansTurns}
 use Rattle.gc_field.specs.Meaning.{IsPut, Means}
 use Rattle.gc_field.specs.Runs.{AreMeant, IsMeant}
 
--- where bytes that go out mean the part p to the station, they mean the part's steps to its client
+-- where bytes that are sent mean the part p to the station, they mean the part's steps to its client
 put_means : (s : Model) (bytes : List ℕ) (p : Part) → meant.IsPut s bytes p → IsPut s.client bytes p.steps
 put_means s bytes p (inl e) = inl (e.0, ap (λ (x : Part). x.steps) e.1)
 put_means s bytes p (inr x) =
@@ -34,27 +35,27 @@ put_means s bytes p (inr x) =
       step = ap (λ (y : Part). y.steps) x.part;
     })
 
--- what a piece of bytes that came means to the client: the moment, and its lines where it is heard (`h`); the moment alone
--- where it is dropped. `rest` and `behind` are the bytes since the last line feed, before the piece and after it
+-- what a piece of bytes that came means to the client: the moment, and its lines if it is heard (`h`); the moment alone if it
+-- is discarded. `rest` and `behind` are the bytes since the last line feed, before the piece and after it
 gave_means : (client : ById Asked) (h : Bool) (rest behind piece : List ℕ) (m : Moment) → behind ≡ left_of h rest (Gave piece m)
     → Means client rest (Gave piece m) (Expire m.elapsed ∷ hearing h rest piece) behind
 gave_means client true rest behind piece m e = inl (record { lines = refl; rest = e })
 gave_means client false rest behind piece m e = inr (record { lines = refl; rest = e })
 
--- what a piece of bytes that came means while a station begins: its lines where it is heard (`h`); nothing where it is dropped.
--- `rest` and `behind` are as in `gave_means`
-taken : (h : Bool) (rest behind piece : List ℕ) (m : Moment) → behind ≡ left_of h rest (Gave piece m) → IsTaken rest piece (if h then map Hears (lines_behind rest piece) else []) behind
+-- what a piece of bytes that came means while a station synchronizes: its lines if it is heard (`h`); nothing if it is
+-- discarded. `rest` and `behind` are as in `gave_means`
+taken : (h : Bool) (rest behind piece : List ℕ) (m : Moment) → behind ≡ left_of h rest (Gave piece m) → IsTaken rest piece (if h then map Hears (lines_completed rest piece) else []) behind
 taken true rest behind piece m e = inl (refl, e)
 taken false rest behind piece m e = inr (refl, e)
 
--- bytes that go out while a station begins mean a turn, or nothing where they are a line feed
+-- bytes that are sent while a station synchronizes mean a turn, or nothing if they are a line feed
 asked_for : (s : Model) (bytes : List ℕ) (p : Part) → ((bytes ≡ 10 ∷ []) × (p ≡ nothing))
     ⊎ ((bytes ≡ null_text s.progress.word) × (p ≡ only_turns (Asks ∷ []))) → IsAskedFor s.progress.word bytes p.turns
 asked_for s bytes p (inl e) = inl (e.0, ap (λ (x : Part). x.turns) e.1)
 asked_for s bytes p (inr e) = inr (e.0, ap (λ (x : Part). x.turns) e.1)
 
 module _ (plan : Plan) (commands : List Task) where
-  -- once a station has begun, an act means the steps of its part
+  -- once a station has synchronized, an act means the steps of its part
   act_means : (s : Model) (act : Act) → Invariant plan commands s → has_begun s.progress ≡ true → Performs commands s (action_at plan s) act
       → Means s.client s.rest act (doing plan commands s (action_at plan s) act).steps (after plan commands s act).rest
   act_means s (Gave piece m) fine begun obeys = gave_means s.client (is_heard s.progress.phase) s.rest (after plan commands s (Gave piece m)).rest piece m
@@ -119,7 +120,7 @@ module _ (plan : Plan) (commands : List Task) where
     plain true = refl
     plain false = refl
 
-  -- while a station begins, an act means the turns of its part
+  -- while a station synchronizes, an act means the turns of its part
   turns_mean : (s : Model) (act : Act) → has_begun s.progress ≡ false → Performs commands s (action_at plan s) act
       → MeansTurns s.progress.word s.rest act (beginning s (action_at plan s) act).turns (after plan commands s act).rest
   turns_mean s (Gave piece m) begins obeys =
@@ -185,7 +186,7 @@ module _ (plan : Plan) (commands : List Task) where
     plain true = refl
     plain false = refl
 
-  -- an act means its part, whether the station has begun (`b`) or not
+  -- an act means its part, whether the station has synchronized (`b`) or not
   is_meant : (s : Model) (act : Act) (b : Bool) → has_begun s.progress ≡ b → Invariant plan commands s → Performs commands s (action_at plan s) act
       → IsMeant b s act (if b then doing plan commands s (action_at plan s) act else beginning s (action_at plan s) act) (after plan commands s act)
   is_meant s act true e fine obeys = (none_doing plan commands s (action_at plan s) act, act_means s act fine e obeys)

@@ -24,7 +24,8 @@ use Rattle.gc_field.specs.Instrument.{IsAnInstrumentFor, KeepsItsOwn, KeepsItsRe
 use Rattle.gc_field.proofs.Answered.{AllSo, IsSo, all_so_get}
 use Rattle.gc_field.specs.Once.{ActsOnce, IsInOrder}
 use Rattle.gc_field.proofs.Once.{IsUnknown, acts_once, once_few, climbing_first, order_few, ordered_first, true_is_not}
-use Rattle.gc_field.proofs.Vouched.{IsVouched, Vouched, kept_one, True, IsOn, true_requested, true_down, true_line, true_started, true_changed}
+use Rattle.gc_field.proofs.KeptReplies.{IsVouched, kept_one, IsOn}
+use Rattle.gc_field.proofs.Vouched.{Vouched, AllVouched, true_requested, true_down, true_line, true_started, true_changed}
 
 module _ {State : Type 0} (width : ℕ) (narrow : width ≤ 7) (ends : Ends State) (Good : State → Type 0) (ex : IsExchange ends Good) (kept : State → Option KeptReply) where
   -- the world of ids and the world of numbers agree, and the latter is sound: its line keeps order, with ids that belong to its
@@ -33,7 +34,7 @@ module _ {State : Type 0} (width : ℕ) (narrow : width ≤ 7) (ends : Ends Stat
     pub agree : Agree width narrow ends Good a b
     pub sound : Sound width ends Good b
 
-  -- a start of the instrument keeps `Sound`
+  -- a start of the instrument preserves `Sound`
   pub sound_anew : (b : World (ByNumber Asked) State) → Sound width ends Good b → Sound width ends Good (on_wire b (started ends b.wire true))
   sound_anew b h =
       record {
@@ -48,15 +49,15 @@ module _ {State : Type 0} (width : ℕ) (narrow : width ≤ 7) (ends : Ends Stat
         coming = h.coming;
       }
 
-  -- a step keeps `Both`
+  -- a step preserves `Both`
   both_step : (a : World (ById Asked) State) (b : World (ByNumber Asked) State) (step : Step) → Both a b → Both (happens ends (by_ids width ends) a step) (happens ends (by_numbers width) b step)
   both_step a b step h = record { agree = agrees width narrow ends Good written a b step h.sound h.agree; sound = sound_step width ends Good written ex b step h.sound }
 
-  -- a change of the instrument's state to a good one keeps `Sound`
+  -- a change of the instrument's state to a good one preserves `Sound`
   pub sound_changed : (b : World (ByNumber Asked) State) (state : State) → Good state → Sound width ends Good b → Sound width ends Good (on_wire b (record b.wire { state = state }))
   sound_changed b state good h = record { good = good; counted = h.counted; booked = h.booked; begun = h.begun; within = h.within; few = h.few; order = h.order; going = h.going; coming = h.coming }
 
-  -- a possible move keeps `Both`
+  -- a possible move preserves `Both`
   pub both_move : (a : World (ById Asked) State) (b : World (ByNumber Asked) State) (m : Move State) → IsPossible Good kept a m → Both a b
       → Both (moves ends (by_ids width ends) a m) (moves ends (by_numbers width) b m)
   both_move a b (Sends target call deadline) p h = both_step a b (Send target call deadline) h
@@ -70,7 +71,7 @@ module _ {State : Type 0} (width : ℕ) (narrow : width ≤ 7) (ends : Ends Stat
       record { agree = record { wire = ap (λ (w : Wire State). record w { state = state }) h.agree.wire; client = h.agree.client }; sound = sound_changed b state p.0 h.sound }
   both_move a b (Joins line) p h = absurd p
 
-  -- possible moves keep `Both`
+  -- possible moves preserve `Both`
   pub both_all : (ms : List (Move State)) (a : World (ById Asked) State) (b : World (ByNumber Asked) State) → ArePossible ends Good kept (by_ids width ends) ms a → Both a b
       → Both (moved ends (by_ids width ends) ms a) (moved ends (by_numbers width) ms b)
   both_all [] a b p h = h
@@ -107,8 +108,8 @@ pub record IsOwn {State : Type 0} (ends : Ends State) (Good : State → Type 0) 
   pub answered : (line : List ℕ) → s.outcome ≡ Answered line → IsVouched ends Good M w.sent w.executed w.made m line
   pub late : s.outcome ≡ Late → (line : List ℕ) × IsVouched ends Good M w.sent w.executed w.made m line
 
--- each settlement that isn't excepted (`E`) is its own, and between two starts each request is executed at most once to which the instrument keeps
--- its reply
+-- each settlement that isn't excepted (`E`) is its own, and between two starts each request is executed at most once to which
+-- the instrument retains its reply
 pub record IsVouchedFor {State : Type 0} (ends : Ends State) (Good : State → Type 0) (kept : State → Option KeptReply) (E : ℕ → Type 0) (M : ℕ → Asked → List ℕ → Type 0)
     (w : Wire State) : Type 0 where
   pub own : (m : ℕ) (s : Settlement Asked) → (E m → ⊥) → slice_get w.settled m ≡ Some s → IsOwn ends Good M w m s
@@ -126,16 +127,16 @@ module _ {State : Type 0} (width : ℕ) (ends : Ends State) (M : ℕ → Asked �
   are_on_behind : (m : Move State) (ms : List (Move State)) (b : World (ByNumber Asked) State) → AreOn (m ∷ ms) b → AreOn ms (moves ends (by_numbers width) b m)
   are_on_behind m ms b on = λ front later e. on (m ∷ front) later (ap (λ l. m ∷ l) e)
 
-  -- `AreOn` of moves gives `AreOn` of the later ones, in the world that those in front leave
+  -- `AreOn` of moves gives `AreOn` of the later ones, in the world that those before it leave
   pub are_on_later : (front later : List (Move State)) (b : World (ByNumber Asked) State) → AreOn (front ++ later) b → AreOn later (moved ends (by_numbers width) front b)
   are_on_later [] later b on = on
   are_on_later (m ∷ front) later b on = are_on_later front later (moves ends (by_numbers width) b m) (are_on_behind m (front ++ later) b on)
 
 module _ {State : Type 0} (width : ℕ) (narrow : width ≤ 7) (knows : Asked → Bool) (ends : Ends State) (Good : State → Type 0) (ex : IsExchange ends Good)
     (kept : State → Option KeptReply) (keeper : IsAnInstrumentFor ends Good kept knows) (low : ℕ) (E : ℕ → Type 0) (Plain : Type 0) (M : ℕ → Asked → List ℕ → Type 0) where
-  -- the invariant `True` of `Vouched`, for these parameters: each reply under way and each answer was made for its own request
+  -- the invariant `AllVouched` of `Vouched`, for these parameters: each reply in flight and each answer was made for its own request
   abbrev pub Trusted : World (ByNumber Asked) State → Type 0
-  Trusted w = True width narrow knows ends Good kept keeper low E Plain M w
+  Trusted w = AllVouched width narrow knows ends Good kept keeper low E Plain M w
 
   -- the line is vouched for as a reply to request n, or request n is one of those that are excepted
   abbrev Vouches : (w : World (ByNumber Asked) State) → Trusted w → ℕ → List ℕ → Type 0
@@ -180,7 +181,7 @@ module _ {State : Type 0} (width : ℕ) (narrow : width ≤ 7) (knows : Asked �
   asks_behind (Changes state) ms h = h
   asks_behind (Joins line) ms h = h
 
-  -- `Trusted` lasts over a possible move, where its execution, if it is one, is `AreOn`
+  -- `Trusted` is preserved by a possible move, where its execution, if it is one, is `AreOn`
   trusted_move : (m : Move State) (ms : List (Move State)) (a : World (ById Asked) State) (b : World (ByNumber Asked) State) → Both width narrow ends Good ex kept a b → IsPossible Good kept a m
       → (Plain → AsksOnly knows (m ∷ ms)) → AreOn width ends M (m ∷ ms) b → Sound width ends Good b → Trusted b → Trusted (moves ends (by_numbers width) b m)
   trusted_move (Sends target call deadline) ms a b both p asks on s t =
@@ -206,7 +207,7 @@ module _ {State : Type 0} (width : ℕ) (narrow : width ≤ 7) (knows : Asked �
 
 module _ {State : Type 0} (width : ℕ) (narrow : width ≤ 7) (knows : Asked → Bool) (ends : Ends State) (Good : State → Type 0) (ex : IsExchange ends Good)
     (kept : State → Option KeptReply) (keeper : IsAnInstrumentFor ends Good kept knows) (E : ℕ → Type 0) (first : E 0) (M : ℕ → Asked → List ℕ → Type 0) where
-  -- `Trusted`, where all requests are known
+  -- `Trusted`, if all requests are known
   abbrev Trusts : World (ByNumber Asked) State → Type 0
   Trusts w = Trusted width narrow knows ends Good ex kept keeper 1 E (Unit {0}) M w
 
@@ -233,7 +234,7 @@ module _ {State : Type 0} (width : ℕ) (narrow : width ≤ 7) (knows : Asked �
   each_all P f [] = tt
   each_all P f (x ∷ xs) = (f x, each_all P f xs)
 
-  -- the first request reaches it: from then on what is kept has the id of the last request that it was handed
+  -- the first request reaches it: from then on what is retained has the id of the last request that it was handed
   module _ (b : World (ByNumber Asked) State) (out : Bool) (s : Sound width ends Good b) (f : IsFresh b out) where
     -- once the first request reached the instrument, the world is `Trusted`
     fresh_reached : (x : Numbered Request) (rest : List (Numbered Request)) → b.wire.up ≡ x ∷ rest → Trusts (on_wire b (replied b.wire x.number rest (ends.handed b.wire.state x.line.id x.line.call)))
@@ -277,7 +278,7 @@ module _ {State : Type 0} (width : ℕ) (narrow : width ≤ 7) (knows : Asked �
         below_two true l = l
         below_two false l = omega (arith, l)
 
-        -- after a request that is known its reply is kept, or nothing
+        -- after a request that is known its reply is retained, or nothing
         own_kept : knows x.line.call ≡ true
             → KeepsItsOwn ends Good kept b.wire.state x.line.id x.line.call
             ⊎ ((knows x.line.call ≡ false) × (kept (ends.handed b.wire.state x.line.id x.line.call).state ≡ kept b.wire.state))
@@ -285,7 +286,7 @@ module _ {State : Type 0} (width : ℕ) (narrow : width ≤ 7) (knows : Asked �
         own_kept known (inl own) = own
         own_kept known (inr third) = absurd (true_is_not (sym known ∙ third.0))
 
-        -- the first request is kept, where the instrument keeps its reply to it
+        -- the first request is kept, if the instrument retains its reply to it
         held : (keeps : Asked → Bool) → KeepsItsReply ends Good kept keeps → (t : Bool) → keeps x.line.call ≡ t → IsOf written b.wire.sent x → x.line.id ≡ (0 - b.client.since) % 8
             → IsUnknown keeps b.wire.sent x.number
             ⊎ ((kept (ends.handed b.wire.state x.line.id x.line.call).state ≡ Some (record { id = x.line.id; line = (ends.handed b.wire.state x.line.id x.line.call).reply }))
@@ -293,17 +294,17 @@ module _ {State : Type 0} (width : ℕ) (narrow : width ≤ 7) (knows : Asked �
         held keeps k true e o id = inr (k.always b.wire.state x.line.id x.line.call s.good o.small e, id)
         held keeps k false e o id = inl (o.request, o.found, ap keeps o.call ∙ e)
 
-    -- where the front request reaches the instrument, a fresh world becomes `Trusted`; where there is no request, it stays fresh
+    -- if the front request reaches the instrument, a fresh world becomes `Trusted`; if there is no request, it stays fresh
     fresh_up : (q : List (Numbered Request)) → b.wire.up ≡ q → (IsFresh (on_wire b (up_delivered ends b.wire q)) out) ⊎ Trusts (on_wire b (up_delivered ends b.wire q))
     fresh_up [] q = inl (record { since = f.since; count = f.count; down = f.down; executed = f.executed; settled = f.settled; sent = f.sent; lines = f.lines; known = f.known })
     fresh_up (x ∷ rest) q = inr (fresh_reached x rest q)
 
-    -- a fresh world stays fresh where a request under way is lost or repeated
+    -- a fresh world stays fresh if a request in flight is lost or repeated
     fresh_with_up : (up : List (Numbered Request)) (t : Bool) → Each (IsOf written b.wire.sent) up → IsFresh (on_wire b (with_up b.wire up t)) out
     fresh_with_up up true l = record { since = f.since; count = f.count; down = f.down; executed = f.executed; settled = f.settled; sent = f.sent; lines = l; known = f.known }
     fresh_with_up up false l = record { since = f.since; count = f.count; down = f.down; executed = f.executed; settled = f.settled; sent = f.sent; lines = f.lines; known = f.known }
 
-    -- a fresh world stays fresh over a loss or a repeat of a reply: none is under way
+    -- a fresh world stays fresh over a loss or a repeat of a reply: none is in flight
     fresh_with_down : (down : List (Numbered (List ℕ))) (t : Bool) → down ≡ [] → IsFresh (on_wire b (with_down b.wire down t)) out
     fresh_with_down down true l = record { since = f.since; count = f.count; down = l; executed = f.executed; settled = f.settled; sent = f.sent; lines = f.lines; known = f.known }
     fresh_with_down down false l = record { since = f.since; count = f.count; down = f.down; executed = f.executed; settled = f.settled; sent = f.sent; lines = f.lines; known = f.known }
@@ -322,7 +323,7 @@ module _ {State : Type 0} (width : ℕ) (narrow : width ≤ 7) (knows : Asked �
     fresh_line Restart_instrument p = absurd p
     fresh_line Nothing p = inl (record { since = f.since; count = f.count; down = f.down; executed = f.executed; settled = f.settled; sent = f.sent; lines = f.lines; known = f.known })
 
-  -- a fresh world stays fresh where the first request goes out, or is refused
+  -- a fresh world stays fresh if the first request is sent, or is refused
   fresh_sent : (b : World (ByNumber Asked) State) (target : ℕ) (call : Asked) (deadline : ℕ) (full : Bool) → knows call ≡ true → IsFresh b false
       → IsFresh (requested b target call (number_send b.client target call deadline full)) true
   fresh_sent b target call deadline true is f =
@@ -344,14 +345,14 @@ module _ {State : Type 0} (width : ℕ) (narrow : width ≤ 7) (knows : Asked �
         known = each_append (λ (r : Sent). knows r.call ≡ true) b.wire.sent (r ∷ []) f.known (is, tt);
       }
 
-  -- in a fresh world no reply is under way
+  -- in a fresh world no reply is in flight
   nothing_down : (a : World (ById Asked) State) (b : World (ByNumber Asked) State) (out : Bool) (x : Numbered (List ℕ)) (rest : List (Numbered (List ℕ))) → Both width narrow ends Good ex kept a b
       → IsFresh b out → a.wire.down ≡ x ∷ rest → ⊥
   nothing_down a b out x rest h f e =
       let none : [] ≡ x ∷ rest = sym f.down ∙ sym (ap (λ (w : Wire State). w.down) h.agree.wire) ∙ e in
       cc
 
-  -- after possible moves whose first request goes out alone the answers are vouched for, whatever the instrument kept before
+  -- after possible moves whose first request is sent alone the answers are vouched for, whatever the instrument kept before
   pub early_all : (ms : List (Move State)) (out : Bool) (a : World (ById Asked) State) (b : World (ByNumber Asked) State) → Both width narrow ends Good ex kept a b
       → ArePossible ends Good kept (by_ids width ends) ms a → AsksOnly knows ms → IsFirstAlone out ms → AreOn width ends M ms b → IsFresh b out
       → IsVouchedFor ends Good kept E M (moved ends (by_numbers width) ms b).wire
@@ -371,13 +372,13 @@ module _ {State : Type 0} (width : ℕ) (narrow : width ≤ 7) (knows : Asked �
       early_all ms out _ _ (both_move width narrow ends Good ex kept a b (Tells now) p.0 h) p.1 k (alone_tells out l) (are_on_behind width ends M (Tells now) ms b on)
       (record { since = f.since; count = f.count; down = f.down; executed = f.executed; settled = f.settled; sent = f.sent; lines = f.lines; known = f.known })
     where
-      -- a moment that is told changes nothing in whether the first request goes out alone
+      -- a moment that is read changes nothing in whether the first request is sent alone
       alone_tells : (out : Bool) → IsFirstAlone out (Tells now ∷ ms) → IsFirstAlone out ms
       alone_tells true l = l
       alone_tells false l = l
   early_all (Comes line ∷ ms) out a b h p k l on f = absurd (nothing_down a b out _ p.0.1 h f p.0.2)
   early_all (Foreign line ∷ ms) out a b h p k l on f = early_all ms out a b h p.1 k (alone_foreign out l) (are_on_behind width ends M (Foreign line) ms b on) f where
-    -- a line without an id changes nothing in whether the first request goes out alone
+    -- a line without an id changes nothing in whether the first request is sent alone
     alone_foreign : (out : Bool) → IsFirstAlone out (Foreign line ∷ ms) → IsFirstAlone out ms
     alone_foreign true l = l
     alone_foreign false l = l
@@ -389,7 +390,7 @@ module _ {State : Type 0} (width : ℕ) (narrow : width ≤ 7) (knows : Asked �
             (whole_all width narrow knows ends Good ex kept keeper 1 E (Unit {0}) M ms _ _ both p.1 (λ plain. k) (are_on_behind width ends M (OnLine step) ms b on) t))
       ]
     where
-      -- a step of the line changes nothing in whether the first request goes out alone
+      -- a step of the line changes nothing in whether the first request is sent alone
       alone_line : (out : Bool) → IsFirstAlone out (OnLine step ∷ ms) → IsFirstAlone out ms
       alone_line true l = l
       alone_line false l = l
@@ -397,7 +398,7 @@ module _ {State : Type 0} (width : ℕ) (narrow : width ≤ 7) (knows : Asked �
       early_all ms out _ _ (both_move width narrow ends Good ex kept a b Anew p.0 h) p.1 k (alone_anew out l) (are_on_behind width ends M Anew ms b on)
       (record { since = f.since; count = f.count; down = f.down; executed = f.executed; settled = f.settled; sent = f.sent; lines = f.lines; known = f.known })
     where
-      -- a start of the instrument changes nothing in whether the first request goes out alone
+      -- a start of the instrument changes nothing in whether the first request is sent alone
       alone_anew : (out : Bool) → IsFirstAlone out (Anew ∷ ms) → IsFirstAlone out ms
       alone_anew true l = l
       alone_anew false l = l
@@ -405,13 +406,13 @@ module _ {State : Type 0} (width : ℕ) (narrow : width ≤ 7) (knows : Asked �
       early_all ms out _ _ (both_move width narrow ends Good ex kept a b (Changes state) p.0 h) p.1 k (alone_changes out l) (are_on_behind width ends M (Changes state) ms b on)
       (record { since = f.since; count = f.count; down = f.down; executed = f.executed; settled = f.settled; sent = f.sent; lines = f.lines; known = f.known })
     where
-      -- a change of the instrument's state changes nothing in whether the first request goes out alone
+      -- a change of the instrument's state changes nothing in whether the first request is sent alone
       alone_changes : (out : Bool) → IsFirstAlone out (Changes state ∷ ms) → IsFirstAlone out ms
       alone_changes true l = l
       alone_changes false l = l
   early_all (Joins line ∷ ms) out a b h p k l on f = absurd p.0
 
-  -- moves whose first request goes out alone leave the wire vouched for, from an open world on
+  -- moves whose first request is sent alone leave the wire vouched for, from an open world on
   pub vouched_at : (ms : List (Move State)) (state : State) → Good state → ArePossible ends Good kept (by_ids width ends) ms (ids_open state) → AsksOnly knows ms
       → IsFirstAlone false ms → AreOn width ends M ms (numbers_open state) → IsVouchedFor ends Good kept E M (moved ends (by_numbers width) ms (numbers_open state)).wire
   vouched_at ms state good p k l on =

@@ -21,6 +21,7 @@ use Rattle.gc_field.specs.Laws.{WasExecuted}
 use Rattle.gc_field.specs.Needed.{Keeper, IsAllNeeded, InOrder, value, refusal, kept, keeper, held, again_or, refuses_or, answers_in, deals_anew, refuses_raws, sound, forgets, comes_twice}
 use Rattle.gc_field.specs.Once.{ActsOnce}
 use Rattle.gc_field.specs.World.{Sent}
+use Rattle.gc_field.proofs.Once.{true_is_not}
 
 -- where n is held for an id, the reply with that id and n is kept
 pub kept_own : (k : Keeper) (id n : ℕ) → held k id ≡ Some n → kept k ≡ Some (record { id = id; line = value id n })
@@ -38,21 +39,17 @@ reads_value id n small = ap id_in (reply_back (record { rc_com = 0; id = Some id
 reads_refusal : (id : ℕ) → id < 8 → heard (refusal id) ≡ Some id
 reads_refusal id small = ap id_in (reply_back (record { rc_com = 3081; id = Some id; rc = 0; params = [] }) (record { rc_com = lit< tt; id = small; rc = lit< tt }))
 
--- true isn't false
-true_is_not : true ≡ false → ⊥
-true_is_not e = cc
-
 -- the reply of `again_or` has its request's id
 again_reads : (k : Keeper) (id : ℕ) (o : Option ℕ) → id < 8 → heard (again_or id k o).reply ≡ Some id
 again_reads k id (Some n) small = reads_value id n small
 again_reads k id None small = reads_value id 0 small
 
--- a line that `again_or` sends again is the one that it keeps
+-- a line that `again_or` sends again is the one that it retains
 again_repeats : (k : Keeper) (id : ℕ) (o : Option ℕ) → held k id ≡ o → (again_or id k o).executed ≡ false → kept k ≡ Some (record { id = id; line = (again_or id k o).reply })
 again_repeats k id (Some n) e not = kept_own k id n e
 again_repeats k id None e not = absurd (true_is_not not)
 
--- after a request `again_or` keeps its reply to that request
+-- after a request `again_or` retains its reply to that request
 again_keeps : (k : Keeper) (id : ℕ) (o : Option ℕ) → held k id ≡ o → kept (again_or id k o).state ≡ Some (record { id = id; line = (again_or id k o).reply })
 again_keeps k id (Some n) e = kept_own k id n e
 again_keeps k id None e = refl
@@ -62,7 +59,7 @@ refuses_reads : (b : Bool) (k : Keeper) (id : ℕ) → id < 8 → heard (refuses
 refuses_reads true k id small = again_reads k id (held k id) small
 refuses_reads false k id small = reads_refusal id small
 
--- a line that `refuses_or` sends again is the one that it keeps
+-- a line that `refuses_or` sends again is the one that it retains
 refuses_repeats : (b : Bool) (k : Keeper) (id : ℕ) → (refuses_or b k id).executed ≡ false → kept k ≡ Some (record { id = id; line = (refuses_or b k id).reply })
 refuses_repeats true k id not = again_repeats k id (held k id) refl not
 refuses_repeats false k id not = absurd (true_is_not not)
@@ -75,7 +72,7 @@ above n xs low h = omega (arith, each_get (λ m. m < n) xs h.0 n low h.1)
 ninth : WasExecuted (8 ∷ 9 ∷ 10 ∷ 11 ∷ 12 ∷ 13 ∷ 14 ∷ 15 ∷ []) 16 → ⊥
 ninth h = above 16 (8 ∷ 9 ∷ 10 ∷ 11 ∷ 12 ∷ 13 ∷ 14 ∷ 15 ∷ []) (lit< tt, (lit< tt, (lit< tt, (lit< tt, (lit< tt, (lit< tt, (lit< tt, (lit< tt, tt)))))))) h
 
--- where nothing was executed, request 9 wasn't
+-- if nothing was executed, request 9 wasn't
 none : WasExecuted [] 9 → ⊥
 none h = above 9 [] tt h
 
@@ -121,7 +118,7 @@ raws_is =
       starts_good = λ k good. tt;
     }
   where
-    -- after a request that it knows it keeps its reply, and after another one what it kept
+    -- after a request that it knows it retains its reply, and after another one what it retained
     after : (k : Keeper) (id : ℕ) (b : Bool)
         → ((kept (refuses_or b k id).state ≡ None) ⊎ (kept (refuses_or b k id).state ≡ Some (record { id = id; line = (refuses_or b k id).reply })))
         ⊎ ((b ≡ false) × (kept (refuses_or b k id).state ≡ kept k))
@@ -172,27 +169,27 @@ sound_is =
       starts_good = λ b good. good;
     }
 
--- an instrument that keeps nothing keeps no reply with another id than 7
+-- an instrument that retains nothing retains no reply with another id than 7
 none_kept : {State : Type 0} (state : State) (k : KeptReply) → nothing state ≡ Some k → k.id ≡ 7
 none_kept state k e = let never : ⊥ = cc in absurd never
 
--- a `Keeper` that has nothing keeps no reply with another id than 7
+-- a `Keeper` that has nothing retains no reply with another id than 7
 none_of : (k : KeptReply) → kept None ≡ Some k → k.id ≡ 7
 none_of k e = let never : ⊥ = cc in absurd never
 
--- with nothing under way and nothing kept, a beginning is clean
+-- with nothing in flight and nothing kept, a synchronization is clean
 clean_any : IsClean AnyState nothing (none_under_way false)
 clean_any = record { good = tt; up = tt; down = tt; keeps = none_kept false }
 
--- with nothing under way and nothing kept, a beginning is clean, over an instrument in order
+-- with nothing in flight and nothing kept, a synchronization is clean, over an instrument in order
 clean_order : IsClean InOrder nothing (none_under_way false)
 clean_order = record { good = refl; up = tt; down = tt; keeps = none_kept false }
 
--- with nothing under way, and a `Keeper` that has nothing, a beginning is clean
+-- with nothing in flight, and a `Keeper` that has nothing, a synchronization is clean
 clean_kept : IsClean AnyState kept (none_under_way None)
 clean_kept = record { good = tt; up = tt; down = tt; keeps = none_of }
 
--- with nothing under way, a beginning is clean over an instrument that has a `Keeper` but is taken to keep nothing
+-- with nothing in flight, a synchronization is clean over an instrument that has a `Keeper` but is taken to retain nothing
 clean_key : IsClean {State = Keeper} AnyState nothing (none_under_way None)
 clean_key = record { good = tt; up = tt; down = tt; keeps = none_kept {State = Keeper} None }
 

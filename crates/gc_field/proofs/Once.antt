@@ -1,5 +1,6 @@
--- The numbers of the requests that an instrument executes never fall (`IsOrdered`), and between two of its starts they rise for the requests
--- to which it keeps its reply (`IsClimbing`): it is handed the last request again, which it doesn't execute then, or a later one.
+-- The numbers of the requests that an instrument executes never fall (`IsOrdered`), and between two of its starts they rise for
+-- the requests to which it retains its reply (`IsClimbing`): it is handed the last request again, which it doesn't execute
+-- then, or a later one.
 use Rattle.std.proofs.Common.{◌≡◌, ℕ, zero, suc, ◌+◌, ◌-◌, ◌%◌, ◌<◌, ◌≤◌, ◌⊎◌, inl, inr, Bool, true, false, List, [], ◌∷◌, ◌++◌, length, Option, Some, None, cond, refl, sym, ◌∙◌, ap, subst, arith, ltb}
 use Rattle.std.proofs.lemmas.Bool.{ltb-true, ltb-false}
 use Rattle.std.specs.Prelude.{slice_get}
@@ -58,13 +59,13 @@ pub known_not : (knows : Asked → Bool) (sent : List Sent) (n : ℕ) (r : Sent)
 known_not knows sent n r found known h =
     true_is_not (sym known ∙ ap (λ (x : Sent). knows x.call) (some_is r h.0 (sym found ∙ h.1)) ∙ h.2)
 
--- what is kept (`k`), if anything, has this id; and if nothing is kept, nothing was executed since the last start
+-- what is retained (`k`), if anything, has this id; and if nothing is retained, nothing was executed since the last start
 pub record IsHeld (id : ℕ) (executed starts : List ℕ) (k : Option KeptReply) : Type 0 where
   pub idle : k ≡ None → IsIdle executed starts
   pub same : (r : KeptReply) → k ≡ Some r → r.id ≡ id
 
--- what was executed acts once, for the requests that `knows` names, and each number is below `top`. The request handed last, top - 1, isn't
--- known, or what is kept (`k`) has its id, `id`
+-- what was executed acts once, for the requests that `knows` names, and each number is below `top`. The request handed last,
+-- top - 1, isn't known, or what is retained (`k`) has its id, `id`
 pub record IsClimbing (knows : Asked → Bool) (id top : ℕ) (sent : List Sent) (executed starts : List ℕ) (k : Option KeptReply) : Type 0 where
   pub once :
       (i j m n : ℕ) → i < j → HasNoStart starts i j → slice_get executed i ≡ Some m → slice_get executed j ≡ Some n → (m < n) ⊎ IsUnknown knows sent n
@@ -82,7 +83,7 @@ order_few executed few j k m n lt a b =
     let size : k < length executed = below executed k n b in
     absurd (omega (arith, size, few, lt))
 
--- `IsOrdered` lasts where request n is executed, and no request that was sent later was executed before
+-- `IsOrdered` is preserved where request n is executed, and no request that was sent later was executed before
 pub ordered_acted : (top n : ℕ) (executed : List ℕ) → top ≤ n + 1 → IsOrdered top executed → IsOrdered (n + 1) (executed ++ n ∷ [])
 ordered_acted top n executed le h =
     record {
@@ -100,7 +101,7 @@ ordered_acted top n executed le h =
       below = each_append (λ m. m < n + 1) executed (n ∷ []) (each_more (λ m. m < top) (λ m. m < n + 1) (λ m l. omega (arith, l, le)) executed h.below) (omega arith, tt);
     }
 
--- `IsOrdered` lasts where request n is handed to the instrument and isn't executed
+-- `IsOrdered` is preserved where request n is handed to the instrument and isn't executed
 pub ordered_handed : (top n : ℕ) (executed : List ℕ) → top ≤ n + 1 → IsOrdered top executed → IsOrdered (n + 1) executed
 ordered_handed top n executed le h = record { order = h.order; below = each_more (λ m. m < top) (λ m. m < n + 1) (λ m l. omega (arith, l, le)) executed h.below }
 
@@ -128,7 +129,7 @@ acts_once knows sent executed starts once i j m n r lt run a b found known =
       | inr u ↦ absurd (known_not knows sent n r found known u)
     ]
 
--- `IsClimbing` lasts where more requests are sent
+-- `IsClimbing` is preserved where more requests are sent
 pub climbing_sent : (knows : Asked → Bool) (id top : ℕ) (sent more : List Sent) (executed starts : List ℕ) (k : Option KeptReply)
     → IsClimbing knows id top sent executed starts k → IsClimbing knows id top (sent ++ more) executed starts k
 climbing_sent knows id top sent more executed starts k h =
@@ -144,7 +145,7 @@ climbing_sent knows id top sent more executed starts k h =
       ];
     }
 
--- `IsClimbing` lasts over a start of the instrument, which keeps what it kept (`k`), or nothing
+-- `IsClimbing` is preserved by a start of the instrument, which retains what it retained (`k`), or nothing
 pub climbing_started : (knows : Asked → Bool) (id top : ℕ) (sent : List Sent) (executed starts : List ℕ) (k after : Option KeptReply) → (after ≡ None) ⊎ (after ≡ k)
     → IsClimbing knows id top sent executed starts k → IsClimbing knows id top sent executed (starts ++ length executed ∷ []) after
 climbing_started knows id top sent executed starts k after now h =
@@ -157,12 +158,12 @@ climbing_started knows id top sent executed starts k after now h =
       ];
     }
   where
-    -- what is kept after the start has the id that what was kept had
+    -- what is retained after the start has the id that what was kept had
     still : IsHeld id executed starts k → (after ≡ None) ⊎ (after ≡ k) → (r : KeptReply) → after ≡ Some r → r.id ≡ id
     still g (inl none) r e = absurd (none_is_not r (sym none ∙ e))
     still g (inr same) r e = g.same r (sym same ∙ e)
 
--- where request n was handed last, it isn't known, or what is kept has its id
+-- where request n was handed last, it isn't known, or what is retained has its id
 pub last_of : (knows : Asked → Bool) (new n : ℕ) (sent : List Sent) (executed starts : List ℕ) (after : Option KeptReply) (r : KeptReply)
     → IsUnknown knows sent n ⊎ ((after ≡ Some r) × (r.id ≡ new)) → IsUnknown knows sent (n + 1 - 1) ⊎ IsHeld new executed starts after
 last_of knows new n sent executed starts after r (inl u) =
@@ -174,8 +175,8 @@ last_of knows new n sent executed starts after r (inr kept) =
       same = λ y e. ap (λ (x : KeptReply). x.id) (sym (some_is r y (sym kept.0 ∙ e))) ∙ kept.1;
     })
 
--- `IsClimbing` lasts where request n, which has the id `new`, is handed to the instrument and isn't executed: it isn't known, or the instrument
--- keeps a reply with its id
+-- `IsClimbing` is preserved where request n, which has the id `new`, is handed to the instrument and isn't executed: it isn't
+-- known, or the instrument retains a reply with its id
 pub climbing_handed : (knows : Asked → Bool) (id new top n : ℕ) (sent : List Sent) (executed starts : List ℕ) (k after : Option KeptReply) (r : KeptReply) → top ≤ n + 1
     → IsUnknown knows sent n ⊎ ((after ≡ Some r) × (r.id ≡ new))
     → IsClimbing knows id top sent executed starts k → IsClimbing knows new (n + 1) sent executed starts after
@@ -186,8 +187,8 @@ climbing_handed knows id new top n sent executed starts k after r le why h =
       last = last_of knows new n sent executed starts after r why;
     }
 
--- where nothing was executed since the last start, that start is between an earlier execution, j, and the next one, k: so it
--- can't be that no start is between them
+-- if nothing was executed since the last start, that start is between an earlier execution, j, and the next one, k: so it can't
+-- be that no start is between them
 never_idle : (executed starts : List ℕ) (j k m : ℕ) → IsIdle executed starts → HasNoStart starts j k → slice_get executed j ≡ Some m → k ≡ length executed → ⊥
 never_idle executed starts j k m (inl none) run a e = none_is_not m (subst (λ l. slice_get l j ≡ Some m) none a)
 never_idle executed starts j k m (inr h) run a e =
@@ -197,8 +198,8 @@ never_idle executed starts j k m (inr h) run a e =
       | inr l ↦ omega (arith, l, e)
     ]
 
--- `IsClimbing` lasts where request n is executed, if it isn't known; or if nothing was executed since the last start, or n is later than each
--- request that was executed before, and the instrument then keeps a reply with n's id, `new`
+-- `IsClimbing` is preserved where request n is executed, if it isn't known; or if nothing was executed since the last start, or
+-- n is later than each request that was executed before, and the instrument then retains a reply with n's id, `new`
 pub climbing_acted : (knows : Asked → Bool) (id new top n : ℕ) (sent : List Sent) (executed starts : List ℕ) (k after : Option KeptReply) (r : KeptReply) → top ≤ n + 1
     → IsUnknown knows sent n ⊎ ((IsIdle executed starts ⊎ (top ≤ n)) × (after ≡ Some r) × (r.id ≡ new))
     → IsClimbing knows id top sent executed starts k → IsClimbing knows new (n + 1) sent (executed ++ n ∷ []) starts after
@@ -229,13 +230,13 @@ climbing_acted knows id new top n sent executed starts k after r le why h =
           | inr above ↦ (let l : x < top = each_get (λ m. m < top) executed i x h.below first in inl (omega (arith, l, above)))
         ]
 
-    -- it isn't known, or what is kept has its id
+    -- it isn't known, or what is retained has its id
     held : IsUnknown knows sent n ⊎ ((IsIdle executed starts ⊎ (top ≤ n)) × (after ≡ Some r) × (r.id ≡ new)) → IsUnknown knows sent n ⊎ ((after ≡ Some r) × (r.id ≡ new))
     held (inl u) = inl u
     held (inr g) = inr (g.1, g.2)
 
--- where request n is known, has the id of its number less `since`, and is executed although the instrument sends again what it keeps for n's
--- id, nothing was executed since the last start, or n is later than all that the instrument was handed
+-- where request n is known, has the id of its number less `since`, and is executed although the instrument sends again what it
+-- retains for n's id, nothing was executed since the last start, or n is later than all that the instrument was handed
 pub why_acted : (knows : Asked → Bool) (since top n id : ℕ) (sent : List Sent) (executed starts : List ℕ) (k : Option KeptReply)
     → (IsUnknown knows sent n → ⊥) → id ≡ (n - since) % 8 → top ≤ n + 1 → ((line : List ℕ) → k ≡ Some (record { id = id; line = line }) → ⊥)
     → IsClimbing knows ((top - 1 - since) % 8) top sent executed starts k → IsIdle executed starts ⊎ (top ≤ n)

@@ -1,5 +1,5 @@
--- What goes out after an answer is executed after the request that was answered. A *stretch* is a run once it has begun: what
--- is under way then, and its moves.
+-- What is sent after an answer is executed after the request that was answered. A *stretch* is a run once it has synchronized:
+-- what is in flight then, and its moves.
 use Rattle.std.proofs.Common.{◌≡◌, ◌⊎◌, inl, inr, ℕ, zero, suc, ◌+◌, ◌<◌, ◌≤◌, List, [], ◌∷◌, ◌++◌, length, Option, Some, refl, sym, ◌∙◌, ap, subst, arith, append_assoc, Bool, true, false, ltb}
 use Rattle.std.proofs.lemmas.Bool.{ltb-true, ltb-false}
 use Rattle.std.specs.Prelude.{slice_get}
@@ -56,13 +56,13 @@ get_front [] ys i x got = cc
 get_front (y ∷ xs) ys zero x got = got
 get_front (y ∷ xs) ys (suc i) x got = get_front xs ys i x got
 
--- a request among the first of a list is there without those behind it
+-- a request among the first of a list is there without those after it
 sent_less : (xs ys : List Sent) (i : ℕ) (r : Sent) → i < length xs → slice_get (xs ++ ys) i ≡ Some r → slice_get xs i ≡ Some r
 sent_less [] ys i r low got = absurd (omega (arith, low))
 sent_less (x ∷ xs) ys zero r low got = got
 sent_less (x ∷ xs) ys (suc i) r low got = sent_less xs ys i r (omega (arith, low)) got
 
--- a request among the first of a list is there with others behind it, too
+-- a request among the first of a list is there with others after it, too
 sent_front : (xs ys : List Sent) (i : ℕ) (r : Sent) → slice_get xs i ≡ Some r → slice_get (xs ++ ys) i ≡ Some r
 sent_front [] ys i r got = cc
 sent_front (x ∷ xs) ys zero r got = got
@@ -108,8 +108,8 @@ module _ (e : List ℕ) (m n : ℕ) (numbers : List ℕ) where
         rises (length e + (1 + i)) (length e + (1 + length numbers)) x n (omega (arith, small)) (at_x i x got) at_n,
       ))
 
-  -- where the instrument acts once for the requests that `knows` names, and didn't start between, the executions between of such requests are of
-  -- requests sent between m and n
+  -- if the instrument acts once for the requests that `knows` names, and didn't start between, the executions between of such
+  -- requests are of requests sent between m and n
   pub inside : (knows : Asked → Bool) (sent : List Sent) (starts : List ℕ) → Each (λ s. s ≤ length e) starts → IsInOrder all → ActsOnce knows sent all starts
       → Each (λ x. (r : Sent) → slice_get sent x ≡ Some r → knows r.call ≡ true → (m < x) × (x < n)) numbers
   inside knows sent starts early rises once =
@@ -258,7 +258,7 @@ module _ {State : Type 0} (ends : Ends State) (Good : State → Type 0) (kept : 
       nil [] = refl
       nil (x ∷ ms) = ap (λ l. x ∷ l) (nil ms)
 
-  -- a request that goes out after the answer to another one, and is executed, is executed after the other one
+  -- a request that is sent after the answer to another one, and is executed, is executed after the other one
   pub executed_behind : (before later : List (Move State)) → s.moves ≡ before ++ later → (m n : ℕ) (x : Settlement Asked) (line_m : List ℕ) → 8 ≤ m
       → IsSafe 7 ends s.from Good kept before m → slice_get (at before).wire.settled m ≡ Some x → x.outcome ≡ Answered line_m
       → length (at before).wire.sent ≤ n → (call : Asked) (line_n : List ℕ) → WasMadeOn 7 ends s.from s.moves n call line_n → IsExecutedAfter ends Good kept s m n x.call call line_m line_n

@@ -25,7 +25,7 @@ use Rattle.gc_texts.specs.declared.tasks.Task.{Task}
 use Rattle.gc_station.specs.Links.{ChainsStay, MarksGoOn, RecordsStay, parts}
 use Rattle.gc_station.specs.Parts.{IsOf}
 use Rattle.gc_station.specs.Records.{Record}
-use Rattle.gc_station.specs.Runs.{stood}
+use Rattle.gc_station.specs.Runs.{state_after}
 use Rattle.gc_station.specs.Scopes.{Scope}
 use Rattle.gc_station.specs.declared.plan.Plan.{Plan}
 use Rattle.gc_station.proofs.Booking.{of_at}
@@ -46,29 +46,26 @@ use Rattle.gc_field.specs.Shown.{Stretch, stretches}
 use Rattle.gc_field.proofs.Chained.{chains_executed, sent_at}
 use Rattle.gc_field.proofs.Instruments.{simulator}
 use Rattle.gc_field.proofs.Joining.{run_faithful}
+use Rattle.gc_field.proofs.Once.{true_is_not}
 
 -- What executing a call makes of the simulator.
 
--- what a request makes of the simulator doesn't depend on the reply that is kept
+-- what a request makes of the simulator doesn't depend on the reply that is retained
 exec_bare : (s : State) (asked : Asked) → behind_call (bare s) asked ≡ bare (behind_call s asked)
 exec_bare s (Table c) = ap (λ (x : Executed). x.state) (executes_apart s None c)
 exec_bare s (Raw raw) = refl
 
--- true isn't false
-true_is_not : true ≡ false → ⊥
-true_is_not e = cc
-
--- where the simulator sends a line again, its state stays as it was
+-- if the simulator sends a line again, its state stays as it was
 handed_same : (s : State) (id : ℕ) (c : Call) (o : Option (List ℕ)) → kept_line s.kept (Some id) ≡ o → (calls.handed s id c).executed ≡ false → (calls.handed s id c).state ≡ s
 handed_same s id c (Some line) e not = ap (λ (x : Handed State). x.state) (handed_again s id c line e)
 handed_same s id c None e not = absurd (true_is_not (sym (ap (λ (x : Handed State). x.executed) (handed_new s id c e)) ∙ not))
 
--- where the simulator executes a request, that has the effect `behind_call`
+-- if the simulator executes a request, that has the effect `behind_call`
 executes : (s : State) (id : ℕ) (asked : Asked) → (handed s id asked).executed ≡ true → bare (handed s id asked).state ≡ bare (behind_call s asked)
 executes s id (Table c) e = bare_after s id c e ∙ exec_bare s (Table c)
 executes s id (Raw raw) e = refl
 
--- where it doesn't, nothing changes
+-- if the simulator doesn't execute a request, its state stays, but for the retained reply
 repeats : (s : State) (id : ℕ) (asked : Asked) → (handed s id asked).executed ≡ false → bare (handed s id asked).state ≡ bare s
 repeats s id (Table c) not = ap bare (handed_same s id c (kept_line s.kept (Some id)) refl not)
 repeats s id (Raw raw) not = refl
@@ -82,7 +79,7 @@ has_effect =
       alike = λ s t asked e. sym (exec_bare s asked) ∙ ap (λ x. behind_call x asked) e ∙ exec_bare t asked;
     }
 
--- where nothing disturbs the instrument, it doesn't start
+-- if nothing disturbs the instrument, it doesn't start
 no_start : (ms : List (Move State)) → IsUndisturbed ms → HasNoStartBetween ms
 no_start [] h = tt
 no_start (Sends target asked deadline ∷ ms) h = no_start ms h
@@ -110,7 +107,7 @@ told_same : (s : State) (answer_with : Decimal → Answer) (d : Option Decimal) 
 told_same s answer_with None = (refl, refl)
 told_same s answer_with (Some d) = (refl, refl)
 
--- what executing a command to measure does: nothing (a), a measurement (b), the last measurement is dropped (c), or a refusal
+-- what executing a command to measure does: nothing (a), a measurement (b), the last measurement is discarded (c), or a refusal
 abbrev rows : State → Bool → Bool → Bool → Executed
 rows t a b c = cond a (done t Nothing) (cond b (done (measured t) Nothing) (cond c (done (unmeasured t) Nothing) (refused t 2)))
 
@@ -143,7 +140,7 @@ asked_same : (s : State) (asked : Asked) → turns asked ≡ false → IsSame s 
 asked_same s (Table c) e = call_same s c e
 asked_same s (Raw raw) e = (refl, refl)
 
--- a request turns no telescope if it turns none where it is a call of the table
+-- a request turns no telescope if it turns none if it is a call of the table
 still_table : (asked : Asked) → (is_of_table asked ≡ true → turns asked ≡ false) → turns asked ≡ false
 still_table (Table c) f = f refl
 still_table (Raw raw) f = refl
@@ -202,7 +199,7 @@ module _ (plan : Plan) (commands : List Task) (scope : Scope) (acts : List Act) 
   ss = stretches ends u rs
 
   module _ (b : Record) (line : List ℕ) (a : ℕ) (h : IsChainedTo ends IsFittingState kept_of scope.reads commands (parts plan commands scope acts) ss
-      (stood plan commands scope acts).records a b line) (still : AreStill commands a b.place) where
+      (state_after plan commands scope acts).records a b line) (still : AreStill commands a b.place) where
     -- a request between those of the chain's two commands turns no telescope, by its mark: it is a null procedure, or for a
     -- command between them
     still_by : (x : ℕ) (r : Sent) (o : Option _) (above : h.m < x) (under : x < h.n) → slice_get h.part.marks x ≡ Some o → (y : Wanted Asked) → asked r ≡ y → IsOf commands o y → turns r.call ≡ false
@@ -223,13 +220,13 @@ module _ (plan : Plan) (commands : List Task) (scope : Scope) (acts : List Act) 
         let same : asked r ≡ y.0 = some_is (asked r) y.0 (sym (get_map asked (own_sent ends h.stretch) x r got) ∙ y.1) in
         still_by x r mark.0 above under mark.1 y.0 same y.2
 
-    -- the same by the request's number in the stretch, where the eight null procedures come first
+    -- the same by the request's number in the stretch, if the eight null procedures come first
     still_number : (k : ℕ) (r : Sent) → 8 + h.m < k → k < 8 + h.n → slice_get (world ends h.stretch).wire.sent k ≡ Some r → turns r.call ≡ false
     still_number k r above under got =
         still_at (k - 8) r (omega (arith, above)) (omega (arith, above, under)) (get_own 8 (k - 8) k (world ends h.stretch).wire.sent r (omega (arith, above)) got)
 
-    -- where nothing disturbs the simulator between the two executions, the telescope points as the earlier one left it
-    pointed_there : IsUndisturbed h.executed.between → IsMeasuredWhereItPointed scope.reads commands (parts plan commands scope acts) ss (stood plan commands scope acts).records a b line h
+    -- if nothing disturbs the simulator between the two executions, the telescope points as the earlier one left it
+    pointed_there : IsUndisturbed h.executed.between → IsMeasuredWhereItPointed scope.reads commands (parts plan commands scope acts) ss (state_after plan commands scope acts).records a b line h
     pointed_there quiet =
         let x = h.executed in
         let s = (behind ends h.stretch x.first.front).state in
@@ -252,11 +249,11 @@ module _ (plan : Plan) (commands : List Task) (scope : Scope) (acts : List Act) 
   all_so P Q f [] h = tt
   all_so P Q f (x ∷ xs) h = (f x h.0, all_so P Q f xs h.1)
 
-  -- where the laws of stations `ChainsStay`, `MarksGoOn` and `RecordsStay` hold, each record of a run over the simulator is
+  -- if the laws of stations `ChainsStay`, `MarksGoOn` and `RecordsStay` hold, each record of a run over the simulator is
   -- `IsPointedInChain`
-  pub pointed : ChainsStay → MarksGoOn → RecordsStay → AllByRecursion (IsPointedInChain plan commands scope acts u rs) (stood plan commands scope acts).records
+  pub pointed : ChainsStay → MarksGoOn → RecordsStay → AllByRecursion (IsPointedInChain plan commands scope acts u rs) (state_after plan commands scope acts).records
   pointed stay go_on records_stay =
       all_so (IsExecutedInChain ends IsFittingState kept_of plan commands scope acts u rs) (IsPointedInChain plan commands scope acts u rs)
       (λ b h line a answered many low less chained. let c = h line a answered many low less chained in (c, λ still quiet. pointed_there b line a c still quiet))
-      (stood plan commands scope acts).records
+      (state_after plan commands scope acts).records
       (chains_executed ends IsFittingState kept_of simulator.is stay go_on records_stay plan commands scope acts u rs field)

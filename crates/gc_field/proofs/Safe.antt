@@ -1,4 +1,4 @@
--- Each command of a station is safe in its stretch: it goes out behind the table, as the station's rule says.
+-- Each command of a station is safe in its stretch: it is sent after the table, as the station's rule says.
 use Rattle.std.proofs.Common.{◌≡◌, inl, inr, ℕ, zero, suc, ◌+◌, ◌<◌, ◌≤◌, Bool, true, false, List, [], ◌∷◌, ◌++◌, length, map, Option, Some, None, refl, sym, ◌∙◌, ap, subst, arith, ltb}
 use Rattle.std.proofs.lemmas.Bool.{ltb-true, ltb-false}
 use Rattle.std.specs.Prelude.{slice_get}
@@ -20,9 +20,9 @@ use Rattle.gc_field.specs.Shown.{Stretch}
 use Rattle.gc_field.proofs.BegunFaithful.{sent_is}
 use Rattle.gc_field.proofs.InTime.{Sound, front_of, throughout}
 
--- The step at which a request goes out.
+-- The step at which a request is sent.
 
--- these steps by the one at which request n goes out, where the course before them is x
+-- these steps by the one at which request n is sent, if the course before them is x
 pub record IsSplit (steps : List (Step Asked)) (x : Course Asked) (n : ℕ) : Type 0 where
   pub front : List (Step Asked)
   pub later : List (Step Asked)
@@ -37,7 +37,7 @@ sent_few : (x : Course Asked) (target : ℕ) (call : Asked) (o : Option (Sending
 sent_few x target call None = omega arith
 sent_few x target call (Some s) = omega (arith, length_push x.sent (record { target = target; call = call }))
 
--- where request n goes out at one of these steps, it goes out at one of them, and n requests before it
+-- where request n is sent at one of these steps, it is sent at one of them, and n requests before it
 pub split_at : (steps : List (Step Asked)) (x : Course Asked) (n : ℕ) → length x.sent ≤ n → n < length (course 7 x steps).sent → IsSplit steps x n
 split_at [] x n low high = absurd (omega (arith, low, high))
 split_at (step.Send target call deadline ∷ steps) x n low high =
@@ -85,13 +85,13 @@ step_head x y xs ys e = cc
 step_tail : (x y : Step Asked) (xs ys : List (Step Asked)) → x ∷ xs ≡ y ∷ ys → xs ≡ ys
 step_tail x y xs ys e = cc
 
--- a move in front of those that are seen so, of which nothing is seen
+-- a move before those that are seen so, of which nothing is seen
 seen_later : {State : Type 0} (m : Move State) (ms : List (Move State)) (front : List (Step Asked)) (target : ℕ) (call : Asked) (deadline : ℕ) → ((l : List (Move State)) → seen (m ∷ l) ≡ seen l)
     → IsSeen ms front target call deadline → IsSeen (m ∷ ms) front target call deadline
 seen_later m ms front target call deadline none h =
     record { before = m ∷ h.before; after = h.after; split = ap (λ l. m ∷ l) h.split; seen_before = none h.before ∙ h.seen_before }
 
--- a move in front of those that are seen so, of which this step is seen
+-- a move before those that are seen so, of which this step is seen
 seen_more : {State : Type 0} (m : Move State) (s : Step Asked) (ms : List (Move State)) (front : List (Step Asked)) (target : ℕ) (call : Asked) (deadline : ℕ)
     → ((l : List (Move State)) → seen (m ∷ l) ≡ s ∷ seen l) → IsSeen ms front target call deadline → IsSeen (m ∷ ms) (s ∷ front) target call deadline
 seen_more m s ms front target call deadline one h =
@@ -146,7 +146,7 @@ get_behind (y ∷ xs) ys zero k x e got = absurd (omega (arith, e))
 get_behind (y ∷ xs) ys (suc n) k x e got = get_behind xs ys n k x (omega (arith, e)) got
 
 module _ {State : Type 0} (ends : Ends State) (Good : State → Type 0) (kept : State → Option KeptReply) (is : IsAnInstrument ends Good kept) where
-  -- in front of a move of a sound stretch, the requests sent are the eight null procedures and those of the steps that are seen
+  -- before a move of a sound stretch, the requests sent are the eight null procedures and those of the steps that are seen
   sent_count : (s : Stretch State) → Sound ends Good kept is s → (before after : List (Move State)) → s.moves ≡ before ++ after
       → length (behind 7 ends s.from before).wire.sent ≡ 8 + length (course 7 begun (seen before)).sent
   sent_count s sound before after e =
@@ -155,7 +155,7 @@ module _ {State : Type 0} (ends : Ends State) (Good : State → Type 0) (kept : 
       let all = sent_is ends Good kept is 7 (omega arith) s.from before p in
       sym (length-map w.sent of_sent) ∙ ap length all ∙ length-append (map of_sent nulls) (course 7 begun (seen before)).sent
 
-  -- where a request goes out near the table by the steps that were seen, it goes out behind the table
+  -- if a request is sent near the table by the steps that were seen, it is sent after the table
   near_is : (s : Stretch State) → Sound ends Good kept is s → (before after : List (Move State)) → s.moves ≡ before ++ after → IsNearTheTable (course 7 begun (seen before))
       → IsBehindTheTable (behind 7 ends s.from before).wire
   near_is s sound before after e near =
@@ -175,7 +175,8 @@ module _ {State : Type 0} (ends : Ends State) (Good : State → Type 0) (kept : 
             (8 + h.0, omega (arith, low, many), omega (arith, count, h.4), inr (r.0, h.1, r.1, sym (ap is_of_table same) ∙ h.3.0, got, by_reply h.1.outcome h.3.1)))
       ]
 
-  -- where request n goes out at one of the steps that a sound stretch shows, and goes out near the table, it goes out behind the table
+  -- where request n is sent at one of the steps that a sound stretch shows, and is sent near the table, it is sent after the
+  -- table
   pub goes_out : (s : Stretch State) → Sound ends Good kept is s → (steps : List (Step Asked)) → seen s.moves ≡ steps → (n : ℕ) → n < length (course 7 begun steps).sent
       → ((front later : List (Step Asked)) (target : ℕ) (call : Asked) (deadline : ℕ) → steps ≡ front ++ step.Send target call deadline ∷ later → length (course 7 begun front).sent ≡ n
       → IsNearTheTable (course 7 begun front)) → WentOutBehindTheTable 7 ends s.from s.moves (8 + n)

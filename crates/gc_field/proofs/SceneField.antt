@@ -28,6 +28,7 @@ use Rattle.gc_scenes.specs.declared.rules.Fault.{Fault}
 use Rattle.gc_scenes.specs.declared.rules.Scripted.{Scripted}
 use Rattle.gc_field.specs.Instrument.{KeepsItsOwn}
 use Rattle.gc_field.specs.SceneField.{scene_handed, scene_ends, scene_kept, KeepsAReply, IsHeard, SceneIsAnInstrument}
+use Rattle.gc_field.proofs.Once.{true_is_not}
 
 -- equal numbers within `Some` are equal
 some_number : (a b : ℕ) → Some a ≡ Some b → a ≡ b
@@ -37,11 +38,7 @@ some_number a b e = cc
 some_played : (a b : Played) → Some a ≡ Some b → a ≡ b
 some_played a b e = cc
 
--- false isn't true
-never : true ≡ false → ⊥
-never e = cc
-
--- where the kept line for an id is this one, this line is kept, with that id
+-- if the kept line for an id is this one, this line is kept, with that id
 kept_own : (k : Option KeptReply) (id : ℕ) (line : List ℕ) → kept_line k (Some id) ≡ Some line → k ≡ Some (record { id = id; line = line })
 kept_own None id line e = let wrong : ⊥ = cc in absurd wrong
 kept_own (Some k) id line e = chosen (eqb k.id id) refl e where
@@ -49,7 +46,7 @@ kept_own (Some k) id line e = chosen (eqb k.id id) refl e where
   chosen true t e = ap (λ i. Some (record { id = i; line = k.line })) (eqb-true k.id id t) ∙ ap (λ l. Some (record { id = id; line = l })) (some_is k.line line e)
   chosen false t e = let wrong : ⊥ = cc in absurd wrong
 
--- what is sent again is what is kept
+-- what is sent again is what is retained
 again_kept : (b : Bool) (k : Option KeptReply) (id : ℕ) (line : List ℕ) → cond b (kept_line k (Some id)) None ≡ Some line → k ≡ Some (record { id = id; line = line })
 again_kept true k id line e = kept_own k id line e
 again_kept false k id line e = let wrong : ⊥ = cc in absurd wrong
@@ -65,13 +62,13 @@ record Does (s : SceneState) (id : ℕ) (known : Bool) (h : Handed SceneState) :
 line_heard : (id : ℕ) (p : Played) → id < 8 → p.rc < 65536 → heard (line_of id p) ≡ Some id
 line_heard id p small code = ap id_in (reply_back (record { rc_com = 0; id = Some id; rc = p.rc; params = p.params }) (record { rc_com = lit< tt; id = small; rc = code }))
 
--- what is kept behind a request: its own reply, or nothing
+-- what is retained after a request: its own reply, or nothing
 own_or_none : (b : Bool) (id : ℕ) (line : List ℕ) (k : Option KeptReply)
     → (cond b (kept_after k (Some id) line) None ≡ None) ⊎ (cond b (kept_after k (Some id) line) None ≡ Some (record { id = id; line = line }))
 own_or_none true id line k = inr refl
 own_or_none false id line k = inl refl
 
--- what is kept behind a request is heard
+-- what is retained after a request is heard
 kept_heard : (b : Bool) (id : ℕ) (line : List ℕ) (k : Option KeptReply) → heard line ≡ Some id → IsHeard (cond b (kept_after k (Some id) line) None)
 kept_heard true id line k h = h
 kept_heard false id line k h = tt
@@ -85,7 +82,7 @@ played_does s id known p None again small code =
     let line = line_of id p in
     record {
       reads = λ good. line_heard id p small code;
-      repeats = λ not. absurd (never not);
+      repeats = λ not. absurd (true_is_not not);
       keeps = inl (own_or_none p.state.repeats id line p.state.base.kept);
       good = λ good. kept_heard p.state.repeats id line p.state.base.kept (line_heard id p small code);
     }
@@ -128,7 +125,7 @@ raw_by : (s : SceneState) (id rpc : ℕ) (o : Option Played) → id < 8 → ((p 
 raw_by s id rpc (Some p) small code = played_does s id false p (again_for s (Some id)) refl small (code p refl)
 raw_by s id rpc None small code = record {
   reads = λ good. ap id_in (reply_back (record { rc_com = 3081; id = Some id; rc = 0; params = [] }) (record { rc_com = lit< tt; id = small; rc = lit< tt }));
-  repeats = λ not. absurd (never not);
+  repeats = λ not. absurd (true_is_not not);
   keeps = inr (refl, refl);
   good = λ good. good;
 }

@@ -19,7 +19,7 @@ module _ {State : Type 0} (width : ℕ) (ends : Ends State) (same_heard : (line 
     pub settled : x.settlements ≡ w.wire.settled
     pub client : x.client ≡ w.client
 
-  -- `SameAs` lasts where a request is sent, or refused
+  -- `SameAs` is preserved if a request is sent, or refused
   same_option : (x : Course Asked) (w : World (ById Asked) State) (target : ℕ) (call : Asked) (o : Option (Sending (ById Asked))) → SameAs x w
       → SameAs (sent_on x target call o) (requested w target call o)
   same_option x w target call None h = record { sent = h.sent; settled = h.settled; client = h.client }
@@ -28,14 +28,14 @@ module _ {State : Type 0} (width : ℕ) (ends : Ends State) (same_heard : (line 
       ++ record { target = target; call = call } ∷ [] = map-append of_sent w.wire.sent _ in
       record { sent = ap (λ l. l ++ record { target = target; call = call } ∷ []) h.sent ∙ sym last; settled = h.settled; client = refl }
 
-  -- `SameAs` lasts where the rule of the client decides on a send
+  -- `SameAs` is preserved if the rule of the client decides on a send
   same_send : (x : Course Asked) (w : World (ById Asked) State) (target : ℕ) (call : Asked) (deadline : ℕ) → SameAs x w
       → SameAs (sent_on x target call (sends width x.client target call deadline)) (requested w target call (sends width w.client target call deadline))
   same_send x w target call deadline h =
       subst (λ c. SameAs (sent_on x target call (sends width c target call deadline)) (requested w target call (sends width w.client target call deadline))) (sym h.client)
       (same_option x w target call (sends width w.client target call deadline) h)
 
-  -- `SameAs` lasts over a reply that is heard
+  -- `SameAs` is preserved by a reply that is heard
   same_reply : (x : Course Asked) (w : World (ById Asked) State) (line : List ℕ) (n : ℕ) (rest : List (Numbered (List ℕ))) → SameAs x w
       → SameAs (settled_on x (hears x.client line (heard line))) (with_settled (record w.wire { down = rest }) (hears w.client line (ends.heard line)))
   same_reply x w line n rest h =
@@ -43,34 +43,34 @@ module _ {State : Type 0} (width : ℕ) (ends : Ends State) (same_heard : (line 
       (subst (λ c. SameAs (settled_on x (hears c line (heard line))) (with_settled (record w.wire { down = rest }) (hears w.client line (heard line)))) (sym h.client)
       (record { sent = h.sent; settled = ap (λ l. l ++ (hears w.client line (heard line)).settlements) h.settled; client = refl }))
 
-  -- `SameAs` lasts over the reply in front
+  -- `SameAs` is preserved by the front reply
   same_comes : (x : Course Asked) (w : World (ById Asked) State) (line : List ℕ) (n : ℕ) (rest : List (Numbered (List ℕ)))
       → w.wire.down ≡ record { number = n; line = line } ∷ rest → SameAs x w
       → SameAs (settled_on x (hears x.client line (heard line))) (down_delivered (by_ids width ends) w w.wire.down)
   same_comes x w line n rest e h =
       subst (λ q. SameAs (settled_on x (hears x.client line (heard line))) (down_delivered (by_ids width ends) w q)) (sym e) (same_reply x w line n rest h)
 
-  -- `SameAs` lasts over a line without an id
+  -- `SameAs` is preserved by a line without an id
   same_foreign : (x : Course Asked) (w : World (ById Asked) State) (line : List ℕ) → heard line ≡ None → SameAs x w → SameAs (settled_on x (hears x.client line (heard line))) w
   same_foreign x w line e h =
       subst (λ o. SameAs (settled_on x (hears x.client line o)) w) (sym e) (record { sent = h.sent; settled = append-nil x.settlements ∙ h.settled; client = h.client })
 
-  -- `SameAs` lasts where the request in front reaches the instrument
+  -- `SameAs` is preserved if the front request reaches the instrument
   same_up : (x : Course Asked) (w : World (ById Asked) State) (q : List (Numbered Request)) → SameAs x w → SameAs x (on_wire w (up_delivered ends w.wire q))
   same_up x w [] h = record { sent = h.sent; settled = h.settled; client = h.client }
   same_up x w (y ∷ rest) h = record { sent = h.sent; settled = h.settled; client = h.client }
 
-  -- `SameAs` lasts where the requests under way change
+  -- `SameAs` is preserved if the requests in flight change
   same_with_up : (x : Course Asked) (w : World (ById Asked) State) (q : List (Numbered Request)) (b : Bool) → SameAs x w → SameAs x (on_wire w (with_up w.wire q b))
   same_with_up x w q true h = record { sent = h.sent; settled = h.settled; client = h.client }
   same_with_up x w q false h = record { sent = h.sent; settled = h.settled; client = h.client }
 
-  -- `SameAs` lasts where the replies under way change
+  -- `SameAs` is preserved if the replies in flight change
   same_with_down : (x : Course Asked) (w : World (ById Asked) State) (q : List (Numbered (List ℕ))) (b : Bool) → SameAs x w → SameAs x (on_wire w (with_down w.wire q b))
   same_with_down x w q true h = record { sent = h.sent; settled = h.settled; client = h.client }
   same_with_down x w q false h = record { sent = h.sent; settled = h.settled; client = h.client }
 
-  -- `SameAs` lasts over a step of the line
+  -- `SameAs` is preserved by a step of the line
   same_line : (x : Course Asked) (w : World (ById Asked) State) (step : Step) → IsOfLine step → SameAs x w → SameAs x (happens ends (by_ids width ends) w step)
   same_line x w (Send target call deadline) p h = absurd p
   same_line x w Up_deliver p h = same_up x w w.wire.up h
@@ -84,7 +84,7 @@ module _ {State : Type 0} (width : ℕ) (ends : Ends State) (same_heard : (line 
   same_line x w Restart_instrument p h = absurd p
   same_line x w Nothing p h = record { sent = h.sent; settled = h.settled; client = h.client }
 
-  -- `SameAs` lasts over moves: the course takes the steps that the client sees of them
+  -- `SameAs` is preserved by moves: the course takes the steps that the client sees of them
   pub same_all : (ms : List (Move State)) (x : Course Asked) (w : World (ById Asked) State) → ArePossible ends Good kept (by_ids width ends) ms w → SameAs x w
       → SameAs (course width x (seen ms)) (moved ends (by_ids width ends) ms w)
   same_all [] x w p h = h

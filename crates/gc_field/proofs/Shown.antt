@@ -1,7 +1,7 @@
--- The turns of a beginning leave of the word the same ids as the lines that these turns show to the station. The *word* is the
--- list of the ids of a beginning's null procedures; a reply that answers one takes its id off.
+-- The turns of a synchronization leave of the word the same ids as the lines that these turns show to the station. The *word*
+-- is the list of the ids of a synchronization's null procedures; a reply that answers one takes its id off.
 use Rattle.std.proofs.Common.{◌≡◌, ℕ, List, [], ◌∷◌, refl, sym, ◌∙◌, ap}
-use Rattle.gc_station.specs.Beginnings.{left_behind}
+use Rattle.gc_station.specs.Beginnings.{unanswered_after}
 use Rattle.gc_station.specs.Begun.{heard_in}
 use Rattle.gc_station.proofs.Asked.{heard_append, left_append}
 use Rattle.gc_field.specs.World.{Ends}
@@ -10,13 +10,13 @@ use Rattle.gc_field.specs.Shown.{first_heard, shown, shows}
 
 -- turns leave of the word what the lines leave that they show
 module _ {State : Type 0} (ends : Ends State) where
-  -- a null procedure that goes out changes nothing in what is left of the word
+  -- a null procedure that is sent changes nothing in what is left of the word
   left_asks : (s : Model State) (word : List ℕ) → s.left ≡ word → (asks s word).left ≡ s.left
   left_asks s [] e = refl
   left_asks s (asked ∷ rest) e = refl
 
   -- a reply that comes leaves of the word what its line leaves
-  left_comes : (s : Model State) (q : List (Aged (List ℕ))) → (comes s q).left ≡ left_behind s.left (heard_in (first_heard q))
+  left_comes : (s : Model State) (q : List (Aged (List ℕ))) → (comes s q).left ≡ unanswered_after s.left (heard_in (first_heard q))
   left_comes s [] = refl
   left_comes s (x ∷ rest) = refl
 
@@ -26,7 +26,7 @@ module _ {State : Type 0} (ends : Ends State) where
   left_reaches s (x ∷ rest) = refl
 
   -- a turn leaves of the word what the line that it shows to the station, if it shows one, leaves of it
-  left_turn : (s : Model State) (t : Turn State) → (turns ends s t).left ≡ left_behind s.left (heard_in (shows s t))
+  left_turn : (s : Model State) (t : Turn State) → (turns ends s t).left ≡ unanswered_after s.left (heard_in (shows s t))
   left_turn s Asks = left_asks s s.left refl
   left_turn s Comes = left_comes s s.down
   left_turn s (Foreign line) = refl
@@ -39,10 +39,10 @@ module _ {State : Type 0} (ends : Ends State) where
   left_turn s (Changes state) = refl
 
   -- turns leave of the word what the lines that they show to the station leave of it
-  pub left_is : (ts : List (Turn State)) (s : Model State) → (turned ends ts s).left ≡ left_behind s.left (heard_in (shown ends ts s))
+  pub left_is : (ts : List (Turn State)) (s : Model State) → (turned ends ts s).left ≡ unanswered_after s.left (heard_in (shown ends ts s))
   left_is [] s = refl
   left_is (t ∷ ts) s =
       left_is ts (turns ends s t)
-      ∙ ap (λ w. left_behind w (heard_in (shown ends ts (turns ends s t)))) (left_turn s t)
+      ∙ ap (λ w. unanswered_after w (heard_in (shown ends ts (turns ends s t)))) (left_turn s t)
       ∙ sym (left_append s.left (heard_in (shows s t)) (heard_in (shown ends ts (turns ends s t))))
-      ∙ ap (λ l. left_behind s.left l) (sym (heard_append (shows s t) (shown ends ts (turns ends s t))))
+      ∙ ap (λ l. unanswered_after s.left l) (sym (heard_append (shows s t) (shown ends ts (turns ends s t))))

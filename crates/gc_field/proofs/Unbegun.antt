@@ -1,4 +1,4 @@
--- Right after a beginning, before any move, `IsFaithful` holds, whatever is under way.
+-- Right after a synchronization, before any move, `IsFaithful` holds, whatever is in flight.
 use Rattle.std.proofs.Common.{◌≡◌, ℕ, ◌<◌, ◌≤◌, List, [], ◌∷◌, Option, Some, refl, ap, arith}
 use Rattle.std.specs.Prelude.{slice_get}
 use Rattle.gc_catalogue.specs.declared.asked.Asked.{Asked}
@@ -11,7 +11,7 @@ use Rattle.gc_field.specs.Begin.{UnderWay}
 use Rattle.gc_field.specs.Begun.{IsFaithful, nulls, nulls_settled}
 use Rattle.gc_field.proofs.BegunFaithful.{of_last}
 
--- right after a beginning no settlement has a number from 8 on
+-- right after a synchronization no settlement has a number from 8 on
 none_own : (m : ℕ) (s : Settlement Asked) → 8 ≤ m → slice_get nulls_settled m ≡ Some s → ⊥
 none_own m s ge e = let low : m < 8 = below nulls_settled m s e in omega (arith, low, ge)
 
@@ -19,7 +19,7 @@ none_own m s ge e = let low : m < 8 = below nulls_settled m s e in omega (arith,
 none_at : (j n : ℕ) → slice_get [] j ≡ Some n → ⊥
 none_at j n e = cc
 
--- right after a beginning no reply under way belongs to a request from 8 on
+-- right after a synchronization no reply in flight belongs to a request from 8 on
 of_seven : (xs : List (List ℕ)) (n : ℕ) (line : List ℕ) (rest : List (Numbered (List ℕ))) → of_last xs ≡ record { number = n; line = line } ∷ rest → 8 ≤ n → ⊥
 of_seven [] n line rest e ge = cc
 of_seven (x ∷ xs) n line rest e ge = let is : 7 ≡ n = first (record { number = 7; line = x }) (record { number = n; line = line }) (of_last xs) rest e in omega (arith, is, ge) where
@@ -29,7 +29,7 @@ of_seven (x ∷ xs) n line rest e ge = let is : 7 ≡ n = first (record { number
     head : (a b : Numbered (List ℕ)) (xs ys : List (Numbered (List ℕ))) → a ∷ xs ≡ b ∷ ys → a ≡ b
     head a b xs ys e = cc
 
--- right after a beginning, with no moves, `IsFaithful` holds
+-- right after a synchronization, with no moves, `IsFaithful` holds
 pub faithful_none : {State : Type 0} (ends : Ends State) (Good : State → Type 0) (kept : State → Option KeptReply) (u : UnderWay State) → IsFaithful 7 ends u [] Good kept
 faithful_none ends Good kept u =
     record {

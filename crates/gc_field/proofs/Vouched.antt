@@ -1,11 +1,11 @@
 -- Each line that comes was made for its request as its call was executed, whatever is repeated or lost, and however often the
--- instrument starts anew. Requests that `E` names are excepted. M n call line stands for any property that the reply to each request has that
--- is executed. The client is the one that is given the number of each reply's request: `count` of its requests are settled, and the id of
--- request n is n - `since`, modulo 8. After a request that `knows` names the instrument keeps its own reply to that, or nothing; after another
--- one it may keep what it kept: so what it keeps is a reply to `table`, the last such request that it was handed, or to a later request.
--- `True` is the invariant of a world: each reply under way, the kept reply and each answer was made so.
+-- instrument starts again. Requests that `E` names are excepted. M n call line stands for any property that the reply to each
+-- request has that is executed. The client is the one that is given the number of each reply's request: `count` of its requests
+-- are settled, and the id of request n is n - `since`, modulo 8. After a request that `knows` names the instrument retains its
+-- own reply to that, or nothing; after another one it may retain what it retained: so what it retains is a reply to `table`,
+-- the last such request that it was handed, or to a later request. `AllVouched` is the invariant of a world: each reply in
+-- flight, the retained reply and each answer was made so.
 use Rattle.std.proofs.Common.{◌≡◌, ℕ, ◌+◌, ◌-◌, ◌%◌, ◌<◌, ◌≤◌, ◌⊎◌, inl, inr, Bool, true, false, List, [], ◌∷◌, ◌++◌, length, drop, Option, Some, None, refl, sym, ◌∙◌, ap, subst, arith, ltb, eqb}
-use Rattle.std.specs.Prelude.{slice_get}
 use Rattle.std.proofs.lemmas.List.{length_push}
 use Rattle.std.proofs.lemmas.Bool.{ltb-false}
 use Rattle.gc_catalogue.specs.declared.asked.Asked.{Asked}
@@ -15,7 +15,6 @@ use Rattle.gc_instrument.specs.Replying.{Handed}
 use Rattle.gc_instrument.specs.State.{KeptReply}
 use Rattle.gc_world.specs.Clients.{ByNumber, number_send, number_reply, by_numbers}
 use Rattle.gc_world.specs.Order.{Each, Rising, numbers}
-use Rattle.gc_world.specs.Record.{IsReplyTo}
 use Rattle.gc_field.specs.World.{Request, Sent, Numbered, Ends, Step, Send, Up_deliver, Up_lose, Up_repeat, Down_deliver, Down_lose, Down_repeat, Expire, Restart_client, Restart_instrument, Nothing, World, without, doubled, idle, replied, up_delivered, with_up, with_down, started, on_wire, requested, with_settled, down_delivered, happens, written}
 use Rattle.gc_world.proofs.Booked.{Has, has_more, has_push}
 use Rattle.gc_world.proofs.Options.{some_is, none_is_not}
@@ -26,115 +25,8 @@ use Rattle.gc_world.proofs.Sound.{IsGoing, Sound}
 use Rattle.gc_field.specs.Field.{IsOfLine}
 use Rattle.gc_field.specs.Instrument.{IsAnInstrumentFor, KeepsItsReply}
 use Rattle.gc_field.proofs.Answered.{AllSo, all_so_more, all_so_append, all_so_settle}
-use Rattle.gc_field.proofs.Once.{IsClimbing, IsIdle, IsOrdered, IsUnknown, climbing_started, climbing_acted, climbing_handed, climbing_sent, known_not, ordered_acted, ordered_handed, unknown_more, why_acted}
-
--- no request under way has a number below the one in front
-pub rising_each : (low : ℕ) (xs : List (Numbered Request)) → Rising low (numbers xs) → Each (λ x. low ≤ x.number + 1) xs
-rising_each low [] h = tt
-rising_each low (x ∷ xs) h = (h.0, each_more (λ y. x.number + 1 ≤ y.number + 1) (λ y. low ≤ y.number + 1) (λ y k. omega (arith, k, h.0)) xs (rising_each (x.number + 1) xs h.1))
-
--- of numbers that never fall, those after n never fall either, and none of them is below n
-pub rising_tail : (low n : ℕ) (xs ys : List ℕ) → Rising low (xs ++ n ∷ ys) → (low ≤ n + 1) × Rising (n + 1) ys
-rising_tail low n [] ys h = h
-rising_tail low n (x ∷ xs) ys h = let r = rising_tail (x + 1) n xs ys h.1 in (omega (arith, h.0, r.0), r.1)
-
--- true isn't false
-true_is_not : true ≡ false → ⊥
-true_is_not e = cc
-
--- What is kept.
-
--- the kept reply `k` is to request `number`, which is `table` or a later one, but before `top`: it has that request's id, and the property P
-pub record IsKept (P : ℕ → List ℕ → Type 0) (since top table : ℕ) (k : KeptReply) : Type 0 where
-  pub number : ℕ
-  pub recent : since ≤ number
-  pub before : number < top
-  pub behind : table ≤ number
-  pub id : k.id ≡ (number - since) % 8
-  pub line : P number k.line
-
--- if anything is kept, `IsKept` holds of it
-abbrev pub KeptIs : (ℕ → List ℕ → Type 0) → ℕ → ℕ → ℕ → Option KeptReply → Type 0
-KeptIs P since top table None = Unit {0}
-KeptIs P since top table (Some k) = IsKept P since top table k
-
--- where P implies Q, `KeptIs` of P gives `KeptIs` of Q
-kept_more : (P Q : ℕ → List ℕ → Type 0) → ((n : ℕ) (line : List ℕ) → P n line → Q n line) → (since top table : ℕ) (k : Option KeptReply)
-    → KeptIs P since top table k → KeptIs Q since top table k
-kept_more P Q f since top table None h = tt
-kept_more P Q f since top table (Some k) h = record { number = h.number; recent = h.recent; before = h.before; behind = h.behind; id = h.id; line = f h.number k.line h.line }
-
--- where nothing is kept, `KeptIs` holds
-pub kept_none : (P : ℕ → List ℕ → Type 0) (since top table : ℕ) (k : Option KeptReply) → k ≡ None → KeptIs P since top table k
-kept_none P since top table k e = subst (λ k. KeptIs P since top table k) (sym e) tt
-
--- where nothing is kept, or this line with the id of request n, `KeptIs` holds
-pub kept_one : (P : ℕ → List ℕ → Type 0) (since top table n id : ℕ) (line : List ℕ) (k : Option KeptReply) → since ≤ n → n < top → table ≤ n → id ≡ (n - since) % 8
-    → P n line → (k ≡ None) ⊎ (k ≡ Some (record { id = id; line = line })) → KeptIs P since top table k
-kept_one P since top table n id line k recent before behind own p (inl none) = kept_none P since top table k none
-kept_one P since top table n id line k recent before behind own p (inr e) =
-    subst (λ k. KeptIs P since top table k) (sym e) (record { number = n; recent = recent; before = before; behind = behind; id = own; line = p })
-
--- where what was kept stays, or nothing is kept any more, `KeptIs` lasts
-kept_still : (P : ℕ → List ℕ → Type 0) (since top table : ℕ) (k after : Option KeptReply) → (after ≡ None) ⊎ (after ≡ k) → KeptIs P since top table k → KeptIs P since top table after
-kept_still P since top table k after (inl none) h = kept_none P since top table after none
-kept_still P since top table k after (inr same) h = subst (λ k. KeptIs P since top table k) (sym same) h
-
--- where more requests were handed, and none of them is known, `KeptIs` lasts
-kept_longer : (P : ℕ → List ℕ → Type 0) (since top next table : ℕ) (k : Option KeptReply) → top ≤ next → KeptIs P since top table k → KeptIs P since next table k
-kept_longer P since top next table None le h = tt
-kept_longer P since top next table (Some k) le h = record { number = h.number; recent = h.recent; before = omega (arith, h.before, le); behind = h.behind; id = h.id; line = h.line }
-
--- The newest known request.
-
--- the number of the newest known request, once request n was handed; `known` says whether that is known
-abbrev pub newest : Bool → ℕ → ℕ → ℕ
-newest true n table = n
-newest false n table = table
-
--- the newest known request is none before
-newest_up : (known : Bool) (n table : ℕ) → table ≤ n → table ≤ newest known n table
-newest_up true n table le = le
-newest_up false n table le = omega arith
-
--- the newest known request isn't later than the last one
-newest_low : (known : Bool) (n table : ℕ) → table ≤ n → newest known n table ≤ n
-newest_low true n table le = omega arith
-newest_low false n table le = le
-
--- request n isn't later than the newest known one (`table`), or it isn't known
-abbrev pub IsDealt : (Asked → Bool) → List Sent → ℕ → ℕ → Type 0
-IsDealt knows sent table n = (n ≤ table) ⊎ IsUnknown knows sent n
-
--- the request handed last is `IsDealt`
-newest_dealt : (knows : Asked → Bool) (sent : List Sent) (known : Bool) (n table : ℕ) → ((known ≡ false) → IsUnknown knows sent n) → IsDealt knows sent (newest known n table) n
-newest_dealt knows sent true n table f = inl (omega arith)
-newest_dealt knows sent false n table f = inr (f refl)
-
--- what is kept after request n was handed is its own line, or nothing; or, where it isn't known, what was kept: so `KeptIs` holds then
-kept_handed : (P Q : ℕ → List ℕ → Type 0) → ((n : ℕ) (line : List ℕ) → P n line → Q n line) → (since top table n id : ℕ) (known : Bool) (line : List ℕ) (k after : Option KeptReply)
-    → since ≤ n → top ≤ n + 1 → table ≤ n → id ≡ (n - since) % 8 → Q n line
-    → ((after ≡ None) ⊎ (after ≡ Some (record { id = id; line = line }))) ⊎ ((known ≡ false) × (after ≡ k)) → KeptIs P since top table k
-    → KeptIs Q since (n + 1) (newest known n table) after
-kept_handed P Q f since top table n id known line k after recent le low own p (inl now) h =
-    kept_one Q since (n + 1) (newest known n table) n id line after recent (omega arith) (newest_low known n table low) own p now
-kept_handed P Q f since top table n id known line k after recent le low own p (inr same) h =
-    subst (λ t. KeptIs Q since (n + 1) t after) (sym (ap (λ b. newest b n table) same.0))
-    (kept_longer Q since top (n + 1) table after le (kept_more P Q f since top table after (kept_still P since top table k after (inr same.1) h)))
-
--- the line was made for request n, as its call was executed, and has the property M
-pub record IsVouched {State : Type 0} (ends : Ends State) (Good : State → Type 0) (M : ℕ → Asked → List ℕ → Type 0) (sent : List Sent) (executed : List ℕ)
-    (made : List (Numbered (List ℕ))) (n : ℕ) (line : List ℕ) : Type 0 where
-  pub among : Has (record { number = n; line = line }) made
-  pub acted : Has n executed
-  pub request : Sent
-  pub found : slice_get sent n ≡ Some request
-  pub reply : IsReplyTo ends Good request.call line
-  pub on : M n request.call line
-
--- where the instrument executes the front request, x, when that is handed to it, its reply has the property M
-abbrev pub IsOn : {State : Type 0} → Ends State → (ℕ → Asked → List ℕ → Type 0) → World (ByNumber Asked) State → Numbered Request → Type 0
-IsOn ends M w x = (ends.handed w.wire.state x.line.id x.line.call).executed ≡ true → M x.number x.line.call (ends.handed w.wire.state x.line.id x.line.call).reply
+use Rattle.gc_field.proofs.Once.{IsClimbing, IsIdle, IsOrdered, IsUnknown, climbing_started, climbing_acted, climbing_handed, climbing_sent, known_not, ordered_acted, ordered_handed, unknown_more, why_acted, true_is_not}
+use Rattle.gc_field.proofs.KeptReplies.{rising_each, rising_tail, IsKept, KeptIs, kept_more, kept_still, newest, newest_up, newest_low, IsDealt, newest_dealt, kept_handed, IsVouched, IsOn}
 
 module _ {State : Type 0} (width : ℕ) (narrow : width ≤ 7) (knows : Asked → Bool) (ends : Ends State) (Good : State → Type 0)
     (kept : State → Option KeptReply) (keeper : IsAnInstrumentFor ends Good kept knows) (low : ℕ) (E : ℕ → Type 0) (Plain : Type 0) (M : ℕ → Asked → List ℕ → Type 0) where
@@ -166,14 +58,14 @@ module _ {State : Type 0} (width : ℕ) (narrow : width ≤ 7) (knows : Asked �
     own (inl e) = inl e
     own (inr v) = inr (record { among = has_more _ made more v.among; acted = lasts n v.acted; request = v.request; found = v.found; reply = v.reply; on = v.on })
 
-  -- all requests are known (`Plain`), and the one handed last is the newest known one; or each request that isn't excepted is at most seven behind
-  -- the newest known one
+  -- all requests are known (`Plain`), and the one handed last is the newest known one; or each request that isn't excepted is
+  -- at most seven after the newest known one
   abbrev pub IsNear : List Sent → ℕ → ℕ → Type 0
   IsNear sent top table = (Plain × (top ≤ table + 1) × Each (λ (r : Sent). knows r.call ≡ true) sent) ⊎ ((n : ℕ) → E n ⊎ (n ≤ table + 7))
 
-  -- the invariant, over the fields of a world: each reply under way, the kept reply `k`, and each answer is vouched for;
-  -- executions are in order, and each request acts once to which the instrument keeps its reply
-  pub record IsTrue (since count : ℕ) (sent : List Sent) (executed starts : List ℕ) (made : List (Numbered (List ℕ))) (settled : List (Settlement Asked))
+  -- the invariant, over the fields of a world: each reply in flight, the retained reply `k`, and each answer is vouched for;
+  -- executions are in order, and each request acts once to which the instrument retains its reply
+  pub record AllVouchedIn (since count : ℕ) (sent : List Sent) (executed starts : List ℕ) (made : List (Numbered (List ℕ))) (settled : List (Settlement Asked))
       (up : List (Numbered Request)) (down : List (Numbered (List ℕ))) (k : Option KeptReply) : Type 0 where
     -- the number of the last request that the instrument was handed is one less than this
     pub top : ℕ
@@ -194,14 +86,14 @@ module _ {State : Type 0} (width : ℕ) (narrow : width ≤ 7) (knows : Asked �
     pub once : (keeps : Asked → Bool) → KeepsItsReply ends Good kept keeps → IsClimbing keeps ((top - 1 - since) % 8) top sent executed starts k
 
   -- the invariant of a world
-  abbrev pub True : World (ByNumber Asked) State → Type 0
-  True w = IsTrue w.client.since w.client.count w.wire.sent w.wire.executed w.wire.starts w.wire.made w.wire.settled w.wire.up w.wire.down (kept w.wire.state)
+  abbrev pub AllVouched : World (ByNumber Asked) State → Type 0
+  AllVouched w = AllVouchedIn w.client.since w.client.count w.wire.sent w.wire.executed w.wire.starts w.wire.made w.wire.settled w.wire.up w.wire.down (kept w.wire.state)
 
-  -- `IsTrue` lasts where a request goes out, which is known where all have to be
+  -- `AllVouchedIn` is preserved if a request is sent, which is known if all have to be
   true_sent : (since count : ℕ) (sent : List Sent) (executed starts : List ℕ) (made : List (Numbered (List ℕ))) (settled : List (Settlement Asked))
       (up : List (Numbered Request)) (down : List (Numbered (List ℕ))) (k : Option KeptReply) (target id : ℕ) (call : Asked) → id < 8 → (Plain → knows call ≡ true)
-      → IsTrue since count sent executed starts made settled up down k
-      → IsTrue since count (sent ++ record { target = target; call = call; line = asked_line (Some id) call } ∷ []) executed starts made settled
+      → AllVouchedIn since count sent executed starts made settled up down k
+      → AllVouchedIn since count (sent ++ record { target = target; call = call; line = asked_line (Some id) call } ∷ []) executed starts made settled
       (up ++ record { number = length sent; line = record { id = id; call = call } } ∷ []) down k
   true_sent since count sent executed starts made settled up down k target id call digit plain h =
       let r : Sent = record { target = target; call = call; line = asked_line (Some id) call } in
@@ -230,21 +122,21 @@ module _ {State : Type 0} (width : ℕ) (narrow : width ≤ 7) (knows : Asked �
       near_sent r plain (inl n) = inl (n.0, n.1, each_append (λ (r : Sent). knows r.call ≡ true) sent (r ∷ []) n.2 (plain n.0, tt))
       near_sent r plain (inr n) = inr n
 
-  -- `True` lasts where the client sends a request
+  -- `AllVouched` is preserved if the client sends a request
   true_send : (w : World (ByNumber Asked) State) (target : ℕ) (call : Asked) (deadline : ℕ) (full : Bool) (x : Sending (ByNumber Asked)) → (Plain → knows call ≡ true)
-      → number_send w.client target call deadline full ≡ Some x → True w → True (requested w target call (Some x))
+      → number_send w.client target call deadline full ≡ Some x → AllVouched w → AllVouched (requested w target call (Some x))
   true_send w target call deadline true x plain e h = cc
   true_send w target call deadline false x plain e h =
       let c = w.client in
       let id = (length c.requests - c.since) % 8 in
       let y : Sending (ByNumber Asked) = record { id = id; client = record { count = c.count; requests = c.requests ++ pending_of target call deadline ∷ []; since = c.since } } in
-      subst (λ z. True (requested w target call (Some z))) (some_is y x e)
+      subst (λ z. AllVouched (requested w target call (Some z))) (some_is y x e)
       (true_sent c.since c.count w.wire.sent w.wire.executed w.wire.starts w.wire.made w.wire.settled w.wire.up w.wire.down (kept w.wire.state) target id call (omega arith) plain h)
 
   -- A request that reaches the instrument.
 
-  -- where request n is excepted, or at most seven behind the newest known one, and has the id of the request whose reply is kept, it is excepted or
-  -- it is that request
+  -- where request n is excepted, or at most seven after the newest known one, and has the id of the request whose reply is
+  -- retained, it is excepted or it is that request
   near_same : (since top table n : ℕ) (k : KeptReply) (P : ℕ → List ℕ → Type 0) → IsKept P since top table k → since ≤ n → top ≤ n + 1 → k.id ≡ (n - since) % 8
       → E n ⊎ (n ≤ table + 7) → E n ⊎ P n k.line
   near_same since top table n k P held recent le same (inl e) = inl e
@@ -252,7 +144,7 @@ module _ {State : Type 0} (width : ℕ) (narrow : width ≤ 7) (knows : Asked �
       let one : held.number ≡ n = omega (arith, held.recent, held.before, held.behind, held.id, recent, le, same, near) in
       inr (subst (λ i. P i k.line) one held.line)
 
-  -- what is near stays near where request n was handed, which is known where all are
+  -- what is near stays near where request n was handed, which is known if all are
   near_on : (sent : List Sent) (top table n : ℕ) (known : Bool) → table ≤ n → (Each (λ (r : Sent). knows r.call ≡ true) sent → known ≡ true) → IsNear sent top table
       → IsNear sent (n + 1) (newest known n table)
   near_on sent top table n known low all (inl h) =
@@ -263,13 +155,13 @@ module _ {State : Type 0} (width : ℕ) (narrow : width ≤ 7) (knows : Asked �
     | inr le ↦ inr (let up = newest_up known n table low in omega (arith, le, up))
   ])
 
-  -- request n is excepted, or at most seven behind the newest known one: at most seven wait
+  -- request n is excepted, or at most seven after the newest known one: at most seven are outstanding
   near_of : (sent : List Sent) (top table n : ℕ) → n < top + 7 → IsNear sent top table → E n ⊎ (n ≤ table + 7)
   near_of sent top table n few (inl h) = inr (omega (arith, few, h.1))
   near_of sent top table n few (inr f) = f n
 
-  -- what `True` says of the front request, x
-  record IsFront (w : World (ByNumber Asked) State) (h : True w) (x : Numbered Request) (known : Bool) : Type 0 where
+  -- what `AllVouched` says of the front request, x
+  record IsFront (w : World (ByNumber Asked) State) (h : AllVouched w) (x : Numbered Request) (known : Bool) : Type 0 where
     recent : w.client.since ≤ x.number
     sent : x.number < length w.wire.sent
     id : x.line.id ≡ (x.number - w.client.since) % 8
@@ -283,7 +175,7 @@ module _ {State : Type 0} (width : ℕ) (narrow : width ≤ 7) (knows : Asked �
 
   -- each front request is so
   front_is : (w : World (ByNumber Asked) State) (x : Numbered Request) (rest : List (Numbered Request)) (known : Bool) → w.wire.up ≡ x ∷ rest → knows x.line.call ≡ known → Sound width ends Good w
-      → (h : True w) → IsFront w h x known
+      → (h : AllVouched w) → IsFront w h x known
   front_is w x rest known q is s h =
       let c = w.client in
       let g = (subst (λ l. Each (IsGoing c.since (length c.requests)) l) q s.going).0 in
@@ -302,15 +194,15 @@ module _ {State : Type 0} (width : ℕ) (narrow : width ≤ 7) (knows : Asked �
         all = λ every. sym is ∙ sym (ap knows o.call) ∙ each_get (λ (r : Sent). knows r.call ≡ true) w.wire.sent x.number o.request every o.found;
       }
 
-  -- `IsTrue` lasts where the front request, x, is handed to the instrument, if what it sends is vouched for, and the executions are in order and
-  -- act once
+  -- `AllVouchedIn` is preserved if the front request, x, is handed to the instrument, if what it sends is vouched for, and the executions
+  -- are in order and act once
   true_on : (w : World (ByNumber Asked) State) (x : Numbered Request) (rest : List (Numbered Request)) (known : Bool) (line executed : List ℕ) (after : Option KeptReply) → w.wire.up ≡ x ∷ rest
-      → (h : True w) → IsFront w h x known → Sound width ends Good w → ((i : ℕ) → Has i w.wire.executed → Has i executed)
+      → (h : AllVouched w) → IsFront w h x known → Sound width ends Good w → ((i : ℕ) → Has i w.wire.executed → Has i executed)
       → ((after ≡ None) ⊎ (after ≡ Some (record { id = x.line.id; line = line }))) ⊎ ((known ≡ false) × (after ≡ kept w.wire.state))
       → E x.number ⊎ IsVouched ends Good M w.wire.sent executed (w.wire.made ++ record { number = x.number; line = line } ∷ []) x.number line
       → IsOrdered (x.number + 1) executed
       → ((keeps : Asked → Bool) → KeepsItsReply ends Good kept keeps → IsClimbing keeps ((x.number + 1 - 1 - w.client.since) % 8) (x.number + 1) w.wire.sent executed w.wire.starts after)
-      → IsTrue w.client.since w.client.count w.wire.sent executed w.wire.starts (w.wire.made ++ record { number = x.number; line = line } ∷ []) w.wire.settled rest
+      → AllVouchedIn w.client.since w.client.count w.wire.sent executed w.wire.starts (w.wire.made ++ record { number = x.number; line = line } ∷ []) w.wire.settled rest
       (w.wire.down ++ record { number = x.number; line = line } ∷ []) after
   true_on w x rest known line executed after q h front s lasts now new order once =
       let c = w.client in
@@ -346,8 +238,8 @@ module _ {State : Type 0} (width : ℕ) (narrow : width ≤ 7) (knows : Asked �
         once = once;
       }
 
-  -- where the front request isn't executed, the line that is sent again is vouched for as its reply, or the request is excepted
-  again_own : (w : World (ByNumber Asked) State) (x : Numbered Request) (known : Bool) (line : List ℕ) (k : Option KeptReply) → (h : True w) → IsFront w h x known → kept w.wire.state ≡ k
+  -- if the front request isn't executed, the line that is sent again is vouched for as its reply, or the request is excepted
+  again_own : (w : World (ByNumber Asked) State) (x : Numbered Request) (known : Bool) (line : List ℕ) (k : Option KeptReply) → (h : AllVouched w) → IsFront w h x known → kept w.wire.state ≡ k
       → k ≡ Some (record { id = x.line.id; line = line })
       → E x.number ⊎ IsVouched ends Good M w.wire.sent w.wire.executed (w.wire.made ++ record { number = x.number; line = line } ∷ []) x.number line
   again_own w x known line None h front ke e = absurd (none_is_not (record { id = x.line.id; line = line }) e)
@@ -360,12 +252,12 @@ module _ {State : Type 0} (width : ℕ) (narrow : width ≤ 7) (knows : Asked �
         | inr p ↦ (vouched_on v.sent v.executed v.executed v.made (m ∷ []) h.table h.table x.number line (λ i has. has) (omega arith) p).1
       ]
 
-  -- what the instrument keeps after the front request
+  -- what the instrument retains after the front request
   abbrev AfterIs : World (ByNumber Asked) State → Numbered Request → Handed State → Bool → Type 0
   AfterIs w x hd known =
       ((kept hd.state ≡ None) ⊎ (kept hd.state ≡ Some (record { id = x.line.id; line = hd.reply }))) ⊎ ((known ≡ false) × (kept hd.state ≡ kept w.wire.state))
 
-  -- where the instrument keeps its reply to a request that it knows, it keeps that to the front request, or doesn't know that
+  -- if the instrument retains its reply to a request that it knows, it retains that to the front request, or doesn't know that
   held_by : (w : World (ByNumber Asked) State) (x : Numbered Request) (hd : Handed State) (keeps : Asked → Bool) (b : Bool) → keeps x.line.call ≡ b → KeepsItsReply ends Good kept keeps
       → ends.handed w.wire.state x.line.id x.line.call ≡ hd → Good w.wire.state → (since : ℕ) → x.line.id ≡ (x.number - since) % 8 → IsOf written w.wire.sent x
       → IsUnknown keeps w.wire.sent x.number ⊎ ((kept hd.state ≡ Some (record { id = x.line.id; line = hd.reply })) × (x.line.id ≡ (x.number + 1 - 1 - since) % 8))
@@ -377,10 +269,10 @@ module _ {State : Type 0} (width : ℕ) (narrow : width ≤ 7) (knows : Asked �
       )
   held_by w x hd keeps false e is handed good since own o = inl (o.request, o.found, ap keeps o.call ∙ e)
 
-  -- `True` lasts where the request in front isn't executed, and the kept line is sent again for it
+  -- `AllVouched` is preserved if the front request isn't executed, and the retained line is sent again for it
   true_again : (w : World (ByNumber Asked) State) (x : Numbered Request) (rest : List (Numbered Request)) (hd : Handed State) (known : Bool) → w.wire.up ≡ x ∷ rest
       → ends.handed w.wire.state x.line.id x.line.call ≡ hd → knows x.line.call ≡ known → kept w.wire.state ≡ Some (record { id = x.line.id; line = hd.reply }) → AfterIs w x hd known
-      → Sound width ends Good w → True w → True (on_wire w (replied w.wire x.number rest (record hd { executed = false })))
+      → Sound width ends Good w → AllVouched w → AllVouched (on_wire w (replied w.wire x.number rest (record hd { executed = false })))
   true_again w x rest hd known q is what same now s h =
       let c = w.client in
       let v = w.wire in
@@ -391,10 +283,10 @@ module _ {State : Type 0} (width : ℕ) (narrow : width ≤ 7) (knows : Asked �
       (record { id = x.line.id; line = hd.reply }) front.top
       (held_by w x hd keeps (keeps x.line.call) refl k is s.good c.since front.id front.of) (h.once keeps k))
 
-  -- where the front request is executed, it isn't one to which the instrument keeps its reply; or nothing was executed since the last start, or it is
-  -- later than all that were handed before, and its reply is kept
+  -- if the front request is executed, it isn't one to which the instrument retains its reply; or nothing was executed since the
+  -- last start, or it is later than all that were handed before, and its reply is retained
   acted_by : (w : World (ByNumber Asked) State) (x : Numbered Request) (hd : Handed State) (known : Bool) (keeps : Asked → Bool) (b : Bool) → keeps x.line.call ≡ b
-      → KeepsItsReply ends Good kept keeps → ends.handed w.wire.state x.line.id x.line.call ≡ hd → hd.executed ≡ true → Good w.wire.state → (h : True w) → IsFront w h x known
+      → KeepsItsReply ends Good kept keeps → ends.handed w.wire.state x.line.id x.line.call ≡ hd → hd.executed ≡ true → Good w.wire.state → (h : AllVouched w) → IsFront w h x known
       → IsUnknown keeps w.wire.sent x.number
       ⊎ ((IsIdle w.wire.executed w.wire.starts ⊎ (h.top ≤ x.number)) × (kept hd.state ≡ Some (record { id = x.line.id; line = hd.reply }))
       × (x.line.id ≡ (x.number + 1 - 1 - w.client.since) % 8))
@@ -410,10 +302,10 @@ module _ {State : Type 0} (width : ℕ) (narrow : width ≤ 7) (knows : Asked �
       )
   acted_by w x hd known keeps false e k is exe good h front = inl (front.of.request, front.of.found, ap keeps front.of.call ∙ e)
 
-  -- `True` lasts where the request in front is executed
+  -- `AllVouched` is preserved if the front request is executed
   true_new : (w : World (ByNumber Asked) State) (x : Numbered Request) (rest : List (Numbered Request)) (hd : Handed State) (known : Bool) → w.wire.up ≡ x ∷ rest
       → ends.handed w.wire.state x.line.id x.line.call ≡ hd → knows x.line.call ≡ known → hd.executed ≡ true → M x.number x.line.call hd.reply → AfterIs w x hd known
-      → Sound width ends Good w → True w → True (on_wire w (replied w.wire x.number rest (record hd { executed = true })))
+      → Sound width ends Good w → AllVouched w → AllVouched (on_wire w (replied w.wire x.number rest (record hd { executed = true })))
   true_new w x rest hd known q is what exe on now s h =
       let c = w.client in
       let v = w.wire in
@@ -441,10 +333,10 @@ module _ {State : Type 0} (width : ℕ) (narrow : width ≤ 7) (knows : Asked �
       (λ keeps k. climbing_acted keeps ((h.top - 1 - c.since) % 8) ((n + 1 - 1 - c.since) % 8) h.top n v.sent v.executed v.starts (kept v.state) (kept hd.state)
       (record { id = x.line.id; line = hd.reply }) front.top (acted_by w x hd known keeps (keeps x.line.call) refl k is exe s.good h front) (h.once keeps k))
 
-  -- `True` lasts where the request in front is handed to the instrument, whether that executes the request (`b`) or not
+  -- `AllVouched` is preserved if the front request is handed to the instrument, whether that executes the request (`b`) or not
   true_handed : (w : World (ByNumber Asked) State) (x : Numbered Request) (rest : List (Numbered Request)) (hd : Handed State) (b : Bool) → w.wire.up ≡ x ∷ rest
       → ends.handed w.wire.state x.line.id x.line.call ≡ hd → hd.executed ≡ b → (hd.executed ≡ true → M x.number x.line.call hd.reply)
-      → Sound width ends Good w → True w → True (on_wire w (replied w.wire x.number rest (record hd { executed = b })))
+      → Sound width ends Good w → AllVouched w → AllVouched (on_wire w (replied w.wire x.number rest (record hd { executed = b })))
   true_handed w x rest hd b q is exe on s h = chosen b exe where
     small : x.line.id < 8
     small = (subst (λ l. Each (IsOf written w.wire.sent) l) q h.lines).0.small
@@ -460,14 +352,14 @@ module _ {State : Type 0} (width : ℕ) (narrow : width ≤ 7) (knows : Asked �
         subst (λ (k : Handed State). k.executed ≡ false → kept w.wire.state ≡ Some (record { id = x.line.id; line = k.reply })) is
         (keeper.repeats w.wire.state x.line.id x.line.call s.good small) not
 
-    chosen : (b : Bool) → hd.executed ≡ b → True (on_wire w (replied w.wire x.number rest (record hd { executed = b })))
+    chosen : (b : Bool) → hd.executed ≡ b → AllVouched (on_wire w (replied w.wire x.number rest (record hd { executed = b })))
     chosen false not = true_again w x rest hd (knows x.line.call) q is refl (same not) now s h
     chosen true exe = true_new w x rest hd (knows x.line.call) q is refl exe (on exe) now s h
 
-  -- `True` lasts where the reply in front comes, be its request settled already (`old`) or not
+  -- `AllVouched` is preserved if the front reply comes, be its request settled already (`old`) or not
   true_reply : (w : World (ByNumber Asked) State) (x : Numbered (List ℕ)) (rest : List (Numbered (List ℕ))) (old : Bool) → ltb x.number w.client.count ≡ old
-      → w.wire.down ≡ x ∷ rest → length w.wire.settled ≡ w.client.count → True w
-      → True (with_settled (record w.wire { down = rest }) (number_reply w.client x old))
+      → w.wire.down ≡ x ∷ rest → length w.wire.settled ≡ w.client.count → AllVouched w
+      → AllVouched (with_settled (record w.wire { down = rest }) (number_reply w.client x old))
   true_reply w x rest true t e s h =
       let v = w.wire in
       let P = Vouched v.sent v.executed v.made h.table in
@@ -516,8 +408,8 @@ module _ {State : Type 0} (width : ℕ) (narrow : width ≤ 7) (knows : Asked �
         once = h.once;
       }
 
-  -- `True` lasts where the instrument starts anew, whatever is under way
-  pub true_started : (w : World (ByNumber Asked) State) (b : Bool) → Good w.wire.state → True w → True (on_wire w (started ends w.wire b))
+  -- `AllVouched` is preserved if the instrument starts again, whatever is in flight
+  pub true_started : (w : World (ByNumber Asked) State) (b : Bool) → Good w.wire.state → AllVouched w → AllVouched (on_wire w (started ends w.wire b))
   true_started w false good h = h
   true_started w true good h =
       let v = w.wire in
@@ -541,8 +433,8 @@ module _ {State : Type 0} (width : ℕ) (narrow : width ≤ 7) (knows : Asked �
             climbing_started keeps ((h.top - 1 - w.client.since) % 8) h.top v.sent v.executed v.starts (kept v.state) (kept (ends.restarted v.state)) (keeper.starts v.state good) (h.once keeps k);
       }
 
-  -- `True` lasts where the instrument's state changes by itself
-  pub true_changed : (w : World (ByNumber Asked) State) (state : State) → kept state ≡ kept w.wire.state → True w → True (on_wire w (record w.wire { state = state }))
+  -- `AllVouched` is preserved if the instrument's state changes by itself
+  pub true_changed : (w : World (ByNumber Asked) State) (state : State) → kept state ≡ kept w.wire.state → AllVouched w → AllVouched (on_wire w (record w.wire { state = state }))
   true_changed w state same h =
       let v = w.wire in
       record {
@@ -563,10 +455,10 @@ module _ {State : Type 0} (width : ℕ) (narrow : width ≤ 7) (knows : Asked �
         once = λ keeps k. subst (λ o. IsClimbing keeps ((h.top - 1 - w.client.since) % 8) h.top v.sent v.executed v.starts o) (sym same) (h.once keeps k);
       }
 
-  -- `True` lasts where the lines under way change, if those that are under way now still have what the invariant says of each
-  true_queues : (w : World (ByNumber Asked) State) (up : List (Numbered Request)) (down : List (Numbered (List ℕ))) (h : True w)
+  -- `AllVouched` is preserved if the lines in flight change, if those that are in flight now still have what the invariant says of each
+  true_queues : (w : World (ByNumber Asked) State) (up : List (Numbered Request)) (down : List (Numbered (List ℕ))) (h : AllVouched w)
       → Each (λ x. h.top ≤ x.number + 1) up → Each (IsOf written w.wire.sent) up → Each (λ x. x.number < h.top) down
-      → Each (λ x. Vouched w.wire.sent w.wire.executed w.wire.made h.table x.number x.line) down → True (on_wire w (record w.wire { up = up; down = down }))
+      → Each (λ x. Vouched w.wire.sent w.wire.executed w.wire.made h.table x.number x.line) down → AllVouched (on_wire w (record w.wire { up = up; down = down }))
   true_queues w up down h a l b c = record {
     top = h.top;
     table = h.table;
@@ -585,49 +477,48 @@ module _ {State : Type 0} (width : ℕ) (narrow : width ≤ 7) (knows : Asked �
     once = h.once;
   }
 
-  -- `True` lasts over a step that does nothing but count itself
-  true_idle : (w : World (ByNumber Asked) State) → True w → True (on_wire w (idle w.wire))
+  -- `AllVouched` is preserved by a step that does nothing but count itself
+  true_idle : (w : World (ByNumber Asked) State) → AllVouched w → AllVouched (on_wire w (idle w.wire))
   true_idle w h = h
 
   -- A move of the line, and a reply that comes.
 
-  -- `True` lasts where the request in front reaches the instrument, if `IsOn` holds of it
+  -- `AllVouched` is preserved if the front request reaches the instrument, if `IsOn` holds of it
   pub true_up : (w : World (ByNumber Asked) State) (q : List (Numbered Request)) → w.wire.up ≡ q
-      → ((x : Numbered Request) (rest : List (Numbered Request)) → q ≡ x ∷ rest → IsOn ends M w x) → Sound width ends Good w → True w
-      → True (on_wire w (up_delivered ends w.wire q))
+      → ((x : Numbered Request) (rest : List (Numbered Request)) → q ≡ x ∷ rest → IsOn ends M w x) → Sound width ends Good w → AllVouched w
+      → AllVouched (on_wire w (up_delivered ends w.wire q))
   true_up w [] e on s h = true_idle w h
   true_up w (x ∷ rest) e on s h =
       true_handed w x rest (ends.handed w.wire.state x.line.id x.line.call) (ends.handed w.wire.state x.line.id x.line.call).executed e refl refl (on x rest refl) s h
 
-  -- `True` lasts where the reply in front comes
-  pub true_down : (w : World (ByNumber Asked) State) (q : List (Numbered (List ℕ))) → w.wire.down ≡ q → Sound width ends Good w → True w → True (down_delivered (by_numbers width) w q)
+  -- `AllVouched` is preserved if the front reply comes
+  pub true_down : (w : World (ByNumber Asked) State) (q : List (Numbered (List ℕ))) → w.wire.down ≡ q → Sound width ends Good w → AllVouched w → AllVouched (down_delivered (by_numbers width) w q)
   true_down w [] e s h = true_idle w h
   true_down w (x ∷ rest) e s h = true_reply w x rest (ltb x.number w.client.count) refl e s.booked h
 
-  -- `True` lasts over a loss or a repeat of a request under way; where there is none at that place (`b` is false), nothing
-  -- happens
-  true_with_up : (w : World (ByNumber Asked) State) (up : List (Numbered Request)) (b : Bool) (h : True w)
-      → Each (λ x. h.top ≤ x.number + 1) up → Each (IsOf written w.wire.sent) up → True (on_wire w (with_up w.wire up b))
+  -- `AllVouched` is preserved by a loss or a repeat of a request in flight; if there is none at that place (`b` is false), nothing happens
+  true_with_up : (w : World (ByNumber Asked) State) (up : List (Numbered Request)) (b : Bool) (h : AllVouched w)
+      → Each (λ x. h.top ≤ x.number + 1) up → Each (IsOf written w.wire.sent) up → AllVouched (on_wire w (with_up w.wire up b))
   true_with_up w up false h a l = true_idle w h
   true_with_up w up true h a l = true_queues w up w.wire.down h a l h.below h.coming
 
-  -- `True` lasts over a loss or a repeat of a reply under way; where there is none at that place (`b` is false), nothing happens
-  true_with_down : (w : World (ByNumber Asked) State) (down : List (Numbered (List ℕ))) (b : Bool) (h : True w)
+  -- `AllVouched` is preserved by a loss or a repeat of a reply in flight; if there is none at that place (`b` is false), nothing happens
+  true_with_down : (w : World (ByNumber Asked) State) (down : List (Numbered (List ℕ))) (b : Bool) (h : AllVouched w)
       → Each (λ x. x.number < h.top) down → Each (λ x. Vouched w.wire.sent w.wire.executed w.wire.made h.table x.number x.line) down
-      → True (on_wire w (with_down w.wire down b))
+      → AllVouched (on_wire w (with_down w.wire down b))
   true_with_down w down false h l c = true_idle w h
   true_with_down w down true h l c = true_queues w w.wire.up down h h.above h.lines l c
 
-  -- `True` lasts over a send, refused or not
+  -- `AllVouched` is preserved by a send, refused or not
   pub true_requested : (w : World (ByNumber Asked) State) (target : ℕ) (call : Asked) (deadline : ℕ) (o : Option (Sending (ByNumber Asked))) → (Plain → knows call ≡ true)
-      → (by_numbers width).send w.client target call deadline ≡ o → True w → True (requested w target call o)
+      → (by_numbers width).send w.client target call deadline ≡ o → AllVouched w → AllVouched (requested w target call o)
   true_requested w target call deadline None plain e h = h
   true_requested w target call deadline (Some x) plain e h = true_send w target call deadline (eqb (length w.client.requests - w.client.count) width) x plain e h
 
-  -- `True` lasts over a step of the line
+  -- `AllVouched` is preserved by a step of the line
   pub true_line : (w : World (ByNumber Asked) State) (step : Step) → IsOfLine step
-      → ((x : Numbered Request) (rest : List (Numbered Request)) → step ≡ Up_deliver → w.wire.up ≡ x ∷ rest → IsOn ends M w x) → Sound width ends Good w → True w
-      → True (happens ends (by_numbers width) w step)
+      → ((x : Numbered Request) (rest : List (Numbered Request)) → step ≡ Up_deliver → w.wire.up ≡ x ∷ rest → IsOn ends M w x) → Sound width ends Good w → AllVouched w
+      → AllVouched (happens ends (by_numbers width) w step)
   true_line w (Send target call deadline) p on s h = absurd p
   true_line w Up_deliver p on s h = true_up w w.wire.up refl (λ x rest e. on x rest refl e) s h
   true_line w (Up_lose k) p on s h = true_with_up w (without k w.wire.up) (ltb k (length w.wire.up)) h (each_without _ k w.wire.up h.above) (each_without _ k w.wire.up h.lines)

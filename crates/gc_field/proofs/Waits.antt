@@ -1,4 +1,4 @@
--- A request that waits is given up by a moment at or past its deadline, and by nothing else.
+-- An outstanding request times out at a moment at or past its deadline, and by nothing else.
 use Rattle.std.proofs.Common.{◌≡◌, ℕ, zero, suc, ◌+◌, ◌-◌, ◌≤◌, Bool, true, false, ◌||◌, List, [], ◌∷◌, ◌++◌, length, map, drop, Option, Some, None, nat_le, nat_lt, nat_eq, refl, ◌∙◌, ap, subst, arith, length-append, append-nil}
 use Rattle.std.specs.Prelude.{slice_get}
 use Rattle.std.proofs.lemmas.Bool.{ltb-true}
@@ -12,7 +12,7 @@ use Rattle.gc_world.proofs.Rows.{length-settle}
 use Rattle.gc_field.specs.Field.{Move, Sends, Tells, Comes, Foreign, OnLine, Anew, Changes, Joins, IsOfLine, moves, moved, ArePossible}
 use Rattle.gc_field.specs.Runs.{gives_up}
 
--- what these moves make of a request that waits: a moment at or past its deadline gives it up, and nothing else changes it
+-- what these moves make of an outstanding request: a moment at or past its deadline times it out, and nothing else changes it
 abbrev pub after_moves : {State : Type 0} → Pending Asked → List (Move State) → Pending Asked
 after_moves p [] = p
 after_moves p (Tells now ∷ ms) = after_moves (expired now p) ms
@@ -34,7 +34,7 @@ or_none : (a : Bool) → a ≡ (a || false)
 or_none true = refl
 or_none false = refl
 
--- a request is given up after moves if it was before, or if a moment at or past its deadline is told
+-- a request has timed out after moves if it was before, or if a moment at or past its deadline is read
 pub after_is : {State : Type 0} (p : Pending Asked) (ms : List (Move State)) → after_moves p ms ≡ record p { given_up = p.given_up || gives_up p.deadline ms }
 after_is p [] = ap (λ b. record p { given_up = b }) (or_none p.given_up)
 after_is p (Tells now ∷ ms) = after_is (expired now p) ms ∙ ap (λ b. record p { given_up = b }) (or_assoc p.given_up (nat_le p.deadline now) (gives_up p.deadline ms))
@@ -47,7 +47,7 @@ after_is p (Changes state ∷ ms) = after_is p ms
 after_is p (Joins line ∷ ms) = after_is p ms
 
 -- where request n isn't settled yet (the first `size` requests are), it waits as `p`, at its place in the list of those that
--- wait
+-- are outstanding
 abbrev pub WaitsAt : ℕ → List (Pending Asked) → ℕ → Pending Asked → Type 0
 WaitsAt size waiting n p = size ≤ n → slice_get waiting (n - size) ≡ Some p
 
@@ -68,7 +68,7 @@ get_behind (suc j) i zero xs p e got = absurd (omega (arith, e))
 get_behind (suc j) i (suc n) [] p e got = cc
 get_behind (suc j) i (suc n) (x ∷ xs) p e got = get_behind j i n xs p (omega (arith, e)) got
 
--- where a moment is told to each request of a list, the one at a place is what the moment makes of the request that was there
+-- if a moment is read to each request of a list, the one at a place is what the moment makes of the request that was there
 get_map : (now : ℕ) (xs : List (Pending Asked)) (k : ℕ) (p : Pending Asked) → slice_get xs k ≡ Some p → slice_get (map (expired now) xs) k ≡ Some (expired now p)
 get_map now [] k p e = cc
 get_map now (x ∷ xs) zero p e = same x p e where
@@ -107,33 +107,33 @@ waits_heard c line None before n p h = λ le.
 waits_heard c line (Some id) before n p h = waits_settled c line (place_in c id) (nat_lt (place_in c id) (length c.waiting)) before n p refl h
 
 module _ {State : Type 0} (ends : Ends State) (Good : State → Type 0) (kept : State → Option KeptReply) where
-  -- a request waits on where a reply comes
+  -- a request stays outstanding if a reply comes
   waits_came : (w : World (ById Asked) State) (q : List (Numbered (List ℕ))) (n : ℕ) (p : Pending Asked) → Waits w n p → Waits (down_delivered (by_ids 7 ends) w q) n p
   waits_came w [] n p h = h
   waits_came w (x ∷ rest) n p h = waits_heard w.client x.line (ends.heard x.line) w.wire.settled n p h
 
-  -- a request waits on where another is sent
+  -- a request stays outstanding if another is sent
   waits_sent : (w : World (ById Asked) State) (target : ℕ) (call : Asked) (deadline : ℕ) (b : Bool) (n : ℕ) (p : Pending Asked) → Waits w n p
       → Waits (requested w target call (id_send w.client target call deadline b)) n p
   waits_sent w target call deadline true n p h = h
   waits_sent w target call deadline false n p h = λ le. get_front w.client.waiting (pending_of target call deadline ∷ []) (n - length w.wire.settled) p (h le)
 
-  -- a request waits on where another one reaches the instrument
+  -- a request stays outstanding if another one reaches the instrument
   waits_up : (w : World (ById Asked) State) (q : List (Numbered Request)) (n : ℕ) (p : Pending Asked) → Waits w n p → Waits (on_wire w (up_delivered ends w.wire q)) n p
   waits_up w [] n p h = h
   waits_up w (x ∷ rest) n p h = h
 
-  -- a request waits on where the requests under way change
+  -- a request stays outstanding if the requests in flight change
   waits_with_up : (w : World (ById Asked) State) (q : List (Numbered Request)) (b : Bool) (n : ℕ) (p : Pending Asked) → Waits w n p → Waits (on_wire w (with_up w.wire q b)) n p
   waits_with_up w q true n p h = h
   waits_with_up w q false n p h = h
 
-  -- a request waits on where the replies under way change
+  -- a request stays outstanding if the replies in flight change
   waits_with_down : (w : World (ById Asked) State) (q : List (Numbered (List ℕ))) (b : Bool) (n : ℕ) (p : Pending Asked) → Waits w n p → Waits (on_wire w (with_down w.wire q b)) n p
   waits_with_down w q true n p h = h
   waits_with_down w q false n p h = h
 
-  -- a request waits on where a step of the line happens
+  -- a request stays outstanding if a step of the line happens
   waits_line : (w : World (ById Asked) State) (step : Step) (n : ℕ) (p : Pending Asked) → IsOfLine step → Waits w n p → Waits (moves ends (by_ids 7 ends) w (OnLine step)) n p
   waits_line w (Send target call deadline) n p o h = absurd o
   waits_line w Up_deliver n p o h = waits_up w w.wire.up n p h

@@ -32,7 +32,7 @@ use Rattle.gc_field.specs.Witness.{IsAnsweredInField, acts, answer, before, begu
 
 -- What the runs share.
 
--- n + 1 facts without content: `ArePossible` comes to these where each of n moves is always possible
+-- n + 1 facts without content: `ArePossible` comes to these if each of n moves is always possible
 abbrev pub Units : ℕ → Type 0
 Units zero = Unit {0}
 Units (suc n) = Unit {0} × Units n
@@ -57,8 +57,8 @@ unfolding is_elsewhere header_at reply_at digits
 opens width tasks reads =
     (tt, (refl, (tt, (refl, (tt, (tt, (refl, (tt, (tt, (refl, (tt, (tt, (refl, (tt, (tt, (refl, (tt, (tt, (refl, (tt, (tt, (refl, (tt, (tt, (refl, (tt, (tt, tt)))))))))))))))))))))))))))
 
--- the part with these turns and steps, whose requests are of the first cycle: each by its place, and the moment before it went
--- out
+-- the part with these turns and steps, whose requests are of the first cycle: each by its place, and the moment before it was
+-- sent
 abbrev pub part_of : List part.Turn → List (Step Asked) → List (ℕ × ℕ) → Part
 part_of turns steps sent = record { turns = turns; steps = steps; marks = map (λ x. Some (record { cycle = 1; place = x.0; sent = x.1; expected = plain_expected })) sent }
 
@@ -120,22 +120,23 @@ was_made : WasMadeOn WINDOW ends (leaves (turned ends turns (begins before))) mo
 unfolding is_elsewhere header_at reply_at handed exec digits
 was_made = record { front = take 3 moves; later = drop 4 moves; split = refl; id = 0; rest = []; reaches = refl; executed = refl; reply = refl }
 
--- the turns of a beginning in which, for each of these lines in order, a null procedure goes out, and then the line is heard
+-- the turns of a synchronization in which, for each of these lines in order, a null procedure is sent, and then the line is
+-- heard
 abbrev pub asked_each : List (List ℕ) → List part.Turn
 asked_each [] = []
 asked_each (line ∷ lines) = part.Asks ∷ part.Hears line ∷ asked_each lines
 
--- what the turns of this run's beginning show
+-- what the turns of this run's synchronization show
 abbrev all_turns : List part.Turn
 all_turns = part.Asks ∷ part.Hears (codes "%R1P,0,0:0,654321") ∷ part.Hears answer ∷ part.Hears (codes "%R1P,0,6:0") ∷ asked_each (drop 1 replies)
 
--- the run has one part, with these turns and steps, and the request for the command at place 0, which went out after the moment
+-- the run has one part, with these turns and steps, and the request for the command at place 0, which was sent after the moment
 -- 15
 parts_are : parts_of plan commands (opening plan scope) acts ≡ one_part all_turns (seen moves) ((0, 15) ∷ [])
 unfolding is_elsewhere header_at reply_at digits
 parts_are = refl
 
--- what the line does while the station begins shows these turns
+-- what the line does while the station synchronizes shows these turns
 shown_are : shown ends turns (begins before) ≡ all_turns
 unfolding is_elsewhere header_at reply_at handed exec digits
 shown_are = refl

@@ -1,5 +1,5 @@
--- Why the first request goes out alone, this project's own: an instrument that keeps an older reply takes a second request with
--- that reply's id for a repeat of the older request.
+-- Why the first request is sent alone, this project's own: an instrument that retains an older reply takes a second request
+-- with that reply's id for a repeat of the older request.
 use Rattle.std.specs.Prelude.{◌≡◌, ℕ, List, [], ◌∷◌, Some}
 use Rattle.gc_catalogue.specs.declared.asked.Asked.TheVariants.{Table}
 use Rattle.gc_catalogue.specs.declared.call.Call.TheVariants.{NullProc}
@@ -15,12 +15,12 @@ use Rattle.gc_field.specs.Laws.{left, kept_of}
 use Rattle.gc_field.specs.Made.{WasMadeOn}
 
 -- the moves of a client that sends two requests at once: the first is lost, and the second has the reply that the instrument
--- keeps
+-- retains
 abbrev pub two_at_once : List ℕ → List (Move State)
 two_at_once line = Sends 1 (Table NullProc) 9 ∷ Sends 2 (Table NullProc) 9 ∷ OnLine (Up_lose 0) ∷ OnLine Up_deliver ∷ Comes line ∷ []
 
--- the reply that is kept is booked as the second request's answer, though no request was executed: so it wasn't made on executing
--- that request
+-- the reply that is retained is booked as the second request's answer, though no request was executed: so it wasn't made on
+-- executing that request
 pub record IsBookedUnexecuted (state : State) (line : List ℕ) : Type 0 where
   pub possible : ArePossible ends IsFittingState kept_of (by_ids WINDOW ends) (two_at_once line) (ids_open state)
   pub settled : (left WINDOW ends state (two_at_once line)).wire.settled
@@ -28,7 +28,7 @@ pub record IsBookedUnexecuted (state : State) (line : List ℕ) : Type 0 where
   pub executed : (left WINDOW ends state (two_at_once line)).wire.executed ≡ []
   pub unmade : WasMadeOn WINDOW ends state (two_at_once line) 1 (Table NullProc) line → ⊥
 
--- where the simulator keeps a reply with id 1, that reply is booked for the second of two requests that go out at once, which
+-- if the simulator retains a reply with id 1, that reply is booked for the second of two requests that are sent at once, which
 -- isn't executed
 abbrev pub TwoAtOnceAreBookedWrong : Type 0
 TwoAtOnceAreBookedWrong = (state : State) (line : List ℕ) → IsFittingState state → kept_line state.kept (Some 1) ≡ Some line → IsBookedUnexecuted state line

@@ -1,20 +1,20 @@
--- What the acts of a link are to a station while it begins, this project's own: turns. A turn is a null procedure that goes
--- out, or a line that is heard. The word is the list of the ids of the null procedures that aren't answered.
+-- What the acts of a link are to a station while it synchronizes, this project's own: turns. A turn is a null procedure that is
+-- sent, or a line that is heard. The word is the list of the ids of the null procedures that aren't answered.
 use Rattle.std.specs.Prelude.{◌≡◌, ◌⊎◌, ℕ, List, [], ◌∷◌, map}
 use Rattle.gc_lines.specs.Frames.{rest_behind}
 use Rattle.gc_links.specs.Acts.{Act, Put, Cut, Gave, Closed}
 use Rattle.gc_station.specs.Parts.{Turn, Asks, Hears}
-use Rattle.gc_station.specs.Model.{lines_behind, null_text}
+use Rattle.gc_station.specs.Model.{lines_completed, null_text}
 
--- what bytes that go out are while a station begins: a line feed, which clears the receiver and is no turn; or the line of the null
--- procedure of the first id that isn't answered
+-- what bytes that are sent are while a station synchronizes: a line feed, which clears the receiver and is no turn; or the line
+-- of the null procedure of the first id that isn't answered
 abbrev pub IsAskedFor : List ℕ → List ℕ → List Turn → Type 0
 IsAskedFor word bytes turns = ((bytes ≡ 10 ∷ []) × (turns ≡ [])) ⊎ ((bytes ≡ null_text word) × (turns ≡ Asks ∷ []))
 
--- what becomes of a piece that comes while a station begins: it is heard line by line; or it is dropped, as if its lines had
--- been lost. `before` and `behind` are the bytes since the last line feed, before the piece and after it
+-- what becomes of a piece that comes while a station synchronizes: it is heard line by line; or it is discarded, as if its
+-- lines had been lost. `before` and `behind` are the bytes since the last line feed, before the piece and after it
 abbrev pub IsTaken : List ℕ → List ℕ → List Turn → List ℕ → Type 0
-IsTaken before piece turns behind = ((turns ≡ map Hears (lines_behind before piece)) × (behind ≡ rest_behind before piece)) ⊎ ((turns ≡ []) × (behind ≡ before))
+IsTaken before piece turns behind = ((turns ≡ map Hears (lines_completed before piece)) × (behind ≡ rest_behind before piece)) ⊎ ((turns ≡ []) × (behind ≡ before))
 
 -- what an act means while these ids of the word aren't answered: its turns. `before` and `behind` are the bytes since the last
 -- line feed, before and after the act; a close forgets them

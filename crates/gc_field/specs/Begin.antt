@@ -1,8 +1,8 @@
--- A beginning in the field, this project's own: a beginner, an instrument, and a line between them that keeps order, loses
--- lines whole, and repeats one directly after it. The beginner sends null procedures with the ids 6 5 4 3 2 1 0 7, the word,
--- each until it is answered. What is under way from before may be anything. Connections aren't spoken of, because a close is a
--- loss of lines. A request that is cut is lost, because a line feed arrives after its front. The instrument may start anew at
--- any moment.
+-- A synchronization in the field, this project's own: a beginner, an instrument, and a line between them that keeps order,
+-- loses lines whole, and repeats one directly after it. The beginner sends null procedures with the ids 6 5 4 3 2 1 0 7, the
+-- word, each until it is answered. What is in flight from before may be anything. Connections aren't spoken of, because a close
+-- is a loss of lines. A request that is cut is lost, because a line feed arrives after its front. The instrument may start
+-- again at any moment.
 use Rattle.std.specs.Prelude.{◌≡◌, ℕ, ◌<◌, Bool, true, false, List, [], ◌∷◌, ◌++◌, map, Option, None}
 use Rattle.std.specs.List.{filter_map}
 use Rattle.gc_catalogue.specs.declared.asked.Asked.TheVariants.{Table}
@@ -15,9 +15,9 @@ use Rattle.gc_world.specs.Order.{Each}
 use Rattle.gc_field.specs.World.{Ends, Request, without, doubled}
 use Rattle.gc_field.specs.Instrument.{MayBecome}
 
--- What is under way.
+-- What is in flight.
 
--- the requests under way to an instrument, the replies under way from it, the front of each queue first; and the instrument
+-- the requests in flight to an instrument, the replies in flight from it, the front of each queue first; and the instrument
 pub record UnderWay (State : Type 0) : Type 0 where
   pub up : List Request
   pub down : List (List ℕ)
@@ -27,12 +27,12 @@ pub record UnderWay (State : Type 0) : Type 0 where
 abbrev pub none_under_way : {State : Type 0} → State → UnderWay State
 none_under_way state = record { up = []; down = []; state = state }
 
--- the ids under way, in order: of the replies, then of the requests. The reply that the instrument keeps doesn't count, because it is sent
--- only for a request; nor does a line without an id
+-- the ids in flight, in order: of the replies, then of the requests. The reply that the instrument retains doesn't count,
+-- because it is sent only for a request; nor does a line without an id
 abbrev pub ids_under_way : {State : Type 0} → UnderWay State → List ℕ
 ids_under_way u = filter_map heard u.down ++ map (λ x. x.id) u.up
 
--- the id of each request under way is one digit from 0 to 7, and the instrument's state is good (`Good`)
+-- the id of each request in flight is one digit from 0 to 7, and the instrument's state is good (`Good`)
 pub record AreLines {State : Type 0} (Good : State → Type 0) (u : UnderWay State) : Type 0 where
   pub ids : Each (λ x. x.id < IDS) u.up
   pub good : Good u.state
@@ -40,65 +40,65 @@ pub record AreLines {State : Type 0} (Good : State → Type 0) (u : UnderWay Sta
 -- The beginner.
 
 -- a request or a reply in flight, marked old if the request, or the one that the reply was sent for, is from before this
--- beginning
+-- synchronization
 pub record Aged (Line : Type 0) : Type 0 where
   pub old : Bool
   pub line : Line
 
--- the state of a beginning in the field: the lines in flight each way, the instrument, and the ids of the word that aren't
--- answered
+-- the state of a synchronization in the field: the lines in flight each way, the instrument, and the ids of the word that
+-- aren't answered
 pub record Model (State : Type 0) : Type 0 where
   pub up : List (Aged Request)
   pub down : List (Aged (List ℕ))
   pub state : State
   pub left : List ℕ
 
--- the state at the start of a beginning: all that is in flight is old
+-- the state at the start of a synchronization: all that is in flight is old
 abbrev pub begins : {State : Type 0} → UnderWay State → Model State
 begins u = record { up = map (λ x. record { old = true; line = x }) u.up; down = map (λ x. record { old = true; line = x }) u.down; state = u.state; left = the_word }
 
--- what a beginning leaves in flight
+-- what a synchronization leaves in flight
 abbrev pub leaves : {State : Type 0} → Model State → UnderWay State
 leaves s = record { up = map (λ x. x.line) s.up; down = map (λ x. x.line) s.down; state = s.state }
 
--- one step of a beginning
+-- one step of a synchronization
 pub data Turn (State : Type 0) : Type 0 where
-  -- the beginner's part: the null procedure of the first id that isn't answered goes out, the first time or again, whole or in part; the reply
-  -- in front comes; a line comes that is no reply with an id
+  -- the beginner's part: the null procedure of the first id that isn't answered is sent, the first time or again, whole or in
+  -- part; the front reply comes; a line comes that is no reply with an id
   Asks : Turn State
   Comes : Turn State
   Foreign : (line : List ℕ) → Turn State
-  -- the line's part: the request in front reaches the instrument, whose reply goes out; a line is lost, or comes twice
+  -- the line's part: the front request reaches the instrument, whose reply is sent; a line is lost, or comes twice
   Reaches : Turn State
   Up_lose : (which : ℕ) → Turn State
   Up_repeat : (which : ℕ) → Turn State
   Down_lose : (which : ℕ) → Turn State
   Down_repeat : (which : ℕ) → Turn State
-  -- the instrument starts anew, whatever is under way
+  -- the instrument starts again, whatever is in flight
   Anew : Turn State
   -- the instrument's state changes by itself, to this one
   Changes : (state : State) → Turn State
 
 module _ {State : Type 0} where
-  -- the state once the null procedure of the first id that isn't answered went out; where all are answered, none goes out
+  -- the state once the null procedure of the first id that isn't answered was sent; if all are answered, none is sent
   abbrev pub asks : Model State → List ℕ → Model State
   asks s [] = s
   asks s (asked ∷ rest) = record s { up = s.up ++ record { old = false; line = record { id = asked; call = Table NullProc } } ∷ [] }
 
-  -- the state once the reply in front came: where it has the first id of the word that isn't answered, it answers that id; else
-  -- it is dropped
+  -- the state once the front reply came: if it has the first id of the word that isn't answered, it answers that id;
+  -- otherwise it is discarded
   abbrev pub comes : Model State → List (Aged (List ℕ)) → Model State
   comes s [] = s
   comes s (x ∷ rest) = record s { down = rest; left = left_by s.left (heard x.line) }
 
-  -- the state once the request in front was handed to the instrument. The reply goes out, marked old where the request was
+  -- the state once the front request was handed to the instrument. The reply is sent, marked old if the request was
   abbrev pub reaches : Ends State → Model State → List (Aged Request) → Model State
   reaches ends s [] = s
   reaches ends s (x ∷ rest) =
       let handed = ends.handed s.state x.line.id x.line.call in
       record s { up = rest; down = s.down ++ record { old = x.old; line = handed.reply } ∷ []; state = handed.state }
 
-  -- what a turn does. A turn that takes a line changes nothing where there is no such line
+  -- what a turn does. A turn that takes a line changes nothing if there is no such line
   abbrev pub turns : Ends State → Model State → Turn State → Model State
   turns ends s Asks = asks s s.left
   turns ends s Comes = comes s s.down

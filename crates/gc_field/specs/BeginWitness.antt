@@ -31,10 +31,10 @@ before =
 abbrev pub killed : Run State
 killed = record { turns = Asks ∷ Comes ∷ Asks ∷ []; moves = [] }
 
--- the next run begins. The two old requests are answered, and both replies dropped. Its null procedures 6 and 5 are answered by
--- the replies to those of the run before, and the six others by their own replies. Meanwhile the instrument starts anew, the
--- request of null procedure 0 is lost and goes out again, and the line repeats that of null procedure 7. Then two commands go
--- out at once, and the replies to both come
+-- the next run begins. The two old requests are answered, and both replies discarded. Its null procedures 6 and 5 are answered by
+-- the replies to those of the run before, and the six others by their own replies. Meanwhile the instrument starts again, the
+-- request of null procedure 0 is lost and is sent again, and the line repeats that of null procedure 7. Then two commands are
+-- sent at once, and the replies to both come
 abbrev pub next : Run State
 next =
     record {
@@ -55,7 +55,7 @@ next =
           ∷ [];
     }
 
--- what the second run had in flight once it had begun
+-- what the second run had in flight once it had synchronized
 abbrev pub clean : UnderWay State
 clean = leaves (turned ends next.turns (begins (left_by_run WINDOW ends before killed)))
 
@@ -72,7 +72,7 @@ pub record AreSomeRuns : Type 0 where
       ∷ record { target = 8; call = Table InstrumentNo; outcome = Answered (codes "%R1P,0,1:0,123456") } ∷ []
   pub made_on : WasMadeOn WINDOW ends clean next.moves 8 (Table InstrumentNo) (codes "%R1P,0,0:0,123456")
 
--- The word: the ids of the eight null procedures of a beginning, in order: 6 down to 0, and then 7.
+-- The word: the ids of the eight null procedures of a synchronization, in order: 6 down to 0, and then 7.
 
 -- in flight are replies with the ids of the word, and one with id 0 after them
 abbrev pub with_the_word : UnderWay State
@@ -83,11 +83,12 @@ with_the_word =
       state = simulator_opening;
     }
 
--- the turns of a beginning that sends nothing, and hears the eight replies of `with_the_word` that have the ids of the word
+-- the turns of a synchronization that sends nothing, and hears the eight replies of `with_the_word` that have the ids of the
+-- word
 abbrev pub eight_come : List (Turn State)
 eight_come = Comes ∷ Comes ∷ Comes ∷ Comes ∷ Comes ∷ Comes ∷ Comes ∷ Comes ∷ []
 
--- the moves after that beginning: the first command goes out, and the reply after the eight comes
+-- the moves after that synchronization: the first command is sent, and the reply after the eight comes
 abbrev pub one_more : List (Move State)
 one_more = Sends 7 (Table InstrumentNo) 100 ∷ field.Comes (codes "%R1P,0,0:0,654321") ∷ []
 

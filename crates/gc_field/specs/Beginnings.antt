@@ -1,7 +1,7 @@
 -- One run after the other over a line that outlives them, this project's own: each begins by its null procedures, then sends
--- commands, and is killed at any moment, also while it begins; and one may begin anew within itself. Nothing here depends on a
--- clock. The word of a beginning has the ids of its null procedures, 6 5 4 3 2 1 0 7; what is left of it are those that aren't
--- answered.
+-- commands, and is killed at any moment, also while it synchronizes; and one may resynchronize within itself. Nothing here
+-- depends on a clock. The word of a synchronization has the ids of its null procedures, 6 5 4 3 2 1 0 7; what is left of it are
+-- those that aren't answered.
 use Rattle.std.specs.Prelude.{◌≡◌, ℕ, ◌+◌, ◌%◌, ◌<◌, ◌≤◌, List, [], ◌∷◌, map, Option}
 use Rattle.gc_client.specs.Beginning.{IsSubsequence, the_word}
 use Rattle.gc_client.specs.declared.window.TheConstants.{WINDOW}
@@ -16,7 +16,7 @@ use Rattle.gc_field.specs.Field.{Move, ArePossible}
 use Rattle.gc_field.specs.Instrument.{AnyState, IsAnInstrument}
 use Rattle.gc_field.specs.Laws.{kept_of}
 
--- what is under way on a wire
+-- what is in flight on a wire
 abbrev pub on_line : {State : Type 0} → Wire State → UnderWay State
 on_line w = record { up = map (λ x. x.line) w.up; down = map (λ x. x.line) w.down; state = w.state }
 
@@ -30,12 +30,12 @@ pub record IsRow {State : Type 0} (u : UnderWay State) : Type 0 where
   pub few : Each (λ n. n < low + WINDOW) numbers
   pub ids : ids_under_way u ≡ map (λ n. n % 8) numbers
 
--- where `IsRow` holds of what is under way, the word is no subsequence of the ids under way: eight ids that rise modulo 8 don't
+-- where `IsRow` holds of what is in flight, the word is no subsequence of the ids in flight: eight ids that rise modulo 8 don't
 -- contain even the first three ids of the word
 abbrev pub RowsHaveNotTheWord : Type 0 → Type 0
 RowsHaveNotTheWord State = (u : UnderWay State) → IsRow u → IsSubsequence the_word (ids_under_way u) → ⊥
 
--- once a run has begun cleanly, `IsRow` holds of what is under way at any time
+-- once a run has synchronized cleanly, `IsRow` holds of what is in flight at any time
 abbrev pub RunsLeaveRows : Type 0 → Type 0
 RunsLeaveRows State =
     (ends : Ends State) (kept : State → Option KeptReply) → IsAnInstrument ends AnyState kept →
@@ -44,34 +44,34 @@ RunsLeaveRows State =
 
 -- Runs.
 
--- a run: what happens while it begins, and once it has begun. A run that begins anew within itself is two
+-- a run: what happens while it synchronizes, and once it has synchronized. A run that resynchronizes within itself is two
 pub record Run (State : Type 0) : Type 0 where
   pub turns : List (Turn State)
   pub moves : List (Move State)
 
 module _ {State : Type 0} (width : ℕ) (ends : Ends State) where
-  -- the state of a run's beginning when the run has begun, or is killed before
+  -- the state of a run's synchronization when the run has synchronized, or is killed before
   abbrev pub stood : UnderWay State → Run State → Model State
   stood u r = turned ends r.turns (begins u)
 
-  -- what is under way after a run, by the ids of its word that are left. None: it had begun, and its moves followed. Some: it
-  -- was killed while it began
+  -- what is in flight after a run, by the ids of its word that are left. None: it had synchronized, and its moves followed.
+  -- Some: it was killed while it synchronized
   abbrev pub left_if : List ℕ → Model State → List (Move State) → UnderWay State
   left_if [] s ms = on_line (behind width ends (leaves s) ms).wire
   left_if (asked ∷ rest) s ms = leaves s
 
-  -- what is under way after a run
+  -- what is in flight after a run
   abbrev pub left_by_run : UnderWay State → Run State → UnderWay State
   left_by_run u r = left_if (stood u r).left (stood u r) r.moves
 
-  -- how many runs in a row were killed while they began, counted at the end of a run, where `n` were before it. No id of its
-  -- word is left: none, because the run has begun. Some ids are left: one more
+  -- how many runs in a row were killed while they synchronized, counted at the end of a run, where `n` were before it. No id of
+  -- its word is left: none, because the run has synchronized. Some ids are left: one more
   abbrev pub killed_if : List ℕ → ℕ → ℕ
   killed_if [] n = 0
   killed_if (asked ∷ rest) n = n + 1
 
-  -- at the end of each of these runs, at most five in a row have been killed while they began, counted with the `n` before the
-  -- first
+  -- at the end of each of these runs, at most five in a row have been killed while they synchronized, counted with the `n`
+  -- before the first
   abbrev pub AreFewKilled : ℕ → UnderWay State → List (Run State) → Type 0
   AreFewKilled n u [] = Unit {0}
   AreFewKilled n u (r ∷ rs) = (killed_if (stood u r).left n ≤ 5) × AreFewKilled (killed_if (stood u r).left n) (left_by_run u r) rs
@@ -88,18 +88,18 @@ module _ {State : Type 0} (width : ℕ) (ends : Ends State) where
     AreRuns u [] = Unit {0}
     AreRuns u (r ∷ rs) = (AreTurns ends Good kept r.turns (begins u) × ArePossibleIf (stood u r).left (stood u r) r.moves) × AreRuns (left_by_run u r) rs
 
-    -- where a run has begun (no id of its word is left), it has begun cleanly, and its moves are faithful
+    -- if a run has synchronized (no id of its word is left), it has synchronized cleanly, and its moves are faithful
     abbrev pub IsOwnIf : List ℕ → Model State → List (Move State) → Type 0
     IsOwnIf [] s ms = HasBegunCleanly kept s × IsFaithful width ends (leaves s) ms Good kept
     IsOwnIf (asked ∷ rest) s ms = Unit {0}
 
-    -- each run that has begun has begun cleanly, and is faithful, over what the one before it left
+    -- each run that has synchronized has synchronized cleanly, and is faithful, over what the one before it left
     abbrev pub AreOwn : UnderWay State → List (Run State) → Type 0
     AreOwn u [] = Unit {0}
     AreOwn u (r ∷ rs) = IsOwnIf (stood u r).left (stood u r) r.moves × AreOwn (left_by_run u r) rs
 
--- for any instrument, after a run that measured, or over a line with nothing under way: as long as fewer than six runs in a row
--- end while they begin, each run that has begun has begun cleanly, and each of its answers is its own
+-- for any instrument, after a run that measured, or over a line with nothing in flight: as long as fewer than six runs in a row
+-- end while they synchronize, each run that has synchronized has synchronized cleanly, and each of its answers is its own
 abbrev pub RunsAreTheirOwn : Type 0 → Type 0
 RunsAreTheirOwn State =
     (ends : Ends State) (kept : State → Option KeptReply) → IsAnInstrument ends AnyState kept →

@@ -1,6 +1,6 @@
--- Some run begins anew within itself, this project's own. Seven requests go out at once, and are given up. The reply to the
--- first is under way then, and the seventh request: both come while the station begins again, on the same connection. The
--- eighth command goes out after that, with the first one's id, and has the answer that was made for it.
+-- Some run resynchronizes within itself, this project's own. Seven requests are sent at once, and have timed out. The reply to
+-- the first is in flight then, and the seventh request: both come while the station synchronizes again, on the same connection.
+-- The eighth command is sent after that, with the first one's id, and has the answer that was made for it.
 use Rattle.std.specs.Prelude.{◌≡◌, ℕ, true, false, List, [], ◌∷◌, ◌++◌, codes, drop, map, pos, Some, None}
 use Rattle.gc_lines.specs.Lines.{with_end}
 use Rattle.gc_catalogue.specs.declared.answer.Answer.TheVariants.{Long}
@@ -14,10 +14,10 @@ use Rattle.gc_texts.specs.Endings as end
 use Rattle.gc_texts.specs.declared.quality.Quality.TheVariants.{Fine}
 use Rattle.gc_station.specs.declared.plan.Plan.{Plan}
 use Rattle.gc_links.specs.Acts.{Act, Told, Put, Gave, Silent, Closed}
-use Rattle.gc_station.specs.Beginnings.{IsAnew}
+use Rattle.gc_station.specs.Beginnings.{IsResynchronizing}
 use Rattle.gc_station.specs.Progressing.{is_over}
 use Rattle.gc_station.specs.Records.{Record}
-use Rattle.gc_station.specs.Runs.{stood}
+use Rattle.gc_station.specs.Runs.{state_after}
 use Rattle.gc_station.specs.Scopes.{Scope}
 use Rattle.gc_field.specs.Plain.{plain_task, plain_turn}
 use Rattle.gc_field.specs.World.{Up_deliver, Up_lose}
@@ -47,7 +47,7 @@ commands = map (λ target. plain_task (command target) 100 false) (1 ∷ 2 ∷ 3
 abbrev pub scope : Scope
 scope = record { turns = 100; reads = λ call line. Value (Long (pos 45)) }
 
--- the lines of the seven requests that go out at once
+-- the lines of the seven requests that are sent at once
 abbrev pub seven : List (List ℕ)
 seven =
     codes "%R1Q,5003,0:" ∷ codes "%R1Q,5003,1:" ∷ codes "%R1Q,5003,2:" ∷ codes "%R1Q,5003,3:" ∷ codes "%R1Q,5003,4:" ∷ codes "%R1Q,5003,5:"
@@ -72,18 +72,19 @@ replies =
 abbrev pub answer : List ℕ
 answer = codes "%R1P,0,0:0,45"
 
--- the acts by which each of these lines goes out at the moment `now`; and then `acts`
+-- the acts by which each of these lines is sent at the moment `now`; and then `acts`
 abbrev pub put_all : ℕ → List (List ℕ) → List Act → List Act
 put_all now [] acts = acts
 put_all now (line ∷ others) acts = Put (with_end line) ∷ Told (at now) ∷ put_all now others acts
 
--- the acts until seven are given up: the station begins; seven commands go out, and nothing comes until their deadline
+-- the acts until seven have timed out: the station synchronizes; seven commands are sent, and nothing comes until their
+-- deadline
 abbrev pub given_up : List Act
 given_up = begun_with begun (Told (at 15) ∷ put_all 15 seven (Silent (at 115) ∷ []))
 
--- the acts from there on: the station begins anew, and its first null procedure goes out. The reply to the first command comes, and is
--- dropped; the reply to the seventh comes twice, and the second is dropped; the other null procedures are answered. Then the eighth command
--- goes out and is answered, and the connection is closed
+-- the acts from there on: the station resynchronizes, and its first null procedure is sent. The reply to the first command
+-- comes, and is discarded; the reply to the seventh comes twice, and the second is discarded; the other null procedures are
+-- answered. Then the eighth command is sent and is answered, and the connection is closed
 abbrev pub anew : List Act
 anew =
     Told (at 115)
@@ -107,7 +108,7 @@ anew =
 abbrev pub acts : List Act
 acts = given_up ++ anew
 
--- the moves by which a request goes out for each of these targets, at the moment `now`; and then the moves `ms`
+-- the moves by which a request is sent for each of these targets, at the moment `now`; and then the moves `ms`
 abbrev pub send_all : ℕ → List ℕ → List (Move Counter) → List (Move Counter)
 send_all now [] ms = ms
 send_all now (target ∷ others) ms = Sends target (Table InstrumentNo) 115 ∷ Tells now ∷ send_all now others ms
@@ -129,28 +130,28 @@ moves =
     ∷ []
     )
 
--- what the line does while the station begins anew: the reply to the first command comes, and the seventh request reaches the instrument, whose
--- reply is sent again for the first null procedure, which has that request's id
+-- what the line does while the station resynchronizes: the reply to the first command comes, and the seventh request reaches
+-- the instrument, whose reply is sent again for the first null procedure, which has that request's id
 abbrev pub turns : List (Turn Counter)
 turns = Asks ∷ turn.Comes ∷ Reaches ∷ turn.Comes ∷ Asks ∷ Reaches ∷ turn.Comes ∷ Reaches ∷ turn.Comes ∷ drop 6 eight
 
--- what the line does once the station has begun anew: the eighth command is answered
+-- what the line does once the station has resynchronized: the eighth command is answered
 abbrev pub moves_anew : List (Move Counter)
 moves_anew = Sends 8 (Table InstrumentNo) 220 ∷ Tells 120 ∷ OnLine Up_deliver ∷ Tells 125 ∷ Comes answer ∷ []
 
--- what happens until the run begins anew
+-- what happens until the run resynchronizes
 abbrev pub run : Run Counter
 run = record { turns = eight; moves = moves }
 
--- the whole run: until it begins anew, and from there on; after the end nothing happens
+-- the whole run: until it resynchronizes, and from there on; after the end nothing happens
 abbrev pub runs : List (Run Counter)
 runs = run ∷ record { turns = turns; moves = moves_anew } ∷ record { turns = []; moves = [] } ∷ []
 
--- what is in flight where the run begins anew
+-- what is in flight if the run resynchronizes
 abbrev pub left : UnderWay Counter
 left = left_by_run WINDOW counting before run
 
--- what is in flight where the run has begun again
+-- what is in flight if the run has synchronized again
 abbrev pub from : UnderWay Counter
 from = leaves (turned counting turns (begins left))
 
@@ -171,15 +172,15 @@ records =
     ∷ record { sent = Some 120; utc = 125; cycle = 1; place = 7; turn = plain_turn; command = command 8; end = end.Answered Fine (Some (Long (pos 45))) answer }
     ∷ []
 
--- this is a run in the field, over an instrument, after which no act follows. It begins anew where seven are given up. Two
--- old lines are in flight then, of which the reply has the last command's id; and that command's answer was made on
--- executing its request
+-- this is a run in the field, over an instrument, after which no act follows. It resynchronizes where seven have timed out. Two
+-- old lines are in flight then, of which the reply has the last command's id; and that command's answer was made on executing
+-- its request
 pub record IsAnsweredAnew : Type 0 where
   pub is : IsAnInstrument counting AnyState kept_by
   pub field : IsInField counting AnyState kept_by plan commands scope acts before runs
-  pub over : is_over (stood plan commands scope acts).progress ≡ true
-  pub begins_anew : IsAnew plan commands scope given_up (Told (at 115))
+  pub over : is_over (state_after plan commands scope acts).progress ≡ true
+  pub begins_anew : IsResynchronizing plan commands scope given_up (Told (at 115))
   pub up : left.up ≡ record { id = 6; call = Table InstrumentNo } ∷ []
   pub down : left.down ≡ first ∷ []
-  pub written : (stood plan commands scope acts).records ≡ records
+  pub written : (state_after plan commands scope acts).records ≡ records
   pub made_on : WasMadeOn WINDOW counting from moves_anew 8 (Table InstrumentNo) answer

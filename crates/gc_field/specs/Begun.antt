@@ -1,5 +1,6 @@
--- What holds once a station has begun, this project's own: nothing from before is under way; and each answer of the client that sends then is
--- its own, from its first request on. The word of a beginning has the ids of its null procedures: 6 5 4 3 2 1 0 7.
+-- What holds once a station has synchronized, this project's own: nothing from before is in flight; and each answer of the
+-- client that sends then is its own, from its first request on. The word of a synchronization has the ids of its null
+-- procedures: 6 5 4 3 2 1 0 7.
 use Rattle.std.specs.Prelude.{◌≡◌, ℕ, ◌+◌, ◌-◌, ◌<◌, ◌≤◌, ◌⊎◌, Bool, true, false, List, [], ◌∷◌, ◌++◌, length, map, Option, Some, slice_get}
 use Rattle.gc_catalogue.specs.declared.asked.Asked.{Asked}
 use Rattle.gc_catalogue.specs.declared.asked.Asked.TheVariants.{Table}
@@ -25,49 +26,50 @@ use Rattle.gc_catalogue.specs.Asked.{is_of_table}
 
 -- Clean.
 
--- the eighth null procedure of a beginning, as a request
+-- the eighth null procedure of a synchronization, as a request
 abbrev pub eighth : Request
 eighth = record { id = 7; call = Table NullProc }
 
--- what the instrument keeps in this state, if it keeps anything, has the id of the eighth null procedure
+-- what the instrument retains in this state, if it retains anything, has the id of the eighth null procedure
 abbrev pub IsOfEighth : {State : Type 0} → (State → Option KeptReply) → State → Type 0
 IsOfEighth kept state = (k : KeptReply) → kept state ≡ Some k → k.id ≡ 7
 
--- a beginning has begun cleanly: under way are copies of its eighth null procedure, and replies to it; and what the instrument keeps, if it
--- keeps anything, has its id. No request from before is among them, nor a reply to one, and none of the other null procedures
+-- a synchronization ended cleanly: in flight are copies of its eighth null procedure, and replies to it; and what
+-- the instrument retains, if it retains anything, has its id. No request from before is among them, nor a reply to one, and
+-- none of the other null procedures
 pub record HasBegunCleanly {State : Type 0} (kept : State → Option KeptReply) (s : Model State) : Type 0 where
   pub up : Each (λ x. (x.old ≡ false) × (x.line ≡ eighth)) s.up
   pub down : Each (λ x. (x.old ≡ false) × (heard x.line ≡ Some 7)) s.down
   pub keeps : IsOfEighth kept s.state
 
--- for any instrument: unless the word is a subsequence of the ids under way when a beginning begins, whatever is under way then, and whatever
--- happens, once it has begun, it has begun cleanly
+-- for any instrument: unless the word is a subsequence of the ids in flight when a synchronization begins, whatever is in
+-- flight then, and whatever happens, once it has synchronized, it has synchronized cleanly
 abbrev pub BeginsCleanly : Type 0 → Type 0
 BeginsCleanly State =
     (ends : Ends State) (kept : State → Option KeptReply) → IsAnInstrument ends AnyState kept →
     (u : UnderWay State) (ts : List (Turn State)) → AreLines AnyState u → AreTurns ends AnyState kept ts (begins u) →
     (IsSubsequence the_word (ids_under_way u) → ⊥) → (turned ends ts (begins u)).left ≡ [] → HasBegunCleanly kept (turned ends ts (begins u))
 
--- The client after a beginning.
+-- The client after a synchronization.
 
--- what a beginning leaves once it has begun cleanly: the instrument in a good state, copies of the eighth null procedure, replies to it,
--- and a kept reply with its id, or none
+-- what a synchronization leaves once it has synchronized cleanly: the instrument in a good state, copies of the eighth null
+-- procedure, replies to it, and a retained reply with its id, or none
 pub record IsClean {State : Type 0} (Good : State → Type 0) (kept : State → Option KeptReply) (u : UnderWay State) : Type 0 where
   pub good : Good u.state
   pub up : Each (λ x. x ≡ eighth) u.up
   pub down : Each (λ line. heard line ≡ Some 7) u.down
   pub keeps : IsOfEighth kept u.state
 
--- the null procedures of a beginning, as requests: none of them is the client's
+-- the null procedures of a synchronization, as requests: none of them is the client's
 abbrev pub nulls : List Sent
 nulls = map (λ id. record { target = 0; call = Table NullProc; line = asked_line (Some id) (Table NullProc) }) the_word
 
--- the null procedures of a beginning, as settlements
+-- the null procedures of a synchronization, as settlements
 abbrev pub nulls_settled : List (Settlement Asked)
 nulls_settled = map (λ id. record { target = 0; call = Table NullProc; outcome = Lost }) the_word
 
--- the wire at the end of a beginning: requests 0 to 7 are the null procedures, which are settled, and a new client sends from
--- request 8 on; what is under way belongs to request 7
+-- the wire at the end of a synchronization: requests 0 to 7 are the null procedures, which are settled, and a new client sends
+-- from request 8 on; what is in flight belongs to request 7
 abbrev pub begun_wire : {State : Type 0} → UnderWay State → Wire State
 begun_wire u =
     record {
@@ -83,19 +85,19 @@ begun_wire u =
       idle = 0;
     }
 
--- the world at the end of a beginning, with a new client that knows ids
+-- the world at the end of a synchronization, with a new client that knows ids
 abbrev pub ids_begun : {State : Type 0} → UnderWay State → World (ById Asked) State
 ids_begun u = record { wire = begun_wire u; client = fresh }
 
--- the null procedures of a beginning, as requests of the client that is given the number of each reply's request
+-- the null procedures of a synchronization, as requests of the client that is given the number of each reply's request
 abbrev pub nulls_pending : List (Pending Asked)
 nulls_pending = map (λ id. record { target = 0; call = Table NullProc; deadline = 0; given_up = false }) the_word
 
--- the world at the end of a beginning, with the client that is given the number of each reply's request
+-- the world at the end of a synchronization, with the client that is given the number of each reply's request
 abbrev pub numbers_begun : {State : Type 0} → UnderWay State → World (ByNumber Asked) State
 numbers_begun u = record { wire = begun_wire u; client = record { count = 8; requests = nulls_pending; since = 0 } }
 
--- Behind the table.
+-- After the table.
 
 -- a reply ended the request, in time or late
 abbrev pub IsByReply : Outcome → Type 0
@@ -103,14 +105,14 @@ IsByReply (Answered line) = Unit {0}
 IsByReply Late = Unit {0}
 IsByReply Lost = ⊥
 
--- request j is a call of the table that a reply ended, or it is the eighth null procedure of the beginning
+-- request j is a call of the table that a reply ended, or it is the eighth null procedure of the synchronization
 abbrev pub IsEnded : {State : Type 0} → Wire State → ℕ → Type 0
 IsEnded w j =
     (j ≡ 7)
     ⊎ ((r : Sent) × (s : Settlement Asked) × (slice_get w.sent j ≡ Some r) × (is_of_table r.call ≡ true) × (slice_get w.settled j ≡ Some s) × IsByReply s.outcome)
 
--- the request that goes out next goes out behind the table: one of the seven requests before it is a call of the table that a reply ended, or
--- the eighth null procedure
+-- the request that is sent next is sent after the table: one of the seven requests before it is a call of the table that a
+-- reply ended, or the eighth null procedure
 abbrev pub IsBehindTheTable : {State : Type 0} → Wire State → Type 0
 IsBehindTheTable w = (j : ℕ) × (j < length w.sent) × (length w.sent ≤ j + 7) × IsEnded w j
 
@@ -135,7 +137,7 @@ module _ {State : Type 0} (width : ℕ) (ends : Ends State) (u : UnderWay State)
     pub executed : (ends.handed (behind front).wire.state id call).executed ≡ true
     pub reply : line ≡ (ends.handed (behind front).wire.state id call).reply
 
-  -- at one of these moves request m went out behind the table
+  -- at one of these moves request m was sent after the table
   pub record WentOutBehindTheTable (ms : List (Move State)) (m : ℕ) : Type 0 where
     pub front : List (Move State)
     pub later : List (Move State)
@@ -146,8 +148,8 @@ module _ {State : Type 0} (width : ℕ) (ends : Ends State) (u : UnderWay State)
     pub number : length (behind front).wire.sent ≡ m
     pub is : IsBehindTheTable (behind front).wire
 
-  -- the answer to request m is its own: each request of these moves is a call of the table; or a request that is none is to the instrument as all
-  -- others; or request m went out behind the table
+  -- the answer to request m is its own: each request of these moves is a call of the table; or a request that is none is to the
+  -- instrument as all others; or request m was sent after the table
   abbrev pub IsSafe : (State → Type 0) → (State → Option KeptReply) → List (Move State) → ℕ → Type 0
   IsSafe Good kept ms m = AsksTheTable ms ⊎ (TreatsRawsAlike ends Good kept ⊎ WentOutBehindTheTable ms m)
 
@@ -156,14 +158,14 @@ module _ {State : Type 0} (width : ℕ) (ends : Ends State) (u : UnderWay State)
     -- a client that takes the steps of the moves settles what the world's client settled, and ends in the same state
     pub settled : (behind ms).wire.settled ≡ nulls_settled ++ (course width begun (seen ms)).settlements
     pub stands : (course width begun (seen ms)).client ≡ (behind ms).client
-    -- one for one: what was settled and what waits are the requests that were sent, in order, each once; so settlement m has the target and
-    -- the call of request m
+    -- one for one: what was settled and what is outstanding are the requests that were sent, in order, each once; so settlement
+    -- m has the target and the call of request m
     pub accounted : map of_settled (behind ms).wire.settled ++ map of_pending (behind ms).client.waiting ≡ map asked (behind ms).wire.sent
     pub one_for_one : IsOneForOne (behind ms).wire.sent (behind ms).wire.settled
     -- its own, from the first request on, if it is `IsSafe`: an answer is among the lines that the instrument made for that request, and is its
     -- reply to that very call
     pub booked : (m : ℕ) (s : Settlement Asked) → 8 ≤ m → IsSafe Good kept ms m → slice_get (behind ms).wire.settled m ≡ Some s → IsBooked ends Good (behind ms).wire.made m s
-    -- and the instrument executed request m at one of these moves, not before the client began
+    -- and the instrument executed request m at one of these moves, not before the client synchronized
     pub executed :
         (m : ℕ) (s : Settlement Asked) (line : List ℕ) → 8 ≤ m → IsSafe Good kept ms m → slice_get (behind ms).wire.settled m ≡ Some s → s.outcome ≡ Answered line
         → WasExecuted (behind ms).wire.executed m
@@ -178,25 +180,26 @@ module _ {State : Type 0} (width : ℕ) (ends : Ends State) (u : UnderWay State)
     pub late :
         (m : ℕ) (s : Settlement Asked) → 8 ≤ m → IsSafe Good kept ms m → slice_get (behind ms).wire.settled m ≡ Some s → s.outcome ≡ Late
         → (line : List ℕ) × WasMadeOn ms m s.call line
-    -- acts once: where the instrument keeps its reply to each request that it knows, between two of its starts each of these is executed at
-    -- most once
+    -- acts once: if the instrument retains its reply to each request that it knows, between two of its starts each of these is
+    -- executed at most once
     pub once : (knows : Asked → Bool) → KeepsItsReply ends Good kept knows → ActsOnce knows (behind ms).wire.sent (behind ms).wire.executed (behind ms).wire.starts
-    -- agreement: all is as with a client that is told the number of each reply's request
+    -- agreement: all is as with a client that is given the number of each reply's request
     pub agrees : (behind ms).wire ≡ behind_by_numbers ms
     -- in time: a reply whose request isn't settled settles that request, and those before it as lost. The request is answered
-    -- with that line, or late where it was given up
+    -- with that line, or late if it timed out
     pub first_reply :
         (n : ℕ) (line : List ℕ) (rest : List (Numbered (List ℕ))) → (behind ms).wire.down ≡ record { number = n; line = line } ∷ rest → length (behind ms).wire.settled ≤ n →
         (moves ends (by_ids width ends) (behind ms) (Comes line)).wire.settled ≡ (behind ms).wire.settled ++ settle (n - length (behind ms).wire.settled) line (behind ms).client.waiting
 
--- moves after a clean beginning are faithful, for any instrument, whenever the client sends; no request has to go out alone
+-- moves after a clean synchronization are faithful, for any instrument, whenever the client sends; no request has to be sent
+-- alone
 abbrev pub AnswersAreTheirOwnOnceBegun : Type 0 → Type 0
 AnswersAreTheirOwnOnceBegun State =
     (ends : Ends State) (kept : State → Option KeptReply) → IsAnInstrument ends AnyState kept →
     (width : ℕ) → width ≤ WINDOW → (u : UnderWay State) → IsClean AnyState kept u →
     (ms : List (Move State)) → ArePossible ends AnyState kept (by_ids width ends) ms (ids_begun u) → IsFaithful width ends u ms AnyState kept
 
--- `AnswersAreTheirOwnOnceBegun` for the simulated instrument: its `ends` and its kept reply, in any state that fits
+-- `AnswersAreTheirOwnOnceBegun` for the simulated instrument: its `ends` and its retained reply, in any state that fits
 abbrev pub SimulatorsAnswersAreTheirOwnOnceBegun : Type 0
 SimulatorsAnswersAreTheirOwnOnceBegun =
     (width : ℕ) → width ≤ WINDOW → (u : UnderWay State) → IsClean IsFittingState kept_of u →

@@ -1,4 +1,4 @@
--- A station in the field, this project's own: its acts once it has begun, and what happens to its lines.
+-- A station in the field, this project's own: its acts once it has synchronized, and what happens to its lines.
 use Rattle.std.specs.Prelude.{◌≡◌, ℕ, List, Option}
 use Rattle.gc_client.specs.declared.window.TheConstants.{WINDOW}
 use Rattle.gc_client.specs.Rule.{fresh}
@@ -14,8 +14,9 @@ use Rattle.gc_field.specs.Instrument.{IsAnInstrument, AnyState}
 use Rattle.gc_field.specs.Laws.{kept_of}
 use Rattle.gc_field.specs.Meaning.{Amount, client_after}
 
--- acts of a station, and the moves of the line and of an instrument that go with them. The beginning before these acts has
--- begun cleanly, and left `u` under way; `rest` are the bytes of an unfinished line that the last piece of the beginning left
+-- acts of a station, and the moves of the line and of an instrument that go with them. The synchronization before these acts
+-- has synchronized cleanly, and left `u` in flight; `rest` are the bytes of an unfinished line that the last piece of the
+-- synchronization left
 pub record IsCarried {State : Type 0} (ends : Ends State) (Good : State → Type 0) (kept : State → Option KeptReply) (u : UnderWay State) (rest : List ℕ)
     (acts : List Act) (ms : List (Move State)) : Type 0 where
   pub clean : IsClean Good kept u
@@ -27,7 +28,7 @@ pub record IsStationFaithful {State : Type 0} (ends : Ends State) (Good : State 
   pub faithful : IsFaithful WINDOW ends u ms Good kept
   pub client : client_after fresh (seen ms) ≡ (behind WINDOW ends u ms).client
 
--- acts of a station that has begun cleanly are faithful, for any instrument, whenever the station sends
+-- acts of a station that has synchronized cleanly are faithful, for any instrument, whenever the station sends
 abbrev pub StationsAnswersAreTheirOwn : Type 0 → Type 0
 StationsAnswersAreTheirOwn State =
     (ends : Ends State) (kept : State → Option KeptReply) → IsAnInstrument ends AnyState kept →

@@ -16,7 +16,7 @@ use Rattle.gc_texts.specs.declared.quality.Quality.TheVariants.{Fine}
 use Rattle.gc_links.specs.Acts.{Act, Told, Put, Gave, Closed}
 use Rattle.gc_station.specs.Links.{AreChained}
 use Rattle.gc_station.specs.Records.{Record}
-use Rattle.gc_station.specs.Runs.{stood}
+use Rattle.gc_station.specs.Runs.{state_after}
 use Rattle.gc_station.specs.Scopes.{Scope}
 use Rattle.gc_field.specs.Plain.{plain_task, plain_turn}
 use Rattle.gc_field.specs.Simulator.{ends}
@@ -75,8 +75,9 @@ second = codes "%R1P,0,1:0"
 abbrev pub third : List ℕ
 third = codes "%R1P,0,2:0,2.25,1.625,110.0625"
 
--- the acts of the run: the station begins, with `answers` as the replies to its null procedures; then the three commands go out
--- one after the other, each once the one before it is answered, with the replies a, b and c; and the connection is closed
+-- the acts of the run: the station synchronizes, with `answers` as the replies to its null procedures; then the three commands
+-- are sent one after the other, each once the one before it is answered, with the replies a, b and c; and the connection is
+-- closed
 abbrev pub acts_with : List (List ℕ) → List ℕ → List ℕ → List ℕ → List Act
 acts_with answers a b c =
     begun_with answers (
@@ -94,8 +95,8 @@ acts_with answers a b c =
     ∷ []
     )
 
--- what the line does once the station has begun: each of the three requests reaches the instrument, and its reply (a, b, c)
--- comes
+-- what the line does once the station has synchronized: each of the three requests reaches the instrument, and its reply (a, b,
+-- c) comes
 abbrev pub moves_with : {S : Type 0} → List ℕ → List ℕ → List ℕ → List (Move S)
 moves_with a b c =
     Tells 15
@@ -128,7 +129,7 @@ records_with a b c =
 abbrev pub acts : List Act
 acts = acts_with replies first second third
 
--- what the line does meanwhile, once the run has begun
+-- what the line does meanwhile, once the run has synchronized
 abbrev pub moves : List (Move State)
 moves = moves_with first second third
 
@@ -144,12 +145,12 @@ stretch = record { from = leaves (turned ends eight (begins before)); moves = mo
 abbrev pub runs : List (Run State)
 runs = record { turns = eight; moves = moves } ∷ record { turns = []; moves = [] } ∷ []
 
--- this is a run in the field that wrote all three answers down; the third command is of the first one's chain, no command
--- between the two turns the telescope, and nothing disturbs the instrument. So when the third is executed, after both
--- others, the telescope points where the first pointed it
+-- this is a run in the field that recorded all three answers; the third command is of the first one's chain, no command between
+-- the two turns the telescope, and nothing disturbs the instrument. So when the third is executed, after both others, the
+-- telescope points if the first pointed it
 pub record IsPointedInField : Type 0 where
   pub field : IsInField ends IsFittingState kept_of plan commands scope acts before runs
-  pub records : (stood plan commands scope acts).records ≡ records_with first second third
+  pub records : (state_after plan commands scope acts).records ≡ records_with first second third
   pub chained : AreChained commands 0 2
   pub still : AreStill commands 0 2
   pub undisturbed : IsUndisturbed moves

@@ -1,7 +1,7 @@
 -- Chains in the field, this project's own: what the instrument had executed when it executed a command of a chain. Each earlier
 -- command of the chain had been executed before, with the reply that was booked for it; between the two only what was sent
 -- between them was executed; and the instrument's state was what these executions had made of it. A part is what a station sees
--- of its run from one beginning to the next, and a stretch what happens on the line meanwhile, once it has begun.
+-- of its run from one synchronization to the next, and a stretch what happens on the line meanwhile, once it has synchronized.
 use Rattle.std.specs.Prelude.{◌≡◌, ℕ, Bool, ◌+◌, ◌<◌, ◌≤◌, true, false, List, [], ◌∷◌, ◌++◌, Option, Some, slice_get}
 use Rattle.std.specs.List.{AllByRecursion}
 use Rattle.gc_catalogue.specs.declared.answer.Answer.{Answer}
@@ -20,7 +20,7 @@ use Rattle.gc_station.specs.Links.{AreChained}
 use Rattle.gc_station.specs.Parts.{Part, mark_of, parts_of}
 use Rattle.gc_station.specs.Qualities.{IsOfQuality, accepted_at}
 use Rattle.gc_station.specs.Records.{Record}
-use Rattle.gc_station.specs.Runs.{stood}
+use Rattle.gc_station.specs.Runs.{state_after}
 use Rattle.gc_station.specs.Scopes.{Scope}
 use Rattle.gc_station.specs.Model.{opening}
 use Rattle.gc_station.specs.declared.plan.Plan.{Plan}
@@ -50,7 +50,7 @@ HasNoStartBetween (Anew ∷ ms) = ⊥
 HasNoStartBetween (Changes state ∷ ms) = HasNoStartBetween ms
 HasNoStartBetween (Joins line ∷ ms) = HasNoStartBetween ms
 
--- the instrument neither starts anew nor changes by itself among these moves
+-- the instrument neither starts again nor changes by itself among these moves
 abbrev pub IsUndisturbed : {State : Type 0} → List (Move State) → Type 0
 IsUndisturbed [] = Unit {0}
 IsUndisturbed (Sends target call deadline ∷ ms) = IsUndisturbed ms
@@ -68,14 +68,14 @@ AreCalls sent [] [] = Unit {0}
 AreCalls sent (n ∷ ns) (call ∷ calls) = ((r : Sent) × (slice_get sent n ≡ Some r) × (r.call ≡ call)) × AreCalls sent ns calls
 AreCalls sent _ _ = ⊥
 
--- the instrument's state after these calls, one after the other, where one call changes it by this function
+-- the instrument's state after these calls, one after the other, if one call changes it by this function
 abbrev pub executing : {State : Type 0} → (State → Asked → State) → State → List Asked → State
 executing effect s [] = s
 executing effect s (call ∷ calls) = executing effect (effect s call) calls
 
 -- executing a call changes an instrument's state by `effect`, whatever id the request has, and a reply that is sent again
--- changes nothing. Both are said of the state without what the instrument keeps, which `apart` gives; and by `alike` the effect
--- doesn't depend on what is kept
+-- changes nothing. Both are said of the state without what the instrument retains, which `apart` gives; and by `alike` the
+-- effect doesn't depend on what is retained
 pub record HasEffect {State : Type 0} (ends : Ends State) (apart : State → State) (effect : State → Asked → State) : Type 0 where
   pub executes : (state : State) (id : ℕ) (call : Asked) → (ends.handed state id call).executed ≡ true → apart (ends.handed state id call).state ≡ apart (effect state call)
   pub repeats : (state : State) (id : ℕ) (call : Asked) → (ends.handed state id call).executed ≡ false → apart (ends.handed state id call).state ≡ apart state
@@ -100,11 +100,12 @@ module _ {State : Type 0} (ends : Ends State) (Good : State → Type 0) (kept : 
     pub executed : (behind ends s second.front).executed ≡ (behind ends s first.front).executed ++ m ∷ numbers
     pub in_order : IsInOrder numbers
     pub within : Each (λ x. (m ≤ x) × (x ≤ n)) numbers
-    -- where the instrument keeps its reply to each request that it knows, and didn't start between, each of these was sent after m and before n
+    -- if the instrument retains its reply to each request that it knows, and didn't start between, each of these was sent after
+    -- m and before n
     pub strictly :
         (knows : Asked → Bool) → KeepsItsReply ends Good kept knows → HasNoStartBetween between →
         Each (λ x. (r : Sent) → slice_get (behind ends s s.moves).sent x ≡ Some r → knows r.call ≡ true → (m < x) × (x < n)) numbers
-    -- where the instrument neither started nor changed by itself between, its state when n reached it is the state in which m
+    -- if the instrument neither started nor changed by itself between, its state when n reached it is the state in which m
     -- reached it, changed by executing m and then the requests between
     pub calls : List Asked
     pub asked : AreCalls (behind ends s s.moves).sent numbers calls
@@ -145,7 +146,7 @@ module _ {State : Type 0} (ends : Ends State) (Good : State → Type 0) (kept : 
     pub expected_b : Expected
     pub mark_a : slice_get part.marks m ≡ Some (Some (mark_of expected_a record_a))
     pub mark_b : slice_get part.marks n ≡ Some (Some (mark_of expected_b b))
-    -- the commands that went out between them are those of the places between them, of the same cycle
+    -- the commands that were sent between them are those of the places between them, of the same cycle
     pub between : (x : ℕ) (mark : _) → m < x → x < n → slice_get part.marks x ≡ Some (Some mark) → (mark.cycle ≡ b.cycle) × (a < mark.place) × (mark.place < b.place)
     -- and they were executed in this order, with these replies
     pub executed : IsExecutedAfter stretch (8 + m) (8 + n) record_a.command.call b.command.call line_a line_b
@@ -154,11 +155,11 @@ module _ {State : Type 0} (ends : Ends State) (Good : State → Type 0) (kept : 
   abbrev pub IsExecutedInChain : Plan → List Task → Scope → List Act → UnderWay State → List (Run State) → Record → Type 0
   IsExecutedInChain plan commands scope acts u rs b =
       (line : List ℕ) (a : ℕ) → answer_of b.end ≡ Some line → 0 < b.cycle → plan.setup ≤ a → a < b.place → AreChained commands a b.place
-      → IsChainedTo scope.reads commands (parts_of plan commands (opening plan scope) acts) (stretches ends u rs) (stood plan commands scope acts).records a b line
+      → IsChainedTo scope.reads commands (parts_of plan commands (opening plan scope) acts) (stretches ends u rs) (state_after plan commands scope acts).records a b line
 
   -- each record of a run is `IsExecutedInChain`
   abbrev pub AreExecutedInChain : Plan → List Task → Scope → List Act → UnderWay State → List (Run State) → Type 0
-  AreExecutedInChain plan commands scope acts u rs = AllByRecursion (IsExecutedInChain plan commands scope acts u rs) (stood plan commands scope acts).records
+  AreExecutedInChain plan commands scope acts u rs = AllByRecursion (IsExecutedInChain plan commands scope acts u rs) (state_after plan commands scope acts).records
 
 -- each record is `IsExecutedInChain`: for any instrument, every plan, all commands, every run of the station, and all that the line and the
 -- instrument may do meanwhile

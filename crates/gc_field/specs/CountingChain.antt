@@ -1,5 +1,5 @@
--- A run of a chain over an instrument that isn't the simulator, this project's own: it counts what it executes, answers to each request with
--- the count, and keeps its reply. Each of its states is a good one, as the law of chains asks.
+-- A run of a chain over an instrument that isn't the simulator, this project's own: it counts what it executes, answers to each
+-- request with the count, and retains its reply. Each of its states is a good one, as the law of chains asks.
 use Rattle.std.specs.Prelude.{◌≡◌, ℕ, suc, true, false, List, [], ◌∷◌, take, codes, Option, Some, None}
 use Rattle.gc_catalogue.specs.declared.asked.Asked.{Asked}
 use Rattle.gc_client.specs.declared.window.TheConstants.{WINDOW}
@@ -8,7 +8,7 @@ use Rattle.gc_instrument.specs.Replying.{Handed}
 use Rattle.gc_instrument.specs.State.{KeptReply}
 use Rattle.gc_links.specs.Acts.{Act}
 use Rattle.gc_station.specs.Links.{AreChained}
-use Rattle.gc_station.specs.Runs.{stood}
+use Rattle.gc_station.specs.Runs.{state_after}
 use Rattle.gc_field.specs.World.{Ends}
 use Rattle.gc_field.specs.ChainWitness.{points, reads_all, commands, scope, acts_with, moves_with, records_with}
 use Rattle.gc_field.specs.Begin.{UnderWay, begins, leaves, none_under_way, turned}
@@ -22,13 +22,13 @@ use Rattle.gc_field.specs.Runs.{IsInField}
 use Rattle.gc_field.specs.Shown.{Stretch}
 use Rattle.gc_field.specs.Witness.{plan, eight}
 
--- the state of this instrument: how many requests it has executed since it started, and what it keeps: the last request's
--- id, and the count by then
+-- the state of this instrument: how many requests it has executed since it started, and what it retains: the last request's id,
+-- and the count by then
 pub record Counter : Type 0 where
   pub count : ℕ
   pub keeps : Keeper
 
--- what the instrument does with a request: it sends again what it keeps for the request's id, or executes the request and
+-- what the instrument does with a request: it sends again what it retains for the request's id, or executes the request and
 -- counts it
 abbrev pub counted_or : Counter → ℕ → Option ℕ → Handed Counter
 counted_or s id (Some n) = record { state = s; reply = value id n; executed = false }
@@ -38,11 +38,11 @@ counted_or s id None = record { state = record { count = suc s.count; keeps = So
 abbrev pub counting : Ends Counter
 counting = record { handed = λ s id call. counted_or s id (held s.keeps id); restarted = λ s. record { count = 0; keeps = None }; heard = heard; joint = false }
 
--- the reply that the instrument keeps
+-- the reply that the instrument retains
 abbrev pub kept_by : Counter → Option KeptReply
 kept_by s = kept s.keeps
 
--- the state without what is kept
+-- the state without what is retained
 abbrev pub bare : Counter → Counter
 bare s = record { count = s.count; keeps = None }
 
@@ -72,7 +72,7 @@ third = codes "%R1P,0,2:0,38"
 abbrev pub acts : List Act
 acts = acts_with begun first second third
 
--- what the line does once the run has begun
+-- what the line does once the run has synchronized
 abbrev pub moves : List (Move Counter)
 moves = moves_with first second third
 
@@ -88,16 +88,16 @@ stretch = record { from = leaves (turned counting eight (begins before)); moves 
 abbrev pub runs : List (Run Counter)
 runs = record { turns = eight; moves = moves } ∷ record { turns = []; moves = [] } ∷ []
 
--- this run meets all premises of the law of chains: `counting` is an instrument in each of its states, keeps its reply, and a call
--- has the effect `counts` on its state. The run is in the field, its third command is of the first one's chain, and nothing disturbs
--- the instrument. So both answers were made on executing their requests, and the count at the third command is what the first and the
--- second made of it
+-- this run meets all premises of the law of chains: `counting` is an instrument in each of its states, retains its reply, and a
+-- call has the effect `counts` on its state. The run is in the field, its third command is of the first one's chain, and
+-- nothing disturbs the instrument. So both answers were made on executing their requests, and the count at the third command is
+-- what the first and the second made of it
 pub record IsCountedInField : Type 0 where
   pub is : IsAnInstrument counting AnyState kept_by
   pub keeps : KeepsItsReply counting AnyState kept_by all_known
   pub effect : HasEffect counting bare counts
   pub field : IsInField counting AnyState kept_by plan commands scope acts before runs
-  pub records : (stood plan commands scope acts).records ≡ records_with first second third
+  pub records : (state_after plan commands scope acts).records ≡ records_with first second third
   pub chained : AreChained commands 0 2
   pub undisturbed : IsUndisturbed moves
   pub first_made_on : WasMadeOn WINDOW counting stretch.from moves 8 points first

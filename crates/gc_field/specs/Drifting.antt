@@ -1,6 +1,7 @@
--- A run over an instrument that isn't the simulator, this project's own: it keeps no reply, and what it measures changes by itself. Its second
--- command asks for a procedure that isn't in the table. The first null procedure goes out again, and the beginning goes on over another connection; a reply is lost, and its request given up; the
--- instrument starts anew, and its connection is made again.
+-- A run over an instrument that isn't the simulator, this project's own: it retains no reply, and what it measures changes by
+-- itself. Its second command asks for a procedure that isn't in the table. The first null procedure is sent again, and the
+-- synchronization goes on over another connection; a reply is lost, and its request timed out; the instrument starts again, and
+-- its connection is made again.
 use Rattle.std.specs.Prelude.{◌≡◌, ℕ, true, false, List, [], ◌∷◌, codes, Some, None}
 use Rattle.std.specs.Fmt.{decimal}
 use Rattle.gc_lines.specs.Lines.{with_end}
@@ -19,7 +20,7 @@ use Rattle.gc_texts.specs.declared.quality.Quality.TheVariants.{Fine}
 use Rattle.gc_station.specs.declared.plan.Plan.{Plan}
 use Rattle.gc_links.specs.Acts.{Act, Told, Put, Gave, Silent, Broke, Closed, Opened}
 use Rattle.gc_station.specs.Progressing.{is_over}
-use Rattle.gc_station.specs.Runs.{stood}
+use Rattle.gc_station.specs.Runs.{state_after}
 use Rattle.gc_station.specs.Scopes.{Scope}
 use Rattle.gc_field.specs.Plain.{plain_task, plain_turn}
 use Rattle.gc_field.specs.World.{Ends, Up_deliver, Down_lose}
@@ -67,8 +68,8 @@ begun =
 abbrev pub answer : List ℕ
 answer = codes "%R1P,0,1:0,31"
 
--- the acts of the run: the first null procedure goes out again at its deadline, and the dead line is closed and connected
--- again; the beginning goes on there. The first command is given up; the connection breaks, and the second command's reply
+-- the acts of the run: the first null procedure is sent again at its deadline, and the dead line is closed and connected again;
+-- the synchronization goes on there. The first command has timed out; the connection breaks, and the second command's reply
 -- comes over the next one
 abbrev pub acts : RawCall → List Act
 acts raw =
@@ -107,13 +108,13 @@ acts raw =
     ∷ []
     )
 
--- what the line does while the station begins: it loses the first reply to the first null procedure, and that procedure's
+-- what the line does while the station synchronizes: it loses the first reply to the first null procedure, and that procedure's
 -- second request
 abbrev pub turns : List (Turn ℕ)
 turns = Asks ∷ Reaches ∷ turn.Down_lose 0 ∷ Asks ∷ turn.Up_lose 0 ∷ turn.Changes 12 ∷ eight
 
--- what the line does once the station has begun: the first command is answered, and that reply is lost; the second command
--- reaches the instrument after a start, and is answered with what it measures by then, over another connection
+-- what the line does once the station has synchronized: the first command is answered, and that reply is lost; the second
+-- command reaches the instrument after a start, and is answered with what it measures by then, over another connection
 abbrev pub moves : RawCall → List (Move ℕ)
 moves raw =
     Tells 220
@@ -140,14 +141,14 @@ moves raw =
 abbrev pub runs : RawCall → List (Run ℕ)
 runs raw = record { turns = turns; moves = moves raw } ∷ record { turns = []; moves = [] } ∷ []
 
--- `drifting` is an instrument, and this is a run in the field, after which no act follows. The run wrote the first command down
+-- `drifting` is an instrument, and this is a run in the field, after which no act follows. The run recorded the first command
 -- as lost, and the second one's answer, which was made on executing the second command's request
 pub record IsAnsweredByDrifting (raw : RawCall) : Type 0 where
   pub is : IsAnInstrument drifting AnyState nothing
   pub field : IsInField drifting AnyState nothing plan (commands raw) scope (acts raw) (none_under_way 5) (runs raw)
-  pub over : is_over (stood plan (commands raw) scope (acts raw)).progress ≡ true
+  pub over : is_over (state_after plan (commands raw) scope (acts raw)).progress ≡ true
   pub records :
-      (stood plan (commands raw) scope (acts raw)).records
+      (state_after plan (commands raw) scope (acts raw)).records
       ≡ record { sent = Some 220; utc = 360; cycle = 1; place = 0; turn = plain_turn; command = record { target = 7; call = Table InstrumentNo }; end = end.Lost }
       ∷ record { sent = Some 320; utc = 360; cycle = 1; place = 1; turn = plain_turn; command = record { target = 8; call = Raw raw }; end = end.Answered Fine (Some Nothing) answer }
       ∷ []

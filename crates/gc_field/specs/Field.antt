@@ -1,6 +1,6 @@
 -- The field, this project's own: what happens between a client and an instrument over any number of connections, and what may
 -- happen to the lines meanwhile. Between the two is the world's line, which keeps order, loses lines whole and repeats a line
--- directly after it. Connections aren't spoken of, because a close is a loss of lines. The instrument may start anew at any
+-- directly after it. Connections aren't spoken of, because a close is a loss of lines. The instrument may start again at any
 -- moment.
 use Rattle.std.specs.Prelude.{◌≡◌, ℕ, Bool, true, false, List, [], ◌∷◌, ◌++◌, Option, None}
 use Rattle.gc_catalogue.specs.declared.asked.Asked.{Asked}
@@ -14,14 +14,15 @@ use Rattle.gc_catalogue.specs.Asked.{is_of_table}
 
 -- one step in the field
 pub data Move (State : Type 0) : Type 0 where
-  -- the client's part: a request goes out, whole or in part; a moment is told; a reply comes; a line comes that is no reply with an id
+  -- the client's part: a request is sent, whole or in part; a moment is read; a reply comes; a line comes that is no reply with
+  -- an id
   Sends : (target : ℕ) (call : Asked) (deadline : ℕ) → Move State
   Tells : (now : ℕ) → Move State
   Comes : (line : List ℕ) → Move State
   Foreign : (line : List ℕ) → Move State
   -- the line's part: a request reaches the instrument, or a line is lost or comes twice
   OnLine : (step : Step) → Move State
-  -- the instrument starts anew, whatever is under way
+  -- the instrument starts again, whatever is in flight
   Anew : Move State
   -- the instrument's state changes by itself, to this one
   Changes : (state : State) → Move State
@@ -29,7 +30,7 @@ pub data Move (State : Type 0) : Type 0 where
   -- and this is its reply
   Joins : (line : List ℕ) → Move State
 
--- a step of the line alone: the client has no part in it, and nothing starts anew
+-- a step of the line alone: the client has no part in it, and nothing starts again
 abbrev pub IsOfLine : Step → Type 0
 IsOfLine (Send target call deadline) = ⊥
 IsOfLine Up_deliver = Unit {0}
@@ -44,7 +45,7 @@ IsOfLine Restart_instrument = ⊥
 IsOfLine Nothing = Unit {0}
 
 -- the wire once the two front requests reached the instrument as one line, which has this reply: it counts as the reply to the
--- first of them. Where fewer than two are under way, nothing happens
+-- first of them. If fewer than two are in flight, nothing happens
 abbrev pub joined : {State : Type 0} → Wire State → List (Numbered Request) → List ℕ → Wire State
 joined w (x ∷ y ∷ rest) line =
     let reply : Numbered (List ℕ) = record { number = x.number; line = line } in
@@ -68,8 +69,8 @@ module _ {Client State : Type 0} where
   moved ends rule [] w = w
   moved ends rule (m ∷ ms) w = moved ends rule ms (moves ends rule w m)
 
-  -- a move is possible in a world. What comes is the whole reply in front of those under way, or no reply with an id: an echo, noise, or what is
-  -- left of a line that was cut
+  -- a move is possible in a world. What comes is the whole reply at the front of those in flight, or no reply with an id: an echo,
+  -- noise, or what is left of a line that was cut
   abbrev pub IsPossible : (State → Type 0) → (State → Option KeptReply) → World Client State → Move State → Type 0
   IsPossible Good kept w (Sends target call deadline) = Unit {0}
   IsPossible Good kept w (Tells now) = Unit {0}
@@ -98,7 +99,7 @@ seen (Anew ∷ ms) = seen ms
 seen (Changes state ∷ ms) = seen ms
 seen (Joins line ∷ ms) = seen ms
 
--- no other request goes out between the first one and the first reply that comes. `out` says whether the first request went out
+-- no other request is sent between the first one and the first reply that comes. `out` says whether the first request was sent
 -- already
 abbrev pub IsFirstAlone : {State : Type 0} → Bool → List (Move State) → Type 0
 IsFirstAlone out [] = Unit {0}
@@ -112,7 +113,7 @@ IsFirstAlone out (Anew ∷ ms) = IsFirstAlone out ms
 IsFirstAlone out (Changes state ∷ ms) = IsFirstAlone out ms
 IsFirstAlone out (Joins line ∷ ms) = IsFirstAlone out ms
 
--- each request that goes out is one that `knows` names
+-- each request that is sent is one that `knows` names
 abbrev pub AsksOnly : {State : Type 0} → (Asked → Bool) → List (Move State) → Type 0
 AsksOnly knows [] = Unit {0}
 AsksOnly knows (Sends target call deadline ∷ ms) = (knows call ≡ true) × AsksOnly knows ms
@@ -124,12 +125,12 @@ AsksOnly knows (Anew ∷ ms) = AsksOnly knows ms
 AsksOnly knows (Changes state ∷ ms) = AsksOnly knows ms
 AsksOnly knows (Joins line ∷ ms) = AsksOnly knows ms
 
--- each request that goes out is a call of the table
+-- each request that is sent is a call of the table
 abbrev pub AsksTheTable : {State : Type 0} → List (Move State) → Type 0
 AsksTheTable ms = AsksOnly is_of_table ms
 
--- from a new client on, and with nothing under way, these moves are possible, whatever the instrument keeps; the requests are calls of the
--- table; and the first one goes out alone
+-- from a new client on, and with nothing in flight, these moves are possible, whatever the instrument keeps; the requests are
+-- calls of the table; and the first one is sent alone
 pub record IsField {State : Type 0} (width : ℕ) (ends : Ends State) (Good : State → Type 0) (kept : State → Option KeptReply) (state : State) (ms : List (Move State)) : Type 0 where
   pub possible : ArePossible ends Good kept (by_ids width ends) ms (ids_open state)
   pub table : AsksTheTable ms

@@ -1,6 +1,6 @@
--- Requests that are cut, this project's own. Where only the front of one got through, with a line feed after it, or only its
--- tail, as after a start of the instrument, no request got through. So a request that was cut reaches the instrument whole or
--- not at all.
+-- Requests that are cut, this project's own. If only the front of one got through, with a line feed after it, or only its tail,
+-- as after a start of the instrument, no request got through. So a request that was cut reaches the instrument whole or not at
+-- all.
 use Rattle.std.specs.Prelude.{◌≡◌, ℕ, ◌+◌, ◌<◌, ◌≤◌, List, [], ◌∷◌, ◌++◌, length, take, drop, Some}
 use Rattle.gc_lines.specs.Frames.{lines}
 use Rattle.gc_lines.specs.Lines.{with_end}
@@ -27,8 +27,8 @@ pub record IsWholeOrNothing (id : ℕ) (call : Call) : Type 0 where
 abbrev pub CutRequestsAreWholeOrNothing : Type 0
 CutRequestsAreWholeOrNothing = (id : ℕ) (call : Call) → IsFitting call → IsWholeOrNothing id call
 
--- where the line feed after the front of a request is lost, the front and the next request are one line. If that line is a
--- request at all, it has the front's id and procedure
+-- if the line feed after the front of a request is lost, the front and the next request are one line. If that line is a request
+-- at all, it has the front's id and procedure
 abbrev pub JoinedRequestsHaveTheFrontsId : Type 0
 JoinedRequestsHaveTheFrontsId =
     (id : ℕ) (call : Call) (next : ℕ) (behind : Call) (count : ℕ) → id < 8 → IsFitting call → 0 < count → (q : RequestFields) →

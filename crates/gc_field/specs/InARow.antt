@@ -1,5 +1,5 @@
--- Stations one after the other over a line that outlives them, this project's own: each is a run of a station, with its own plan and commands,
--- and is killed at any moment, also while it begins. Nothing here depends on a clock.
+-- Stations one after the other over a line that outlives them, this project's own: each is a run of a station, with its own
+-- plan and commands, and is killed at any moment, also while it synchronizes. Nothing here depends on a clock.
 use Rattle.std.specs.Prelude.{ℕ, ◌≤◌, List, [], ◌∷◌, Option}
 use Rattle.gc_client.specs.declared.window.TheConstants.{WINDOW}
 use Rattle.gc_instrument.specs.State.{KeptReply, State, IsFittingState}
@@ -27,30 +27,31 @@ pub record Program (State : Type 0) : Type 0 where
   pub runs : List (Run State)
 
 module _ {State : Type 0} (ends : Ends State) where
-  -- what is under way after these runs
+  -- what is in flight after these runs
   abbrev pub left_over : UnderWay State → List (Run State) → UnderWay State
   left_over u [] = u
   left_over u (r ∷ rs) = left_over (left_by_run WINDOW ends u r) rs
 
-  -- how many runs in a row were killed while they began, up to this one, where `n` were before. A run without turns, in which nothing happened,
-  -- doesn't count
+  -- how many runs in a row were killed while they synchronized, up to this one, where `n` were before. A run without turns, in
+  -- which nothing happened, doesn't count
   abbrev pub killed_by : ℕ → UnderWay State → Run State → List (Turn State) → ℕ
   killed_by n u r [] = n
   killed_by n u r (t ∷ ts) = killed_if WINDOW ends (stood WINDOW ends u r).left n
 
-  -- how many runs in a row were killed while they began, at the end of these, where `n` were before
+  -- how many runs in a row were killed while they synchronized, at the end of these, where `n` were before
   abbrev pub killed_over : ℕ → UnderWay State → List (Run State) → ℕ
   killed_over n u [] = n
   killed_over n u (r ∷ rs) = killed_over (killed_by n u r r.turns) (left_by_run WINDOW ends u r) rs
 
-  -- at the end of each of these runs, at most five in a row have been killed while they began, counted with the `n` before the
-  -- first
+  -- at the end of each of these runs, at most five in a row have been killed while they synchronized, counted with the `n`
+  -- before the first
   abbrev pub AreFew : ℕ → UnderWay State → List (Run State) → Type 0
   AreFew n u [] = Unit {0}
   AreFew n u (r ∷ rs) = (killed_by n u r r.turns ≤ 5) × AreFew (killed_by n u r r.turns) (left_by_run WINDOW ends u r) rs
 
   module _ (Good : State → Type 0) (kept : State → Option KeptReply) where
-    -- a program is a run of its station over what is under way, where `n` runs in a row were killed before while they began
+    -- a program is a run of its station over what is in flight, where `n` runs in a row were killed before while they
+    -- synchronized
     pub record IsNext (n : ℕ) (u : UnderWay State) (x : Program State) : Type 0 where
       pub runs : Runs x.plan x.commands (opening x.plan x.scope) x.acts
       pub shown : AreShownAs ends u x.runs (parts_of x.plan x.commands (opening x.plan x.scope) x.acts)
@@ -67,15 +68,15 @@ module _ {State : Type 0} (ends : Ends State) where
     AreFaithful u [] = Unit {0}
     AreFaithful u (x ∷ xs) = IsRunFaithful ends Good kept x.plan x.commands x.scope x.acts u x.runs × AreFaithful (left_over u x.runs) xs
 
--- for any instrument, after a run that measured, or over a line with nothing under way: as long as fewer than six runs in a
--- row end while they begin, each program is a faithful run
+-- for any instrument, after a run that measured, or over a line with nothing in flight: as long as fewer than six runs in a row
+-- end while they synchronize, each program is a faithful run
 abbrev pub StationsInARowAreFaithful : Type 0 → Type 0
 StationsInARowAreFaithful State =
     (ends : Ends State) (kept : State → Option KeptReply) → IsAnInstrument ends AnyState kept →
     (u : UnderWay State) → AreLines AnyState u → IsRow u →
     (xs : List (Program State)) → AreInARow ends AnyState kept 0 u xs → AreFaithful ends AnyState kept u xs
 
--- `StationsInARowAreFaithful` for the simulated instrument: its `ends` and its kept reply, in any state that fits
+-- `StationsInARowAreFaithful` for the simulated instrument: its `ends` and its retained reply, in any state that fits
 abbrev pub SimulatorsStationsInARowAreFaithful : Type 0
 SimulatorsStationsInARowAreFaithful =
     (u : UnderWay State) → AreLines IsFittingState u → IsRow u →

@@ -1,9 +1,9 @@
--- What is asked of an instrument, this project's own: it answers in turn, one request at a time, each with its request's id, and what it
--- sends again is its reply to the request directly before, or to the last call of the table before that. By this and by when a client sends
--- (`IsBehindTheTable`) each answer is its own request's. Its states are of any kind. It may do with a request whatever it likes, and carry
--- it out or refuse it, with any codes and any parameters, also such as don't read.
--- `executed` means that the line was made now, for this request, be it an answer or a refusal; where it isn't so, the line is an older one
--- that is sent again.
+-- What is asked of an instrument, this project's own: it answers in turn, one request at a time, each with its request's id,
+-- and what it sends again is its reply to the request directly before, or to the last call of the table before that. By this
+-- and by when a client sends (`IsBehindTheTable`) each answer is its own request's. Its states are of any kind. It may do with
+-- a request whatever it likes, and carry it out or refuse it, with any codes and any parameters, also such as don't read.
+-- `executed` means that the line was made now, for this request, be it an answer or a refusal; if it isn't so, the line is an
+-- older one that is sent again.
 use Rattle.std.specs.Prelude.{◌≡◌, ℕ, ◌<◌, ◌⊎◌, Bool, true, false, List, Option, Some, None}
 use Rattle.gc_catalogue.specs.declared.asked.Asked.{Asked}
 use Rattle.gc_client.specs.declared.window.TheConstants.{IDS}
@@ -13,49 +13,51 @@ use Rattle.gc_field.specs.World.{Ends}
 use Rattle.gc_catalogue.specs.Asked.{is_of_table}
 
 module _ {State : Type 0} (ends : Ends State) (Good : State → Type 0) (kept : State → Option KeptReply) where
-  -- after this request it keeps its reply to that request, or nothing
+  -- after this request it retains its reply to that request, or nothing
   abbrev pub KeepsItsOwn : State → ℕ → Asked → Type 0
   KeepsItsOwn state id call = (kept (ends.handed state id call).state ≡ None) ⊎ (kept (ends.handed state id call).state ≡ Some (record { id = id; line = (ends.handed state id call).reply }))
 
   -- `ends` is an instrument: what it does with a request (`handed`) and at a start (`restarted`), and how its lines are read
-  -- (`heard`). `Good` says which of its states are good, and `kept` what it keeps in each: the line that it sent for a request,
-  -- with that request's id, or nothing. After each request that `knows` names it keeps its own reply to that, or nothing
+  -- (`heard`). `Good` says which of its states are good, and `kept` what it retains in each: the line that it sent for a
+  -- request, with that request's id, or nothing. After each request that `knows` names it retains its own reply to that, or
+  -- nothing
   pub record IsAnInstrumentFor (knows : Asked → Bool) : Type 0 where
     -- a client reads its lines by the grammar of replies
     pub hears : (line : List ℕ) → ends.heard line ≡ heard line
     -- its line for a request is a reply with the request's id
     pub replies : (state : State) (id : ℕ) (call : Asked) → Good state → id < IDS → heard (ends.handed state id call).reply ≡ Some id
-    -- where it sends an older line again (`executed` is false), that line is the one that it keeps, and it keeps it for this
+    -- if it sends an older line again (`executed` is false), that line is the one that it retains, and it retains it for this
     -- very id
     pub repeats :
         (state : State) (id : ℕ) (call : Asked) → Good state → id < IDS → (ends.handed state id call).executed ≡ false →
         kept state ≡ Some (record { id = id; line = (ends.handed state id call).reply })
-    -- after a request it keeps its reply to that request, or nothing; or, if it doesn't know the request, what it kept before
+    -- after a request it retains its reply to that request, or nothing; or, if it doesn't know the request, what it retained
+    -- before
     pub keeps :
         (state : State) (id : ℕ) (call : Asked) → Good state → id < IDS →
         KeepsItsOwn state id call ⊎ ((knows call ≡ false) × (kept (ends.handed state id call).state ≡ kept state))
-    -- after a start it keeps what it kept before, or nothing
+    -- after a start it retains what it retained before, or nothing
     pub starts : (state : State) → Good state → (kept (ends.restarted state) ≡ None) ⊎ (kept (ends.restarted state) ≡ kept state)
     -- a good state stays one
     pub stays_good : (state : State) (id : ℕ) (call : Asked) → Good state → id < IDS → Good (ends.handed state id call).state
     pub starts_good : (state : State) → Good state → Good (ends.restarted state)
 
-  -- an instrument, of which it is known of calls of the table that after each of them it keeps its own reply, or nothing
+  -- an instrument, of which it is known of calls of the table that after each of them it retains its own reply, or nothing
   abbrev pub IsAnInstrument : Type 0
   IsAnInstrument = IsAnInstrumentFor is_of_table
 
-  -- a request that is no call of the table is to it as all others: after it, too, it keeps its own reply, or nothing
+  -- a request that is no call of the table is to it as all others: after it, too, it retains its own reply, or nothing
   abbrev pub TreatsRawsAlike : Type 0
   TreatsRawsAlike = (state : State) (id : ℕ) (call : Asked) → Good state → id < IDS → KeepsItsOwn state id call
 
-  -- an instrument that keeps its reply to each request that it knows (`knows`), and sends that reply again where the next request has the same
-  -- id
+  -- an instrument that retains its reply to each request that it knows (`knows`), and sends that reply again if the next
+  -- request has the same id
   pub record KeepsItsReply (knows : Asked → Bool) : Type 0 where
-    -- it doesn't execute a request that it knows and that has the id of the line that it keeps
+    -- it doesn't execute a request that it knows and that has the id of the line that it retains
     pub again :
         (state : State) (id : ℕ) (call : Asked) (line : List ℕ) → Good state → id < IDS → knows call ≡ true → kept state ≡ Some (record { id = id; line = line }) →
         (ends.handed state id call).executed ≡ false
-    -- after each request that it knows it keeps its reply to that request
+    -- after each request that it knows it retains its reply to that request
     pub always :
         (state : State) (id : ℕ) (call : Asked) → Good state → id < IDS → knows call ≡ true →
         kept (ends.handed state id call).state ≡ Some (record { id = id; line = (ends.handed state id call).reply })
@@ -73,11 +75,11 @@ AnyState state = Unit {0}
 abbrev pub all_known : Asked → Bool
 all_known call = true
 
--- no state keeps a reply
+-- no state retains a reply
 abbrev pub nothing : {State : Type 0} → State → Option KeptReply
 nothing state = None
 
--- what keeps no reply and executes each request is an instrument, if each of its replies reads as one with its request's id
+-- what retains no reply and executes each request is an instrument, if each of its replies reads as one with its request's id
 abbrev pub KeepingNothingSuffices : Type 0 → Type 0
 KeepingNothingSuffices State =
     (ends : Ends State) → ((line : List ℕ) → ends.heard line ≡ heard line) →

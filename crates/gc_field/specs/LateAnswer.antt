@@ -1,4 +1,4 @@
--- Some run in the field writes a late record down, this project's own: a command is given up, and its reply comes after that.
+-- Some run in the field has a late record, this project's own: a command has timed out, and its reply comes after that.
 use Rattle.std.specs.Prelude.{◌≡◌, ℕ, true, false, List, [], ◌∷◌, codes, pos, Some, None}
 use Rattle.gc_lines.specs.Lines.{with_end}
 use Rattle.gc_catalogue.specs.declared.answer.Answer.TheVariants.{Long}
@@ -11,7 +11,7 @@ use Rattle.gc_texts.specs.Endings as end
 use Rattle.gc_texts.specs.declared.quality.Quality.TheVariants.{Fine}
 use Rattle.gc_links.specs.Acts.{Act, Told, Put, Gave, Silent, Closed}
 use Rattle.gc_station.specs.Progressing.{is_over}
-use Rattle.gc_station.specs.Runs.{stood}
+use Rattle.gc_station.specs.Runs.{state_after}
 use Rattle.gc_field.specs.Plain.{plain_task, plain_turn}
 use Rattle.gc_field.specs.Simulator.{ends}
 use Rattle.gc_field.specs.World.{Up_deliver}
@@ -38,7 +38,7 @@ late = codes "%R1P,0,0:0,123456"
 abbrev pub answer : List ℕ
 answer = codes "%R1P,0,1:0,123456"
 
--- the acts of the run: the station begins; then nothing comes until the first command's deadline; the second one goes out,
+-- the acts of the run: the station synchronizes; then nothing comes until the first command's deadline; the second one is sent,
 -- and then both replies come
 abbrev pub acts : List Act
 acts =
@@ -81,17 +81,17 @@ runs = record { turns = eight; moves = moves } ∷ record { turns = []; moves = 
 abbrev pub before : UnderWay State
 before = none_under_way simulator_opening
 
--- what is in flight once the run has begun
+-- what is in flight once the run has synchronized
 abbrev pub from : UnderWay State
 from = leaves (turned ends eight (begins before))
 
--- this is a run in the field, after which no act follows. It wrote the first command down as late, and the second one's
--- answer; and each of these lines was made on executing its own request
+-- this is a run in the field, after which no act follows. It recorded the first command as late, and the second one's answer;
+-- and each of these lines was made on executing its own request
 pub record IsLateInField : Type 0 where
   pub field : IsInField ends IsFittingState kept_of plan commands scope acts before runs
-  pub over : is_over (stood plan commands scope acts).progress ≡ true
+  pub over : is_over (state_after plan commands scope acts).progress ≡ true
   pub records :
-      (stood plan commands scope acts).records
+      (state_after plan commands scope acts).records
       ≡ record { sent = Some 15; utc = 120; cycle = 1; place = 0; turn = plain_turn; command = record { target = 7; call = Table InstrumentNo }; end = end.Late }
       ∷ record { sent = Some 115; utc = 125; cycle = 1; place = 1; turn = plain_turn; command = record { target = 8; call = Table InstrumentNo }; end = end.Answered Fine (Some (Long (pos 123456))) answer }
       ∷ []

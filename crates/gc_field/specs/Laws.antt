@@ -1,5 +1,5 @@
 -- What holds in the field, whenever a client sends: this project's own. Requests are numbered from 0 on, in the order of
--- sending. The client that knows ids finds a reply's request by the reply's id; the one that is given numbers is told the
+-- sending. The client that knows ids finds a reply's request by the reply's id; the one that is given numbers is given the
 -- request's number, and serves for comparison alone.
 use Rattle.std.specs.Prelude.{◌≡◌, ℕ, Bool, ◌-◌, ◌<◌, ◌≤◌, List, ◌∷◌, ◌++◌, length, map, Option, Some, slice_get}
 use Rattle.gc_catalogue.specs.declared.asked.Asked.{Asked}
@@ -42,15 +42,15 @@ module _ {State : Type 0} (width : ℕ) (ends : Ends State) (state : State) (ms 
     -- a client that takes the steps of the moves settles what the world's client settled, and ends in the same state
     pub settled : (course width begun (seen ms)).settlements ≡ left.wire.settled
     pub stands : (course width begun (seen ms)).client ≡ left.client
-    -- one for one: what was settled and what waits are the requests that were sent, in order, each once; so settlement m has the target and
-    -- the call of request m
+    -- one for one: what was settled and what is outstanding are the requests that were sent, in order, each once; so settlement
+    -- m has the target and the call of request m
     pub accounted : map of_settled left.wire.settled ++ map of_pending left.client.waiting ≡ map asked left.wire.sent
     pub one_for_one : IsOneForOne left.wire.sent left.wire.settled
-    -- its own: an answer at place m is among the lines that the instrument made for request m, and is its reply to that very call; but for
-    -- the first request, which an instrument that kept an older reply with its id may have answered with that
+    -- its own: an answer at place m is among the lines that the instrument made for request m, and is its reply to that very
+    -- call; but for the first request, which an instrument that retained an older reply with its id may have answered with that
     pub booked :
         (m : ℕ) (s : Settlement Asked) → 0 < m → slice_get left.wire.settled m ≡ Some s → IsBooked ends Good left.wire.made m s
-    -- and the instrument executed request m at one of these moves, not before the client began
+    -- and the instrument executed request m at one of these moves, not before the client synchronized
     pub executed :
         (m : ℕ) (s : Settlement Asked) (line : List ℕ) → 0 < m → slice_get left.wire.settled m ≡ Some s → s.outcome ≡ Answered line → WasExecuted left.wire.executed m
     -- made on it: its line was made on executing request m. At one of these moves that request, with this call, reached the instrument,
@@ -62,13 +62,13 @@ module _ {State : Type 0} (width : ℕ) (ends : Ends State) (state : State) (ms 
     -- late: the instrument dealt with the request, though its reply came too late
     pub late :
         (m : ℕ) (s : Settlement Asked) → 0 < m → slice_get left.wire.settled m ≡ Some s → s.outcome ≡ Late → (line : List ℕ) × WasMadeOn width ends state ms m s.call line
-    -- acts once: where the instrument keeps its reply to each request that it knows, between two of its starts each of these is executed at
-    -- most once
+    -- acts once: if the instrument retains its reply to each request that it knows, between two of its starts each of these is
+    -- executed at most once
     pub once : (knows : Asked → Bool) → KeepsItsReply ends Good kept knows → ActsOnce knows left.wire.sent left.wire.executed left.wire.starts
-    -- agreement: all is as with a client that is told the number of each reply's request
+    -- agreement: all is as with a client that is given the number of each reply's request
     pub agrees : left.wire ≡ left_by_numbers
     -- in time: a reply whose request isn't settled settles that request, and those before it as lost. The request is answered
-    -- with that line, or late where it was given up
+    -- with that line, or late if it timed out
     pub first_reply :
         (n : ℕ) (line : List ℕ) (rest : List (Numbered (List ℕ))) → left.wire.down ≡ record { number = n; line = line } ∷ rest → length left.wire.settled ≤ n →
         (moves ends (by_ids width ends) left (Comes line)).wire.settled ≡ left.wire.settled ++ settle (n - length left.wire.settled) line left.client.waiting
@@ -79,12 +79,12 @@ AnswersAreTheirOwn State =
     (ends : Ends State) (kept : State → Option KeptReply) → IsAnInstrument ends AnyState kept →
     (width : ℕ) → width ≤ WINDOW → (state : State) (ms : List (Move State)) → IsField width ends AnyState kept state ms → IsFaithful width ends state ms AnyState kept
 
--- the reply that the simulator keeps
+-- the reply that the simulator retains
 abbrev pub kept_of : State → Option KeptReply
 kept_of s = s.kept
 
--- the simulator is an instrument, in any state that fits, and one that keeps its reply to each call of its table. It refuses other requests,
--- and its refusals leave what it keeps
+-- the simulator is an instrument, in any state that fits, and one that retains its reply to each call of its table. It refuses
+-- other requests, and its refusals leave what it retains
 pub record SimulatorIsAnInstrument : Type 0 where
   pub is : IsAnInstrument ends IsFittingState kept_of
   pub keeps : KeepsItsReply ends IsFittingState kept_of is_of_table

@@ -1,5 +1,5 @@
--- Why the line feed that clears half a request has to arrive, this project's own: where it is lost, that half and the next request are one
--- line, whose reply has the id of the request that was cut.
+-- Why the line feed that clears half a request has to arrive, this project's own: if it is lost, that half and the next request
+-- are one line, whose reply has the id of the request that was cut.
 use Rattle.std.specs.Prelude.{◌≡◌, ℕ, List, [], ◌∷◌, ◌++◌, take, codes, Some, Ok, slice_get}
 use Rattle.gc_lines.specs.Frames.{lines}
 use Rattle.gc_lines.specs.Lines.{with_end}
@@ -27,7 +27,8 @@ refusal = codes "%R1P,3080,1:0"
 abbrev pub joint : List ℕ
 joint = codes "%R1Q,5003,1:%R1Q,0,2:"
 
--- the moves before: a client that has begun sends a null procedure, which is answered; and then two requests, of which the first is cut
+-- the moves before: a client that has synchronized sends a null procedure, which is answered; and then two requests, of which
+-- the first is cut
 abbrev pub before : List (Move State)
 before = Sends 0 (Table NullProc) 9 ∷ OnLine Up_deliver ∷ Comes (codes "%R1P,0,0:0") ∷ Sends 7 (Table InstrumentNo) 9 ∷ Sends 8 (Table NullProc) 9 ∷ []
 

@@ -17,7 +17,7 @@ module _ {State : Type 0} (width : ℕ) (ends : Ends State) (state : State) wher
     pub front : List (Move State)
     pub later : List (Move State)
     pub split : ms ≡ front ++ OnLine Up_deliver ∷ later
-    -- request m is the first of those under way to the instrument
+    -- request m is the first of those in flight to the instrument
     pub id : ℕ
     pub rest : List (Numbered Request)
     pub reaches : (wire_behind front).up ≡ record { number = m; line = record { id = id; call = call } } ∷ rest

@@ -1,6 +1,6 @@
--- What the acts of a link are to a station's client, this project's own. Nothing is said of when a station sends: only that it keeps the
--- client's rule, with the window of seven, and hears each line that comes or drops what came. Connections may be closed and made at any
--- time, and that is nothing to the client.
+-- What the acts of a link are to a station's client, this project's own. Nothing is said of when a station sends: only that it
+-- retains the client's rule, with the window of seven, and hears each line that comes or discards what came. Connections may be
+-- closed and made at any time, and that is nothing to the client.
 use Rattle.std.specs.Prelude.{◌≡◌, ◌⊎◌, ℕ, List, [], ◌∷◌, ◌++◌, map, Some}
 use Rattle.gc_lines.specs.Frames.{rest_behind}
 use Rattle.gc_lines.specs.Lines.{with_end}
@@ -11,7 +11,7 @@ use Rattle.gc_client.specs.OneForOne.{Step, Send, Hear, Expire, goes}
 use Rattle.gc_client.specs.Rule.{ById, Sending, sends}
 use Rattle.gc_links.specs.declared.link.Moment.{Moment}
 use Rattle.gc_links.specs.Acts.{Act, Told, Untold, Put, Cut, Gave, Silent, Ended, Broke, Closed, Opened, Unopened}
-use Rattle.gc_station.specs.Model.{lines_behind}
+use Rattle.gc_station.specs.Model.{lines_completed}
 
 -- these bytes are the line of a request that the client sends by this step
 pub record IsRequest (client : ById Asked) (bytes : List ℕ) (steps : List (Step Asked)) : Type 0 where
@@ -28,21 +28,21 @@ pub record IsRequest (client : ById Asked) (bytes : List ℕ) (steps : List (Ste
 abbrev pub IsPut : ById Asked → List ℕ → List (Step Asked) → Type 0
 IsPut client bytes steps = ((bytes ≡ 10 ∷ []) × (steps ≡ [])) ⊎ IsRequest client bytes steps
 
--- what a piece that is heard means to a client: first the moment `m` is told, at which requests past their deadline are given
--- up; then each line that the piece completes is heard. `before` and `behind` are the bytes since the last line feed, before
+-- what a piece that is heard means to a client: first the moment `m` is read, at which requests past their deadline have timed
+-- out; then each line that the piece completes is heard. `before` and `behind` are the bytes since the last line feed, before
 -- the piece and after it
 pub record IsHeard (before piece : List ℕ) (m : Moment) (steps : List (Step Asked)) (behind : List ℕ) : Type 0 where
-  pub lines : steps ≡ Expire m.elapsed ∷ map Hear (lines_behind before piece)
+  pub lines : steps ≡ Expire m.elapsed ∷ map Hear (lines_completed before piece)
   pub rest : behind ≡ rest_behind before piece
 
--- what a piece that is dropped means, as while a connection is drained: the moment is told, and it is as if the piece had been
--- lost
+-- what a piece that is discarded means, as while a connection is drained: the moment is read, and it is as if the piece had
+-- been lost
 pub record IsDropped (before : List ℕ) (m : Moment) (steps : List (Step Asked)) (behind : List ℕ) : Type 0 where
   pub lines : steps ≡ Expire m.elapsed ∷ []
   pub rest : behind ≡ before
 
 -- what an act of the link means to a client: its steps. `before` and `behind` are the bytes since the last line feed, before
--- and after the act; a close forgets them. A request of which only a part went out (`Cut`) is sent, too: it may be lost whole
+-- and after the act; a close forgets them. A request of which only a part was sent (`Cut`) is sent, too: it may be lost whole
 -- on the way to the instrument
 abbrev pub Means : ById Asked → List ℕ → Act → List (Step Asked) → List ℕ → Type 0
 Means client before (Told m) steps behind = (steps ≡ Expire m.elapsed ∷ []) × (behind ≡ before)

@@ -48,8 +48,8 @@ pub record IsAllBut {State : Type 0} (x : Clause) (ends : Ends State) (Good : St
   pub stays_good : (x ≡ StaysGood) ⊎ ((state : State) (id : ℕ) (call : Asked) → Good state → id < IDS → Good (ends.handed state id call).state)
   pub starts_good : (x ≡ StartsGood) ⊎ ((state : State) → Good state → Good (ends.restarted state))
 
--- after a clean beginning, with nothing under way, these moves are possible, and the client's request m, with this call, is
--- answered with this line though it wasn't executed
+-- after a clean synchronization, with nothing in flight, these moves are possible, and the client's request m, with this call,
+-- is answered with this line though it wasn't executed
 pub record IsBookedUnexecuted {State : Type 0} (ends : Ends State) (Good : State → Type 0) (kept : State → Option KeptReply) (state : State)
     (ms : List (Move State)) (m : ℕ) (call : Asked) (line : List ℕ) : Type 0 where
   pub beyond : 8 ≤ m
@@ -73,21 +73,21 @@ value id n = reply_text (record { rc_com = 0; id = Some id; rc = 0; params = dec
 abbrev pub refusal : ℕ → List ℕ
 refusal id = reply_text (record { rc_com = 3081; id = Some id; rc = 0; params = [] })
 
--- the moves by which a request goes out, reaches the instrument, and is answered with this line; then these moves
+-- the moves by which a request is sent, reaches the instrument, and is answered with this line; then these moves
 abbrev pub asks : {State : Type 0} → Asked → List ℕ → List (Move State) → List (Move State)
 asks call line ms = Sends 7 call 9 ∷ OnLine Up_deliver ∷ Comes line ∷ ms
 
--- the moves by which two requests go out, and the first of them reaches the instrument and is answered with this line
+-- the moves by which two requests are sent, and the first of them reaches the instrument and is answered with this line
 abbrev pub asks_two : {State : Type 0} → List ℕ → List (Move State)
 asks_two line = Sends 7 (Table NullProc) 9 ∷ Sends 7 (Table InstrumentNo) 9 ∷ OnLine Up_deliver ∷ Comes line ∷ []
 
 -- Instruments that keep a reply.
 
--- the state of an instrument that keeps a reply: the id of a request and the number in its reply, or nothing
+-- the state of an instrument that retains a reply: the id of a request and the number in its reply, or nothing
 abbrev pub Keeper : Type 0
 Keeper = Option (ℕ × ℕ)
 
--- the reply that is kept
+-- the reply that is retained
 abbrev pub kept : Keeper → Option KeptReply
 kept None = None
 kept (Some x) = Some (record { id = x.0; line = value x.0 x.1 })
@@ -97,8 +97,8 @@ abbrev pub held : Keeper → ℕ → Option ℕ
 held None id = None
 held (Some x) id = if nat_eq x.0 id then Some x.1 else None
 
--- what an instrument that keeps a reply does with a request: it sends the number again that it keeps for the request's id; or,
--- where it keeps none, it deals with the request and keeps its reply
+-- what an instrument that retains a reply does with a request: it sends the number again that it retains for the request's id;
+-- or, if it retains none, it deals with the request and retains its reply
 abbrev pub again_or : ℕ → Keeper → Option ℕ → Handed Keeper
 again_or id k (Some n) = record { state = k; reply = value id n; executed = false }
 again_or id k None = record { state = Some (id, 0); reply = value id 0; executed = true }
@@ -108,7 +108,7 @@ abbrev pub keeper : Ends Keeper
 keeper = record { handed = λ k id call. again_or id k (held k id); restarted = λ k. None; heard = heard; joint = true }
 
 -- what an instrument does with a request that it knows (true), or refuses because it doesn't (false): after a refusal it still
--- keeps an older reply
+-- retains an older reply
 abbrev pub refuses_or : Bool → Keeper → ℕ → Handed Keeper
 refuses_or true k id = again_or id k (held k id)
 refuses_or false k id = record { state = k; reply = refusal id; executed = true }
@@ -123,7 +123,8 @@ nine =
     asks (Table NullProc) (value 0 0) (asks (Table InstrumentNo) (refusal 1) (asks (Table InstrumentNo) (refusal 2) (asks (Table InstrumentNo) (refusal 3) (asks (Table InstrumentNo) (refusal 4)
     (asks (Table InstrumentNo) (refusal 5) (asks (Table InstrumentNo) (refusal 6) (asks (Table InstrumentNo) (refusal 7) (asks (Table NullProc) (value 0 0) []))))))))
 
--- an instrument that knows the calls of the table alone: it refuses others, and still keeps its reply to the last call of the table
+-- an instrument that knows the calls of the table alone: it refuses others, and still retains its reply to the last call of the
+-- table
 abbrev pub refuses_raws : Ends Keeper
 refuses_raws = record keeper { handed = λ k id call. refuses_or (is_of_table call) k id }
 
@@ -134,7 +135,7 @@ nine_raw raw =
     asks (Table NullProc) (value 0 0) (asks (Raw raw) (refusal 1) (asks (Raw raw) (refusal 2) (asks (Raw raw) (refusal 3) (asks (Raw raw) (refusal 4)
     (asks (Raw raw) (refusal 5) (asks (Raw raw) (refusal 6) (asks (Raw raw) (refusal 7) (asks (Table NullProc) (value 0 0) []))))))))
 
--- an instrument that keeps an old reply, with id 1, after each start
+-- an instrument that retains an old reply, with id 1, after each start
 abbrev pub remembers : Ends Keeper
 remembers = record keeper { restarted = λ k. Some (1, 27) }
 
@@ -142,24 +143,24 @@ remembers = record keeper { restarted = λ k. Some (1, 27) }
 abbrev pub started : List (Move Keeper)
 started = asks (Table NullProc) (value 0 0) (Anew ∷ asks (Table InstrumentNo) (value 1 27) [])
 
--- the moves of an instrument to which another client sends, too, so that what it keeps changes by itself
+-- the moves of an instrument to which another client sends, too, so that what it retains changes by itself
 abbrev pub shared : List (Move Keeper)
 shared = asks (Table NullProc) (value 0 0) (Changes (Some (1, 27)) ∷ asks (Table InstrumentNo) (value 1 27) [])
 
--- Instruments that keep no reply: their state says whether they are out of order.
+-- Instruments that retain no reply: their state says whether they are out of order.
 
 -- an id that differs from this one, unless that is 0
 abbrev pub turned : ℕ → ℕ
 turned zero = 0
 turned (suc id) = id + 2
 
--- the id of a reply to a request with this id: another one where the instrument is out of order
+-- the id of a reply to a request with this id: another one if the instrument is out of order
 abbrev pub id_of : Bool → ℕ → ℕ
 id_of false id = id
 id_of true id = turned id
 
--- what an instrument that may be out of order does with a request: it executes the request, and its reply has another id where
--- it is out of order (`broken`). `behind` is its state afterwards
+-- what an instrument that may be out of order does with a request: it executes the request, and its reply has another id if it
+-- is out of order (`broken`). `behind` is its state afterwards
 abbrev pub answers_in : Bool → ℕ → Bool → Handed Bool
 answers_in broken id behind = record { state = behind; reply = value (id_of broken id) 0; executed = true }
 
@@ -197,15 +198,15 @@ sound = record mistaken { handed = λ b id call. answers_in b id b }
 abbrev pub comes_twice : {State : Type 0} → List (Move State)
 comes_twice = asks (Table NullProc) (value 0 0) (Sends 7 (Table InstrumentNo) 9 ∷ OnLine (Up_repeat 0) ∷ OnLine Up_deliver ∷ OnLine Up_deliver ∷ [])
 
--- an instrument that keeps its reply, and deals with each request anew
+-- an instrument that retains its reply, and deals with each request again
 abbrev pub deals_anew : Ends Keeper
 deals_anew = record keeper { handed = λ k id call. again_or id k None }
 
--- an instrument that keeps no reply
+-- an instrument that retains no reply
 abbrev pub forgets : Ends Bool
 forgets = record mistaken { handed = λ b id call. answers_in false id b }
 
--- `ends` is an instrument that meets every clause, and yet, where one request reaches it twice without a start between (the moves
+-- `ends` is an instrument that meets every clause, and yet, if one request reaches it twice without a start between (the moves
 -- `comes_twice`), it executes that request both times
 pub record IsExecutedTwice {State : Type 0} (ends : Ends State) (Good : State → Type 0) (kept : State → Option KeptReply) (state : State) : Type 0 where
   pub is : IsAnInstrument ends Good kept
@@ -225,18 +226,19 @@ pub record IsAllNeeded : Type 0 where
   pub starts : IsNeeded Starts remembers AnyState kept None started 9 (Table InstrumentNo) (value 1 27)
   pub stays_good : IsNeeded StaysGood wears_out InOrder nothing false (asks (Table NullProc) (value 0 0) (asks_two (value 2 0))) 10 (Table InstrumentNo) (value 2 0)
   pub starts_good : IsNeeded StartsGood starts_broken InOrder nothing false (asks (Table NullProc) (value 0 0) (Anew ∷ asks_two (value 2 0))) 10 (Table InstrumentNo) (value 2 0)
-  -- when a client sends is needed, too: an instrument meets every clause, and the last request, which didn't go out behind the table
-  -- (`IsBehindTheTable`), has an answer booked though it was never executed
+  -- when a client sends is needed, too: an instrument meets every clause, and the last request, which wasn't sent after the
+  -- table (`IsBehindTheTable`), has an answer booked though it was never executed
   pub rule_is : IsAnInstrument refuses_raws AnyState kept
   pub rule : (raw : RawCall) → IsBookedUnexecuted refuses_raws AnyState kept None (nine_raw raw) 16 (Table NullProc) (value 0 0)
-  -- two limits of what may change by itself are needed: what is kept may not change, as it does where another client sends; and the
-  -- new state has to be a good one
+  -- two limits of what may change by itself are needed: what is retained may not change, as it does if another client sends;
+  -- and the new state has to be a good one
   pub shared_is : IsAnInstrument keeper AnyState kept
   pub changes_kept : IsBookedUnexecuted keeper AnyState nothing None shared 9 (Table InstrumentNo) (value 1 27)
   pub sound_is : IsAnInstrument sound InOrder nothing
   pub changes_good : IsBookedUnexecuted sound AnyState nothing false (asks (Table NullProc) (value 0 0) (Changes true ∷ asks_two (value 2 0))) 10 (Table InstrumentNo) (value 2 0)
-  -- an instrument that keeps its reply executes a request that comes twice only once (`ActsOnce`), and both clauses on that are needed:
-  -- here are an instrument that lacks the first clause and has the second, and one that lacks the second and has the first
+  -- an instrument that retains its reply executes a request that comes twice only once (`ActsOnce`), and both clauses on that
+  -- are needed: here are an instrument that lacks the first clause and has the second, and one that lacks the second and has
+  -- the first
   pub again : IsExecutedTwice deals_anew AnyState kept None
   pub again_keeps : (state : Keeper) (id : ℕ) (call : Asked) → kept (deals_anew.handed state id call).state ≡ Some (record { id = id; line = (deals_anew.handed state id call).reply })
   pub always : IsExecutedTwice forgets AnyState nothing false

@@ -1,6 +1,6 @@
 -- Where the telescope pointed when a command of a chain was executed, of the simulated instrument: this project's own. A part
--- is what a station sees of its run from one beginning to the next, and a stretch what happens on the line meanwhile, once it
--- has begun.
+-- is what a station sees of its run from one synchronization to the next, and a stretch what happens on the line meanwhile,
+-- once it has synchronized.
 use Rattle.std.specs.Prelude.{◌≡◌, ℕ, ◌<◌, ◌≤◌, Bool, true, false, List, Some, None, slice_get}
 use Rattle.std.specs.List.{AllByRecursion}
 use Rattle.gc_values.specs.declared.decimal.Decimal.{Decimal}
@@ -17,7 +17,7 @@ use Rattle.gc_station.specs.Answers.{answer_of}
 use Rattle.gc_station.specs.Links.{AreChained}
 use Rattle.gc_station.specs.Parts.{Part, parts_of}
 use Rattle.gc_station.specs.Records.{Record}
-use Rattle.gc_station.specs.Runs.{stood}
+use Rattle.gc_station.specs.Runs.{state_after}
 use Rattle.gc_station.specs.Scopes.{Scope}
 use Rattle.gc_station.specs.Model.{opening}
 use Rattle.gc_station.specs.declared.plan.Plan.{Plan}
@@ -34,7 +34,7 @@ abbrev pub behind_call : State → Asked → State
 behind_call s (Table call) = (exec s call).state
 behind_call s (Raw raw) = s
 
--- the simulator's state without the reply that it keeps
+-- the simulator's state without the reply that it retains
 abbrev pub bare : State → State
 bare s = with_kept None s
 
@@ -54,9 +54,9 @@ pub record PointsAs (s t : State) : Type 0 where
   pub pointing : s.pointing ≡ t.pointing
   pub face : s.face ≡ t.face
 
--- when the command of record b was executed, after the command at place a, the telescope pointed where executing the latter
--- had left it; and where the latter was a positioning, in the direction that it commanded, in the face in which the telescope
--- was before
+-- when the command of record b was executed, after the command at place a, the telescope pointed where executing the latter had
+-- left it; and if the latter was a positioning, in the direction that it commanded, in the face in which the telescope was
+-- before
 pub record IsMeasuredWhereItPointed (reads : Asked → List ℕ → Reading) (commands : List Task) (ps : List Part) (ss : List (Stretch State)) (records : List Record) (a : ℕ) (b : Record) (line : List ℕ)
     (h : IsChainedTo ends IsFittingState kept_of reads commands ps ss records a b line) : Type 0 where
   pub as_left : PointsAs (behind ends h.stretch h.executed.second.front).state (behind_call (behind ends h.stretch h.executed.first.front).state h.record_a.command.call)
@@ -65,24 +65,24 @@ pub record IsMeasuredWhereItPointed (reads : Asked → List ℕ → Reading) (co
       → ((behind ends h.stretch h.executed.second.front).state.pointing ≡ record { hz = hz; v = v })
       × ((behind ends h.stretch h.executed.second.front).state.face ≡ (behind ends h.stretch h.executed.first.front).state.face)
 
--- if the command of record b, of a cycle, was answered, and is chained to the command of its cycle at place a, it was executed after the latter. Where
--- no command of the places between turns the telescope, and the instrument neither started anew nor changed by itself between
--- the two executions, it was executed with the telescope as the latter had left it
+-- if the command of record b, of a cycle, was answered, and is chained to the command of its cycle at place a, it was executed
+-- after the latter. If no command of the places between turns the telescope, and the instrument neither started again nor
+-- changed by itself between the two executions, it was executed with the telescope as the latter had left it
 abbrev pub IsPointedInChain : Plan → List Task → Scope → List Act → UnderWay State → List (Run State) → Record → Type 0
 IsPointedInChain plan commands scope acts u rs b =
     (line : List ℕ) (a : ℕ) → answer_of b.end ≡ Some line → 0 < b.cycle → plan.setup ≤ a → a < b.place → AreChained commands a b.place
-    → (h : IsChainedTo ends IsFittingState kept_of scope.reads commands (parts_of plan commands (opening plan scope) acts) (stretches ends u rs) (stood plan commands scope acts).records a b line)
+    → (h : IsChainedTo ends IsFittingState kept_of scope.reads commands (parts_of plan commands (opening plan scope) acts) (stretches ends u rs) (state_after plan commands scope acts).records a b line)
     × (AreStill commands a b.place → IsUndisturbed h.executed.between
-    → IsMeasuredWhereItPointed scope.reads commands (parts_of plan commands (opening plan scope) acts) (stretches ends u rs) (stood plan commands scope acts).records a b line h)
+    → IsMeasuredWhereItPointed scope.reads commands (parts_of plan commands (opening plan scope) acts) (stretches ends u rs) (state_after plan commands scope acts).records a b line h)
 
 -- each record is `IsPointedInChain`: for every plan, all commands, every run of the station over the simulator, and all that the line and
 -- the simulator may do meanwhile
 abbrev pub ChainsAreMeasuredWhereTheyPointed : Type 0
 ChainsAreMeasuredWhereTheyPointed =
     (plan : Plan) (commands : List Task) (scope : Scope) (acts : List Act) (u : UnderWay State) (rs : List (Run State)) → IsInField ends IsFittingState kept_of plan commands scope acts u rs →
-    AllByRecursion (IsPointedInChain plan commands scope acts u rs) (stood plan commands scope acts).records
+    AllByRecursion (IsPointedInChain plan commands scope acts u rs) (state_after plan commands scope acts).records
 
--- executing a call of the table makes of the simulator's state what the execution table says, apart from the reply that is kept; another
--- request changes nothing
+-- executing a call of the table makes of the simulator's state what the execution table says, apart from the reply that is
+-- retained; another request changes nothing
 abbrev pub SimulatorHasItsEffect : Type 0
 SimulatorHasItsEffect = HasEffect ends bare behind_call

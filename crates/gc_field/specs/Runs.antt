@@ -1,7 +1,7 @@
 -- A station in the field, this project's own: its runs, the line over all of its connections, and an instrument. Each answer
--- that it writes down was made on executing the very request of that cycle and place. A part is what the station sees of its
--- run from one beginning to the next; a stretch is what happens on the line meanwhile, once it has begun. The word has the ids
--- of a beginning's null procedures.
+-- that it records was made on executing the very request of that cycle and place. A part is what the station sees of its run
+-- from one synchronization to the next; a stretch is what happens on the line meanwhile, once it has synchronized. The word has
+-- the ids of a synchronization's null procedures.
 use Rattle.std.specs.Prelude.{◌≡◌, ℕ, ◌+◌, ◌<◌, ◌≤◌, Bool, true, false, ◌||◌, if◌then◌else◌, nat_le, List, [], ◌∷◌, ◌++◌, drop, length, map, Option, Some, slice_get}
 use Rattle.std.specs.List.{AllByRecursion}
 use Rattle.gc_catalogue.specs.declared.answer.Reading.{Reading}
@@ -17,7 +17,7 @@ use Rattle.gc_texts.specs.Endings as end
 use Rattle.gc_station.specs.declared.plan.Plan.{Plan}
 use Rattle.gc_links.specs.Acts.{Act}
 use Rattle.gc_station.specs.Answers.{answer_of}
-use Rattle.gc_station.specs.Beginnings.{left_behind}
+use Rattle.gc_station.specs.Beginnings.{unanswered_after}
 use Rattle.gc_station.specs.Begun.{AreBegun, heard_in}
 use Rattle.gc_station.specs.Deciding.{has_begun}
 use Rattle.gc_station.specs.EachOnce.{EachOnce}
@@ -25,7 +25,7 @@ use Rattle.gc_station.specs.Marks.{records_of}
 use Rattle.gc_station.specs.Parts.{Part, AreOf, acting, mark_of, parts_of, sent_at, sent_of, timeless}
 use Rattle.gc_station.specs.Records.{Record}
 use Rattle.gc_station.specs.Requests.{asked_at}
-use Rattle.gc_station.specs.Runs.{stood}
+use Rattle.gc_station.specs.Runs.{state_after}
 use Rattle.gc_station.specs.Model.{Model, opening, action_at, after, Runs}
 use Rattle.gc_station.specs.Scopes.{Scope}
 use Rattle.gc_field.specs.Simulator.{ends}
@@ -41,18 +41,19 @@ use Rattle.gc_field.specs.Laws.{WasExecuted, asked, kept_of}
 use Rattle.gc_field.specs.Meaning.{Means}
 use Rattle.gc_field.specs.Shown.{AreShownAs, Stretch, stretches}
 
--- whether a moment at or past this deadline is told among these moves
+-- whether a moment at or past this deadline is read among these moves
 abbrev pub gives_up : {State : Type 0} → ℕ → List (Move State) → Bool
 gives_up deadline [] = false
 gives_up deadline (Tells now ∷ ms) = nat_le deadline now || gives_up deadline ms
 gives_up deadline (_ ∷ ms) = gives_up deadline ms
 
 module _ {State : Type 0} (ends : Ends State) where
-  -- the world after a stretch. Its requests 0 to 7 are the null procedures of the beginning, and the client's come after them
+  -- the world after a stretch. Its requests 0 to 7 are the null procedures of the synchronization, and the client's come after
+  -- them
   abbrev pub world : Stretch State → World (ById Asked) State
   world s = behind WINDOW ends s.from s.moves
 
-  -- the requests of the client in a stretch, without the null procedures of the beginning
+  -- the requests of the client in a stretch, without the null procedures of the synchronization
   abbrev pub own_sent : Stretch State → List Sent
   own_sent s = drop 8 (world s).wire.sent
 
@@ -66,9 +67,9 @@ module _ {State : Type 0} (ends : Ends State) where
   AreSentAs commands (p ∷ ps) (s ∷ ss) = AreOf commands p.marks (map asked (own_sent s)) × AreSentAs commands ps ss
   AreSentAs commands _ _ = ⊥
 
-  -- in time: where a request goes out, and later a reply to it comes while it isn't settled, that reply settles it. The request
-  -- is answered by that line where no moment at or past its deadline was told before, and else it is late. `before` are the
-  -- moves before it goes out, and `between` those from then on until the reply comes
+  -- in time: if a request is sent, and later a reply to it comes while it isn't settled, that reply settles it. The request is
+  -- answered by that line if no moment at or past its deadline was read before, and else it is late. `before` are the moves
+  -- before it is sent, and `between` those from then on until the reply comes
   abbrev pub IsInTime : Stretch State → Type 0
   IsInTime s =
       (before between later : List (Move State)) (target : ℕ) (call : Asked) (deadline : ℕ) (line : List ℕ) (rest : List (Numbered (List ℕ)))
@@ -79,20 +80,21 @@ module _ {State : Type 0} (ends : Ends State) where
       → slice_get (world s).wire.settled (length (behind WINDOW ends s.from before).wire.sent)
       ≡ Some (record { target = target; call = call; outcome = if gives_up deadline between then Late else Answered line })
 
-  -- the records that these stretches write down, with the moment 0: how each command ended in its own stretch, and as lost what waits where the
-  -- next stretch begins
+  -- the records that these stretches record, with the moment 0: how each command ended in its own stretch, and as lost what is
+  -- outstanding if the next stretch begins
   abbrev pub written_over : (Asked → List ℕ → Reading) → List Part → List (Stretch State) → List Record
   written_over reads (p ∷ []) (s ∷ []) = records_of reads 0 p.marks (own_settled s)
   written_over reads (p ∷ q ∷ ps) (s ∷ t ∷ ss) =
       records_of reads 0 p.marks (own_settled s ++ map lost (world s).client.waiting) ++ written_over reads (q ∷ ps) (t ∷ ss)
   written_over reads _ _ = []
 
--- the part p is what an act means, which takes the station from the model s to t. While the station begins (`false`) the part
--- has turns, and the turn of the next null procedure comes exactly where the one before it is answered. Once it has begun
--- (`true`) the part has steps of the client, as `Means` says: a request that goes out is one whose line the bytes are
+-- the part p is what an act means, which takes the station from the model s to t. While the station synchronizes (`false`) the
+-- part has turns, and the turn of the next null procedure comes exactly if the one before it is answered. Once it has
+-- synchronized (`true`) the part has steps of the client, as `Means` says: a request that is sent is one whose line the bytes
+-- are
 abbrev pub IsMeant : Bool → Model → Act → Part → Model → Type 0
 IsMeant true s act p t = (p.turns ≡ []) × Means s.client s.rest act p.steps t.rest
-IsMeant false s act p t = (p.steps ≡ []) × MeansTurns s.progress.word s.rest act p.turns t.rest × (t.progress.word ≡ left_behind s.progress.word (heard_in p.turns))
+IsMeant false s act p t = (p.steps ≡ []) × MeansTurns s.progress.word s.rest act p.turns t.rest × (t.progress.word ≡ unanswered_after s.progress.word (heard_in p.turns))
 
 -- each act of a run means what the parts of the run count for it (`acting`)
 abbrev pub AreMeant : Plan → List Task → Model → List Act → Type 0
@@ -101,9 +103,10 @@ AreMeant plan commands s (act ∷ acts) =
     IsMeant (has_begun s.progress) s act (acting plan commands s (action_at plan s) act) (after plan commands s act) × AreMeant plan commands (after plan commands s act) acts
 
 module _ {State : Type 0} (ends : Ends State) (Good : State → Type 0) (kept : State → Option KeptReply) where
-  -- a run of a station, and for each of its parts what happens on the line and to an instrument: first while it begins, then once it has
-  -- begun. Under way at its start may be anything, in which the word isn't a subsequence of the ids; and each part is over what the one before
-  -- it left. What these happenings show to the station and its client are the turns and steps of its acts
+  -- a run of a station, and for each of its parts what happens on the line and to an instrument: first while it synchronizes,
+  -- then once it has synchronized. In flight at its start may be anything in which the word isn't a subsequence of the ids; and
+  -- each part is over what the one before it left. What these happenings show to the station and its client are the turns and
+  -- steps of its acts
   pub record IsInField (plan : Plan) (commands : List Task) (scope : Scope) (acts : List Act) (u : UnderWay State) (rs : List (Run State)) : Type 0 where
     pub runs : Runs plan commands (opening plan scope) acts
     pub lines : AreLines Good u
@@ -111,7 +114,7 @@ module _ {State : Type 0} (ends : Ends State) (Good : State → Type 0) (kept : 
     pub shown : AreShownAs ends u rs (parts_of plan commands (opening plan scope) acts)
     pub possible : AreRuns WINDOW ends Good kept u rs
 
-  -- where the answer `line` of record `r` comes from, in a run with the parts `ps` and the stretches `ss`: in stretch k, the
+  -- if the answer `line` of record `r` comes from, in a run with the parts `ps` and the stretches `ss`: in stretch k, the
   -- client's request m is the command of the record's cycle and place; the instrument made this line on executing that very
   -- request; and the line settled the request
   pub record IsItsOwn (commands : List Task) (ps : List Part) (ss : List (Stretch State)) (r : Record) (line : List ℕ) : Type 0 where
@@ -132,8 +135,8 @@ module _ {State : Type 0} (ends : Ends State) (Good : State → Type 0) (kept : 
     pub made : (j : ℕ) × (slice_get (world ends stretch).wire.made j ≡ Some (record { number = 8 + m; line = line }))
     pub reply : IsReplyTo ends Good (call_at task (sent_at r)) line
     pub executed : WasExecuted (world ends stretch).wire.executed (8 + m)
-    -- the line was made on executing that very request: at one of the stretch's moves it, with what the command asks at the moment at which
-    -- it went out, reached the instrument, which executed it, and this line was its reply
+    -- the line was made on executing that very request: at one of the stretch's moves it, with what the command asks at the
+    -- moment at which it was sent, reached the instrument, which executed it, and this line was its reply
     pub made_on : WasMadeOn WINDOW ends stretch.from stretch.moves (8 + m) (call_at task (sent_at r)) line
 
   -- if a record is of a reply in time, its line was made on executing its own request: by `IsItsOwn`
@@ -167,23 +170,25 @@ module _ {State : Type 0} (ends : Ends State) (Good : State → Type 0) (kept : 
 
   -- what holds of a run in the field, from its records back to what the instrument executed
   pub record IsRunFaithful (plan : Plan) (commands : List Task) (scope : Scope) (acts : List Act) (u : UnderWay State) (rs : List (Run State)) : Type 0 where
-    -- no command goes out before the eighth null procedure is answered: neither at first, nor where it begins anew
+    -- no command is sent before the eighth null procedure is answered: neither at first, nor if it resynchronizes
     pub begun : AreBegun the_word (parts_of plan commands (opening plan scope) acts)
-    -- and where it has begun, it has begun cleanly: no request from before is under way, nor a reply to one
+    -- and if it has synchronized, it has synchronized cleanly: no request from before is in flight, nor a reply to one
     pub clean : AreOwn WINDOW ends Good kept u rs
     -- its own: the answer of each record was made on executing the request of that very cycle and place
-    pub own : AllByRecursion (IsOwnAnswer commands (parts_of plan commands (opening plan scope) acts) (stretches ends u rs)) (stood plan commands scope acts).records
-    -- and where a reply came too late, the instrument dealt with the request all the same
-    pub late : AllByRecursion (IsDealtWith commands (parts_of plan commands (opening plan scope) acts) (stretches ends u rs)) (stood plan commands scope acts).records
-    -- one for one: the records and what waits are the commands sent, and those written down without being sent, in order, each once
+    pub own : AllByRecursion (IsOwnAnswer commands (parts_of plan commands (opening plan scope) acts) (stretches ends u rs)) (state_after plan commands scope acts).records
+    -- and if a reply came too late, the instrument dealt with the request all the same
+    pub late : AllByRecursion (IsDealtWith commands (parts_of plan commands (opening plan scope) acts) (stretches ends u rs)) (state_after plan commands scope acts).records
+    -- one for one: the records and what is outstanding are the commands sent, and those recorded without being sent, in order,
+    -- each once
     pub one_for_one : EachOnce plan commands scope acts
     -- the requests of the stretches are these commands, and null procedures; and the records, but for those of commands that weren't sent, are
     -- how they ended there, answered, late or lost
     pub sent : AreSentAs ends commands (parts_of plan commands (opening plan scope) acts) (stretches ends u rs)
-    pub written : map timeless (sent_of (stood plan commands scope acts).records) ≡ written_over ends scope.reads (parts_of plan commands (opening plan scope) acts) (stretches ends u rs)
-    -- the turns and steps of a run are what its acts are to a beginning and to a client: the bytes that go out are the lines of these requests
+    pub written : map timeless (sent_of (state_after plan commands scope acts).records) ≡ written_over ends scope.reads (parts_of plan commands (opening plan scope) acts) (stretches ends u rs)
+    -- the turns and steps of a run are what its acts are to a synchronization and to a client: the bytes that are sent are the
+    -- lines of these requests
     pub meant : AreMeant plan commands (opening plan scope) acts
-    -- in time: the first reply to a request that isn't settled settles it, as answered, or as late where its deadline was told before
+    -- in time: the first reply to a request that isn't settled settles it, as answered, or as late if its deadline was read before
     pub in_time : AllByRecursion (IsInTime ends) (stretches ends u rs)
     -- each stretch is faithful, and so acts once: between two starts of the instrument each request is executed at most once, in order
     pub each : AllByRecursion IsFaithfulThroughout (stretches ends u rs)

@@ -35,7 +35,7 @@ abbrev pub IsHeard : Option KeptReply → Type 0
 IsHeard None = Unit {0}
 IsHeard (Some k) = heard k.line ≡ Some k.id
 
--- a state in which what is kept reads as a reply with its id
+-- a state in which what is retained reads as a reply with its id
 abbrev pub KeepsAReply : SceneState → Type 0
 KeepsAReply s = IsHeard s.base.kept
 

@@ -14,8 +14,8 @@ use Rattle.gc_field.specs.Begun.{behind, ids_begun}
 use Rattle.gc_field.specs.Field.{Move, Sends, Comes, OnLine, Anew, ArePossible}
 use Rattle.gc_field.specs.Laws.{kept_of}
 
--- the moves: the line repeats the third request of a client that has begun. The instrument executes it, and the reply is lost;
--- the instrument starts; and it executes the repeated request
+-- the moves: the line repeats the third request of a client that has synchronized. The instrument executes it, and the reply is
+-- lost; the instrument starts; and it executes the repeated request
 abbrev pub moves : List (Move State)
 moves =
     Sends 0 (Table NullProc) 100

@@ -1,5 +1,5 @@
--- What a line shows to a station, this project's own: the turns of its beginning; and a stretch, what happens once it has begun, over what
--- the beginning left under way.
+-- What a line shows to a station, this project's own: the turns of its synchronization; and a stretch, what happens once it has
+-- synchronized, over what the synchronization left in flight.
 use Rattle.std.specs.Prelude.{◌≡◌, ℕ, List, [], ◌∷◌, ◌++◌}
 use Rattle.gc_client.specs.declared.window.TheConstants.{WINDOW}
 use Rattle.gc_station.specs.Parts as part
@@ -9,14 +9,14 @@ use Rattle.gc_field.specs.Begin.{Aged, Model, Turn, Asks, Comes, Foreign, Reache
 use Rattle.gc_field.specs.Beginnings.{Run, left_by_run}
 use Rattle.gc_field.specs.Field.{Move, seen}
 
--- the turn at which the reply in front of these is heard; none where there is none
+-- the turn at which the front one of these replies is heard; none if there is none
 abbrev pub first_heard : List (Aged (List ℕ)) → List part.Turn
 first_heard [] = []
 first_heard (x ∷ rest) = part.Hears x.line ∷ []
 
 module _ {State : Type 0} where
-  -- what a turn of the field shows to the station that begins: its null procedure goes out, or a line is heard; what happens on the line is
-  -- nothing to the station
+  -- what a turn of the field shows to the synchronizing station: its null procedure is sent, or a line is heard; what happens
+  -- on the line is nothing to the station
   abbrev pub shows : Model State → Turn State → List part.Turn
   shows s Asks = part.Asks ∷ []
   shows s Comes = first_heard s.down
@@ -29,25 +29,25 @@ module _ {State : Type 0} where
   shows s Anew = []
   shows s (Changes state) = []
 
-  -- what these turns of the field show to the station that begins, in order
+  -- what these turns of the field show to the synchronizing station, in order
   abbrev pub shown : Ends State → List (Turn State) → Model State → List part.Turn
   shown ends [] s = []
   shown ends (t ∷ ts) s = shows s t ++ shown ends ts (turns ends s t)
 
--- a run once it has begun: what is under way then, and what happens from there on
+-- a run once it has synchronized: what is in flight then, and what happens from there on
 pub record Stretch (State : Type 0) : Type 0 where
   pub from : UnderWay State
   pub moves : List (Move State)
 
 module _ {State : Type 0} (ends : Ends State) where
-  -- the stretches of runs, each over what the run before it left. The stretch of a run that never began has no moves, where the
-  -- runs are possible
+  -- the stretches of runs, each over what the run before it left. The stretch of a run that never synchronized has no moves, if
+  -- the runs are possible
   abbrev pub stretches : UnderWay State → List (Run State) → List (Stretch State)
   stretches u [] = []
   stretches u (r ∷ rs) = record { from = leaves (turned ends r.turns (begins u)); moves = r.moves } ∷ stretches (left_by_run WINDOW ends u r) rs
 
-  -- each run goes with one part of the station's run, in order: what its beginning shows are the part's turns, and what its
-  -- moves show the client are the part's steps
+  -- each run goes with one part of the station's run, in order: what its synchronization shows are the part's turns, and what
+  -- its moves show the client are the part's steps
   abbrev pub AreShownAs : UnderWay State → List (Run State) → List Part → Type 0
   AreShownAs u [] [] = Unit {0}
   AreShownAs u (r ∷ rs) (p ∷ ps) = (shown ends r.turns (begins u) ≡ p.turns) × (seen r.moves ≡ p.steps) × AreShownAs (left_by_run WINDOW ends u r) rs ps

@@ -1,5 +1,5 @@
--- There is a run in the field, this project's own: the station begins over a line with an older request and an older reply under way, and a
--- command is asked and answered. So what is said of all such runs is said of some.
+-- There is a run in the field, this project's own: the station synchronizes over a line with an older request and an older
+-- reply in flight, and a command is asked and answered. So what is said of all such runs is said of some.
 use Rattle.std.specs.Prelude.{◌≡◌, ℕ, true, false, List, [], ◌∷◌, codes, drop, pos, Some, None}
 use Rattle.gc_lines.specs.Lines.{with_end}
 use Rattle.gc_catalogue.specs.declared.answer.Answer.TheVariants.{Long}
@@ -15,7 +15,7 @@ use Rattle.gc_links.specs.declared.link.Moment.{Moment}
 use Rattle.gc_station.specs.declared.plan.Plan.{Plan}
 use Rattle.gc_links.specs.Acts.{Act, Told, Put, Gave, Closed, Opened}
 use Rattle.gc_station.specs.Progressing.{is_over}
-use Rattle.gc_station.specs.Runs.{stood}
+use Rattle.gc_station.specs.Runs.{state_after}
 use Rattle.gc_station.specs.Scopes.{Scope}
 use Rattle.gc_field.specs.Plain.{plain_task, plain_turn}
 use Rattle.gc_field.specs.Simulator.{ends}
@@ -48,26 +48,26 @@ scope = record { turns = 100; reads = λ call line. Value (Long (pos 123456)) }
 abbrev pub at : ℕ → Moment
 at now = record { elapsed = now; utc = now; stops = false }
 
--- the lines of a beginning's null procedures, in order
+-- the lines of a synchronization's null procedures, in order
 abbrev pub asked : List (List ℕ)
 asked = codes "%R1Q,0,6:" ∷ codes "%R1Q,0,5:" ∷ codes "%R1Q,0,4:" ∷ codes "%R1Q,0,3:" ∷ codes "%R1Q,0,2:" ∷ codes "%R1Q,0,1:" ∷ codes "%R1Q,0,0:" ∷ codes "%R1Q,0,7:" ∷ []
 
--- the simulator's replies to a beginning's null procedures, in order
+-- the simulator's replies to a synchronization's null procedures, in order
 abbrev pub replies : List (List ℕ)
 replies = codes "%R1P,0,6:0" ∷ codes "%R1P,0,5:0" ∷ codes "%R1P,0,4:0" ∷ codes "%R1P,0,3:0" ∷ codes "%R1P,0,2:0" ∷ codes "%R1P,0,1:0" ∷ codes "%R1P,0,0:0" ∷ codes "%R1P,0,7:0" ∷ []
 
--- the acts by which each of these lines goes out at the moment `now`, and its reply, the next of the second list, comes; and
+-- the acts by which each of these lines is sent at the moment `now`, and its reply, the next of the second list, comes; and
 -- then `acts`
 abbrev pub exchanged : ℕ → List (List ℕ) → List (List ℕ) → List Act → List Act
 exchanged now (line ∷ others) (reply ∷ later) acts = Put (with_end line) ∷ Told (at now) ∷ Gave (with_end reply) (at now) ∷ exchanged now others later acts
 exchanged now _ _ acts = acts
 
--- the acts of a beginning, and these acts after it: a connection is made and cleared, and all eight null procedures are
+-- the acts of a synchronization, and these acts after it: a connection is made and cleared, and all eight null procedures are
 -- answered at once
 abbrev pub begun_with : List (List ℕ) → List Act → List Act
 begun_with answers acts = Opened ∷ Put (10 ∷ []) ∷ Told (at 0) ∷ exchanged 10 asked answers acts
 
--- what the line does in a beginning: each null procedure reaches the instrument, and its reply comes
+-- what the line does in a synchronization: each null procedure reaches the instrument, and its reply comes
 abbrev pub eight : {S : Type 0} → List (Turn S)
 eight =
     Asks ∷ Reaches ∷ turn.Comes ∷ Asks ∷ Reaches ∷ turn.Comes ∷ Asks ∷ Reaches ∷ turn.Comes ∷ Asks ∷ Reaches ∷ turn.Comes
@@ -81,8 +81,8 @@ before = record { up = record { id = 0; call = Table InstrumentNo } ∷ []; down
 abbrev pub answer : List ℕ
 answer = codes "%R1P,0,0:0,123456"
 
--- the acts of the run: a connection is made and cleared; the first null procedure goes out, and both old replies come, which
--- are dropped; all eight are answered; then the command goes out and is answered, and the connection is closed
+-- the acts of the run: a connection is made and cleared; the first null procedure is sent, and both old replies come, which are
+-- discarded; all eight are answered; then the command is sent and is answered, and the connection is closed
 abbrev pub acts : List Act
 acts =
     Opened
@@ -102,11 +102,12 @@ acts =
     ∷ []
     )
 
--- what the line does while the station begins: each request reaches the simulator, the old one first, and each reply comes
+-- what the line does while the station synchronizes: each request reaches the simulator, the old one first, and each reply
+-- comes
 abbrev pub turns : List (Turn State)
 turns = Asks ∷ turn.Comes ∷ Reaches ∷ turn.Comes ∷ Reaches ∷ turn.Comes ∷ drop 3 eight
 
--- what the line does once the station has begun: the command reaches the simulator, and its reply comes
+-- what the line does once the station has synchronized: the command reaches the simulator, and its reply comes
 abbrev pub moves : List (Move State)
 moves = Tells 15 ∷ Sends 7 (Table InstrumentNo) 115 ∷ Tells 15 ∷ OnLine Up_deliver ∷ Tells 20 ∷ Comes answer ∷ []
 
@@ -114,13 +115,13 @@ moves = Tells 15 ∷ Sends 7 (Table InstrumentNo) 115 ∷ Tells 15 ∷ OnLine Up
 abbrev pub runs : List (Run State)
 runs = record { turns = turns; moves = moves } ∷ record { turns = []; moves = [] } ∷ []
 
--- this is a run in the field, after which no act follows; it wrote the command's answer down, which was made on executing
--- the command's request
+-- this is a run in the field, after which no act follows; it recorded the command's answer, which was made on executing the
+-- command's request
 pub record IsAnsweredInField : Type 0 where
   pub field : IsInField ends IsFittingState kept_of plan commands scope acts before runs
-  pub over : is_over (stood plan commands scope acts).progress ≡ true
+  pub over : is_over (state_after plan commands scope acts).progress ≡ true
   pub records :
-      (stood plan commands scope acts).records
+      (state_after plan commands scope acts).records
       ≡ record { sent = Some 15; utc = 20; cycle = 1; place = 0; turn = plain_turn; command = record { target = 7; call = Table InstrumentNo }; end = end.Answered Fine (Some (Long (pos 123456))) answer } ∷ []
   pub made_on : WasMadeOn WINDOW ends (leaves (turned ends turns (begins before))) moves 8 (Table InstrumentNo) answer
 

@@ -13,7 +13,7 @@ pub use Rattle.gc_world.specs.Worlds.{Numbered, Send, Up_deliver, Up_lose, Up_re
 abbrev pub Sent : Type 0
 Sent = Worlds.Sent Asked
 
--- a request under way: its line is the request line of this id and this call
+-- a request in flight: its line is the request line of this id and this call
 abbrev pub Request : Type 0
 Request = Worlds.Request Asked
 

@@ -1,6 +1,6 @@
-//! What is proved of a beginning by null procedures, whose ids alone tell what is from before. A beginning sends eight null
-//! procedures, one after the other, with ids 6, 5, 4, 3, 2, 1, 0 and 7 (the word); it has begun once a reply has come for each.
-//! Each function does nothing: its contract is the law.
+//! What is proved of a synchronization by null procedures, whose ids alone show what is from before. A synchronization sends
+//! eight null procedures, one after the other, with ids 6, 5, 4, 3, 2, 1, 0 and 7 (the word); it has begun once a reply has
+//! come for each. Each function does nothing: its contract is the law.
 
 ghost use Rattle.gc_field.specs.BeginWitness.{AreSomeRuns, IsBookedFromBefore};
 ghost use Rattle.gc_field.specs.Beginnings.{RowsHaveNotTheWord, RunsAreTheirOwn, RunsLeaveRows, SimulatorsRunsAreTheirOwn};

@@ -1,7 +1,7 @@
 //! What is proved of the field: of clients and stations over lines of many connections, with an instrument at the other end. A
-//! station begins with null procedures with ids 6, 5, 4, 3, 2, 1, 0 and 7, one after the other; it begins cleanly if no request
-//! from before, nor a reply to one, is under way once the eighth is answered. A stretch of a run reaches from one beginning to
-//! the next. Each function does nothing: its contract is the law.
+//! station begins with null procedures with ids 6, 5, 4, 3, 2, 1, 0 and 7, one after the other; it synchronizes cleanly if no
+//! request from before, nor a reply to one, is in flight once the eighth is answered. A stretch of a run reaches from one
+//! synchronization to the next. Each function does nothing: its contract is the law.
 
 ghost use Rattle.gc_field.specs.Alone.{TwoAtOnceAreBookedWrong};
 ghost use Rattle.gc_field.specs.BeginsAnew.{IsAnsweredAnew};

@@ -1,5 +1,5 @@
--- The lines that a log has of more and more bytes, what is pending behind these, and the bytes that the lines stand for (`wire`).
--- `Takes` says that a log's sink, where it hasn't failed, took a text.
+-- The lines that a log has of more and more bytes, what is pending after these, and the bytes that the lines stand for
+-- (`wire`). `Takes` says that a log's sink, if it hasn't failed, took a text.
 use Rattle.std.proofs.Common.{◌≡◌, ℕ, ◌+◌, ◌-◌, ◌<◌, ◌==◌, ◌&&◌, Bool, true, false, cond, not, List, [], ◌∷◌, ◌++◌, length, take, get_or, Option, refl, sym, ap, subst, ◌∙◌, arith, append_assoc, append-nil}
 use Rattle.std.specs.Prelude.{nat_lt}
 use Rattle.std.proofs.lemmas.Bool.{cond_both, eqb-true, ltb-true}
@@ -13,7 +13,7 @@ use Rattle.gc_logs.specs.declared.logging.Unwritten.{Unwritten}
 use Rattle.gc_logs.specs.declared.logging.Way.{Way}
 use Rattle.gc_logs.specs.declared.logging.Way.TheVariants.{Went, Came}
 
--- the lines that the bytes `bs` and then b give are those that `bs` give, and behind them those that b gives
+-- the lines that the bytes `bs` and then b give are those that `bs` give, and after them those that b gives
 entries_more : (way : Way) (p : Unwritten) (bs : List ℕ) (b : ℕ) → entries way p (bs ++ b ∷ []) ≡ entries way p bs ++ entries_at way (pending_behind p bs) b
 entries_more way p [] b = append-nil (entries_at way p b)
 entries_more way p (c ∷ cs) b = ap (λ es. entries_at way p c ++ es) (entries_more way (pending_at p c) cs b)
@@ -24,11 +24,11 @@ pending_more : (p : Unwritten) (bs : List ℕ) (b : ℕ) → pending_behind p (b
 pending_more p [] b = refl
 pending_more p (c ∷ cs) b = pending_more (pending_at p c) cs b
 
--- the text of the lines `es ++ fs` is that of `es`, and behind it that of `fs`
+-- the text of the lines `es ++ fs` is that of `es`, and after it that of `fs`
 text_more : (utc : ℕ) (es fs : List Entry) → log_text_of utc (es ++ fs) ≡ log_text_of utc es ++ log_text_of utc fs
 text_more utc es fs = flat_map-append (λ (e : Entry). log_line utc e.mark e.bytes) es fs
 
--- where a log took one text, and then another, it took both as one
+-- if a log took one text, and then another, it took both as one
 pub takes_both : (a b c : Option (List ℕ)) (fa fb fc : Bool) (xs ys : List ℕ) → Takes a b fa fb xs → Takes b c fb fc ys → Takes a c fa fc (xs ++ ys)
 takes_both a b c fa fb fc xs ys one next = record {
   took = λ stands. Appends-append a b c xs ys (one.took (next.stood stands)) (next.took stands);
@@ -45,7 +45,7 @@ module _ (a b c : Option (List ℕ)) (fa fb fc : Bool) (utc : ℕ) (way : Way) (
   more : take (i + 1) bs ≡ take i bs ++ get_or bs i 0 ∷ []
   more = take_more bs i 0 within
 
-  -- where a log took the lines of the first i bytes, and then those of byte i, it took the lines of the first i + 1
+  -- if a log took the lines of the first i bytes, and then those of byte i, it took the lines of the first i + 1
   pub took_more : q ≡ pending_behind p (take i bs) → Takes a b fa fb (log_text_of utc (entries way p (take i bs))) → Takes b c fb fc (log_text_of utc (entries_at way q (get_or bs i 0)))
       → Takes a c fa fc (log_text_of utc (entries way p (take (i + 1) bs)))
   took_more behind one next =
@@ -130,16 +130,16 @@ keeps way p (b ∷ bs) =
     ap (λ w. w ++ held) (flat_map-append (λ (e : Entry). wire_of e.mark e.bytes) es fs) ∙ append_assoc (wire es) (wire fs) held ∙ ap (λ w. wire es ++ w) (keeps way q bs)
     ∙ sym (append_assoc (wire es) q.bytes.items bs) ∙ ap (λ w. w ++ bs) (byte_wire way p b) ∙ append_assoc p.bytes.items (b ∷ []) bs
 
--- the law: of the bytes of one way nothing is lost, nothing is added, and nothing changes places
+-- the law: of the bytes of one direction nothing is lost, nothing is added, and nothing changes places
 pub keeps_all : LogKeepsAll
 keeps_all way p bytes = sym (keeps way p bytes)
 
--- where a log took the lines of one list, and then those of another, it took those of both
+-- if a log took the lines of one list, and then those of another, it took those of both
 pub takes_then : (a b c : Option (List ℕ)) (fa fb fc : Bool) (utc : ℕ) (es fs : List Entry) → Takes a b fa fb (log_text_of utc es)
     → Takes b c fb fc (log_text_of utc fs) → Takes a c fa fc (log_text_of utc (es ++ fs))
 takes_then a b c fa fb fc utc es fs one next = takes_is a c fa fc _ _ (sym (text_more utc es fs)) (takes_both a b c fa fb fc (log_text_of utc es) (log_text_of utc fs) one next)
 
--- where a log took the lines of one list, and then those of another, written at an equal moment, it took those of both
+-- if a log took the lines of one list, and then those of another, written at an equal moment, it took those of both
 pub takes_last : (a b c : Option (List ℕ)) (fa fb fc : Bool) (utc now : ℕ) (es fs : List Entry) → now ≡ utc → Takes a b fa fb (log_text_of utc es)
     → Takes b c fb fc (log_text_of now fs) → Takes a c fa fc (log_text_of utc (es ++ fs))
 takes_last a b c fa fb fc utc now es fs same one next = takes_then a b c fa fb fc utc es fs one (subst (λ u. Takes b c fb fc (log_text_of u fs)) same next)

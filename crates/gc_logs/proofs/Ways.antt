@@ -1,4 +1,4 @@
--- A log marks each line by the way of its bytes: `>` where they went, `<` where they came.
+-- A log marks each line by the direction of its bytes: `>` if they were sent, `<` if they were received.
 use Rattle.std.proofs.Common.{◌-◌, ◌==◌, ◌&&◌, ℕ, Bool, true, false, not, if◌then◌else◌, List, [], ◌∷◌, ◌++◌, length, take, refl}
 use Rattle.std.specs.Prelude.{nat_lt}
 use Rattle.std.specs.List.{AllByRecursion}
@@ -19,7 +19,7 @@ part_signed : (way : Way) (bytes : List ℕ) → IsSigned (sign_of way) (entry (
 part_signed Went bytes = (124 ∷ [], refl)
 part_signed Came bytes = (124 ∷ [], refl)
 
--- where two lines are marked by this way, so is whichever is chosen
+-- where two lines are marked by this direction, so is whichever is chosen
 one_of : (way : Way) (b : Bool) (x y : Entry) → IsSigned (sign_of way) x → IsSigned (sign_of way) y → IsSigned (sign_of way) (if b then x else y)
 one_of way true x y h k = h
 one_of way false x y h k = k
@@ -29,7 +29,7 @@ end_signed : (way : Way) (p : Unwritten) → IsSigned (sign_of way) (entry_of_li
 end_signed way p =
     one_of way (not p.is_long && ends_in_return p.bytes.items) _ _ (line_signed way (take (length p.bytes.items - 1) p.bytes.items)) (part_signed way (p.bytes.items ++ 10 ∷ []))
 
--- where the lines of two lists are marked by this way, so are those of whichever is chosen
+-- if the lines of two lists are marked by this direction, so are those of whichever is chosen
 all_of : (way : Way) (b : Bool) (xs ys : List Entry) → AllByRecursion (IsSigned (sign_of way)) xs → AllByRecursion (IsSigned (sign_of way)) ys
     → AllByRecursion (IsSigned (sign_of way)) (if b then xs else ys)
 all_of way true xs ys h k = h
@@ -40,7 +40,7 @@ at_signed : (way : Way) (p : Unwritten) (b : ℕ) → AllByRecursion (IsSigned (
 at_signed way p b =
     all_of way (b == 10) _ _ (end_signed way p, tt) (all_of way (nat_lt (length p.bytes.items) 513) [] (entry (part_mark way) p.bytes.items ∷ []) tt (part_signed way p.bytes.items, tt))
 
--- where the lines of two lists are marked by this sign, so are those of both together
+-- if the lines of two lists are marked by this sign, so are those of both together
 both_signed : (sign : ℕ) (xs ys : List Entry) → AllByRecursion (IsSigned sign) xs → AllByRecursion (IsSigned sign) ys → AllByRecursion (IsSigned sign) (xs ++ ys)
 both_signed sign [] ys h k = k
 both_signed sign (x ∷ xs) ys h k = (h.0, both_signed sign xs ys h.1 k)

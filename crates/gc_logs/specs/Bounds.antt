@@ -5,12 +5,11 @@ use Rattle.gc_lines.specs.Ports.{TakesBytes, TakesFront}
 use Rattle.gc_logs.specs.declared.bounded.Bounded.{Bounded}
 use Rattle.gc_logs.specs.declared.logged.Logged.{Logged}
 
--- the line that stands in place of `line`, the first that has no room: the moment of `line`, and words that say that the rest
--- is left out
+-- the line that replaces `line`, the first that has no room: the moment of `line`, and words that say that the rest is left out
 abbrev pub full_line : List ℕ → List ℕ
 full_line line = take (min (length line) 24) line ++ codes " - full: what went or came from here on is left out\n"
 
--- a sink took all of the line that stands in place of `line`, or a front of that line
+-- a sink took all of the line that replaces `line`, or a front of that line
 abbrev pub TakesFull : Option (List ℕ) → Option (List ℕ) → List ℕ → Type 0
 TakesFull old new line = Appends old new (full_line line) ⊎ ((n : ℕ) × TakesFront old new n (full_line line))
 
@@ -25,8 +24,8 @@ pub record Fits {E : Type 0} (old new : BoundSeen) (result : Result ℕ E) (byte
   pub took : TakesBytes old.taken new.taken result bytes
   pub left : IfOk result (λ n. new.left + n ≡ old.left)
 
--- a write to a sink with a bound: where it has ended nothing more is taken; what has room is taken; and in place of what has none comes the
--- line that says so, as far as the sink below takes it, and that is the end
+-- a write to a sink with a bound: if it has ended nothing more is taken; what has room is taken; and in place of what has none
+-- comes the line that says so, as far as the sink below takes it, and that is the end
 pub record Bounds {E : Type 0} (old new : BoundSeen) (result : Result ℕ E) (bytes : List ℕ) : Type 0 where
   pub ended : old.ended ≡ true → new.taken ≡ old.taken
   pub fits : old.ended ≡ false → length bytes ≤ old.left → Fits old new result bytes

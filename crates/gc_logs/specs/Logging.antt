@@ -1,5 +1,5 @@
--- What a log has of the bytes of one way, as they come and go: this project's own. Bytes that aren't written into a line of the
--- log yet are pending.
+-- What a log has of the bytes of one direction, as they are sent and received: this project's own. Bytes that aren't written
+-- into a line of the log yet are pending.
 use Rattle.std.specs.Prelude.{◌≡◌, ℕ, ◌-◌, ◌==◌, ◌&&◌, Bool, true, false, not, nat_lt, List, [], ◌∷◌, ◌++◌, length, take, Option, if◌then◌else◌, codes}
 use Rattle.std.specs.Io.KnownBytes.{Appends}
 use Rattle.std.specs.List.{flat_map}
@@ -41,8 +41,8 @@ nothing = record { bytes = record { items = [] }; is_long = false }
 abbrev pub pending : List ℕ → Bool → Unwritten
 pending bytes long = record { bytes = record { items = bytes }; is_long = long }
 
--- the line of a log that a line feed makes of what is pending: a whole line without its CR LF, where a CR stands before the line feed and no
--- front of the line was written; else a part, with the line feed
+-- the line of a log that a line feed makes of what is pending: a whole line without its CR LF, if a CR comes before the line
+-- feed and no front of the line was written; otherwise a part, with the line feed
 abbrev pub entry_of_line : Way → Unwritten → Entry
 entry_of_line way p =
     if not p.is_long && ends_in_return p.bytes.items then entry (line_mark way) (take (length p.bytes.items - 1) p.bytes.items)
@@ -71,7 +71,7 @@ abbrev pub pending_behind : Unwritten → List ℕ → Unwritten
 pending_behind p [] = p
 pending_behind p (b ∷ bs) = pending_behind (pending_at p b) bs
 
--- the line of what is pending at a close: none where nothing is
+-- the line of what is pending at a close: none if nothing is
 abbrev pub entries_of_pending : Way → List ℕ → List Entry
 entries_of_pending way [] = []
 entries_of_pending way (b ∷ bs) = entry (part_mark way) (b ∷ bs) ∷ []
@@ -80,7 +80,7 @@ entries_of_pending way (b ∷ bs) = entry (part_mark way) (b ∷ bs) ∷ []
 abbrev pub log_text_of : ℕ → List Entry → List ℕ
 log_text_of utc es = flat_map (λ (e : Entry). log_line utc e.mark e.bytes) es
 
--- where a log's sink hasn't failed now, it hadn't failed before, and it took this text
+-- if a log's sink hasn't failed now, it hadn't failed before, and it took this text
 pub record Takes (old new : Option (List ℕ)) (old_failed new_failed : Bool) (text : List ℕ) : Type 0 where
   pub took : new_failed ≡ false → Appends old new text
   pub stood : new_failed ≡ false → old_failed ≡ false
@@ -97,12 +97,12 @@ wire_of mark.Link bytes = []
 abbrev pub wire : List Entry → List ℕ
 wire es = flat_map (λ (e : Entry). wire_of e.mark e.bytes) es
 
--- of the bytes of one way nothing is missing, nothing is added and nothing changes places: the bytes that were pending, and behind them the
--- new ones, are those that the lines stand for, and behind them those that are pending then
+-- of the bytes of one direction nothing is missing, nothing is added and nothing changes places: the bytes that were pending,
+-- and after them the new ones, are those that the lines stand for, and after them those that are pending then
 abbrev pub LogKeepsAll : Type 0
 LogKeepsAll = (way : Way) (p : Unwritten) (bytes : List ℕ) → p.bytes.items ++ bytes ≡ wire (entries way p bytes) ++ (pending_behind p bytes).bytes.items
 
--- what is seen of a log: what its sink took and whether it has failed, what is pending of each way, and the last moment
+-- what is seen of a log: what its sink took and whether it has failed, what is pending of each direction, and the last moment
 pub record LogSeen : Type 0 where
   pub taken : Option (List ℕ)
   pub failed : Bool
@@ -118,7 +118,7 @@ log_seen of_sink log = record { taken = of_sink.taken log.sink; failed = of_sink
 abbrev pub link_entry : List ℕ → Entry
 link_entry word = entry mark.Link word
 
--- the moment of the lines of an act: that of the act, where it has one, else the last one before it
+-- the moment of the lines of an act: that of the act, if it has one, else the last one before it
 abbrev pub utc_of : ℕ → Act → ℕ
 utc_of utc (Told m) = m.utc
 utc_of utc (Gave bytes m) = m.utc
@@ -126,7 +126,7 @@ utc_of utc (Silent m) = m.utc
 utc_of utc _ = utc
 
 -- the lines that a log has of an act of its link, where `went` and `came` are pending before the act: what the bytes of a write
--- or read give; a word where the connection ended, failed, was made or wasn't; and at a close also all that is pending
+-- or read give; a word if the connection ended, failed, was made or wasn't; and at a close also all that is pending
 abbrev pub entries_of_act : Unwritten → Unwritten → Act → List Entry
 entries_of_act went came (Put bytes) = entries Went went bytes
 entries_of_act went came (Cut bytes count) = entries Went went (take count bytes) ++ link_entry (codes "failed") ∷ []
@@ -138,14 +138,14 @@ entries_of_act went came Opened = link_entry (codes "open") ∷ []
 entries_of_act went came Unopened = link_entry (codes "not open") ∷ []
 entries_of_act went came _ = []
 
--- what is pending after an act of the bytes that went out, where `went` was pending before it: nothing after a close
+-- what is pending after an act of the bytes that were sent, where `went` was pending before it: nothing after a close
 abbrev pub went_behind : Unwritten → Act → Unwritten
 went_behind went (Put bytes) = pending_behind went bytes
 went_behind went (Cut bytes count) = pending_behind went (take count bytes)
 went_behind went Closed = nothing
 went_behind went _ = went
 
--- what is pending after an act of the bytes that came in, where `came` was pending before it: nothing after a close
+-- what is pending after an act of the received bytes, where `came` was pending before it: nothing after a close
 abbrev pub came_behind : Unwritten → Act → Unwritten
 came_behind came (Gave bytes m) = pending_behind came bytes
 came_behind came Closed = nothing

@@ -1,4 +1,4 @@
--- Which way bytes went, as a log shows it: this project's own.
+-- In which direction bytes went, as a log shows it: this project's own.
 use Rattle.std.specs.Prelude.{◌≡◌, ℕ, List, ◌∷◌}
 use Rattle.std.specs.List.{AllByRecursion}
 use Rattle.gc_texts.specs.Logs.{mark_text}
@@ -7,7 +7,7 @@ use Rattle.gc_logs.specs.declared.logging.Unwritten.{Unwritten}
 use Rattle.gc_logs.specs.declared.logging.Way.{Way}
 use Rattle.gc_logs.specs.declared.logging.Way.TheVariants.{Went, Came}
 
--- the first character of a mark: `>` of what went, `<` of what came
+-- the first character of a mark: `>` for sent bytes, `<` for received bytes
 abbrev pub sign_of : Way → ℕ
 sign_of Went = 62
 sign_of Came = 60
@@ -16,8 +16,8 @@ sign_of Came = 60
 abbrev pub IsSigned : ℕ → Entry → Type 0
 IsSigned sign e = (rest : List ℕ) × (mark_text e.mark ≡ sign ∷ rest)
 
--- each line of a log of bytes that went begins its mark with `>`, and each of bytes that came with `<`, whole or in part; so does the line of
--- what is pending at a close
+-- each line of a log of sent bytes begins its mark with `>`, and each of received bytes with `<`, whole or in part; so does the
+-- line of what is pending at a close
 pub record MarksTellTheWay : Type 0 where
   pub lines : (way : Way) (p : Unwritten) (bytes : List ℕ) → AllByRecursion (IsSigned (sign_of way)) (entries way p bytes)
   pub cut : (way : Way) (bytes : List ℕ) → AllByRecursion (IsSigned (sign_of way)) (entries_of_pending way bytes)

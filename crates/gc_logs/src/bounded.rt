@@ -15,8 +15,8 @@ const MOMENT: usize = 24;
 const SPARE: u64 = 100;
 
 /// A sink that takes lines, each in one write, up to a bound. It ends at the first line that has no room: in place of that line
-/// comes one with the same moment, which says that all from there on is left out. It ends, too, where the sink below fails.
-/// Once it has ended, it counts as failed.
+/// comes one with the same moment, which says that all from there on is left out. It ends, too, if the sink below fails. Once
+/// it has ended, it counts as failed.
 #[derive(Drop)]
 pub struct Bounded<K> {
     sink: K,
@@ -59,7 +59,7 @@ impl<K: Sink> Bounded<K> {
     }
 }
 
-// The moment of a line: its first 24 bytes, or all where it has fewer.
+// The moment of a line: its first 24 bytes, or all if it has fewer.
 fn moment_of(line: &[u8]) -> &[u8]
     ensures is { result.now ≡ take (min (length line.now) 24) line.now }
     ensures short { length result.now ≤ 24 }
@@ -67,7 +67,7 @@ fn moment_of(line: &[u8]) -> &[u8]
     &line[..line.len().min(MOMENT)]
 }
 
-// The line that stands in place of the first one that has no room.
+// The line that replaces the first one that has no room.
 fn full_line(line: &[u8]) -> ArrayVec<u8, 100>
     ensures { result.items ≡ full_line line.now }
 {
@@ -80,7 +80,7 @@ fn full_line(line: &[u8]) -> ArrayVec<u8, 100>
     text
 }
 
-// Writes the line that stands in place of `line`. `Err(n)`: the sink took the first n bytes of it, which aren't all, and failed.
+// Writes the line that replaces `line`. `Err(n)`: the sink took the first n bytes of it, which aren't all, and failed.
 fn put_full<K: Sink>(sink: &mut K, line: &[u8]) -> Result<(), usize>
     ensures ok { OnOk result (Appends (K.taken sink.old) (K.taken sink.new) (full_line line.now)) }
     ensures err { IfErr result (λ n. TakesFront (K.taken sink.old) (K.taken sink.new) n (full_line line.now)) }

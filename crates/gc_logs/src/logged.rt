@@ -12,8 +12,8 @@ use gc_links::{Came, Link, Moment};
 /// A link over another, of which a log is written into a sink: each line that went or came, and what became of the
 /// connection. Its acts are those of the link inside, whatever becomes of the log.
 ///
-/// A line of the log has the last moment that the link's clock gave before the line ended. Where the sink fails the log ends there,
-/// and the link goes on.
+/// A line of the log has the last moment that the link's clock gave before the line ended. If the sink fails the log ends
+/// there, and the link goes on.
 #[derive(Drop)]
 pub struct Logged<L, K> {
     /// The link inside.
@@ -73,7 +73,7 @@ impl<L: Link, K: Sink> Link for Logged<L, K> {
         told
     }
 
-    // Reads from the link inside, and logs the lines that end in the bytes that came, or that the connection ended or failed.
+    // Reads from the link inside, and logs the lines that end in the received bytes, or that the connection ended or failed.
     fn read(&mut self, buf: &mut [u8], millis: u64) -> Came
         requires { 0 < length buf.old }
         ensures tells { Tells (L.acts self.old.link) (L.acts self.new.link) (came_as result buf.new ∷ []) }
@@ -94,7 +94,7 @@ impl<L: Link, K: Sink> Link for Logged<L, K> {
         came
     }
 
-    // Writes to the link inside, and logs the lines that end in the bytes that went, and that the connection failed, if it did.
+    // Writes to the link inside, and logs the lines that end in the sent bytes, and that the connection failed, if it did.
     fn put(&mut self, bytes: &[u8]) -> Result<(), usize>
         requires { 0 < length bytes.now }
         ensures tells { Tells (L.acts self.old.link) (L.acts self.new.link) (put_as result bytes.now ∷ []) }
@@ -112,7 +112,7 @@ impl<L: Link, K: Sink> Link for Logged<L, K> {
         put
     }
 
-    // Closes the link inside, and logs what was pending of both ways, and the close.
+    // Closes the link inside, and logs what was pending of both directions, and the close.
     fn close(&mut self)
         ensures tells { Tells (L.acts self.old.link) (L.acts self.new.link) (Closed ∷ []) }
         ensures logs { Logs (log_seen K.Sink self.old.log) (log_seen K.Sink self.new.log) (Closed) }

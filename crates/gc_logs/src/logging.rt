@@ -1,5 +1,5 @@
-//! A log of what is on a link: how the bytes of each way are cut into its lines. Bytes that came or went and aren't written
-//! into the log yet are pending.
+//! A log of what is on a link: how the bytes of each direction are cut into its lines. Bytes that came or went and aren't
+//! written into the log yet are pending.
 
 ghost use Rattle.std.specs.Prelude.{◌≡◌, ◌++◌, ◌≤◌, [], ◌∷◌, length, codes};
 ghost use Rattle.gc_logs.specs.Logging.{entry, line_mark, part_mark, nothing, entry_of_line, entries_at, pending_at, entries, pending_behind, entries_of_pending, log_text_of, Takes};
@@ -40,8 +40,8 @@ impl Way {
     }
 }
 
-// What of one way is not written yet: the bytes of a line that has no end, of at most 512 bytes and a CR, or the last ones of
-// a longer one.
+// What of one direction is not written yet: the bytes of a line that has no end, of at most 512 bytes and a CR, or the last
+// ones of a longer one.
 #[derive(Drop)]
 struct Unwritten {
     bytes: ArrayVec<u8, 513>,
@@ -61,7 +61,7 @@ impl Unwritten {
     }
 }
 
-/// A log over a sink. Where the sink has failed nothing more is written, and the link that is logged goes on.
+/// A log over a sink. If the sink has failed nothing more is written, and the link that is logged goes on.
 #[derive(Drop)]
 pub(crate) struct Log<K> {
     pub(crate) sink: K,
@@ -87,7 +87,7 @@ impl<K: Sink> Log<K> {
         }
     }
 
-    // Logs bytes that went.
+    // Logs sent bytes.
     pub(crate) fn went(&mut self, bytes: &[u8])
         ensures took { Takes (K.taken self.old.sink) (K.taken self.new.sink) (K.failed self.old.sink) (K.failed self.new.sink) (log_text_of self.old.utc (entries Went self.old.went bytes.now)) }
         ensures went { self.new.went ≡ pending_behind self.old.went bytes.now }
@@ -97,7 +97,7 @@ impl<K: Sink> Log<K> {
         log_bytes(&mut self.sink, self.utc, Way::Went, &mut self.went, bytes);
     }
 
-    // Logs bytes that came.
+    // Logs received bytes.
     pub(crate) fn came(&mut self, bytes: &[u8])
         ensures took { Takes (K.taken self.old.sink) (K.taken self.new.sink) (K.failed self.old.sink) (K.failed self.new.sink) (log_text_of self.old.utc (entries Came self.old.came bytes.now)) }
         ensures went { self.new.went ≡ self.old.went }
@@ -107,8 +107,8 @@ impl<K: Sink> Log<K> {
         log_bytes(&mut self.sink, self.utc, Way::Came, &mut self.came, bytes);
     }
 
-    // Writes the pending bytes of both ways, each as a part of a line, at a close: no more bytes of these lines will come or
-    // go.
+    // Writes the pending bytes of both directions, each as a part of a line, at a close: no more bytes of these lines will be
+    // sent or received.
     pub(crate) fn cut(&mut self)
         ensures took { Takes (K.taken self.old.sink) (K.taken self.new.sink) (K.failed self.old.sink) (K.failed self.new.sink)
             (log_text_of self.old.utc (entries_of_pending Went self.old.went.bytes.items ++ entries_of_pending Came self.old.came.bytes.items)) }
@@ -132,7 +132,7 @@ impl<K: Sink> Log<K> {
     }
 }
 
-// Takes bytes that went or came. Writes each line that they end, in parts where it has more than 513 bytes, and leaves the rest
+// Takes bytes sent or received. Writes each line that they end, in parts if it has more than 513 bytes, and leaves the rest
 // pending.
 fn log_bytes<K: Sink>(sink: &mut K, utc: u64, way: Way, pending: &mut Unwritten, bytes: &[u8])
     ensures took { Takes (K.taken sink.old) (K.taken sink.new) (K.failed sink.old) (K.failed sink.new) (log_text_of utc (entries way pending.old bytes.now)) }
@@ -143,8 +143,8 @@ fn log_bytes<K: Sink>(sink: &mut K, utc: u64, way: Way, pending: &mut Unwritten,
     }
 }
 
-// Takes one more byte. A line feed ends a line, which is written. Where 513 bytes are pending already, these are written as a
-// part of their line.
+// Takes one more byte. A line feed ends a line, which is written. If 513 bytes are pending already, these are written as a part
+// of their line.
 fn log_byte<K: Sink>(sink: &mut K, utc: u64, way: Way, pending: &mut Unwritten, b: u8)
     ensures took { Takes (K.taken sink.old) (K.taken sink.new) (K.failed sink.old) (K.failed sink.new) (log_text_of utc (entries_at way pending.old b)) }
     ensures pending { pending.new ≡ pending_at pending.old b }
@@ -182,7 +182,7 @@ fn log_line_end<K: Sink>(sink: &mut K, utc: u64, way: Way, pending: &mut Unwritt
     pending.is_long = false;
 }
 
-// Writes the pending bytes of one way, if there are any.
+// Writes the pending bytes of one direction, if there are any.
 fn log_pending<K: Sink>(sink: &mut K, utc: u64, way: Way, pending: &mut Unwritten)
     ensures took { Takes (K.taken sink.old) (K.taken sink.new) (K.failed sink.old) (K.failed sink.new) (log_text_of utc (entries_of_pending way pending.old.bytes.items)) }
     ensures pending { pending.new ≡ nothing }
@@ -194,7 +194,7 @@ fn log_pending<K: Sink>(sink: &mut K, utc: u64, way: Way, pending: &mut Unwritte
     pending.is_long = false;
 }
 
-// Writes a line of the log. Where the sink fails, the line is lost, and `failed` of the sink says so.
+// Writes a line of the log. If the sink fails, the line is lost, and `failed` of the sink says so.
 fn write_entry<K: Sink>(sink: &mut K, utc: u64, mark: LogMark, bytes: &[u8])
     requires { length bytes.now ≤ 514 }
     ensures { Takes (K.taken sink.old) (K.taken sink.new) (K.failed sink.old) (K.failed sink.new) (log_text_of utc (entry mark bytes.now ∷ [])) }

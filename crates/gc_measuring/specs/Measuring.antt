@@ -1,5 +1,5 @@
 -- What a station does with the tasks of a text, what it writes of them, and how its end is reported: this project's own. An
--- apostrophe (as in acts') marks what holds at the end, in place of at the start. A `Turn` is what was seen of link and sink
+-- apostrophe (as in acts') marks what holds at the end, in place of at the start. A `Snapshot` is what was seen of link and sink
 -- before one act.
 use Rattle.std.specs.Prelude.{◌≡◌, ℕ, Bool, true, ◌⊎◌, List, [], ◌++◌, if◌then◌else◌, Option, Result, Ok, Err, codes}
 use Rattle.std.specs.Fmt.{decimal}
@@ -15,7 +15,7 @@ use Rattle.gc_measuring.specs.declared.stop.Stop.{Stop}
 use Rattle.gc_measuring.specs.declared.stop.Stop.TheVariants.{Text, Empty, Line, Run}
 use Rattle.gc_lines.specs.Ports.{TakesFront}
 use Rattle.gc_links.specs.Acts.{Act}
-use Rattle.gc_station.specs.Keeping.{Turn, KeepsUp, closing_at}
+use Rattle.gc_station.specs.Keeping.{Snapshot, KeepsUp, closing_at}
 use Rattle.gc_station.specs.Records.{Record}
 use Rattle.gc_station.specs.Runs.{Ran, LastsBut}
 use Rattle.gc_station.specs.Scopes.{ForReadings}
@@ -37,20 +37,21 @@ when_of run r = record { run = run; stamp = record { sent = r.sent; utc = r.utc;
 abbrev pub text_in : Layout → List Name → Record → List ℕ
 text_in layout names r = record_text layout.form (when_of layout.run r) (name_text r.command.target names) r.command r.end
 
--- what is to be written in front of the records: nothing where the sink has its header already
+-- what is to be written before the records: nothing if the sink has its header already
 abbrev pub front_text : Layout → List ℕ
 front_text layout = if layout.headed then [] else head_text layout.form
 
--- what is seen of a station's ports: its source; what its link told, what its sink took and what was written on its messages, where these
--- are known; and what was seen of link and sink at each act
+-- what is seen of a station's ports: its source; what its link recorded, what its sink took and what was written on its
+-- messages, if these are known; and what was seen of link and sink at each act
 pub record Places : Type 0 where
   pub input : Input
   pub acts : Option (List Act)
   pub taken : Option (List ℕ)
   pub messages : Option (List ℕ)
-  pub turns : List Turn
+  pub turns : List Snapshot
 
--- the sink failed in front of the records: it took some of the first bytes of what is to stand there, not all, and nothing else was done
+-- the sink failed before the records: it took some of the first bytes of what is to be there, not all, and nothing else was
+-- done
 pub record FailsInFront (layout : Layout) (old new : Places) (result : Result Tally Stop) : Type 0 where
   pub is : result ≡ Err (Run Output)
   pub bytes : ℕ
@@ -67,26 +68,25 @@ pub record Course : Type 0 where
   pub layout : Layout
   pub names : List Name
 
--- what a station measures of a text with these tasks, of which the first `setup` are the set-up, and names
+-- what a station measures of a text with these tasks, of which the first `setup` are the setup, and names
 abbrev pub course_of : Settings → ℕ → ℕ → List Task → List Name → Course
 course_of station turns setup tasks names =
     record { plan = plan_of station.choice setup tasks; tasks = tasks; turns = turns; layout = station.layout; names = names }
 
--- a run over a link, whose acts before and after are `acts` and `acts'`, wrote down the records that its acts give of the
--- tasks, and ended so. This holds with every function that gives each reply's reading for its call, and there is such a
--- function
+-- a run over a link, whose acts before and after are `acts` and `acts'`, wrote the records that its acts give of the tasks, and
+-- ended so. This holds with every function that gives each reply's reading for its call, and there is such a function
 abbrev pub RunsCourse : Course → Option (List Act) → Option (List Act) → Option (List ℕ) → Option (List ℕ) → Result Tally RunFault → Type 0
 RunsCourse course acts acts' taken taken' end = ForReadings (λ reads.
     Ran course.plan course.tasks (record { turns = course.turns; reads = reads }) (text_in course.layout course.names) acts acts' taken taken' end)
 
--- at each act of a run over these tasks, all that the acts before it settled was written down, and lasted (`KeepsUp`). `seen`
--- and `seen'` are the turns before the run and after it
-abbrev pub CourseKeepsUp : Course → Option (List Act) → Option (List Act) → Option (List ℕ) → List Turn → List Turn → Result Tally RunFault → Type 0
+-- at each act of a run over these tasks, all that the acts before it settled was recorded, and lasted (`KeepsUp`). `seen` and
+-- `seen'` are the turns before the run and after it
+abbrev pub CourseKeepsUp : Course → Option (List Act) → Option (List Act) → Option (List ℕ) → List Snapshot → List Snapshot → Result Tally RunFault → Type 0
 CourseKeepsUp course acts acts' taken seen seen' end = ForReadings (λ reads.
     KeepsUp course.plan course.tasks (record { turns = course.turns; reads = reads }) (text_in course.layout course.names) acts acts' taken seen seen' (closing_at end))
 
--- the sink took what stands in front of the records, and then what a run over the link writes down of its tasks. Before each
--- act all that was written by then lasted
+-- the sink took what comes before the records, and then what a run over the link records of its tasks. Before each act all that
+-- was written by then lasted
 pub record RunsBehind (course : Course) (old new : Places) (result : Result Tally Stop) : Type 0 where
   pub between : Option (List ℕ)
   pub front : Appends old.taken between (front_text course.layout)
@@ -102,8 +102,8 @@ pub record IsUnused (old new : Places) : Type 0 where
   pub messages : new.messages ≡ old.messages
   pub turns : new.turns ≡ old.turns
 
--- the text that a source gave was refused, and then nothing was done over the link, and nothing written; or the sink failed in
--- front of the records; or the text's tasks were measured
+-- the text that a source gave was refused, and then nothing was done over the link, and nothing written; or the sink failed
+-- before the records; or the text's tasks were measured
 abbrev pub Measures : List ℕ → Settings → ℕ → Places → Places → Result Tally Stop → Type 0
 Measures given station turns old new result =
     ((stop : Stop) × (result ≡ Err stop) × RefusesTasks given old.input new.input stop × IsUnused old new)
@@ -131,7 +131,7 @@ IsMeasured station old new = (given : List ℕ) × Consumes old.input.remaining 
 abbrev pub MeasuresBegun : Settings → Places → Places → Result Tally Stop → Type 0
 MeasuresBegun station old new result = (run : ℕ) × MeasuresGiven (begun_at run station) old new result
 
--- where the text was refused nothing was done over the link, and nothing written
+-- if the text was refused nothing was done over the link, and nothing written
 abbrev pub IsUntouched : Places → Places → Result Tally Stop → Type 0
 IsUntouched old new (Err (Text fault)) = IsUnused old new
 IsUntouched old new (Err Empty) = IsUnused old new
@@ -158,7 +158,7 @@ others_text t =
     codes "skipped " ++ decimal t.skipped ++ codes " unreadable " ++ decimal t.unreadable ++ codes " missed " ++ decimal t.missed
     ++ codes " elsewhere " ++ decimal t.elsewhere
 
--- the end of the line of the counts: how many times a chain went out again
+-- the end of the line of the counts: how many times a chain was sent again
 abbrev pub again_text : Tally → List ℕ
 again_text t = codes " again " ++ decimal t.again ++ codes "\n"
 
@@ -167,6 +167,6 @@ abbrev pub tally_line : Tally → List ℕ
 tally_line t = ends_text t ++ others_text t ++ again_text t
 
 -- how the program reports a station's end: by status 0 and the line of its counts, or by status 1 and the lines of its stop
-abbrev pub TellsCounts : Result Tally Stop → ℕ → Option (List ℕ) → Option (List ℕ) → Type 0
-TellsCounts (Ok tally) status old new = (status ≡ 0) × Appends old new (tally_line tally)
-TellsCounts (Err stop) status old new = (status ≡ 1) × Appends old new (stop_text stop)
+abbrev pub ReportsCounts : Result Tally Stop → ℕ → Option (List ℕ) → Option (List ℕ) → Type 0
+ReportsCounts (Ok tally) status old new = (status ≡ 0) × Appends old new (tally_line tally)
+ReportsCounts (Err stop) status old new = (status ≡ 1) × Appends old new (stop_text stop)

@@ -7,7 +7,7 @@ use Rattle.gc_texts.specs.Faults.{run_fault_text, fault_line}
 use Rattle.gc_texts.specs.declared.fault.RunFault.{RunFault}
 use Rattle.gc_texts.specs.declared.fault.RunFault.TheVariants.{RecordsUnopened, RecordsHeld, RecordsForeign, Output}
 
--- the fault that is told where a path can't be used as a file of records
+-- the fault that is reported if a path can't be used as a file of records
 abbrev pub fault_of_unfit : Unfit → RunFault
 fault_of_unfit Unopened = RecordsUnopened
 fault_of_unfit Held = RecordsHeld
@@ -23,15 +23,15 @@ rotation_line Foreign =
     codes "geocom: the file does not begin as this station's rows do: it has other columns, or a rotation cut off its header (copytruncate). To rotate it, stop the station, rename the file, and start it\n"
 rotation_line Failed = []
 
--- all that is written where a path can't be used as a file of records
+-- all that is written if a path can't be used as a file of records
 abbrev pub unfit_text : Unfit → List ℕ
 unfit_text why = fault_line (run_fault_text (fault_of_unfit why)) ++ rotation_line why
 
--- what is written of a torn row that was cut off, by its number of bytes: nothing where there were none
+-- what is written of a torn row that was cut off, by its number of bytes: nothing if there were none
 abbrev pub torn_line : ℕ → List ℕ
-torn_line torn = if torn == 0 then [] else codes "geocom: " ++ decimal torn ++ codes " bytes of a torn row were cut off\n"
+torn_line torn = if torn == 0 then [] else codes "geocom: " ++ decimal torn ++ codes " bytes of an incomplete row were cut off\n"
 
--- what is written of rows that were copied because the run before was killed or a sync failed, by their number: nothing where
+-- what is written of rows that were copied because the run before was killed or a sync failed, by their number: nothing if
 -- there were none
 abbrev pub copied_line : ℕ → List ℕ
 copied_line copied =

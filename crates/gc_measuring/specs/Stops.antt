@@ -16,8 +16,8 @@ fault_of_stop Empty = NoCommand
 fault_of_stop (Line n trouble) = Schedule n
 fault_of_stop (Run fault) = fault
 
--- what is written of a stop: the line of its fault, and in two cases a second line after it. Where the text has no command, that one says
--- so; where line n of the text is faulty, it says what the trouble with that line is
+-- what is written of a stop: the line of its fault, and in two cases a second line after it. If the text has no command, that
+-- one says so; where line n of the text is faulty, it says what the trouble with that line is
 abbrev pub stop_text : Stop → List ℕ
 stop_text (Text fault) = fault_line (run_fault_text fault)
 stop_text Empty = fault_line (run_fault_text NoCommand) ++ codes "geocom: the text has no command\n"
@@ -34,11 +34,11 @@ abbrev pub with_fault : {X : Type 0} → Result X Stop → Result X RunFault
 with_fault (Ok x) = Ok x
 with_fault (Err stop) = Err (fault_of_stop stop)
 
--- the fault where there is no link: what is wrong with the device, or that the clock can't be read
+-- the fault if there is no link: what is wrong with the device, or that the clock can't be read
 abbrev pub fault_without_link : Option Unusable → RunFault
 fault_without_link (Some unusable) = fault_of_reason (Some unusable)
 fault_without_link None = Clock
 
--- this is the fault where there is no link, for some reason
+-- this is the fault if there is no link, for some reason
 abbrev pub IsWithoutLink : RunFault → Type 0
 IsWithoutLink fault = (reason : Option Unusable) × (fault ≡ fault_without_link reason)

@@ -43,8 +43,9 @@ abbrev pub RefusesTasks : List ℕ → Input → Input → Stop → Type 0
 RefusesTasks given old new stop =
     ((fault : RunFault) × RefusesText TaskFault given old new fault × IsRefusal given fault stop) ⊎ HasNoCommand given old new stop
 
--- a source gave a station's text with these tasks, of which the first `setup` are the set-up, and at least one behind them
--- is of the cycle, and these names. Until a line says otherwise its commands have the choice's deadline, and are chained or not as the choice says
+-- a source gave a station's text with these tasks, of which the first `setup` are the setup, and at least one after them is of
+-- the cycle, and these names. Until a line says otherwise its commands have the choice's deadline, and are chained or not as
+-- the choice says
 pub record GivesTasks (given : List ℕ) (old new : Input) (choice : Choice) (setup : ℕ) (tasks : List Task) (names : List Name) : Type 0 where
   pub read : WasRead given old new
   pub nears : List Near

@@ -1,11 +1,11 @@
 -- What a station's status and messages report of its run, and what it measured then: this project's own. Throughout, `shown`
--- gives what was written on the messages, where that is known, and `lasts` says whether all that the sink took lasts. `turns`
--- is what was seen of link and sink at each act. An apostrophe (as in acts') marks what holds at the end, in place of at the
+-- gives what was written on the messages, if that is known, and `lasts` says whether all that the sink took lasts. `turns` is
+-- what was seen of link and sink at each act. An apostrophe (as in acts') marks what holds at the end, in place of at the
 -- start.
 use Rattle.std.specs.Prelude.{◌≡◌, ℕ, Bool, true, ◌⊎◌, List, [], Option, Some, None, Result, Err}
 use Rattle.std.specs.Io.KnownBytes.{Appends}
-use Rattle.gc_measuring.specs.Logging.{TellsLoss}
-use Rattle.gc_measuring.specs.Measuring.{Places, MeasuresGiven, MeasuresBegun, IsMeasured, AllLast, TellsCounts}
+use Rattle.gc_measuring.specs.Logging.{ReportsLoss}
+use Rattle.gc_measuring.specs.Measuring.{Places, MeasuresGiven, MeasuresBegun, IsMeasured, AllLast, ReportsCounts}
 use Rattle.gc_measuring.specs.Recording.{unfit_text}
 use Rattle.gc_measuring.specs.Stops.{IsWithoutLink, with_fault}
 use Rattle.gc_words.specs.Stations.{appended, begun_at}
@@ -18,54 +18,55 @@ use Rattle.gc_lines.specs.declared.ports.Source.{Ghosts as Source}
 use Rattle.gc_lines.specs.declared.ports.Sink.{Ghosts as Sink}
 use Rattle.gc_links.specs.Acts.{Act}
 use Rattle.gc_links.specs.declared.telling.Telling.{Telling}
-use Rattle.gc_station.specs.Keeping.{Turn}
+use Rattle.gc_station.specs.Keeping.{Snapshot}
 use Rattle.gc_station.specs.Runs.{FailsAtOutput}
 use Rattle.gc_station.specs.declared.tally.Tally.{Tally}
 use Rattle.gc_texts.specs.WholeTexts.{input_of}
 use Rattle.gc_texts.specs.declared.fault.RunFault.{RunFault}
 use Rattle.gc_texts.specs.declared.fault.RunFault.TheVariants.{Log}
 
--- what is seen of a station's ports: of its streams by the ghost members of their traits, the acts that its link told, and what was seen at
--- each of them
-abbrev pub places_of : {S K E : Type 0} → Source S → Sink K → (E → Option (List ℕ)) → Streams S K E → Option (List Act) → List Turn → Places
+-- what is seen of a station's ports: of its streams by the ghost members of their traits, the acts that its link recorded, and
+-- what was seen at each of them
+abbrev pub places_of : {S K E : Type 0} → Source S → Sink K → (E → Option (List ℕ)) → Streams S K E → Option (List Act) → List Snapshot → Places
 places_of source sink shown streams acts turns =
     record { input = input_of source streams.input; acts = acts; taken = sink.taken streams.output; messages = shown streams.messages; turns = turns }
 
--- the acts that a link told, where there is one
+-- the acts that a link recorded, if there is one
 abbrev pub acts_of : {L : Type 0} → Option (Telling L) → Option (List Act)
 acts_of None = None
 acts_of (Some link) = Some link.history.acts
 
--- a text was refused, or its commands were measured, over a link that told these acts, with what was seen at each; and the
+-- a text was refused, or its commands were measured, over a link that recorded these acts, with what was seen at each; and the
 -- status and the messages report how that ended. `between` are the messages before this report
-pub record TellsMeasuring {S K E : Type 0} (source : Source S) (sink : Sink K) (lasts : K → Bool) (shown : E → Option (List ℕ)) (station : Settings)
-    (acts acts' : Option (List Act)) (turns turns' : List Turn) (old new : Streams S K E) (status : ℕ) : Type 0 where
+pub record ReportsMeasuring {S K E : Type 0} (source : Source S) (sink : Sink K) (lasts : K → Bool) (shown : E → Option (List ℕ)) (station : Settings)
+    (acts acts' : Option (List Act)) (turns turns' : List Snapshot) (old new : Streams S K E) (status : ℕ) : Type 0 where
   pub end : Result Tally Stop
   pub between : E
   pub measured : MeasuresGiven station (places_of source sink shown old acts turns) (places_of source sink shown (record new { messages = between }) acts' turns') end
   pub all_last : AllLast (lasts new.output) end
   pub fails : FailsAtOutput (sink.failed old.output) (sink.failed new.output) (with_fault end)
-  pub counts : TellsCounts end status (shown between) (shown new.messages)
+  pub counts : ReportsCounts end status (shown between) (shown new.messages)
 
--- a source gave a text to its end, and the run over its commands is done, or its end was asked for, over a link that told these acts
+-- a source gave a text to its end, and the run over its commands is done, or its end was asked for, over a link that recorded
+-- these acts
 pub record MeasuresAll {S K E : Type 0} (source : Source S) (sink : Sink K) (shown : E → Option (List ℕ)) (station : Settings)
-    (acts acts' : Option (List Act)) (turns turns' : List Turn) (old new : Streams S K E) : Type 0 where
+    (acts acts' : Option (List Act)) (turns turns' : List Snapshot) (old new : Streams S K E) : Type 0 where
   pub between : E
   pub is : IsMeasured station (places_of source sink shown old acts turns) (places_of source sink shown (record new { messages = between }) acts' turns')
 
--- a run can't begin, for this fault: there is no link, or, where a log was asked for, the log can't be had
+-- a run can't begin, for this fault: there is no link, or, if a log was asked for, the log can't be had
 abbrev pub CannotBegin : Bool → RunFault → Type 0
 CannotBegin has_log fault = IsWithoutLink fault ⊎ ((has_log ≡ true) × (fault ≡ Log))
 
 -- a run didn't begin, and then there was no link, and nothing was read or written
-abbrev pub IsUnbegun : {S K E : Type 0} → Bool → Streams S K E → Streams S K E → Option (List Act) → List Turn → List Turn → Result Tally Stop → Type 0
+abbrev pub IsUnbegun : {S K E : Type 0} → Bool → Streams S K E → Streams S K E → Option (List Act) → List Snapshot → List Snapshot → Result Tally Stop → Type 0
 IsUnbegun has_log old new acts turns turns' end = (fault : RunFault) × (end ≡ Err (Run fault)) × CannotBegin has_log fault
     × (new.input ≡ old.input) × (new.output ≡ old.output) × (new.messages ≡ old.messages) × (acts ≡ None) × (turns' ≡ turns)
 
--- a text was refused, or its commands were measured, by these acts, which the link told from none on, with what was seen at each. All records
--- last; nothing is said of that where the text was refused or the sink failed
+-- a text was refused, or its commands were measured, by these acts, which the link recorded from none on, with what was seen at
+-- each. All records last; nothing is said of that if the text was refused or the sink failed
 pub record MeasuresFromNone {S K E : Type 0} (source : Source S) (sink : Sink K) (lasts : K → Bool) (shown : E → Option (List ℕ)) (station : Settings)
-    (old new : Streams S K E) (acts : Option (List Act)) (turns turns' : List Turn) (end : Result Tally Stop) : Type 0 where
+    (old new : Streams S K E) (acts : Option (List Act)) (turns turns' : List Snapshot) (end : Result Tally Stop) : Type 0 where
   pub told : List Act
   pub is : acts ≡ Some told
   pub measured : MeasuresBegun station (places_of source sink shown old (Some []) turns) (places_of source sink shown new (Some told) turns') end
@@ -74,8 +75,8 @@ pub record MeasuresFromNone {S K E : Type 0} (source : Source S) (sink : Sink K)
 -- a run measured by these acts of its link, with what was seen at each, or it didn't begin; and the status and the messages
 -- report how it ended, and then whether the log was lost. `between` are the messages before the report of the end, and `behind`
 -- those after it
-pub record TellsRun {S K E : Type 0} (source : Source S) (sink : Sink K) (lasts : K → Bool) (shown : E → Option (List ℕ)) (has_log : Bool) (station : Settings)
-    (old new : Streams S K E) (acts : Option (List Act)) (turns turns' : List Turn) (status : ℕ) : Type 0 where
+pub record ReportsRun {S K E : Type 0} (source : Source S) (sink : Sink K) (lasts : K → Bool) (shown : E → Option (List ℕ)) (has_log : Bool) (station : Settings)
+    (old new : Streams S K E) (acts : Option (List Act)) (turns turns' : List Snapshot) (status : ℕ) : Type 0 where
   pub end : Result Tally Stop
   pub between : E
   pub behind : E
@@ -84,12 +85,13 @@ pub record TellsRun {S K E : Type 0} (source : Source S) (sink : Sink K) (lasts 
   pub ran : MeasuresFromNone source sink lasts shown station old (record new { messages = between }) acts turns turns' end
       ⊎ IsUnbegun has_log old (record new { messages = between }) acts turns turns' end
   pub fails : FailsAtOutput (sink.failed old.output) (sink.failed new.output) (with_fault end)
-  pub counts : TellsCounts end status (shown between) (shown behind)
-  pub loss : TellsLoss is_lost (shown behind) (shown new.messages)
+  pub counts : ReportsCounts end status (shown between) (shown behind)
+  pub loss : ReportsLoss is_lost (shown behind) (shown new.messages)
 
--- a source gave a text to its end, and the run over its commands is done, or its end was asked for, by these acts, which its link told from none on
+-- a source gave a text to its end, and the run over its commands is done, or its end was asked for, by these acts, which its
+-- link recorded from none on
 abbrev pub MeasuresAllFromNone : {S K E : Type 0} → Source S → Sink K → (E → Option (List ℕ)) → Settings → Streams S K E → Streams S K E → Option (List Act)
-    → List Turn → List Turn → Type 0
+    → List Snapshot → List Snapshot → Type 0
 MeasuresAllFromNone source sink shown station old new acts turns turns' =
     (told : List Act) × (acts ≡ Some told) × ((run : ℕ) × MeasuresAll source sink shown (begun_at run station) (Some []) (Some told) turns turns' old new)
 
@@ -112,17 +114,17 @@ pub record IsFiled {S F K E : Type 0} (sink : Sink F) (old new : Streams S K E) 
 
 -- a run that appends to a file is reported after what was written of the file's opening, and the file has the rows of what was measured.
 -- `old` and `new` are the streams of the run's caller; `begun` and `ended` are the run's own, with the file as output (`IsFiled`)
-pub record TellsAppended {S F K E : Type 0} (source : Source S) (sink : Sink F) (lasts : F → Bool) (shown : E → Option (List ℕ)) (has_log : Bool) (station : Settings)
-    (old new : Streams S K E) (file : Option F) (acts : Option (List Act)) (turns turns' : List Turn) (status : ℕ) : Type 0 where
+pub record ReportsAppended {S F K E : Type 0} (source : Source S) (sink : Sink F) (lasts : F → Bool) (shown : E → Option (List ℕ)) (has_log : Bool) (station : Settings)
+    (old new : Streams S K E) (file : Option F) (acts : Option (List Act)) (turns turns' : List Snapshot) (status : ℕ) : Type 0 where
   pub begun : Streams S F E
   pub ended : Streams S F E
   pub filed : IsFiled sink old new begun ended file
-  pub run : TellsRun source sink lasts shown has_log (appended station) begun ended acts turns turns' status
+  pub run : ReportsRun source sink lasts shown has_log (appended station) begun ended acts turns turns' status
 
 -- a source gave a text to its end, and the run over its commands is done, or its end was asked for, which appended to a file. `old` and `new` are the streams of
 -- the run's caller; `begun` and `ended` are the run's own, with the file as output (`IsFiled`)
 pub record AppendsAll {S F K E : Type 0} (source : Source S) (sink : Sink F) (shown : E → Option (List ℕ)) (station : Settings)
-    (old new : Streams S K E) (file : Option F) (acts : Option (List Act)) (turns turns' : List Turn) : Type 0 where
+    (old new : Streams S K E) (file : Option F) (acts : Option (List Act)) (turns turns' : List Snapshot) : Type 0 where
   pub begun : Streams S F E
   pub ended : Streams S F E
   pub filed : IsFiled sink old new begun ended file

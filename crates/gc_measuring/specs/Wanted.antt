@@ -44,7 +44,7 @@ pub record Look : Type 0 where
   pub health : LinkHealth
   pub moment : Moment
 
--- the want after these looks, where no answer comes before any of them
+-- the want after these looks, if no answer comes before any of them
 abbrev pub behind_looks : List Look → Wanted → Wanted
 behind_looks [] w = w
 behind_looks (look ∷ later) w = behind_looks later (behind_look look.health look.moment w)

@@ -9,17 +9,18 @@ ghost use Rattle.gc_texts.specs.WholeTexts.{input_of};
 use crate::stop::Stop;
 use crate::task_text::read_task_text;
 use gc_lines::{Sink, Source, write_whole};
-use gc_messages::{Streams, tell_spaces, tell_turns, tell_unasked, tell_unnamed};
+use gc_messages::{Streams, report_spaces, report_turns, report_unasked, report_unnamed};
 use gc_texts::{Again, RunFault, Task, Tasks};
 use gc_words::Choice;
 use std::alloc::Global;
 use std::io::{self, Write};
 use std::process::ExitCode;
 
-/// Reads the text of a station, and writes what a station would do with it: the set-up, and the chains of a cycle with the names of
-/// their targets, their deadlines in milliseconds, and behind what they go out again. What looks wrong, and is no fault, is reported
-/// on the messages: names and places without a command, spaces at ends of lines, angles outside one turn. Status 0: the text can be
-/// measured. Status 1: it is refused, which is reported as a run reports it, or the output failed. The streams are handed back.
+/// Reads the text of a station, and writes what a station would do with it: the setup, and the chains of a cycle with the names
+/// of their targets, their deadlines in milliseconds, and after what they are sent again. What looks wrong, and is no fault, is
+/// reported on the messages: names and places without a command, spaces at ends of lines, angles outside one turn. Status 0:
+/// the text can be measured. Status 1: it is refused, which is reported as a run reports it, or the output failed. The streams
+/// are handed back.
 pub fn check_task_text<S: Source, K: Sink, E: Write>(
     alloc: Global,
     choice: Choice,
@@ -27,20 +28,20 @@ pub fn check_task_text<S: Source, K: Sink, E: Write>(
 ) -> (Streams<S, K, E>, io::Result<ExitCode>)
     ensures bound { IfOk result.1 (λ status. exit_status status ≤ 1) }
 
-    // Status 0 only where the source gave a text that a station with this choice measures.
+    // Status 0 only if the source gave a text that a station with this choice measures.
     ensures done { IfOk result.1 (λ status. exit_status status ≡ 0
         → IsCheckable choice (input_of S.Source streams.input) (input_of S.Source result.0.input)) }
 {
     let end = match read_task_text(alloc, &mut streams.input, &choice) {
         Ok((tasks, text)) => {
-            let _ = tell_doubts(text.as_slice(), &tasks, &mut streams.messages);
+            let _ = report_doubts(text.as_slice(), &tasks, &mut streams.messages);
             write_outline(alloc, &tasks, &mut streams.output)
         }
         Err(stop) => Err(stop),
     };
     let status = match end {
         Ok(()) => Ok(ExitCode::SUCCESS),
-        Err(stop) => match stop.tell(&mut streams.messages) {
+        Err(stop) => match stop.report(&mut streams.messages) {
             Ok(()) => Ok(ExitCode::from(1)),
             Err(failed) => Err(failed),
         },
@@ -49,11 +50,11 @@ pub fn check_task_text<S: Source, K: Sink, E: Write>(
 }
 
 // Reports what looks wrong in a text that gives these tasks.
-fn tell_doubts<E: Write>(text: &[u8], tasks: &Tasks, messages: &mut E) -> io::Result<()> {
-    tell_turns(text, tasks, messages)?;
-    tell_unasked(tasks, messages)?;
-    tell_unnamed(tasks, messages)?;
-    tell_spaces(text, messages)
+fn report_doubts<E: Write>(text: &[u8], tasks: &Tasks, messages: &mut E) -> io::Result<()> {
+    report_turns(text, tasks, messages)?;
+    report_unasked(tasks, messages)?;
+    report_unnamed(tasks, messages)?;
+    report_spaces(text, messages)
 }
 
 // Writes what a station would do by these tasks.
@@ -68,7 +69,7 @@ fn write_outline<K: Sink>(alloc: Global, tasks: &Tasks, output: &mut K) -> Resul
     }
 }
 
-// Writes the outline of these tasks: the set-up, if there is one, and the chains of a cycle.
+// Writes the outline of these tasks: the setup, if there is one, and the chains of a cycle.
 fn outline_tasks<W: Write>(tasks: &Tasks, outline: &mut W) -> io::Result<()> {
     let setup = tasks.setup;
     if setup > 0 {
@@ -84,15 +85,15 @@ fn outline_tasks<W: Write>(tasks: &Tasks, outline: &mut W) -> io::Result<()> {
     outline_chains(tasks, outline)
 }
 
-/// How many commands a cycle of these tasks has, each counted once, however often its chain may go out again.
+/// How many commands a cycle of these tasks has, each counted once, however often its chain may be sent again.
 pub(crate) fn commands_in(tasks: &Tasks) -> usize {
     let cycle = tasks.tasks.iter().skip(tasks.setup);
     cycle.filter(|task| task.turn.attempt == 1).count()
 }
 
-// Writes a line for each chain of a cycle: its target, its commands, and how often and behind what it goes out again.
+// Writes a line for each chain of a cycle: its target, its commands, and how often and after what it is sent again.
 fn outline_chains<W: Write>(tasks: &Tasks, outline: &mut W) -> io::Result<()> {
-    // Of the chain that is being written: how often it may go out again, and behind what. `None`: none is.
+    // Of the chain that is being written: how often it may be sent again, and after what. `None`: none is.
     let mut chain: Option<(u64, Again)> = None;
     for task in tasks.tasks.iter().skip(tasks.setup) {
         if task.turn.attempt > 1 {
@@ -120,7 +121,7 @@ fn begin_chain<W: Write>(tasks: &Tasks, target: u32, outline: &mut W) -> io::Res
     write!(outline, ":")
 }
 
-// Writes a command behind its chain's target: the number of its procedure, `now` where it sets the clock, and its deadline.
+// Writes a command after its chain's target: the number of its procedure, `now` if it sets the clock, and its deadline.
 fn outline_command<W: Write>(task: &Task, outline: &mut W) -> io::Result<()> {
     let procedure = task.command.call.number();
     let deadline = task.deadline;
@@ -131,19 +132,19 @@ fn outline_command<W: Write>(task: &Task, outline: &mut W) -> io::Result<()> {
     write!(outline, " within {deadline} ms;")
 }
 
-// Ends the line of a chain, if one is being written: how often it may go out again, and behind what.
+// Ends the line of a chain, if one is being written: how often it may be sent again, and after what.
 fn end_chain<W: Write>(chain: Option<(u64, Again)>, outline: &mut W) -> io::Result<()> {
     let Some((again, rule)) = chain else {
         return Ok(());
     };
     if again > 0 {
-        write!(outline, " again {again} times at most, behind")?;
+        write!(outline, " again at most {again} times, after")?;
         outline_rule(&rule, outline)?;
     }
     writeln!(outline)
 }
 
-// Writes the return codes and the outcomes behind which a chain goes out again, each behind a space.
+// Writes the return codes and the outcomes after which a chain is sent again, each after a space.
 fn outline_rule<W: Write>(rule: &Again, outline: &mut W) -> io::Result<()> {
     for code in rule.codes.codes {
         if code != 0 {

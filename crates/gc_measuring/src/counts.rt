@@ -3,7 +3,7 @@
 ghost use Rattle.std.specs.Prelude.{◌≤◌, IfOk, OnOk};
 ghost use Rattle.std.specs.Io.KnownBytes.{Appends};
 ghost use Rattle.std.specs.Process.{exit_status};
-ghost use Rattle.gc_measuring.specs.Measuring.{TellsCounts, again_text, ends_text, others_text, tally_line};
+ghost use Rattle.gc_measuring.specs.Measuring.{ReportsCounts, again_text, ends_text, others_text, tally_line};
 
 use crate::stop::Stop;
 use gc_station::Tally;
@@ -11,11 +11,11 @@ use std::io::{self, Write};
 use std::process::ExitCode;
 
 /// Reports how a run ended: with status 0 and the line of its counts, or with status 1 and the lines of its fault.
-pub(crate) fn tell_counts<E: Write>(
+pub(crate) fn report_counts<E: Write>(
     end: Result<Tally, Stop>,
     messages: &mut E,
 ) -> io::Result<ExitCode>
-    ensures told { IfOk result (λ status. TellsCounts end (exit_status status) (E.contents messages.old) (E.contents messages.new)) }
+    ensures told { IfOk result (λ status. ReportsCounts end (exit_status status) (E.contents messages.old) (E.contents messages.new)) }
     ensures bound { IfOk result (λ status. exit_status status ≤ 1) }
 {
     match end {
@@ -24,13 +24,13 @@ pub(crate) fn tell_counts<E: Write>(
             Ok(ExitCode::SUCCESS)
         }
         Err(stop) => {
-            stop.tell(messages)?;
+            stop.report(messages)?;
             Ok(ExitCode::from(1))
         }
     }
 }
 
-// Writes the line of the counts: of each command's last attempt, and how many times a chain went out again.
+// Writes the line of the counts: of each command's last attempt, and how many times a chain was sent again.
 fn write_counts<E: Write>(tally: Tally, messages: &mut E) -> io::Result<()>
     ensures { OnOk result (Appends (E.contents messages.old) (E.contents messages.new) (tally_line tally)) }
 {
@@ -69,7 +69,7 @@ fn write_others<E: Write>(tally: Tally, messages: &mut E) -> io::Result<()>
     )
 }
 
-// Writes the end of the line of the counts: how many times a chain went out again.
+// Writes the end of the line of the counts: how many times a chain was sent again.
 fn write_again<E: Write>(tally: Tally, messages: &mut E) -> io::Result<()>
     ensures { OnOk result (Appends (E.contents messages.old) (E.contents messages.new) (again_text tally)) }
 {

@@ -8,11 +8,11 @@ mod logging;
 mod measure;
 mod plan;
 mod recording;
+mod reporter;
 mod signs;
 mod station;
 mod stop;
 mod task_text;
-mod telling;
 mod wanted;
 
 pub use checking::check_task_text;

@@ -4,8 +4,8 @@ ghost use Rattle.std.specs.Prelude.{◌≡◌, ◌≤◌, true, None, IfOk, IfEr
 ghost use Rattle.std.specs.Option.{is_some};
 ghost use Rattle.std.specs.Process.{exit_status};
 ghost use Rattle.gc_texts.specs.declared.fault.RunFault.{RunFault};
-ghost use Rattle.gc_measuring.specs.Logging.{TellsLoss};
-ghost use Rattle.gc_measuring.specs.Telling.{TellsMeasuring, MeasuresAll};
+ghost use Rattle.gc_measuring.specs.Logging.{ReportsLoss};
+ghost use Rattle.gc_measuring.specs.Telling.{ReportsMeasuring, MeasuresAll};
 ghost use Rattle.gc_logs.specs.Bounds.{has_ended, sink_of};
 
 use crate::station::measure_over;
@@ -24,7 +24,7 @@ use std::io::{self, Write};
 use std::process::ExitCode;
 use std::rt::Files;
 
-// How a line of a log begins: a moment, in which each 0 here stands for a digit. Behind it comes one of `MARKS`.
+// How a line of a log begins: a moment, in which each 0 here stands for a digit. After it comes one of `MARKS`.
 const MOMENT: &[u8] = b"0000-00-00T00:00:00.000Z ";
 
 // The marks of lines of a log: what came, what went, and what became of the connection.
@@ -49,9 +49,9 @@ fn begins_log(front: &[u8]) -> bool {
     true
 }
 
-// Opens the file of a log, and cuts off a torn last line. The file is refused, and stays as it is, where it can't be opened or
-// read, is no regular file, doesn't begin as a log does, or is held by another program or by the records of this one. Where a
-// file can't be locked, it is taken unlocked.
+// Opens the file of a log, and cuts off a torn last line. The file is refused, and stays as it is, if it can't be opened or
+// read, is no regular file, doesn't begin as a log does, or is held by another program or by the records of this one. If a file
+// can't be locked, it is taken unlocked.
 fn open_log<R: Files<File = File>>(rt: &R, path: &str) -> Result<RowsFile<SystemFile>, Unfit> {
     let file = open_file(rt, path)?;
     if file.hold() == Err(Unfit::Held) {
@@ -70,8 +70,8 @@ fn open_log<R: Files<File = File>>(rt: &R, path: &str) -> Result<RowsFile<System
     }
 }
 
-/// Opens the log, if one is asked for, and notes how many bytes of a torn line were cut off. Fails with `Log` where the file
-/// can't be had as a log.
+/// Opens the log, if one is asked for, and notes how many bytes of a torn line were cut off. Fails with `Log` if the file can't
+/// be had as a log.
 pub(crate) fn log_at<'a, R: Files<File = File>>(
     rt: &R,
     noticed: &'a Cell<Noticed>,
@@ -102,7 +102,7 @@ fn room_in<F: Appending>(file: &F, most: u64) -> u64 {
     }
 }
 
-/// The sink of a log. Where a write fails, it notes that the log has ended, at its bound or because the file failed.
+/// The sink of a log. If a write fails, it notes that the log has ended, at its bound or because the file failed.
 #[derive(Drop)]
 pub(crate) struct Noted<'a, K> {
     sink: Bounded<K>,
@@ -114,7 +114,7 @@ impl<'a, K: Sink> Sink for Noted<'a, K> {
 
     ghost failed = { λ n. has_ended n.sink };
 
-    // Writes into the bounded sink. Where that fails it notes whether the log is full, or was lost.
+    // Writes into the bounded sink. If that fails it notes whether the log is full, or was lost.
     fn write(&mut self, bytes: &[u8]) -> Result<usize, PortFailed> {
         match self.sink.write(bytes) {
             Ok(n) => Ok(n),
@@ -166,33 +166,33 @@ pub(crate) fn measure_logged<L: Link, G: Sink, S: Source, K: Durable, E: Write>(
     streams: Streams<S, K, E>,
     kept: &mut Kept,
 ) -> (Streams<S, K, E>, io::Result<ExitCode>)
-    // As without a log; and the log was lost exactly where the messages say so after that.
+    // As without a log; and the log was lost exactly if the messages say so after that.
     ensures told { IfOk result.1 (λ status. (behind : E)
-        × TellsMeasuring S.Source K.Sink K.is_durable E.contents station (L.acts logged.old.link) (L.acts logged.new.link)
+        × ReportsMeasuring S.Source K.Sink K.is_durable E.contents station (L.acts logged.old.link) (L.acts logged.new.link)
         kept.old.turns kept.new.turns streams (record result.0 { messages = behind }) (exit_status status)
-        × TellsLoss (G.failed (sink_of logged.new)) (E.contents behind) (E.contents result.0.messages)) }
+        × ReportsLoss (G.failed (sink_of logged.new)) (E.contents behind) (E.contents result.0.messages)) }
 
-    // Status 0 only where the source gave a text to its end, and the run over its commands is done.
+    // Status 0 only if the source gave a text to its end, and the run over its commands is done.
     ensures done { IfOk result.1 (λ status. exit_status status ≡ 0 → MeasuresAll S.Source K.Sink E.contents station
         (L.acts logged.old.link) (L.acts logged.new.link) kept.old.turns kept.new.turns streams result.0) }
     ensures bound { IfOk result.1 (λ status. exit_status status ≤ 1) }
 {
     let (mut streams, ended) = measure_over(alloc, logged, station, spot, streams, kept);
-    let ended = tell_loss(ended, logged.has_lost_its_log(), &mut streams.messages);
+    let ended = report_loss(ended, logged.has_lost_its_log(), &mut streams.messages);
     (streams, ended)
 }
 
-// Writes a line where the log was lost (`is_lost`), after the report of how the run ended. The status stays as it was.
-fn tell_loss<E: Write>(
+// Writes a line if the log was lost (`is_lost`), after the report of how the run ended. The status stays as it was.
+fn report_loss<E: Write>(
     ended: io::Result<ExitCode>,
     is_lost: bool,
     messages: &mut E,
 ) -> io::Result<ExitCode>
-    ensures told { IfOk result (λ status. (ended ≡ Ok status) × TellsLoss is_lost (E.contents messages.old) (E.contents messages.new)) }
+    ensures told { IfOk result (λ status. (ended ≡ Ok status) × ReportsLoss is_lost (E.contents messages.old) (E.contents messages.new)) }
 {
     let status = ended?;
     if is_lost {
-        writeln!(messages, "geocom: the log could not be written to its end")?;
+        writeln!(messages, "geocom: the log could not be written completely")?;
     }
     Ok(status)
 }

@@ -11,12 +11,12 @@ ghost use Rattle.gc_texts.specs.declared.text.TheConstants.{TEXT_LIMIT};
 
 use crate::checking::commands_in;
 use crate::plan::plan_of;
+use crate::reporter::Reporter;
 use crate::stop::Stop;
 use crate::task_text::read_task_text;
-use crate::telling::Teller;
 use gc_lines::{Durable, PortFailed, Source, write_whole};
 use gc_links::{Link, Moment};
-use gc_messages::{Noticed, Spot, Streams, tell_turns, tell_unasked};
+use gc_messages::{Noticed, Spot, Streams, report_turns, report_unasked};
 use gc_rows::{When, write_head, write_record};
 use gc_station::{Book, Kept, LinkHealth, Tally, run_station};
 use gc_texts::{Ending, RunFault, Stamp, Task, Tasks, Wish};
@@ -25,19 +25,19 @@ use std::alloc::Global;
 use std::cell::Cell;
 use std::io::Write;
 
-/// Reads the whole text of the input, writes what stands in front of the records on the output, and measures the commands over a
-/// link by the settings of `station`, in at most `max_turns` acts. What was seen of link and output at each act is noted in
-/// `kept`. The streams are handed back, with how the run ended.
+/// Reads the whole text of the input, writes what comes before the records on the output, and measures the commands over a link
+/// by the settings of `station`, in at most `max_turns` acts. What was seen of link and output at each act is noted in `kept`.
+/// The streams are handed back, with how the run ended.
 ///
-/// Before the link is used or anything is written, `Text` comes with `Read` where the input failed, with `InputTooLong` where it
-/// gave more than 65,536 bytes, and with `Memory` where memory was refused, `Line` at the first faulty line, and `Empty` where
-/// the text has no command of a cycle. `Run` comes with the faults of [`run_station`], and with `Output` where the output failed: in front
-/// of the records, and then the link wasn't used, or at a record.
+/// Before the link is used or anything is written, `Text` comes with `Read` if the input failed, with `InputTooLong` if it gave
+/// more than 65,536 bytes, and with `Memory` if memory was refused, `Line` at the first faulty line, and `Empty` if the text
+/// has no command of a cycle. `Run` comes with the faults of [`run_station`], and with `Output` if the output failed: before
+/// the records, and then the link wasn't used, or at a record.
 ///
 /// The messages get at the start what is odd about the text: each angle of a positioning that lies outside one turn, and each
-/// target of which the text says where it stands, and which no command asks for its direction. Then they get signs of life, each
-/// kind at most once a minute, where the choice has them, and what `spot` notices of the line. Where they can't be written the
-/// station measures on. Where the run ends because it is stale, they get a line that says since when no answer of a good quality
+/// target of which the text says where it is, and which no command asks for its direction. Then they get signs of life, each
+/// kind at most once a minute, if the choice has them, and what `spot` notices of the line. If they can't be written the
+/// station measures on. If the run ends because it is stale, they get a line that says since when no answer of a good quality
 /// came.
 pub fn run_station_text<L: Link, S: Source, K: Durable, E: Write>(
     alloc: Global,
@@ -55,7 +55,7 @@ pub fn run_station_text<L: Link, S: Source, K: Durable, E: Write>(
         (places_of S.Source K.Sink E.contents result.0 (L.acts link.new) kept.new.turns)
         result.1 }
 
-    // Where the fault is `Output` the output has failed; else whether it has failed is as before.
+    // If the fault is `Output` the output has failed; otherwise whether it has failed is as before.
     ensures output { FailsAtOutput (K.failed streams.output) (K.failed result.0.output) (with_fault result.1) }
 
     // Unless the output failed, all that was written outlasts what the output is meant to outlast.
@@ -64,7 +64,7 @@ pub fn run_station_text<L: Link, S: Source, K: Durable, E: Write>(
     // At most 65,537 reads of the input were answered.
     ensures bounded { S.reads result.0.input ≤ S.reads streams.input + (TEXT_LIMIT + 1) }
 
-    // Where the text was refused nothing was done over the link, and nothing written.
+    // If the text was refused nothing was done over the link, and nothing written.
     ensures untouched { IsUntouched
         (places_of S.Source K.Sink E.contents streams (L.acts link.old) kept.old.turns)
         (places_of S.Source K.Sink E.contents result.0 (L.acts link.new) kept.new.turns)
@@ -77,8 +77,8 @@ pub fn run_station_text<L: Link, S: Source, K: Durable, E: Write>(
     let Ok(()) = write_front(&mut streams.output, station.layout) else {
         return (streams, Err(Stop::Run(RunFault::Output)));
     };
-    let _ = tell_turns(text.as_slice(), &tasks, &mut streams.messages);
-    let _ = tell_unasked(&tasks, &mut streams.messages);
+    let _ = report_turns(text.as_slice(), &tasks, &mut streams.messages);
+    let _ = report_unasked(&tasks, &mut streams.messages);
     let commands = commands_in(&tasks);
     let Tasks {
         setup,
@@ -108,8 +108,8 @@ pub fn run_station_text<L: Link, S: Source, K: Durable, E: Write>(
     }
 }
 
-// What is measured: how many of the tasks in front are the set-up, the tasks, the names of their targets (in a `Tasks` whose own tasks are empty), how many commands a cycle has, and
-// the most acts that a run may make.
+// What is measured: how many of the tasks before it are the setup, the tasks, the names of their targets (in a `Tasks` whose
+// own tasks are empty), how many commands a cycle has, and the most acts that a run may make.
 #[derive(Drop)]
 struct Work {
     setup: usize,
@@ -150,15 +150,15 @@ fn measure<L: Link, S, K: Durable, E: Write>(
         max_turns,
     } = work;
     let plan = plan_of(station.choice, setup, tasks.as_slice());
-    let mut teller = Teller::new(station.choice.watch, messages);
-    teller.begin(spot.place, commands);
+    let mut reporter = Reporter::new(station.choice.watch, messages);
+    reporter.begin(spot.place, commands);
     let mut records = Records {
         sink: output,
         layout: station.layout,
         named,
         noticed: spot.noticed,
         fresh: station.layout.run,
-        teller,
+        reporter,
     };
     let end = run_station(link, &mut records, tasks.as_slice(), &plan, max_turns, kept);
     let Records {
@@ -167,20 +167,20 @@ fn measure<L: Link, S, K: Durable, E: Write>(
         named: _,
         noticed: _,
         fresh,
-        mut teller,
+        mut reporter,
     } = records;
     if let Err(RunFault::Stale) = end {
-        teller.stale(fresh);
+        reporter.stale(fresh);
     }
     let streams = Streams {
         input,
         output: sink,
-        messages: teller.end(),
+        messages: reporter.end(),
     };
     (streams, end)
 }
 
-// Writes what stands in front of the records, unless the sink has it already. `Err`: the write failed, with the number of bytes
+// Writes what comes before the records, unless the sink has it already. `Err`: the write failed, with the number of bytes
 // taken.
 fn write_front<K: Durable>(sink: &mut K, layout: Layout) -> Result<(), usize>
     ensures failed { FailsWith result (K.failed sink.old) (K.failed sink.new) }
@@ -194,9 +194,9 @@ fn write_front<K: Durable>(sink: &mut K, layout: Layout) -> Result<(), usize>
     write_head(sink, layout.form)
 }
 
-// When a good answer was written down last, in milliseconds since 1970, once a command ended so at the moment `utc`: `fresh` where that
-// was no good answer.
-fn fresh_behind(fresh: u64, utc: u64, ending: Ending<'_>) -> u64 {
+// When a good answer was recorded last, in milliseconds since 1970, once a command ended so at the moment `utc`: `fresh` if
+// that was no good answer.
+fn fresh_after(fresh: u64, utc: u64, ending: Ending<'_>) -> u64 {
     match ending.quality() {
         Some(quality) if quality.is_good() => utc,
         _ => fresh,
@@ -212,7 +212,7 @@ struct Records<'a, K, E> {
     noticed: &'a Cell<Noticed>,
     // When an answer of a good quality came last, or the run began, in milliseconds since 1970.
     fresh: u64,
-    teller: Teller<E>,
+    reporter: Reporter<E>,
 }
 
 impl<'a, K: Durable, E: Write> Book for Records<'a, K, E> {
@@ -224,15 +224,15 @@ impl<'a, K: Durable, E: Write> Book for Records<'a, K, E> {
 
     ghost is_durable = { λ book. K.is_durable book.sink };
 
-    // Writes a record. The signs of life count the record also where it can't be written.
+    // Writes a record. The signs of life count the record also if it can't be written.
     fn write(
         &mut self,
         stamp: Stamp,
         command: &Wish,
         ending: Ending<'_>,
     ) -> Result<(), PortFailed> {
-        self.teller.count(stamp, ending);
-        self.fresh = fresh_behind(self.fresh, stamp.utc, ending);
+        self.reporter.count(stamp, ending);
+        self.fresh = fresh_after(self.fresh, stamp.utc, ending);
         let when = When {
             run: self.layout.run,
             stamp,
@@ -251,7 +251,7 @@ impl<'a, K: Durable, E: Write> Book for Records<'a, K, E> {
         }
     }
 
-    // Syncs the sink: where that succeeds, what was written outlasts all that the sink is meant to outlast.
+    // Syncs the sink: if that succeeds, what was written outlasts all that the sink is meant to outlast.
     fn sync(&mut self) -> Result<(), PortFailed> {
         match self.sink.sync() {
             Ok(()) => Ok(()),
@@ -261,11 +261,11 @@ impl<'a, K: Durable, E: Write> Book for Records<'a, K, E> {
 
     // Writes the messages that are due, by the health of the link and by what was noticed.
     fn sees(&mut self, health: LinkHealth, moment: Moment) {
-        self.teller.tell(self.noticed.get(), health, moment);
+        self.reporter.report(self.noticed.get(), health, moment);
     }
 
-    // Reports on the messages that the cycle wasn't done when the next was due, where a line of this kind may be written.
+    // Reports on the messages that the cycle wasn't done when the next was due, if a line of this kind may be written.
     fn overran(&mut self, cycle: u64) {
-        self.teller.overran(cycle);
+        self.reporter.overran(cycle);
     }
 }

@@ -7,11 +7,11 @@ ghost use Rattle.std.specs.Process.{exit_status};
 ghost use Rattle.gc_words.specs.Stations.{form_of_rows};
 ghost use Rattle.gc_measuring.specs.Recording.{copied_line, fault_of_unfit, opened_lines, rotation_line, unfit_text, torn_line};
 ghost use Rattle.gc_measuring.specs.Appending.{file_of, acts_in};
-ghost use Rattle.gc_measuring.specs.Telling.{RefusesFile, TellsAppended, AppendsAll};
+ghost use Rattle.gc_measuring.specs.Telling.{RefusesFile, ReportsAppended, AppendsAll};
 ghost use Rattle.gc_rows.specs.Records.{head_text, sign_text};
 ghost use Rattle.gc_files.specs.Sinks.{torn_in, steps_in, IsOpenedAs};
 
-use crate::counts::tell_counts;
+use crate::counts::report_counts;
 use crate::station::measure_at;
 use crate::stop::Stop;
 use gc_files::{RowsFile, SystemFile, Unfit, open_at};
@@ -30,7 +30,7 @@ use std::process::ExitCode;
 use std::rt::Files;
 use std::time::Clock;
 
-// The fault that is told where a path can't be used as a file of records.
+// The fault that is reported if a path can't be used as a file of records.
 fn fault_of_unfit(why: Unfit) -> RunFault
     ensures { result ≡ fault_of_unfit why }
 {
@@ -42,19 +42,22 @@ fn fault_of_unfit(why: Unfit) -> RunFault
     }
 }
 
-// Writes how many bytes of a torn row were cut off, if any were.
-fn tell_torn<E: Write>(torn: u64, messages: &mut E) -> io::Result<()>
+// Writes how many bytes of an incomplete row were cut off, if any were.
+fn report_torn<E: Write>(torn: u64, messages: &mut E) -> io::Result<()>
     ensures { OnOk result (Appends (E.contents messages.old) (E.contents messages.new) (torn_line torn)) }
 {
     if torn == 0 {
         // For the proof: writing an empty text gives the clause, which an `Ok(())` alone doesn't.
         return write!(messages, "");
     }
-    writeln!(messages, "geocom: {torn} bytes of a torn row were cut off")
+    writeln!(
+        messages,
+        "geocom: {torn} bytes of an incomplete row were cut off"
+    )
 }
 
 // Writes how many rows were copied because the run before was killed or a sync failed, if any were.
-fn tell_copied<E: Write>(copied: u64, messages: &mut E) -> io::Result<()>
+fn report_copied<E: Write>(copied: u64, messages: &mut E) -> io::Result<()>
     ensures { OnOk result (Appends (E.contents messages.old) (E.contents messages.new) (copied_line copied)) }
 {
     if copied == 0 {
@@ -68,16 +71,16 @@ fn tell_copied<E: Write>(copied: u64, messages: &mut E) -> io::Result<()>
 }
 
 // Writes what the opening of a file did: how many rows it copied, and how many bytes of a torn row it cut off.
-fn tell_opened<E: Write>(copied: u64, torn: u64, messages: &mut E) -> io::Result<()>
+fn report_opened<E: Write>(copied: u64, torn: u64, messages: &mut E) -> io::Result<()>
     ensures { OnOk result (Appends (E.contents messages.old) (E.contents messages.new) (opened_lines copied torn)) }
 {
-    tell_copied(copied, messages)?;
-    tell_torn(torn, messages)
+    report_copied(copied, messages)?;
+    report_torn(torn, messages)
 }
 
 // Writes after the fault's line, for a file that doesn't begin as this station's rows do, what may have happened and how to
 // rotate the file. The status stays as it was.
-fn tell_rotation<E: Write>(
+fn report_rotation<E: Write>(
     ended: io::Result<ExitCode>,
     why: Unfit,
     messages: &mut E,
@@ -104,7 +107,7 @@ fn write_rotation<E: Write>(why: Unfit, messages: &mut E) -> io::Result<()>
 }
 
 // Opens the file of a station's records, in the form of its rows, to sync each row or not as `recording` asks. Writes how many
-// rows were copied and how many bytes of a torn row were cut off, if any were. The result is the file, and whether this could
+// rows were copied and how many bytes of an incomplete row were cut off, if any were. The result is the file, and whether this could
 // be written.
 fn open_records<R: Files<File = File>, E: Write>(
     rt: &R,
@@ -129,14 +132,14 @@ fn open_records<R: Files<File = File>, E: Write>(
     );
     match opened {
         Ok((rows, copied)) => {
-            let told = tell_opened(copied, rows.torn(), messages);
+            let told = report_opened(copied, rows.torn(), messages);
             Ok((rows, told))
         }
         Err(why) => Err(why),
     }
 }
 
-/// What is left of a run that appended to a file: the file, and the link, where there was one.
+/// What is left of a run that appended to a file: the file, and the link, if there was one.
 #[derive(Drop)]
 pub struct Appended<'a, R> {
     pub file: Followed<'a, R>,
@@ -144,8 +147,8 @@ pub struct Appended<'a, R> {
 }
 
 impl<'a, R: Files<File = File>> Appended<'a, R> {
-    /// Closes the link, and then ends the appending. Where the path still leads to the file, and all that it holds is on the
-    /// disk, this takes away the mark by which the next start would copy the file.
+    /// Closes the link, and then ends the appending. If the path still leads to the file, and all that it holds is on the disk,
+    /// this takes away the mark by which the next start would copy the file.
     pub fn end(self) {
         let Appended { file, link } = self;
         drop(link);
@@ -153,12 +156,12 @@ impl<'a, R: Files<File = File>> Appended<'a, R> {
     }
 }
 
-/// Measures at a site, and appends the records as rows to a file, which is opened before anything else is done. Where the file
-/// can't be had, nothing is read or sent, and the fault is `RecordsUnopened`, `RecordsHeld`, `RecordsForeign`, or `Output` where
-/// a call of the system failed. For `RecordsForeign` the messages also say how to rotate the file. What stood in the file stays,
-/// but for half a row at its end, which is cut off. Where an earlier run was killed, or a sync failed, the rows are copied to a
-/// new file. Both are reported. Where the path no longer leads to the file, rows go on in a new one there, if it can be had. The
-/// streams are handed back, and the file and the link, where there was a file; [`Appended::end`] is left to the caller. What was
+/// Measures at a site, and appends the records as rows to a file, which is opened before anything else is done. If the file
+/// can't be had, nothing is read or sent, and the fault is `RecordsUnopened`, `RecordsHeld`, `RecordsForeign`, or `Output` if a
+/// call of the system failed. For `RecordsForeign` the messages also say how to rotate the file. What was in the file stays,
+/// but for half a row at its end, which is cut off. If an earlier run was killed, or a sync failed, the rows are copied to a
+/// new file. Both are reported. If the path no longer leads to the file, rows go on in a new one there, if it can be had. The
+/// streams are handed back, and the file and the link, if there was a file; [`Appended::end`] is left to the caller. What was
 /// seen of link and file at each act is noted in `kept`.
 pub fn append_at<
     'a,
@@ -181,14 +184,14 @@ pub fn append_at<
     io::Result<ExitCode>,
     Option<Appended<'a, R>>,
 )
-    // Either the file can't be had, which is reported with status 1, and nothing was read. Or the messages tell of the file's
+    // Either the file can't be had, which is reported with status 1, and nothing was read. Or the messages report the file's
     // opening and then, with the status, how the run ended; and the file that is handed back has the run's rows: those of the
-    // acts that the link told. At each act the file had all rows that the acts before it settled, and they lasted.
+    // acts that the link recorded. At each act the file had all rows that the acts before it settled, and they lasted.
     ensures told { IfOk result.1 (λ status. RefusesFile E.contents streams result.0 (exit_status status)
-        ⊎ TellsAppended S.Source ⟦<Followed<'a, R> as Sink>⟧ ⟦<Followed<'a, R> as Durable>⟧.is_durable E.contents (is_some log.entry) station
+        ⊎ ReportsAppended S.Source ⟦<Followed<'a, R> as Sink>⟧ ⟦<Followed<'a, R> as Durable>⟧.is_durable E.contents (is_some log.entry) station
         streams result.0 (file_of result.2) (acts_in result.2) kept.old.turns kept.new.turns (exit_status status)) }
 
-    // Status 0 only where the source gave a text to its end, and the run over its commands is done, or its end was asked for.
+    // Status 0 only if the source gave a text to its end, and the run over its commands is done, or its end was asked for.
     ensures done { IfOk result.1 (λ status. exit_status status ≡ 0
         → AppendsAll S.Source ⟦<Followed<'a, R> as Sink>⟧ E.contents station streams result.0 (file_of result.2) (acts_in result.2) kept.old.turns kept.new.turns) }
 
@@ -197,7 +200,7 @@ pub fn append_at<
     ensures bound { IfOk result.1 (λ status. exit_status status ≤ 1) }
 {
     match open_records(rt, alloc, recording, station, &mut streams.messages) {
-        // Where the messages on the opening can't be written, the station measures all the same.
+        // If the messages on the opening can't be written, the station measures all the same.
         Ok((rows, _)) => {
             let followed = Followed::new(rt, alloc, recording.path, rows, spot.noticed);
             let (filed, output) = streams.with_output(followed);
@@ -226,6 +229,6 @@ fn refuse_file<E: Write>(why: Unfit, messages: &mut E) -> io::Result<ExitCode>
     ensures told { IfOk result (λ status. (exit_status status ≡ 1) × Appends (E.contents messages.old) (E.contents messages.new) (unfit_text why)) }
 {
     let stop = Stop::Run(fault_of_unfit(why));
-    let ended = tell_counts(Err(stop), messages);
-    tell_rotation(ended, why, messages)
+    let ended = report_counts(Err(stop), messages);
+    report_rotation(ended, why, messages)
 }

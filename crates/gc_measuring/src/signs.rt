@@ -70,8 +70,8 @@ pub(crate) struct Signs {
     skipped: u64,
     skipped_before: u64,
     skipped_since: u64,
-    // Since when the set-up isn't done, in milliseconds since 1970: a command of it wasn't answered well, and no record of a cycle came
-    // since.
+    // Since when the setup isn't done, in milliseconds since 1970: a command of it wasn't answered well, and no record of a
+    // cycle came since.
     unprepared_since: Option<u64>,
     // The cycle of the last record of one, how many commands ended in each way, and when the last answer came, in milliseconds of the
     // clock for deadlines.
@@ -136,7 +136,7 @@ impl Signs {
         self.counts.count(ending);
     }
 
-    // Notes the cycle of a record, whether a command was answered or skipped, and whether the set-up isn't done.
+    // Notes the cycle of a record, whether a command was answered or skipped, and whether the setup isn't done.
     fn note(&mut self, stamp: Stamp, ending: Ending<'_>)
         ensures { self.new.counts ≡ self.old.counts }
     {
@@ -192,9 +192,9 @@ impl Signs {
         let before = self.health;
         self.note_health(health, moment);
         if moment.utc != 0 {
-            self.tell_troubles(before, is_lost, moment, messages)?;
+            self.report_troubles(before, is_lost, moment, messages)?;
         }
-        self.tell_passed_over(messages)?;
+        self.report_passed_over(messages)?;
         self.show(messages)
     }
 
@@ -208,9 +208,9 @@ impl Signs {
         self.elapsed = moment.elapsed;
     }
 
-    // Writes the lines that are due: on a missing connection, on a set-up that isn't done, on a line that isn't quiet, on an answer that
-    // doesn't come, and on the end of such a trouble.
-    fn tell_troubles<E: Write>(
+    // Writes the lines that are due: on a missing connection, on a setup that isn't done, on a line that isn't quiet, on an
+    // answer that doesn't come, and on the end of such a trouble.
+    fn report_troubles<E: Write>(
         &mut self,
         before: LinkHealth,
         is_lost: bool,
@@ -218,25 +218,29 @@ impl Signs {
         messages: &mut E,
     ) -> io::Result<()> {
         self.wanted.look(self.health, moment);
-        self.tell_connection(before, is_lost, messages)?;
-        self.tell_unprepared(messages)?;
-        self.tell_unquiet(messages)?;
-        self.tell_unanswered(messages)?;
-        self.tell_again(messages)
+        self.report_connection(before, is_lost, messages)?;
+        self.report_unprepared(messages)?;
+        self.report_unquiet(messages)?;
+        self.report_unanswered(messages)?;
+        self.report_again(messages)
     }
 
     // Reports how many commands were skipped, once no further one was skipped since the last look.
-    fn tell_passed_over<E: Write>(&mut self, messages: &mut E) -> io::Result<()> {
+    fn report_passed_over<E: Write>(&mut self, messages: &mut E) -> io::Result<()> {
         let before = self.skipped_before;
         if self.skipped == before {
-            self.tell_skipped(messages)?;
+            self.report_skipped(messages)?;
         }
         self.skipped_before = self.skipped;
         Ok(())
     }
 
     /// Writes what is odd about the line, each thing once.
-    pub(crate) fn tell_odd<E: Write>(&mut self, odd: Oddities, messages: &mut E) -> io::Result<()> {
+    pub(crate) fn report_odd<E: Write>(
+        &mut self,
+        odd: Oddities,
+        messages: &mut E,
+    ) -> io::Result<()> {
         if self.watch == Watch::Nobody || self.odd == odd {
             return Ok(());
         }
@@ -246,21 +250,21 @@ impl Signs {
         if odd.echoes && !told.echoes {
             writeln!(
                 messages,
-                "geocom: the line sends back what goes out: a modem or the far end has its echo on"
+                "geocom: the line echoes what is sent: a modem or the other end has its echo on"
             )?;
         }
         if odd.bare && !told.bare {
             writeln!(
                 messages,
-                "geocom: the line changes CR to LF: it is to be raw (stty raw)"
+                "geocom: the line changes CR to LF: set it to raw mode (stty raw)"
             )?;
         }
         Ok(())
     }
 
-    // Reports that there is no connection, where the last one was lost or couldn't be made. Not where a cycle just began: then
-    // the station makes a connection at once.
-    fn tell_connection<E: Write>(
+    // Reports that there is no connection, if the last one was lost or couldn't be made. Not if a cycle just began: then the
+    // station makes a connection at once.
+    fn report_connection<E: Write>(
         &mut self,
         before: LinkHealth,
         is_lost: bool,
@@ -276,21 +280,21 @@ impl Signs {
         if !self.unconnected.allows(self.elapsed, MINUTE) {
             return Ok(());
         }
-        self.tell_since(self.since.utc, "no connection", messages)
+        self.report_since(self.since.utc, "no connection", messages)
     }
 
-    // Reports that the set-up isn't done, where a command of it wasn't answered well.
-    fn tell_unprepared<E: Write>(&mut self, messages: &mut E) -> io::Result<()> {
+    // Reports that the setup isn't done, if a command of it wasn't answered well.
+    fn report_unprepared<E: Write>(&mut self, messages: &mut E) -> io::Result<()> {
         match self.unprepared_since {
             Some(since) if self.unprepared.allows(self.elapsed, MINUTE) => {
-                self.tell_since(since, "no set-up", messages)
+                self.report_since(since, "setup not done", messages)
             }
             _ => Ok(()),
         }
     }
 
     // Reports that a new connection isn't quiet, once that has lasted for `LASTING`.
-    fn tell_unquiet<E: Write>(&mut self, messages: &mut E) -> io::Result<()> {
+    fn report_unquiet<E: Write>(&mut self, messages: &mut E) -> io::Result<()> {
         if self.health != LinkHealth::Unquiet
             || !has_lasted(self.since.elapsed, self.elapsed, LASTING)
         {
@@ -299,31 +303,35 @@ impl Signs {
         if !self.unquiet.allows(self.elapsed, MINUTE) {
             return Ok(());
         }
-        self.tell_since(self.since.utc, "not quiet", messages)
+        self.report_since(self.since.utc, "line not quiet", messages)
     }
 
     // Reports that no answer comes, once that has lasted for `LASTING`, whatever became of connections meanwhile.
-    fn tell_unanswered<E: Write>(&mut self, messages: &mut E) -> io::Result<()> {
+    fn report_unanswered<E: Write>(&mut self, messages: &mut E) -> io::Result<()> {
         match self.wanted.lasting(self.elapsed, LASTING) {
             Some(since) => {
                 self.wanted.told = true;
                 if !self.unanswered.allows(self.elapsed, MINUTE) {
                     return Ok(());
                 }
-                self.tell_since(since.utc, "no answer", messages)
+                self.report_since(since.utc, "no answer", messages)
             }
             None => Ok(()),
         }
     }
 
     /// Reports why a run ended that is stale: since when no answer of a good quality came, in milliseconds since 1970.
-    pub(crate) fn tell_stale<E: Write>(&mut self, since: u64, messages: &mut E) -> io::Result<()> {
-        self.tell_since(since, "no good answer", messages)
+    pub(crate) fn report_stale<E: Write>(
+        &mut self,
+        since: u64,
+        messages: &mut E,
+    ) -> io::Result<()> {
+        self.report_since(since, "no answer of good quality", messages)
     }
 
     // Reports that `what` has lasted since `utc` (milliseconds since 1970). From then on the station counts as troubled, until a
     // command is answered.
-    fn tell_since<E: Write>(&mut self, utc: u64, what: &str, messages: &mut E) -> io::Result<()> {
+    fn report_since<E: Write>(&mut self, utc: u64, what: &str, messages: &mut E) -> io::Result<()> {
         self.is_troubled = true;
         self.is_answered = false;
         self.clear(messages)?;
@@ -333,7 +341,7 @@ impl Signs {
     }
 
     // Reports the end of a trouble, once a command was answered and a line of this kind may be written.
-    fn tell_again<E: Write>(&mut self, messages: &mut E) -> io::Result<()> {
+    fn report_again<E: Write>(&mut self, messages: &mut E) -> io::Result<()> {
         if !self.is_troubled || !self.is_answered || !self.connected.allows(self.elapsed, MINUTE) {
             return Ok(());
         }
@@ -343,7 +351,7 @@ impl Signs {
     }
 
     // Writes how many commands were skipped, if any were and a line of this kind may be written.
-    fn tell_skipped<E: Write>(&mut self, messages: &mut E) -> io::Result<()> {
+    fn report_skipped<E: Write>(&mut self, messages: &mut E) -> io::Result<()> {
         if self.skipped == 0 || !self.passed_over.allows(self.elapsed, MINUTE) {
             return Ok(());
         }
@@ -377,7 +385,7 @@ impl Signs {
         show_others(self.counts, row)
     }
 
-    // Writes how long ago the last answer was, where there was one.
+    // Writes how long ago the last answer was, if there was one.
     fn show_age<E: Write>(&self, row: &mut E) -> io::Result<()> {
         match self.answered {
             Some(moment) => {
@@ -388,11 +396,11 @@ impl Signs {
         }
     }
 
-    /// Writes at the end of a run how many commands were skipped that no line reported yet, where that may be written, and clears
+    /// Writes at the end of a run how many commands were skipped that no line reported yet, if that may be written, and clears
     /// the status line of a terminal.
     pub(crate) fn end<E: Write>(&mut self, messages: &mut E) -> io::Result<()> {
         if self.watch != Watch::Nobody {
-            self.tell_skipped(messages)?;
+            self.report_skipped(messages)?;
         }
         self.clear(messages)
     }

@@ -4,9 +4,9 @@ ghost use Rattle.std.specs.Prelude.{◌≡◌, ◌≤◌, IfOk, IfErr};
 ghost use Rattle.std.specs.Option.{is_some};
 ghost use Rattle.std.specs.Process.{exit_status};
 ghost use Rattle.gc_measuring.specs.Stops.{fault_without_link, IsWithoutLink};
-ghost use Rattle.gc_measuring.specs.Telling.{TellsMeasuring, MeasuresAll, TellsRun, MeasuresAllFromNone, CannotBegin, acts_of};
+ghost use Rattle.gc_measuring.specs.Telling.{ReportsMeasuring, MeasuresAll, ReportsRun, MeasuresAllFromNone, CannotBegin, acts_of};
 
-use crate::counts::tell_counts;
+use crate::counts::report_counts;
 use crate::logging::{Noted, log_at, measure_logged};
 use crate::measure::run_station_text;
 use crate::stop::Stop;
@@ -27,12 +27,12 @@ use std::process::ExitCode;
 use std::rt::Files;
 use std::time::Clock;
 
-/// Measures at a place, and reports how the run ended: by the counts, or by the fault's line. Where a log is asked for, its file
-/// is opened first, and what was on the link is appended to it. Where the file `until` is there, the run ends between two chains, as
-/// one that is done. `Log` comes where no log can be had, `Clock` where the clock
-/// can't be read, and the faults of a device where one is there and can't be used. That a log couldn't be written to its end is
-/// told after the counts, or the fault, and changes no status. The streams are handed back, and the link, where there was one.
-/// What was seen of link and output at each act is noted in `kept`.
+/// Measures at a place, and reports how the run ended: by the counts, or by the fault's line. If a log is asked for, its file
+/// is opened first, and what was on the link is appended to it. If the file `until` is there, the run ends between two chains,
+/// as one that is done. `Log` comes if no log can be had, `Clock` if the clock can't be read, and the faults of a device if one
+/// is there and can't be used. That a log couldn't be written to its end is reported after the counts, or the fault, and changes no
+/// status. The streams are handed back, and the link, if there was one. What was seen of link and output at each act is noted
+/// in `kept`.
 pub fn measure_at<
     'a,
     R: Net<Listener = TcpListener, Stream = TcpStream> + Clock + Files<File = File>,
@@ -54,13 +54,13 @@ pub fn measure_at<
     Option<Telling<Watched<'a, R, PlacedLink<'a, R>>>>,
 )
     // The status and the messages report how the run ended, and then whether the log was lost. Either the text was refused, or
-    // its commands were measured: the link that is handed back has told all acts of the run and no other, the sink that is handed
+    // its commands were measured: the link that is handed back has recorded all acts of the run and no other, the sink that is handed
     // back has its records, and at each act all that the acts before it settled lasted. Or no log, no link or no clock could be
     // had, and nothing was read or written.
-    ensures told { IfOk result.1 (λ status. TellsRun S.Source K.Sink K.is_durable E.contents (is_some log.entry) station
+    ensures told { IfOk result.1 (λ status. ReportsRun S.Source K.Sink K.is_durable E.contents (is_some log.entry) station
         streams result.0 (acts_of result.2) kept.old.turns kept.new.turns (exit_status status)) }
 
-    // Status 0 only where the source gave a text to its end, and the run over its commands is done, or its end was asked for.
+    // Status 0 only if the source gave a text to its end, and the run over its commands is done, or its end was asked for.
     ensures done { IfOk result.1 (λ status. exit_status status ≡ 0
         → MeasuresAllFromNone S.Source K.Sink E.contents station streams result.0 (acts_of result.2) kept.old.turns kept.new.turns) }
     ensures bound { IfOk result.1 (λ status. exit_status status ≤ 1) }
@@ -68,7 +68,7 @@ pub fn measure_at<
     let Ends { link, moment, log } = match open_ends(rt, spot, log) {
         Ok(ends) => ends,
         Err(fault) => {
-            let ended = tell_counts(Err(Stop::Run(fault)), &mut streams.messages);
+            let ended = report_counts(Err(Stop::Run(fault)), &mut streams.messages);
             return (streams, ended, None);
         }
     };
@@ -88,7 +88,7 @@ pub fn measure_at<
     }
 }
 
-// What a run goes over: a link, with the moment at which the run begins, and its log, where one is asked for.
+// What a run goes over: a link, with the moment at which the run begins, and its log, if one is asked for.
 #[derive(Drop)]
 struct Ends<'a, R> {
     link: PlacedLink<'a, R>,
@@ -96,7 +96,7 @@ struct Ends<'a, R> {
     log: Option<Noted<'a, RowsFile<SystemFile>>>,
 }
 
-// Opens the log, if one is asked for, and then the link. Where there is no link, the fault is noted at `spot`, too.
+// Opens the log, if one is asked for, and then the link. If there is no link, the fault is noted at `spot`, too.
 fn open_ends<'a, R: Net<Listener = TcpListener, Stream = TcpStream> + Clock + Files<File = File>>(
     rt: &'a R,
     spot: Spot<'a>,
@@ -118,7 +118,7 @@ fn open_ends<'a, R: Net<Listener = TcpListener, Stream = TcpStream> + Clock + Fi
     }
 }
 
-// A link to a place, and the moment at which a run over it begins; or the fault where there is no link: what is wrong with the
+// A link to a place, and the moment at which a run over it begins; or the fault if there is no link: what is wrong with the
 // device, or that the clock can't be read.
 fn link_at<'a, R: Net<Listener = TcpListener, Stream = TcpStream> + Clock + Files<File = File>>(
     rt: &'a R,
@@ -136,7 +136,7 @@ fn link_at<'a, R: Net<Listener = TcpListener, Stream = TcpStream> + Clock + File
     }
 }
 
-// The fault where there is no link: for `Some` by what is wrong with the device, and for `None` that the clock can't be read.
+// The fault if there is no link: for `Some` by what is wrong with the device, and for `None` that the clock can't be read.
 fn without_link(reason: Option<Unusable>) -> RunFault
     ensures { result ≡ fault_without_link reason }
 {
@@ -156,21 +156,21 @@ pub(crate) fn measure_over<L: Link, S: Source, K: Durable, E: Write>(
     kept: &mut Kept,
 ) -> (Streams<S, K, E>, io::Result<ExitCode>)
     // The text was refused, or its commands were measured; and the status and the messages report how that ended.
-    ensures told { IfOk result.1 (λ status. TellsMeasuring S.Source K.Sink K.is_durable E.contents station
+    ensures told { IfOk result.1 (λ status. ReportsMeasuring S.Source K.Sink K.is_durable E.contents station
         (L.acts link.old) (L.acts link.new) kept.old.turns kept.new.turns streams result.0 (exit_status status)) }
 
-    // Status 0 only where the source gave a text to its end, and the run over its commands is done, or its end was asked for.
+    // Status 0 only if the source gave a text to its end, and the run over its commands is done, or its end was asked for.
     ensures done { IfOk result.1 (λ status. exit_status status ≡ 0
         → MeasuresAll S.Source K.Sink E.contents station (L.acts link.old) (L.acts link.new) kept.old.turns kept.new.turns streams result.0) }
     ensures bound { IfOk result.1 (λ status. exit_status status ≤ 1) }
 {
     let (mut streams, end) = run_station_text(alloc, link, station, spot, streams, u64::MAX, kept);
     note_stop(spot, end);
-    let ended = tell_counts(end, &mut streams.messages);
+    let ended = report_counts(end, &mut streams.messages);
     (streams, ended)
 }
 
-// Where a run stopped for a fault, notes the fault at its spot.
+// If a run stopped for a fault, notes the fault at its spot.
 fn note_stop(spot: Spot<'_>, end: Result<Tally, Stop>) {
     if let Err(stop) = end {
         spot.stop(stop.fault());

@@ -16,8 +16,8 @@ pub enum Stop {
     Empty,
     /// The line of the text with this number, counted from 1, is the first faulty one, with this trouble. Nothing was done.
     Line(u32, Trouble),
-    /// The run over the text's commands ended for this fault or couldn't begin, or what stands in front of the records couldn't
-    /// be written.
+    /// The run over the text's commands ended for this fault or couldn't begin, or what comes before the records couldn't be
+    /// written.
     Run(RunFault),
 }
 
@@ -36,20 +36,20 @@ impl Stop {
 
     /// Writes the message of the fault. In two cases a second message follows: for `Empty`, that the text has no command; for
     /// `Line`, which field of the text's faulty line is at fault.
-    pub fn tell<E: Write>(self, messages: &mut E) -> io::Result<()>
+    pub fn report<E: Write>(self, messages: &mut E) -> io::Result<()>
         ensures { OnOk result (Appends (E.contents messages.old) (E.contents messages.new) (stop_text self)) }
     {
         match self {
             Stop::Text(fault) => fault.tell(messages),
-            Stop::Empty => tell_empty(messages),
-            Stop::Line(line, trouble) => tell_line(line, trouble, messages),
+            Stop::Empty => report_empty(messages),
+            Stop::Line(line, trouble) => report_line(line, trouble, messages),
             Stop::Run(fault) => fault.tell(messages),
         }
     }
 }
 
 // Writes the message of the fault `NoCommand`, and a second message: that the text has no command.
-fn tell_empty<E: Write>(messages: &mut E) -> io::Result<()>
+fn report_empty<E: Write>(messages: &mut E) -> io::Result<()>
     ensures { OnOk result (Appends (E.contents messages.old) (E.contents messages.new) (stop_text Stop.Empty)) }
 {
     RunFault::NoCommand.tell(messages)?;
@@ -58,7 +58,7 @@ fn tell_empty<E: Write>(messages: &mut E) -> io::Result<()>
 
 // Writes the message of the fault `Schedule`, with the number of the text's faulty line, and a second message: which field of
 // that line is at fault.
-fn tell_line<E: Write>(line: u32, trouble: Trouble, messages: &mut E) -> io::Result<()>
+fn report_line<E: Write>(line: u32, trouble: Trouble, messages: &mut E) -> io::Result<()>
     ensures { OnOk result (Appends (E.contents messages.old) (E.contents messages.new) (stop_text (Stop.Line line trouble))) }
 {
     RunFault::Schedule { line }.tell(messages)?;

@@ -13,7 +13,8 @@ use std::alloc::Global;
 
 /// Reads the whole text of a station from a source, and returns its tasks and names, with the text itself. Until a line says
 /// otherwise the commands have the deadline of `choice`, and are chained or not as `choice` says. It fails with the faults of
-/// `read_text` and `read_tasks`, with the field at fault for a faulty line, and with `Empty` where the text has no command of a cycle.
+/// `read_text` and `read_tasks`, with the field at fault for a faulty line, and with `Empty` if the text has no command of a
+/// cycle.
 pub(crate) fn read_task_text<S: Source>(
     alloc: Global,
     source: &mut S,

@@ -1,4 +1,4 @@
-//! Since when a station has wanted an answer that doesn't come. This time goes on while connections are closed and made anew,
+//! Since when a station has wanted an answer that doesn't come. This time goes on while connections are closed and made again,
 //! because neither is an answer.
 
 ghost use Rattle.std.specs.Prelude.{◌≡◌};
@@ -37,8 +37,8 @@ impl Wanted {
         self.told = false;
     }
 
-    /// Notes by the health of the link at this moment whether an answer is wanted: it is where there is no connection, where the
-    /// line isn't quiet, and where a request has no reply. `Idle` ends the cycle, and `Fine` changes nothing.
+    /// Notes by the health of the link at this moment whether an answer is wanted: it is if there is no connection, where the
+    /// line isn't quiet, and if a request has no reply. `Idle` ends the cycle, and `Fine` changes nothing.
     pub(crate) fn look(&mut self, health: LinkHealth, moment: Moment)
         ensures { self.new ≡ behind_look health moment self.old }
     {
@@ -52,7 +52,7 @@ impl Wanted {
     }
 
     // Ends a cycle, of which nothing is left to be asked. If the cycle had an answer, none is wanted until the next cycle
-    // asks; but a want that was told stays until an answer comes.
+    // asks; but a want that was reported stays until an answer comes.
     fn end_cycle(&mut self)
         ensures { self.new ≡ behind_cycle self.old }
     {

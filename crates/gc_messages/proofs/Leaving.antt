@@ -5,7 +5,7 @@ use Rattle.gc_files.specs.Files.{Step}
 use Rattle.gc_files.specs.Rows.{appended}
 use Rattle.gc_files.proofs.Adding.{appended_two}
 
--- where a file, whose steps appended `taken`, joins the files that were left, and the new file has taken nothing (`next`, and
+-- if a file, whose steps appended `taken`, joins the files that were left, and the new file has taken nothing (`next`, and
 -- `after` a sync), what was appended to all files is what it was before
 pub went_on : (left left' steps : List Step) (taken next after : List ℕ) → left' ≡ left ++ steps → appended steps ≡ taken → next ≡ [] → after ≡ next
     → appended left' ++ after ≡ appended left ++ taken

@@ -3,7 +3,7 @@ use Rattle.std.specs.Prelude.{ℕ, Bool, true, false, List, codes}
 
 -- the line that says that a number of the command line is out of its range
 abbrev pub range_line : List ℕ
-range_line = codes "error: a number of the command line is out of its range\n"
+range_line = codes "error: a number on the command line is out of range\n"
 
 -- the line that says that a station's run would end for want of an answer before its second cycle is due
 abbrev pub stale_line : List ℕ

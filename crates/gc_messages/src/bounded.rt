@@ -19,7 +19,7 @@ impl<const N: usize> Bounded<N> {
 }
 
 impl<const N: usize> Write for Bounded<N> {
-    // Takes the bytes that there is room for, and drops the others. It never fails.
+    // Takes the bytes that there is room for, and discards the others. It never fails.
     fn write(&mut self, buf: &[u8]) -> io::Result<usize> {
         for b in buf {
             let _ = self.bytes.try_push(*b);

@@ -19,7 +19,7 @@ pub fn refuse_numbers<E: Write>(messages: &mut E) -> io::Result<ExitCode>
 {
     writeln!(
         messages,
-        "error: a number of the command line is out of its range"
+        "error: a number on the command line is out of range"
     )?;
     Ok(ExitCode::from(2))
 }

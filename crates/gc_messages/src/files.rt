@@ -1,5 +1,5 @@
 //! What becomes of the files that a station writes while it runs, and how that is reported. No record and no request depends on
-//! it. The path of the rows leads astray where it doesn't lead to the file of rows, and no new file can be had there.
+//! it. The path of the rows leads astray if it doesn't lead to the file of rows, and no new file can be had there.
 
 use gc_links::Moment;
 use std::io::{self, Write};
@@ -23,13 +23,13 @@ pub enum LogSeen {
 pub struct FilesSeen {
     /// The log.
     pub log: LogSeen,
-    /// How many bytes of a torn line of the log were cut off.
+    /// How many bytes of an incomplete line of the log were cut off.
     pub log_torn: u64,
     /// How many times the rows went on in a new file, because the path no longer led to the one before.
     pub moves: u64,
     /// How many rows of the last of these new files were copied, because an earlier run was killed or a sync failed.
     pub copied: u64,
-    /// How many bytes of a torn row were cut off the last of these new files.
+    /// How many bytes of an incomplete row were cut off the last of these new files.
     pub torn: u64,
     /// Whether the path doesn't lead to the rows' file, and no new one can be had there.
     pub is_astray: bool,
@@ -67,8 +67,8 @@ impl FilesTold {
     }
 
     /// What is to be reported now: what is new, and once a minute that the rows' path leads astray. All of it then counts as
-    /// reported. `None`: nothing is new, and the path doesn't lead astray. Where the path leads astray, but the line on that
-    /// isn't due and nothing else is new, the result is `Some` with nothing to write.
+    /// reported. `None`: nothing is new, and the path doesn't lead astray. If the path leads astray, but the line on that isn't
+    /// due and nothing else is new, the result is `Some` with nothing to write.
     pub fn news(&mut self, seen: FilesSeen, moment: Moment) -> Option<FilesNews> {
         let is_due = match self.astray {
             Some(last) => moment.elapsed.saturating_sub(last) >= MINUTE,
@@ -104,26 +104,26 @@ pub struct FilesNews {
 
 impl FilesNews {
     /// Writes the news, a line for each thing.
-    pub fn tell<E: Write>(self, messages: &mut E) -> io::Result<()> {
-        self.tell_log(messages)?;
-        self.tell_moves(messages)?;
-        self.tell_astray(messages)
+    pub fn report<E: Write>(self, messages: &mut E) -> io::Result<()> {
+        self.report_log(messages)?;
+        self.report_moves(messages)?;
+        self.report_astray(messages)
     }
 
-    // Writes, where that is due, that the path of the rows leads astray.
-    fn tell_astray<E: Write>(self, messages: &mut E) -> io::Result<()> {
+    // Writes, if that is due, that the path of the rows leads astray.
+    fn report_astray<E: Write>(self, messages: &mut E) -> io::Result<()> {
         if !self.is_astray {
             return Ok(());
         }
         writeln!(
             messages,
-            "geocom: the file of rows was moved or deleted, and none can be had at its path: rows still go into the old one"
+            "geocom: the file of records was moved or deleted, and no new one can be opened at its path: rows are still written to the old one"
         )
     }
 
-    // Writes what became of the log, where that is new.
-    fn tell_log<E: Write>(self, messages: &mut E) -> io::Result<()> {
-        self.tell_torn_log(messages)?;
+    // Writes what became of the log, if that is new.
+    fn report_log<E: Write>(self, messages: &mut E) -> io::Result<()> {
+        self.report_torn_log(messages)?;
         if self.now.log == self.before.log {
             return Ok(());
         }
@@ -131,46 +131,49 @@ impl FilesNews {
             LogSeen::Whole => Ok(()),
             LogSeen::Full => writeln!(
                 messages,
-                "geocom: the log is full: what went or came from here on is left out of it"
+                "geocom: the log is full: what is sent or received from here on is not in it"
             ),
             LogSeen::Lost => writeln!(
                 messages,
-                "geocom: the log can't be written, and ends here: the station measures on"
+                "geocom: the log can't be written and ends here: measuring continues"
             ),
         }
     }
 
-    // Writes that bytes of a torn line of the log were cut off, where that is new.
-    fn tell_torn_log<E: Write>(self, messages: &mut E) -> io::Result<()> {
+    // Writes that bytes of an incomplete line of the log were cut off, if that is new.
+    fn report_torn_log<E: Write>(self, messages: &mut E) -> io::Result<()> {
         let torn = self.now.log_torn;
         if torn == self.before.log_torn {
             return Ok(());
         }
         writeln!(
             messages,
-            "geocom: {torn} bytes of a torn line of the log were cut off"
+            "geocom: {torn} bytes of an incomplete line of the log were cut off"
         )
     }
 
-    // Writes that the rows go on in a new file, where that is new.
-    fn tell_moves<E: Write>(self, messages: &mut E) -> io::Result<()> {
+    // Writes that the rows go on in a new file, if that is new.
+    fn report_moves<E: Write>(self, messages: &mut E) -> io::Result<()> {
         if self.now.moves == self.before.moves {
             return Ok(());
         }
         writeln!(
             messages,
-            "geocom: the file of rows was moved or deleted: rows go on in a new one at its path"
+            "geocom: the file of records was moved or deleted: rows continue in a new one at its path"
         )?;
-        self.tell_copied(messages)?;
+        self.report_copied(messages)?;
         let torn = self.now.torn;
         if torn == 0 {
             return Ok(());
         }
-        writeln!(messages, "geocom: {torn} bytes of a torn row were cut off")
+        writeln!(
+            messages,
+            "geocom: {torn} bytes of an incomplete row were cut off"
+        )
     }
 
     // Writes that rows of the new file were copied, if any were.
-    fn tell_copied<E: Write>(self, messages: &mut E) -> io::Result<()> {
+    fn report_copied<E: Write>(self, messages: &mut E) -> io::Result<()> {
         let copied = self.now.copied;
         if copied == 0 {
             return Ok(());

@@ -1,4 +1,4 @@
-//! A file of rows that is where its path leads: where it was moved or deleted, rows go on in a new one at that path.
+//! A file of rows that is where its path leads: if it was moved or deleted, rows go on in a new one at that path.
 
 ghost use Rattle.std.specs.Prelude.{◌≡◌, [], Some};
 ghost use Rattle.gc_files.specs.Sinks.{has_failed, is_durable, steps_in};
@@ -12,9 +12,9 @@ use std::cell::Cell;
 use std::fs::File;
 use std::rt::Files;
 
-/// A file of rows by its path. Between two rows it looks whether the path still leads to the file. Where it doesn't, and a file
-/// can be had there as at the start, the rows go on in that one, behind its head; else they go on in the old one. What became of
-/// it is noted in `noticed`. What was appended to all of these files, in order, counts as taken.
+/// A file of rows by its path. Between two rows it looks whether the path still leads to the file. If it doesn't, and a file
+/// can be had there as at the start, the rows go on in that one, after its head; otherwise they go on in the old one. What
+/// became of it is noted in `noticed`. What was appended to all of these files, in order, counts as taken.
 #[derive(Drop)]
 pub struct Followed<'a, R> {
     rt: &'a R,
@@ -51,7 +51,7 @@ impl<'a, R: Files<File = File>> Followed<'a, R> {
         }
     }
 
-    /// Ends the appending to the file that takes the rows now. Where the path leads to that file, and all that it holds is on the
+    /// Ends the appending to the file that takes the rows now. If the path leads to that file, and all that it holds is on the
     /// disk, if need be after one more sync, this takes away the mark by which the next start would copy the file.
     pub fn end(self) {
         let Followed {
@@ -95,8 +95,8 @@ impl<'a, R: Files<File = File>> Sink for Followed<'a, R> {
 impl<'a, R: Files<File = File>> Durable for Followed<'a, R> {
     ghost is_durable = { λ f. is_durable f.rows };
 
-    // Syncs the rows. Then, where the path no longer leads to their file, they go on in a new one there, if it can be had.
-    // `Err`: the file failed, or the new one did.
+    // Syncs the rows. Then, if the path no longer leads to their file, they go on in a new one there, if it can be had. `Err`:
+    // the file failed, or the new one did.
     fn sync(&mut self) -> Result<(), PortFailed> {
         match self.rows.sync() {
             Ok(()) => {}

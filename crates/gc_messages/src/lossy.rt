@@ -1,4 +1,4 @@
-//! Messages that may be lost: a full disk behind standard error changes nothing of a run, nor its status.
+//! Messages that may be lost: a full disk after standard error changes nothing of a run, nor its status.
 
 use std::io::{self, ErrorKind, Write};
 
@@ -10,7 +10,7 @@ pub struct Lossy<E> {
 }
 
 impl<E: Write> Write for Lossy<E> {
-    // Writes into the place inside. Where that takes nothing, or fails, all bytes are dropped and count as written; only an
+    // Writes into the place inside. If that takes nothing, or fails, all bytes are discarded and count as written; only an
     // interruption is handed on.
     fn write(&mut self, buf: &[u8]) -> io::Result<usize> {
         match self.inner.write(buf) {

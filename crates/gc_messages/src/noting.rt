@@ -74,9 +74,9 @@ impl<'a, R> Noting<'a, R> {
         self.last.set(None);
     }
 
-    /// Where a run ended with a fault (`ended`), writes after the fault's line what the system refused last, and why, unless the
+    /// If a run ended with a fault (`ended`), writes after the fault's line what the system refused last, and why, unless the
     /// note was cleared since or the messages are closed. Returns `ended`.
-    pub fn tell<E: Write>(
+    pub fn report<E: Write>(
         &self,
         standard: Standard,
         ended: io::Result<ExitCode>,
@@ -86,7 +86,7 @@ impl<'a, R> Noting<'a, R> {
     {
         let status = ended?;
         if standard.messages && status != ExitCode::SUCCESS {
-            // Where this line can't be written, the fault's line stands all the same.
+            // If this line can't be written, the fault's line is written all the same.
             let _ = self.write(messages);
         }
         Ok(status)

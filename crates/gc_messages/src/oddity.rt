@@ -13,7 +13,7 @@ use std::io::{self, Write};
 /// What is odd about a line.
 #[derive(Clone, Copy, Debug, PartialEq, Eq)]
 pub struct Oddities {
-    /// It sends back what goes out.
+    /// It sends back what is sent.
     pub echoes: bool,
     /// It changes CR to LF, or takes it away.
     pub bare: bool,
@@ -36,7 +36,7 @@ pub struct Noticed {
     pub odd: Oddities,
     /// Whether the last connection ended or failed, or couldn't be made. One that the station closed did none of these.
     pub is_lost: bool,
-    /// The fault for which the run stopped, where it did.
+    /// The fault for which the run stopped, if it did.
     pub fault: Option<RunFault>,
     /// What became of the files.
     pub files: FilesSeen,
@@ -54,7 +54,7 @@ impl Noticed {
     }
 }
 
-/// Where a station measures, and what is noticed there.
+/// If a station measures, and what is noticed there.
 #[derive(Clone, Copy)]
 pub struct Spot<'a> {
     pub place: Place<'a>,
@@ -82,9 +82,9 @@ impl<'a> Spot<'a> {
         }
     }
 
-    /// Adds to the fault's line the place and the reason, where the run stopped for one of the faults that [`tell_place`]
+    /// Adds to the fault's line the place and the reason, if the run stopped for one of the faults that [`tell_place`]
     /// explains.
-    pub fn tell<E: Write>(self, messages: &mut E) -> io::Result<()> {
+    pub fn report<E: Write>(self, messages: &mut E) -> io::Result<()> {
         match self.noticed.get().fault {
             Some(fault) => tell_place(self.place, fault, messages),
             None => Ok(()),
@@ -97,11 +97,11 @@ impl<'a> Spot<'a> {
 pub fn tell_place<E: Write>(place: Place<'_>, fault: RunFault, messages: &mut E) -> io::Result<()> {
     let why = match fault {
         RunFault::LinkClosed => "the connection ended",
-        RunFault::Mute => "no reply came any more",
-        RunFault::SetUp => "a command of the set-up wasn't answered well",
+        RunFault::Mute => "no further reply came",
+        RunFault::SetUp => "a command of the setup was not answered well",
         RunFault::Write { .. } => "a write failed",
-        RunFault::NoTerminal => "it is no terminal",
-        RunFault::Held => "another program holds it",
+        RunFault::NoTerminal => "it is not a terminal",
+        RunFault::Held => "another program has locked it",
         _ => return Ok(()),
     };
     writeln!(messages, "geocom: {place}: {why}")

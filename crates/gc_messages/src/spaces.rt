@@ -1,26 +1,26 @@
-//! Spaces and tabs at the end of a line of a text: they can't be seen, and belong to what stands in front of them, as to a name.
+//! Spaces and tabs at the end of a line of a text: they can't be seen, and belong to what comes before them, as to a name.
 
 use std::io::{self, Write};
 
-/// Writes a line for each line of a text that ends with a space or a tab, with its number, counted from 1. A CR in front of the line
+/// Writes a line for each line of a text that ends with a space or a tab, with its number, counted from 1. A CR before the line
 /// feed doesn't count.
-pub fn tell_spaces<E: Write>(text: &[u8], messages: &mut E) -> io::Result<()> {
+pub fn report_spaces<E: Write>(text: &[u8], messages: &mut E) -> io::Result<()> {
     let mut line = 1u32;
     let mut last = b'\n';
     for byte in text {
         if *byte == b'\n' {
-            tell_space(line, last, messages)?;
+            report_space(line, last, messages)?;
             line = line.saturating_add(1);
         }
         if *byte != b'\r' {
             last = *byte;
         }
     }
-    tell_space(line, last, messages)
+    report_space(line, last, messages)
 }
 
-// Writes the line of a line that ends with this byte, where that is a space or a tab.
-fn tell_space<E: Write>(line: u32, last: u8, messages: &mut E) -> io::Result<()> {
+// Writes the line of a line that ends with this byte, if that is a space or a tab.
+fn report_space<E: Write>(line: u32, last: u8, messages: &mut E) -> io::Result<()> {
     if last != b' ' && last != b'\t' {
         return Ok(());
     }

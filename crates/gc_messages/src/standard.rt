@@ -3,7 +3,7 @@
 
 ghost use Rattle.std.specs.Prelude.{◌≡◌, ◌≤◌, IfOk};
 ghost use Rattle.std.specs.Process.{exit_status};
-ghost use Rattle.gc_messages.specs.Streams.{are_open, TellsClosed};
+ghost use Rattle.gc_messages.specs.Streams.{are_open, ReportsClosed};
 
 use gc_texts::RunFault;
 use std::fs::{Files, OpenOptions};
@@ -40,8 +40,8 @@ impl Standard {
         self.input && self.output && self.messages
     }
 
-    /// Opens `/dev/null` for each stream that is closed. It takes that stream's place, because the system gives a file the lowest
-    /// place that is free, and holds it until it is dropped.
+    /// Opens `/dev/null` for each stream that is closed. It takes that stream's place, because the system gives a file the
+    /// lowest place that is free, and holds it until it is discarded.
     pub fn fill<R: Files>(self, rt: &R) -> io::Result<Places<R::File>> {
         Ok(Places {
             input: null_for(rt, self.input)?,
@@ -50,9 +50,9 @@ impl Standard {
         })
     }
 
-    /// Ends a command with status 1 because a standard stream is closed, and says so where the messages are open.
+    /// Ends a command with status 1 because a standard stream is closed, and says so if the messages are open.
     pub fn refuse<E: Write>(self, messages: &mut E) -> io::Result<ExitCode>
-        ensures told { IfOk result (λ status. TellsClosed self (exit_status status) (E.contents messages.old) (E.contents messages.new)) }
+        ensures told { IfOk result (λ status. ReportsClosed self (exit_status status) (E.contents messages.old) (E.contents messages.new)) }
         ensures bound { IfOk result (λ status. exit_status status ≤ 1) }
     {
         if self.messages {

@@ -27,7 +27,7 @@ fn is_no_vertical(v: Decimal) -> bool {
 
 /// Writes a line for each angle outside one turn that a positioning of `text` has, with the number of its line. `all` is what the
 /// text gives.
-pub fn tell_turns<E: Write>(text: &[u8], all: &Tasks, messages: &mut E) -> io::Result<()> {
+pub fn report_turns<E: Write>(text: &[u8], all: &Tasks, messages: &mut E) -> io::Result<()> {
     let mut setup = all.tasks.iter().take(all.setup);
     let mut cycle = all.tasks.iter().skip(all.setup);
     let mut at_start = false;
@@ -39,7 +39,7 @@ pub fn tell_turns<E: Write>(text: &[u8], all: &Tasks, messages: &mut E) -> io::R
             at_start = is_at_start(rest, at_start);
         }
         // A command's line begins with a digit of its target, and no other line does. So the tasks of a section are those of its
-        // lines that begin so, in order; a cycle's stand once more for each further attempt.
+        // lines that begin so, in order; those of a cycle once more for each further attempt.
         if begins && byte.is_ascii_digit() {
             let task = if at_start {
                 setup.next()
@@ -47,7 +47,7 @@ pub fn tell_turns<E: Write>(text: &[u8], all: &Tasks, messages: &mut E) -> io::R
                 cycle.find(|task| task.turn.attempt == 1)
             };
             if let Some(task) = task {
-                tell_turn(line, task, messages)?;
+                report_turn(line, task, messages)?;
             }
         }
         begins = *byte == b'\n';
@@ -58,7 +58,7 @@ pub fn tell_turns<E: Write>(text: &[u8], all: &Tasks, messages: &mut E) -> io::R
     Ok(())
 }
 
-// Whether the commands behind the line at the front of `rest` are the set-up, where those in front of it are if `before` says so.
+// Whether the commands after the line at the front of `rest` are the setup, where those before it are if `before` says so.
 fn is_at_start(rest: &[u8], before: bool) -> bool {
     if before {
         !rest.starts_with(b"each cycle")
@@ -67,22 +67,27 @@ fn is_at_start(rest: &[u8], before: bool) -> bool {
     }
 }
 
-// Writes a line for each angle outside one turn, where the task of this line is a positioning.
-fn tell_turn<E: Write>(line: u32, task: &Task, messages: &mut E) -> io::Result<()> {
+// Writes a line for each angle outside one turn, if the task of this line is a positioning.
+fn report_turn<E: Write>(line: u32, task: &Task, messages: &mut E) -> io::Result<()> {
     let Asked::Table(Call::Position { hz, v, .. }) = task.command.call else {
         return Ok(());
     };
     if is_far_round(hz) {
-        tell_angle(line, "HZ", hz, messages)?;
+        report_angle(line, "HZ", hz, messages)?;
     }
     if is_no_vertical(v) {
-        tell_angle(line, "V", v, messages)?;
+        report_angle(line, "V", v, messages)?;
     }
     Ok(())
 }
 
 // Writes the line of an angle that lies outside one turn.
-fn tell_angle<E: Write>(line: u32, name: &str, angle: Decimal, messages: &mut E) -> io::Result<()> {
+fn report_angle<E: Write>(
+    line: u32,
+    name: &str,
+    angle: Decimal,
+    messages: &mut E,
+) -> io::Result<()> {
     writeln!(
         messages,
         "geocom: line {line}: {name} {angle} lies outside one turn in radians: it looks like gon or degrees"

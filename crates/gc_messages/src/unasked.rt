@@ -1,21 +1,22 @@
-//! Targets of which a text says something that no command needs: where they stand, though none of its commands asks for a direction,
-//! which a station reports at its start, because no answer is compared with these places; or a name, though no command asks them.
+//! Targets of which a text says something that no command needs: if they are, though none of its commands asks for a direction,
+//! which a station reports at its start, because no answer is compared with these places; or a name, though no command asks
+//! them.
 
 use gc_texts::Tasks;
 use std::io::{self, Write};
 
-/// Writes a line for each target of which a text says where it stands, and which no command of the text asks for its direction.
-pub fn tell_unasked<E: Write>(tasks: &Tasks, messages: &mut E) -> io::Result<()> {
+/// Writes a line for each target of which a text says where it is, and which no command of the text asks for its direction.
+pub fn report_unasked<E: Write>(tasks: &Tasks, messages: &mut E) -> io::Result<()> {
     for near in tasks.nears.as_slice() {
         if !tasks.asks_direction_of(near.target) {
-            tell_target(near.target, messages)?;
+            report_target(near.target, messages)?;
         }
     }
     Ok(())
 }
 
 /// Writes a line for each target that has a name in the text, and that no command of the text asks.
-pub fn tell_unnamed<E: Write>(tasks: &Tasks, messages: &mut E) -> io::Result<()> {
+pub fn report_unnamed<E: Write>(tasks: &Tasks, messages: &mut E) -> io::Result<()> {
     for name in tasks.names.as_slice() {
         if !tasks
             .tasks
@@ -25,7 +26,7 @@ pub fn tell_unnamed<E: Write>(tasks: &Tasks, messages: &mut E) -> io::Result<()>
             let target = name.target;
             writeln!(
                 messages,
-                "geocom: name {target}: no command asks target {target}"
+                "geocom: name {target}: no command is for target {target}"
             )?;
         }
     }
@@ -33,9 +34,9 @@ pub fn tell_unnamed<E: Write>(tasks: &Tasks, messages: &mut E) -> io::Result<()>
 }
 
 // Writes the line of a target that no command asks for its direction.
-fn tell_target<E: Write>(target: u32, messages: &mut E) -> io::Result<()> {
+fn report_target<E: Write>(target: u32, messages: &mut E) -> io::Result<()> {
     writeln!(
         messages,
-        "geocom: near {target}: no command asks target {target} for its direction"
+        "geocom: near {target}: no command measures the direction of target {target}"
     )
 }

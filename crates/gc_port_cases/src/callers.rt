@@ -2,14 +2,14 @@
 //! served. What comes of a row is appended to `came`, and what isn't as the case expects to `wrong`.
 //!
 //!     do call %R1Q,0,0:\r\n    one more caller, and what it writes
-//!     do again 39 %R1Q,0,0:\r\n    the last caller writes this so many times more
+//!     do again 39 %R1Q,0,0:\r\n    the last caller writes this that many times more
 //!     do shut, leave           the last caller writes no more, or goes away
-//!     do serve 2 9             so many callers are served, in so many reads each
+//!     do serve 2 9             so many callers are served, in that many reads each
 //!     do keep 3                so many callers are served at a kept port, which leaves one that is idle for a second
-//!     do slow drop 5003 200    a caller is served by an instrument whose reply to this procedure takes so many milliseconds, and that drops
+//!     do slow drop 5003 200    a caller is served by an instrument whose reply to this procedure takes this many milliseconds, and that drops
 //!                              what comes meanwhile, or queues it (`queue`)
 //!     do hear 0                what this caller, counted from 0, has heard at the end of its connection, or that it waits
-//!     do ask 9 7 5003\n        these commands are asked at the port, in so many reads
+//!     do ask 9 7 5003\n        these commands are asked at the port, in that many reads
 //!     do accept                the connection that an asking made is accepted, and its end here is one more caller
 //!     do listen [::1]          another port, of this address; where the machine hasn't such addresses, `at` is done
 //!     do at [::1]              a text without commands is asked there
@@ -87,7 +87,7 @@ impl<'a> Rows for Played<'a> {
     }
 }
 
-// The number that digits write, where it is at most `most`; else 0.
+// The number that digits write, if it is at most `most`; otherwise 0.
 fn number(digits: &str, most: u64) -> u64 {
     number_of(digits.as_bytes(), most).unwrap_or(0)
 }
@@ -97,7 +97,7 @@ fn small_number(digits: &str, most: u32) -> u32 {
     u32::try_from(number(digits, u64::from(most))).unwrap_or(0)
 }
 
-// Tells how an asking or a serving ended. Of a write that failed the number of replies before is left out: how many the system
+// Reports how an asking or a serving ended. Of a write that failed the number of replies before is left out: how many the system
 // takes isn't known.
 fn tell_end(end: Result<(), RunFault>, came: &mut Told) {
     match end {
@@ -109,7 +109,7 @@ fn tell_end(end: Result<(), RunFault>, came: &mut Told) {
     }
 }
 
-// Tells these lines, with `+` for the number behind the first `reply`: how many replies the system takes isn't known.
+// Reports these lines, with `+` for the number after the first `reply`: how many replies the system takes isn't known.
 fn tell_uncounted(lines: &str, came: &mut Told) {
     let Some((front, behind)) = lines.split_once(" reply ") else {
         return came.text(lines);
@@ -133,19 +133,19 @@ impl<'a> Played<'a> {
         }
     }
 
-    // Connects one more caller, who writes these bytes, and says whether that could be done.
+    // Connects one more caller, who writes these bytes, and returns whether that could be done.
     fn call(&mut self, bytes: &[u8]) -> bool {
         let stream = connected(self.rt, &self.listener);
         self.keep_caller(stream) && self.write(bytes)
     }
 
-    // Accepts the connection that an asking made, and says whether its end could be kept as one more caller.
+    // Accepts the connection that an asking made, and returns whether its end could be kept as one more caller.
     fn accept(&mut self) -> bool {
         let stream = accepted(&self.listener);
         self.keep_caller(stream)
     }
 
-    // Keeps the end of a connection as one more caller, and says whether there is one.
+    // Keeps the end of a connection as one more caller, and returns whether there is one.
     fn keep_caller(&mut self, stream: io::Result<TcpStream>) -> bool {
         match stream {
             Ok(stream) => self.callers.push(stream).is_ok(),
@@ -153,7 +153,7 @@ impl<'a> Played<'a> {
         }
     }
 
-    // The last caller writes what stands in `bytes` behind the number `times`, so many times.
+    // The last caller writes what is in `bytes` after the number `times`, that many times.
     fn write_again(&mut self, times: &str, bytes: &[u8]) -> bool {
         for _ in 0..number(times, 1000) {
             if !self.write(bytes_behind(times, bytes)) {
@@ -179,7 +179,7 @@ impl<'a> Played<'a> {
         }
     }
 
-    // Listens at another port of this address from now on. Where the machine hasn't the IPv6 address, that is noted.
+    // Listens at another port of this address from now on. If the machine hasn't the IPv6 address, that is noted.
     fn listen(&mut self, what: &str) -> bool {
         if what == "127.0.0.2" {
             let address = SocketAddr::from(([127, 0, 0, 2], 0));
@@ -189,7 +189,7 @@ impl<'a> Played<'a> {
         true
     }
 
-    // Takes this listener from now on, if there is one, and says whether there is.
+    // Takes this listener from now on, if there is one, and returns whether there is.
     fn listen_by(&mut self, listener: io::Result<TcpListener>) -> bool {
         match listener {
             Ok(listener) => {
@@ -200,7 +200,7 @@ impl<'a> Played<'a> {
         }
     }
 
-    // Serves as many callers as `what` says, in so many reads each, and tells how that ended.
+    // Serves as many callers as `what` says, in that many reads each, and reports how that ended.
     fn serve(&mut self, what: &str, came: &mut Told) {
         let (count, reads) = cut_word(what);
         let count = small_number(count, 9).min(1000);
@@ -216,7 +216,7 @@ impl<'a> Played<'a> {
         tell_end(end, came)
     }
 
-    // Serves a caller with an instrument whose reply to a procedure takes time, and tells how that ended, and whether it took so long.
+    // Serves a caller with an instrument whose reply to a procedure takes time, and reports how that ended, and whether it took so long.
     fn serve_slowly(&mut self, what: &str, came: &mut Told) {
         let (busy, rest) = cut_word(what);
         let (rpc, ms) = cut_word(rest);
@@ -256,7 +256,7 @@ impl<'a> Played<'a> {
         }
     }
 
-    // Serves as many callers as `what` says at a kept port, which leaves one that is idle for a second, and tells the lines of
+    // Serves as many callers as `what` says at a kept port, which leaves one that is idle for a second, and reports the lines of
     // faults.
     fn keep(&mut self, alloc: Global, what: &str, came: &mut Told) {
         let keeping = Keeping {
@@ -276,7 +276,7 @@ impl<'a> Played<'a> {
         tell_kept(all, messages.as_slice(), came);
     }
 
-    // Tells what the caller of this place has heard. A place above 9 counts as 0, as everything does that isn't a digit.
+    // Reports what the caller of this place has heard. A place above 9 counts as 0, as everything does that isn't a digit.
     fn hear(&mut self, alloc: Global, what: &str, came: &mut Told) {
         let place = usize::try_from(number(what, 9)).unwrap_or(usize::MAX);
         match self.callers.get_mut(place) {
@@ -285,7 +285,7 @@ impl<'a> Played<'a> {
         }
     }
 
-    // Asks the commands that stand in `bytes` behind the number `reads` at the port, in so many reads.
+    // Asks the commands in `bytes` after the number `reads` at the port, in that many reads.
     fn ask(&mut self, alloc: Global, reads: &str, bytes: &[u8], came: &mut Told) {
         let port = port_of(&self.listener);
         if port == 0 {
@@ -311,7 +311,7 @@ impl<'a> Played<'a> {
         tell_end(ask_place(self.rt, alloc, Place::Host(name)), came)
     }
 
-    // Asks a text without commands at this port, by its number and as a place, then serves the port, and tells how each of
+    // Asks a text without commands at this port, by its number and as a place, then serves the port, and reports how each of
     // these ended.
     fn ask_port(&mut self, alloc: Global, what: &str, came: &mut Told) {
         let port = u16::try_from(number(what, 65535)).unwrap_or(0);
@@ -340,7 +340,7 @@ fn named() -> Text {
     Text::new(b"SLOW").unwrap_or(Text::empty())
 }
 
-// Whether so many milliseconds have passed since this moment.
+// Whether this many milliseconds have passed since this moment.
 fn has_passed(rt: &HostRuntime, begun: &Instant, ms: u32) -> bool {
     match begun.elapsed(rt) {
         Ok(time) => time.as_millis() >= u128::from(ms),
@@ -348,7 +348,7 @@ fn has_passed(rt: &HostRuntime, begun: &Instant, ms: u32) -> bool {
     }
 }
 
-// Tells nothing where an act was done, and else that it can't be done.
+// Reports nothing if an act was done, and else that it can't be done.
 fn tell_done(is_done: bool, came: &mut Told) {
     came.either(is_done, "", "it can't be done");
 }
@@ -359,7 +359,7 @@ fn connected(rt: &HostRuntime, listener: &TcpListener) -> io::Result<TcpStream> 
     bounded(TcpStream::connect(rt, address)?)
 }
 
-// The port of a listener; 0 where the system doesn't say.
+// The port of a listener; 0 if the system doesn't say.
 fn port_of(listener: &TcpListener) -> u16 {
     match listener.local_addr() {
         Ok(address) => address.port(),
@@ -367,21 +367,21 @@ fn port_of(listener: &TcpListener) -> u16 {
     }
 }
 
-// Tells whether all lines on the callers of a kept port were written, and these lines.
+// Reports whether all lines on the callers of a kept port were written, and these lines.
 fn tell_kept(all: bool, messages: &[u8], came: &mut Told) {
     came.text(told_word(all));
     came.text(": ");
     tell_uncounted(str::from_utf8(messages).unwrap_or("no text"), came);
 }
 
-// Tells what a caller hears until the end of its connection, or that it still waits.
+// Reports what a caller hears until the end of its connection, or that it is still waiting.
 fn tell_heard(alloc: Global, caller: &mut TcpStream, came: &mut Told) {
     let mut bytes = Vec::new(alloc);
     let is_end = hear(caller, &mut bytes);
     tell_bytes(is_end, bytes.as_slice(), came);
 }
 
-// Tells these bytes as what a caller heard until the end, or that it still waits.
+// Reports these bytes as what a caller heard until the end, or that it is still waiting.
 fn tell_bytes(is_end: bool, bytes: &[u8], came: &mut Told) {
     if !is_end {
         return came.text("it waits");
@@ -397,7 +397,7 @@ fn ask_place(rt: &HostRuntime, alloc: Global, place: Place<'_>) -> Result<(), Ru
     ask_at(rt, alloc, place, &mut none, &mut sink, 9)
 }
 
-// Tells how it ends when no commands are asked at a port: first over `ask_tcp`, by the port's number, and then over `ask_at`, by a
+// Reports how it ends when no commands are asked at a port: first over `ask_tcp`, by the port's number, and then over `ask_at`, by a
 // place. A comma follows each, because the caller appends one more end.
 fn tell_asked(rt: &HostRuntime, alloc: Global, port: u16, came: &mut Told)
     requires { 1 ≤ port }

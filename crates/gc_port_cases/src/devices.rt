@@ -15,7 +15,7 @@ use std::os::unix::net::UnixStream;
 use std::time::Duration;
 use std::{io, thread};
 
-/// Tells what the row of this word comes to.
+/// Reports what the row of this word comes to.
 pub fn tell_placed(rt: &HostRuntime, alloc: Global, word: &str, came: &mut Told) {
     match word {
         "device" => tell_device(rt, alloc, came),
@@ -47,7 +47,7 @@ enum Outcome {
     Shared,
     // It couldn't be opened, or nothing could be put.
     Shut,
-    // It could be opened and closed again, and a put went out.
+    // It could be opened and closed again, and a put was sent.
     Open,
     // A read wasn't silent in its time.
     Unquiet,
@@ -79,7 +79,7 @@ impl Outcome {
     }
 }
 
-// Tells what a link over a device comes to.
+// Reports what a link over a device comes to.
 fn tell_device(rt: &HostRuntime, alloc: Global, came: &mut Told) {
     match dots(alloc, 1_000_000) {
         Ok(much) => came.text(device(rt, much.as_slice()).text()),
@@ -87,9 +87,9 @@ fn tell_device(rt: &HostRuntime, alloc: Global, came: &mut Told) {
     }
 }
 
-// What a link over a device comes to, where a put of the bytes `much` is more than the system takes. It should refuse the
-// device to a second link, take its time for a read where nothing comes, and cut a put once the system takes no more. A machine
-// without such devices counts as right.
+// What a link over a device comes to, if a put of the bytes `much` is more than the system takes. It should refuse the device
+// to a second link, take its time for a read if nothing comes, and cut a put once the system takes no more. A machine without
+// such devices counts as right.
 fn device(rt: &HostRuntime, much: &[u8]) -> Outcome {
     match (terminal(rt, true), terminal(rt, true)) {
         (Some(one), Some(other)) => line_outcome(rt, [one, other].as_slice(), much),

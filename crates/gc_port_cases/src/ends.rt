@@ -1,4 +1,4 @@
-//! Callers whose connections end in each way, and what is told of them.
+//! Callers whose connections end in each way, and what is reported of them.
 
 ghost use Rattle.std.specs.Prelude.{None};
 
@@ -37,7 +37,7 @@ impl Callers for Ends {
     }
 }
 
-/// Serves eight of these callers, and tells how many were served, whether all lines on them were written, and these lines.
+/// Serves eight of these callers, and reports how many were served, whether all lines on them were written, and these lines.
 pub fn tell_ends(alloc: Global, came: &mut Told) {
     let mut ends = Ends { at: 0 };
     let mut messages = Vec::new(alloc);
@@ -47,7 +47,7 @@ pub fn tell_ends(alloc: Global, came: &mut Told) {
     came.bytes(messages.as_slice());
 }
 
-/// Serves eight of them, with room for forty bytes of messages, and tells how many were served and whether all lines were
+/// Serves eight of them, with room for forty bytes of messages, and reports how many were served and whether all lines were
 /// written.
 pub fn tell_cut_ends(came: &mut Told) {
     let mut ends = Ends { at: 0 };
@@ -57,7 +57,7 @@ pub fn tell_cut_ends(came: &mut Told) {
     tell_served(ends.at, all, came);
 }
 
-// Tells how many callers were served, and whether all lines on them were written.
+// Reports how many callers were served, and whether all lines on them were written.
 fn tell_served(count: usize, all: bool, came: &mut Told) {
     came.counted(&count, " served, ");
     came.text(told_word(all));

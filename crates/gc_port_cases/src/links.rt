@@ -1,13 +1,14 @@
-//! Rows of a link over TCP, and of its far end, which is the case's own, in one thread. The link leads to a port where the case
-//! listens, or to the one under `port`, from 0 to 65535. A put on the link waits for no more milliseconds than `patience` says, and
-//! without a patience for ten seconds. What comes of a row is appended to `came`, and what isn't as the case expects to `wrong`.
+//! Rows of a link over TCP, and of its far end, which is the case's own, in one thread. The link leads to a port if the case
+//! listens, or to the one under `port`, from 0 to 65535. A put on the link waits for no more milliseconds than `patience` says,
+//! and without a patience for ten seconds. What comes of a row is appended to `came`, and what isn't as the case expects to
+//! `wrong`.
 //!
 //!     do open, close           the link, which is open or shut then
 //!     do put abc               sent, or cut after so many bytes
 //!     do stall                 puts more than a connection takes while nobody reads
 //!     do read                  at most two bytes, within a second
 //!     do look                  at most sixteen, within a millisecond
-//!     do wait 50               a silence of so many milliseconds
+//!     do wait 50               a silence of this many milliseconds
 //!     do accept, far abc       the far end, and what it writes
 //!     do hear                  what it has heard at the end of the connection, `open` before that
 //!     do go, deaf              the far end goes away; nobody listens any more
@@ -25,7 +26,7 @@ use std::net::{TcpListener, TcpStream};
 // A moment of November 2023 in milliseconds since 1970, which has passed.
 const YEAR_2023: u64 = 1_700_000_000_000;
 
-// How long a put waits where the case says no patience, in milliseconds.
+// How long a put waits if the case says no patience, in milliseconds.
 const PATIENCE: u64 = 10_000;
 
 /// Plays `.links`.
@@ -87,7 +88,7 @@ struct Played<'a> {
     listener: Option<TcpListener>,
     link: TcpLink<'a, HostRuntime>,
     far: Option<TcpStream>,
-    // How many bytes of the put that stalled went out.
+    // How many bytes of the put that stalled were sent.
     sent: usize,
 }
 
@@ -113,7 +114,7 @@ impl<'a> Rows for Played<'a> {
 }
 
 impl<'a> Played<'a> {
-    // Puts bytes on the link, and tells whether all were sent, or after how many bytes the put was cut.
+    // Puts bytes on the link, and reports whether all were sent, or after how many bytes the put was cut.
     fn put(&mut self, bytes: &[u8], came: &mut Told) {
         if bytes.is_empty() {
             return came.text("nothing to put");
@@ -132,8 +133,8 @@ impl<'a> Played<'a> {
         }
     }
 
-    // Puts more than a connection takes while nobody reads. A part of it is to go out, and the put is to end within two
-    // seconds; else it is told how many bytes went out in how many milliseconds.
+    // Puts more than a connection takes while nobody reads. A part of it is to be sent, and the put is to end within two
+    // seconds; otherwise it is reported how many bytes were sent in how many milliseconds.
     fn put_much(&mut self, much: &[u8], came: &mut Told) {
         let begun = elapsed(&mut self.link);
         let sent = put_of(&mut self.link, much);
@@ -146,21 +147,21 @@ impl<'a> Played<'a> {
         came.text("a part, in its time")
     }
 
-    // Reads at most two bytes within a second, and tells what came.
+    // Reads at most two bytes within a second, and reports what came.
     fn read(&mut self, came: &mut Told) {
         let mut buf = [0; 2];
         let ended = self.link.read(&mut buf, 1000);
         tell_came(ended, buf.as_slice(), came)
     }
 
-    // Reads at most sixteen bytes within a millisecond, and tells what came.
+    // Reads at most sixteen bytes within a millisecond, and reports what came.
     fn look(&mut self, came: &mut Told) {
         let mut buf = [0; 16];
         let ended = self.link.read(&mut buf, 1);
         tell_came(ended, buf.as_slice(), came)
     }
 
-    // Waits for a silence of so many milliseconds, and tells whether it came within a second.
+    // Waits for a silence of this many milliseconds, and reports whether it came within a second.
     fn wait(&mut self, what: &str, came: &mut Told) {
         let millis = number_of(what.as_bytes(), u64::MAX).unwrap_or(0);
         let waited = silence_of(&mut self.link, millis);
@@ -170,7 +171,7 @@ impl<'a> Played<'a> {
         came.text("silence, in its time")
     }
 
-    // Tells what the far end heard.
+    // Reports what the far end heard.
     fn hear(&mut self, alloc: Global, came: &mut Told) {
         match &mut self.far {
             Some(far) => tell_heard(alloc, far, self.sent, came),
@@ -189,7 +190,7 @@ impl<'a> Played<'a> {
     }
 }
 
-// Writes bytes at the far end, and says whether that could be done.
+// Writes bytes at the far end, and returns whether that could be done.
 fn write_all(far: &mut Option<TcpStream>, bytes: &[u8]) -> bool {
     match far {
         Some(far) => far.write_all(bytes).is_ok(),
@@ -197,15 +198,15 @@ fn write_all(far: &mut Option<TcpStream>, bytes: &[u8]) -> bool {
     }
 }
 
-// Tells what the far end hears until its connection is shut, or `open` where it isn't shut. `sent` is how many bytes the stalled
-// put sent: so many are told as "that part".
+// Reports what the far end hears until its connection is shut, or `open` if it isn't shut. `sent` is how many bytes the stalled
+// put sent: so many are reported as "that part".
 fn tell_heard(alloc: Global, far: &mut TcpStream, sent: usize, came: &mut Told) {
     let mut bytes = Vec::new(alloc);
     let is_end = hear(far, &mut bytes);
     tell_bytes(is_end, bytes.as_slice(), sent, came);
 }
 
-// Tells what a far end heard. Of a hundred bytes or more only their number is looked at: whether it is `sent`, that of
+// Reports what a far end heard. Of a hundred bytes or more only their number is looked at: whether it is `sent`, that of
 // the stalled put.
 fn tell_bytes(is_end: bool, bytes: &[u8], sent: usize, came: &mut Told) {
     if !is_end {
@@ -222,12 +223,12 @@ fn tell_bytes(is_end: bool, bytes: &[u8], sent: usize, came: &mut Told) {
     came.text(" bytes");
 }
 
-/// So many dots, as bytes to put.
+/// This many dots, as bytes to put.
 pub fn dots(alloc: Global, count: usize) -> Result<Vec<u8>, AllocError> {
     Ok(vec![in alloc; b'.'; count]?)
 }
 
-// The moment by a link's clock for deadlines, in milliseconds; the greatest number where it can't be read.
+// The moment by a link's clock for deadlines, in milliseconds; the greatest number if it can't be read.
 fn elapsed<L: Link>(link: &mut L) -> u64 {
     match link.now() {
         Ok(moment) => moment.elapsed,
@@ -235,7 +236,7 @@ fn elapsed<L: Link>(link: &mut L) -> u64 {
     }
 }
 
-/// Puts bytes, and says how many of them went out.
+/// Puts bytes, and returns how many of them were sent.
 pub fn put_of<L: Link>(link: &mut L, bytes: &[u8]) -> usize {
     if bytes.is_empty() {
         return 0;
@@ -246,7 +247,7 @@ pub fn put_of<L: Link>(link: &mut L, bytes: &[u8]) -> usize {
     }
 }
 
-// Tells what a read came to.
+// Reports what a read came to.
 fn tell_came(ended: Came, buf: &[u8], came: &mut Told) {
     match ended {
         Came::Bytes(n, moment) if moment.utc > YEAR_2023 => {
@@ -260,7 +261,7 @@ fn tell_came(ended: Came, buf: &[u8], came: &mut Told) {
     }
 }
 
-/// Reads a link until it was silent for `millis` milliseconds, and says how many these were; 0 where something came. A read that
+/// Reads a link until it was silent for `millis` milliseconds, and returns how many these were; 0 where something came. A read that
 /// ends early is made again.
 pub fn silence_of<L: Link>(link: &mut L, millis: u64) -> u64 {
     let begun = elapsed(link);

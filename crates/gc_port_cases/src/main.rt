@@ -14,7 +14,7 @@ use links::Links;
 use std::io;
 use std::process::ExitCode;
 
-// Plays the files of links and of callers. The status is 1 where a case came to something else than it expects.
+// Plays the files of links and of callers. The status is 1 if a case came to something else than it expects.
 fn main(rt: HostRuntime) -> io::Result<ExitCode> {
     let mut are_right = play_folder(&rt, ".", ".links", &Links)?;
     are_right &= play_folder(&rt, ".", ".callers", &Callers)?;

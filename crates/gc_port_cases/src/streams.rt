@@ -9,7 +9,7 @@ pub fn at(port: u16) -> SocketAddr {
     SocketAddr::from(([127, 0, 0, 1], port))
 }
 
-// A read of a stream waits no longer than so many milliseconds.
+// A read of a stream waits no longer than this many milliseconds.
 const PATIENCE: u64 = 200;
 
 /// The stream, of which each read now waits for a bounded time.
@@ -24,7 +24,7 @@ pub fn accepted(listener: &TcpListener) -> io::Result<TcpStream> {
     bounded(stream)
 }
 
-/// Appends the bytes that a stream gives until its end. It says `false` where a read failed, or gave nothing in its time.
+/// Appends the bytes that a stream gives until its end. It returns `false` if a read failed, or gave nothing in its time.
 pub fn hear(stream: &mut TcpStream, bytes: &mut Vec<u8>) -> bool {
     stream.read_to_end(bytes).is_ok()
 }

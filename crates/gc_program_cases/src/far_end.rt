@@ -12,10 +12,10 @@ use std::os::fd::OwnedFd;
 use std::os::unix::net::UnixStream;
 use std::time::{Clock, Duration};
 
-// 2026-11-22T23:08:00Z, where the clock begins, in milliseconds since 1970.
+// 2026-11-22T23:08:00Z, when the clock starts, in milliseconds since 1970.
 const BEGIN: u64 = 1_795_388_880_000;
 
-// A time-out of at most so many milliseconds is no wait: a link that read nothing reads once more at once, with a time-out of
+// A time-out of at most this many milliseconds is no wait: a link that read nothing reads once more at once, with a time-out of
 // one millisecond, which the system may round up to 10.
 const NO_WAIT: u64 = 10;
 
@@ -43,12 +43,12 @@ impl Seen {
         }
     }
 
-    // So much time passes.
+    // This much time passes.
     fn pass(&mut self, millis: u64) {
         self.elapsed = self.elapsed.saturating_add(millis);
     }
 
-    // Counts one more connection, and says how many were made.
+    // Counts one more connection, and returns how many were made.
     fn open(&mut self) -> u64 {
         self.opened = self.opened.saturating_add(1);
         u64::from(self.opened)
@@ -87,18 +87,18 @@ pub struct FarEnd<'a, 'b> {
     pub seen: &'b RefCell<Seen>,
     // How many milliseconds an answer takes: less than the station waits for it. None: nothing is answered.
     pub answer: Option<u64>,
-    // After so many milliseconds the clock can't be read any more.
+    // After this many milliseconds the clock can't be read any more.
     pub until: u64,
     // The first so many connections are refused.
     pub refused: u64,
-    // After so many milliseconds nothing is answered any more.
+    // After this many milliseconds nothing is answered any more.
     pub silent: u64,
     // What the line does to what is sent over it.
     pub odd: Oddities,
 }
 
 impl<'a, 'b> FarEnd<'a, 'b> {
-    // How long the station waits in its read, in milliseconds, by the time-out that it set; 0 where it set none.
+    // How long the station waits in its read, in milliseconds, by the time-out that it set; 0 if it set none.
     fn patience(&self) -> io::Result<u64> {
         let Some(wait) = self.ends.0.read_timeout()? else {
             return Ok(0);
@@ -106,7 +106,7 @@ impl<'a, 'b> FarEnd<'a, 'b> {
         Ok(u64::try_from(wait.as_millis()).unwrap_or(u64::MAX))
     }
 
-    // Counts one more connection, and says how many were made.
+    // Counts one more connection, and returns how many were made.
     fn count(&self) -> io::Result<u64> {
         match self.seen.try_borrow_mut() {
             Ok(mut seen) => Ok(seen.open()),
@@ -114,7 +114,7 @@ impl<'a, 'b> FarEnd<'a, 'b> {
         }
     }
 
-    // Answers the requests of a piece, after an echo of it where the line echoes, and says whether there were any.
+    // Answers the requests of a piece, after an echo of it if the line echoes, and returns whether there were any.
     fn answers(&self, piece: &[u8]) -> bool {
         let mut far = &self.ends.1;
         if self.odd.echoes && far.write_all(piece).is_err() {
@@ -123,7 +123,7 @@ impl<'a, 'b> FarEnd<'a, 'b> {
         self.serves(piece)
     }
 
-    // Has a simulator answer the requests of a piece, and says whether there were any.
+    // Has a simulator answer the requests of a piece, and returns whether there were any.
     fn serves(&self, piece: &[u8]) -> bool {
         let mut source = FromReader::new(piece);
         let mut sink = ToWriter::new(Changing {
@@ -136,7 +136,7 @@ impl<'a, 'b> FarEnd<'a, 'b> {
         }
     }
 
-    // The moment of the clock. Where the station has waited in a read before it asks, that wait is played first. After `until`
+    // The moment of the clock. If the station has waited in a read before it asks, that wait is played first. After `until`
     // milliseconds the clock can't be read.
     fn moment(&self, seen: &mut Seen) -> io::Result<Duration> {
         let patience = self.patience()?;
@@ -149,7 +149,7 @@ impl<'a, 'b> FarEnd<'a, 'b> {
         Ok(Duration::from_millis(seen.elapsed))
     }
 
-    // Plays a wait of the station: what it sent is noted down and answered, which takes the time of an answer; else the whole
+    // Plays a wait of the station: what it sent is noted and answered, which takes the time of an answer; otherwise the whole
     // wait passes.
     fn wait(&self, seen: &mut Seen, millis: u64) {
         let mut buf = [0; 256];
@@ -160,7 +160,7 @@ impl<'a, 'b> FarEnd<'a, 'b> {
         }
     }
 
-    // Notes down a piece that came, and answers it, or lets the wait of the station pass.
+    // Notes a piece that came, and answers it, or lets the wait of the station pass.
     fn hear(&self, piece: &[u8], seen: &mut Seen, millis: u64) {
         seen.heard.bytes(piece);
         seen.heard.text(">");
@@ -171,7 +171,7 @@ impl<'a, 'b> FarEnd<'a, 'b> {
     }
 }
 
-// A line that changes each CR to LF, where it is bare.
+// A line that changes each CR to LF, if it is bare.
 #[derive(Drop)]
 struct Changing<'a> {
     stream: &'a TcpStream,
@@ -216,7 +216,7 @@ impl<'a, 'b> Clock for FarEnd<'a, 'b> {
         }
     }
 
-    // So much time passes, at once.
+    // This much time passes, at once.
     fn sleep(&self, duration: Duration) {
         if let Ok(mut seen) = self.seen.try_borrow_mut() {
             seen.pass(u64::try_from(duration.as_millis()).unwrap_or(u64::MAX));

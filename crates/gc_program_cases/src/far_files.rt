@@ -1,4 +1,4 @@
-//! The files of the far end: none is there, and which were to be opened is noted down.
+//! The files of the far end: none is there, and which were to be opened is noted.
 
 use crate::far_end::{FarEnd, in_use};
 use std::alloc::Allocator;

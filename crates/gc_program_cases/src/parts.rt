@@ -1,10 +1,10 @@
 //! The parts of the output and of the messages that a case asks for: texts that stand in them, how often, and how the messages begin and
-//! end. What isn't as the case has it is told, with the messages.
+//! end. What isn't as the case has it is reported, with the messages.
 
 use gc_cases::{Case, Told, bytes_of};
 use std::alloc::Global;
 
-/// Tells each part that a case asks for and that the output or the messages lack, and behind these parts the messages.
+/// Reports each part that a case asks for and that the output or the messages lack, and after these parts the messages.
 pub fn tell_parts(alloc: Global, case: &Case<'_>, output: &str, told: &Told, wrong: &mut Told) {
     let mut missing = Told::new(alloc);
     let messages = str::from_utf8(told.as_bytes()).unwrap_or("no text");
@@ -28,7 +28,7 @@ fn add_all(alloc: Global, case: &Case<'_>, output: &str, messages: &str, missing
     add_length(case, messages.len() as u64, missing);
 }
 
-// Adds each text under a key that doesn't stand in what came.
+// Adds each text under a key that isn't in what came.
 fn add_missing(alloc: Global, case: &Case<'_>, key: &str, came: &str, missing: &mut Told) {
     for place in 0..16 {
         let Some(value) = case.value_at(key, place) else {
@@ -60,13 +60,13 @@ fn add_miscounted(alloc: Global, case: &Case<'_>, messages: &str, missing: &mut 
     }
 }
 
-// Whether a text stands in the messages as often as the word in front of it says.
+// Whether a text occurs in the messages as often as the word before it says.
 fn is_counted(alloc: Global, value: &str, messages: &str, missing: &mut Told) -> bool {
     let (count, text) = value.split_once(' ').unwrap_or(("", value));
     count.parse::<usize>().ok() == Some(count_of(alloc, text, messages, missing))
 }
 
-// How often the text that a value spells stands in what came.
+// How often the text that a value spells occurs in what came.
 fn count_of(alloc: Global, value: &str, came: &str, missing: &mut Told) -> usize {
     match bytes_of(alloc, value) {
         Ok(bytes) => count_in(bytes.as_slice(), came),
@@ -77,7 +77,7 @@ fn count_of(alloc: Global, value: &str, came: &str, missing: &mut Told) -> usize
     }
 }
 
-// How often bytes stand in what came; never where they are no text.
+// How often bytes occurs in what came; never if they are no text.
 fn count_in(bytes: &[u8], came: &str) -> usize {
     match str::from_utf8(bytes) {
         Ok(text) => came.matches(text).count(),
@@ -85,7 +85,7 @@ fn count_in(bytes: &[u8], came: &str) -> usize {
     }
 }
 
-// Adds `begins` where the messages begin otherwise than the case says.
+// Adds `begins` if the messages begin otherwise than the case says.
 fn add_begin(alloc: Global, case: &Case<'_>, messages: &[u8], missing: &mut Told) {
     match bytes_of(alloc, case.value("begins")) {
         Ok(begin) => missing.either(messages.starts_with(begin.as_slice()), "", "begins "),
@@ -93,7 +93,7 @@ fn add_begin(alloc: Global, case: &Case<'_>, messages: &[u8], missing: &mut Told
     }
 }
 
-// Adds `ends` where the messages end otherwise than the case says.
+// Adds `ends` if the messages end otherwise than the case says.
 fn add_end(alloc: Global, case: &Case<'_>, messages: &[u8], missing: &mut Told) {
     match bytes_of(alloc, case.value("ends")) {
         Ok(end) => missing.either(messages.ends_with(end.as_slice()), "", "ends "),
@@ -101,7 +101,7 @@ fn add_end(alloc: Global, case: &Case<'_>, messages: &[u8], missing: &mut Told) 
     }
 }
 
-// Adds `length` where the messages have another number of bytes than the case says.
+// Adds `length` if the messages have another number of bytes than the case says.
 fn add_length(case: &Case<'_>, length: u64, missing: &mut Told) {
     if !case.has("length", "") && case.number("length", u64::MAX) != length {
         missing.text("length ");

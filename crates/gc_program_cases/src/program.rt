@@ -1,5 +1,6 @@
-//! Cases of the program: it is run with a case's words and standard streams, over the system, or at a far end where the case has one. The
-//! case expects a status, the output and the messages; of a far end also what came there, and how much time passed by its clock.
+//! Cases of the program: it is run with a case's words and standard streams, over the system, or at a far end if the case has
+//! one. The case expects a status, the output and the messages; of a far end also what came there, and how much time passed by
+//! its clock.
 
 use crate::far_end::{FarEnd, Seen, both_ends};
 use crate::said::{Said, tell_seen};
@@ -27,7 +28,7 @@ impl Player for Program {
     }
 }
 
-// The port of a listener; 0 where the system doesn't say.
+// The port of a listener; 0 if the system doesn't say.
 fn port_of(listener: &TcpListener) -> u16 {
     match listener.local_addr() {
         Ok(addr) => addr.port(),
@@ -35,7 +36,7 @@ fn port_of(listener: &TcpListener) -> u16 {
     }
 }
 
-// The listener, so that its port stays in use; `None` where the port is to be free.
+// The listener, so that its port stays in use; `None` if the port is to be free.
 fn held(case: &Case<'_>, listener: TcpListener) -> Option<TcpListener> {
     if case.has("port", "free") {
         return None;
@@ -76,7 +77,7 @@ fn oddities_of(case: &Case<'_>) -> Oddities {
     odd
 }
 
-// Runs the program at a far end whose answers take so many milliseconds; None: there are none.
+// Runs the program at a far end whose answers take this many milliseconds; None: there are none.
 fn run_far(
     rt: &HostRuntime,
     case: &Case<'_>,
@@ -159,7 +160,7 @@ fn standard_of(case: &Case<'_>) -> Standard {
     }
 }
 
-// The words behind the program's name, or why they can't be read.
+// The words after the program's name, or why they can't be read.
 fn words_of(alloc: Global, case: &Case<'_>, port: &str) -> io::Result<Args> {
     match case.value("words") {
         "!no memory" => Err(io::Error::from(ErrorKind::OutOfMemory)),
@@ -168,7 +169,7 @@ fn words_of(alloc: Global, case: &Case<'_>, port: &str) -> io::Result<Args> {
     }
 }
 
-// The program's name, and behind it these words, which have spaces between. `PORT` stands for the port.
+// The program's name, and after it these words, which have spaces between. `PORT` stands for the port.
 fn split_words(alloc: Global, words: &str, port: &str) -> Result<Args, AllocError> {
     let mut all = Vec::new(alloc);
     push_words(alloc, words, port, &mut all)?;
@@ -192,7 +193,7 @@ fn push_words(
     Ok(())
 }
 
-// A word, and the port where it stands for that.
+// A word, and the port if it stands for it.
 fn named<'a>(word: &'a str, port: &'a str) -> &'a str {
     if word == "PORT" { port } else { word }
 }

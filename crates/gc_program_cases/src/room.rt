@@ -1,4 +1,4 @@
-//! Standard output of a case: it has room for so many bytes.
+//! Standard output of a case: it has room for this many bytes.
 
 use std::alloc::Global;
 use std::io::{self, Write};
@@ -11,7 +11,7 @@ pub struct Room {
 }
 
 impl Room {
-    /// Nothing was written yet, and there is room for so many bytes.
+    /// Nothing was written yet, and there is room for this many bytes.
     pub fn new(alloc: Global, left: u64) -> Room {
         Room {
             bytes: Vec::new(alloc),
@@ -21,7 +21,7 @@ impl Room {
 }
 
 impl Write for Room {
-    // Takes the bytes that there is room for, 0 where there is none.
+    // Takes the bytes that there is room for, 0 if there is none.
     fn write(&mut self, buf: &[u8]) -> io::Result<usize> {
         let left = usize::try_from(self.left).unwrap_or(usize::MAX);
         let taken = buf.get(..left).unwrap_or(buf);

@@ -1,7 +1,7 @@
-//! What came of a run of the program, and what a case asks of it: its `status`, the `output` and the `messages`; of a far end what was
-//! `heard` there, how often a connection was `opened`, the time that `elapsed`, and the `files` that were to be opened. `any` status and
-//! `any` output will do. Where a case has `has`, its output isn't compared whole, and where it has `tells`, `begins`, `ends` or `counts`,
-//! its messages aren't. What it doesn't have of a far end isn't compared.
+//! What came of a run of the program, and what a case asks of it: its `status`, the `output` and the `messages`; of a far end
+//! what was `heard` there, how often a connection was `opened`, the time that `elapsed`, and the `files` that were to be
+//! opened. `any` status and `any` output will do. If a case has `has`, its output isn't compared whole, and if it has `tells`,
+//! `begins`, `ends` or `counts`, its messages aren't. What it doesn't have of a far end isn't compared.
 
 use crate::far_end::Seen;
 use crate::parts::tell_parts;
@@ -23,7 +23,7 @@ pub struct Said {
 const WAITS: &str = ": waits until eight null procedures are answered, one after the other";
 
 impl Said {
-    /// Nothing yet, with so much room for the output.
+    /// Nothing yet, with this much room for the output.
     pub fn new(alloc: Global, room: u64) -> Said {
         Said {
             status: None,
@@ -32,7 +32,8 @@ impl Said {
         }
     }
 
-    /// Tells where the status, the output or the messages came otherwise than the case has them, with `PORT` for the port in the messages.
+    /// Reports where the status, the output or the messages came otherwise than the case has them, with `PORT` for the port in the
+    /// messages.
     pub fn tell(&self, alloc: Global, case: &Case<'_>, port: &str, wrong: &mut Told) {
         let mut told = Told::new(alloc);
         self.tell_messages(alloc, case, port, &mut told);
@@ -41,7 +42,7 @@ impl Said {
         self.compare_messages(alloc, case, &told, wrong);
     }
 
-    // The status in a digit, and `any` where any will do.
+    // The status in a digit, and `any` if any will do.
     fn status_text(&self, case: &Case<'_>) -> &'static str {
         match self.status {
             Some(_) if case.has("status", "any") => "any",
@@ -50,7 +51,7 @@ impl Said {
         }
     }
 
-    // What is compared with the case's `output`: the whole output, none of it where the case has `has`, and `any` where any will do.
+    // What is compared with the case's `output`: the whole output, none of it if the case has `has`, and `any` if any will do.
     fn compared(&self, case: &Case<'_>) -> &[u8] {
         if case.has("output", "any") {
             return b"any";
@@ -62,7 +63,7 @@ impl Said {
         }
     }
 
-    // Tells the messages, with `PORT` for the port; those of a station at a far end without the line at the start.
+    // Reports the messages, with `PORT` for the port; those of a station at a far end without the line at the start.
     fn tell_messages(&self, alloc: Global, case: &Case<'_>, port: &str, told: &mut Told) {
         let messages = str::from_utf8(self.messages.as_slice()).unwrap_or("no text");
         if case.has("far", "") {
@@ -122,7 +123,7 @@ fn are_parts(case: &Case<'_>) -> bool {
         .any(|key| case.value(key) != "")
 }
 
-/// Tells what came at a far end, for each key that a case has.
+/// Reports what came at a far end, for each key that a case has.
 pub fn tell_seen(alloc: Global, case: &Case<'_>, seen: &Seen, wrong: &mut Told) {
     tell_asked(case, "heard", &seen.heard, wrong);
     tell_number(alloc, case, "opened", u64::from(seen.opened), wrong);
@@ -130,7 +131,7 @@ pub fn tell_seen(alloc: Global, case: &Case<'_>, seen: &Seen, wrong: &mut Told) 
     tell_asked(case, "files", &seen.files, wrong);
 }
 
-// Tells what came, where a case asks for it; `nothing` stands for no bytes.
+// Reports what came, if a case asks for it; `nothing` stands for no bytes.
 fn tell_asked(case: &Case<'_>, key: &str, came: &Told, wrong: &mut Told) {
     if case.has(key, "") {
         return;
@@ -142,7 +143,7 @@ fn tell_asked(case: &Case<'_>, key: &str, came: &Told, wrong: &mut Told) {
     }
 }
 
-// Tells a number, where a case asks for it.
+// Reports a number, if a case asks for it.
 fn tell_number(alloc: Global, case: &Case<'_>, key: &str, number: u64, wrong: &mut Told) {
     let mut digits = Told::new(alloc);
     digits.display(&number);

@@ -23,7 +23,7 @@ record Ends (xs : List ℕ) : Type 0 where
   some : has_feed xs ≡ true
   is : whole xs ≡ xs
 
--- bytes that end in a line feed still do so whatever stands in front of them
+-- bytes that end in a line feed still do so whatever comes before them
 more : (xs ys : List ℕ) → Ends ys → Ends (xs ++ ys)
 more xs ys ends = record { some = feed_behind xs ys ends.some; is = whole_behind xs ys ends.some ∙ ap (λ (l : List ℕ). xs ++ l) ends.is }
 

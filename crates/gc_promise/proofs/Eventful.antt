@@ -1,5 +1,5 @@
 -- The eventful run, computed. Which function says what replies say (`reads`) is left open here. `patched` is that function with
--- the readings of the five replies that answer commands put in front; no other reply of the run is looked at.
+-- the readings of the five replies that answer commands put before it; no other reply of the run is looked at.
 use Rattle.std.proofs.Common.{◌≡◌, inl, inr, ℕ, zero, suc, List, [], ◌∷◌, ◌++◌, Option, Some, None, true, false, refl, sym, subst, ap, arith, lit<}
 use Rattle.std.specs.Prelude.{codes, map, option_map, take, drop}
 use Rattle.std.specs.Fmt.{digits}
@@ -15,13 +15,13 @@ use Rattle.gc_client.specs.Rule.{ById, id_in}
 use Rattle.gc_client.specs.declared.window.TheConstants.{WINDOW}
 use Rattle.gc_texts.specs.Nears.{is_elsewhere}
 use Rattle.gc_links.specs.Acts.{Act, Told}
-use Rattle.gc_station.specs.Beginnings.{IsAnew}
+use Rattle.gc_station.specs.Beginnings.{IsResynchronizing}
 use Rattle.gc_station.specs.Links.{AreChained}
 use Rattle.gc_station.specs.Model.{Runs, expected_first, opening}
 use Rattle.gc_station.specs.Parts as part
 use Rattle.gc_station.specs.Parts.{Part, nothing, parts_of}
 use Rattle.gc_station.specs.Records.{Record, texts_of}
-use Rattle.gc_station.specs.Runs.{RanTo, stood}
+use Rattle.gc_station.specs.Runs.{RanTo, state_after}
 use Rattle.gc_station.specs.Scopes.{AreReadings, Scope}
 use Rattle.gc_station.specs.Tallies.{tally_of}
 use Rattle.gc_station.specs.declared.cause.Cause.TheVariants.{Done}
@@ -39,10 +39,7 @@ use Rattle.gc_field.proofs.Witness.{asked_each, run_on, units}
 use Rattle.gc_promise.specs.Eventful.{IsEventful, acts, anew_acts, anew_turns, before, begins_acts, begins_turns, breaks_acts, breaks_moves}
 use Rattle.gc_promise.specs.Eventful.{chain_acts, chain_moves, commands, first_stretch, front, last_stretch, left, plan, pointed, records, reporting, runs, scope, tally}
 use Rattle.gc_promise.proofs.TrueReadings.{patched, patched_same}
-
--- true isn't false
-true_is_not : true ≡ false → ⊥
-true_is_not e = cc
+use Rattle.gc_field.proofs.Once.{true_is_not}
 
 -- `reporting` is an instrument
 is : IsAnInstrument reporting AnyState instrument.nothing
@@ -59,11 +56,11 @@ is =
 
 -- What the station sees of the line.
 
--- what the turns of the first beginning show to the station
+-- what the turns of the first synchronization show to the station
 abbrev begins_shown : List part.Turn
 begins_shown = part.Asks ∷ part.Hears (codes "%R1Q,0,6:") ∷ part.Hears (codes "%R1P,0,0:0,4") ∷ asked_each replies
 
--- what the turns of the second beginning show to the station
+-- what the turns of the second synchronization show to the station
 abbrev anew_shown : List part.Turn
 anew_shown =
     part.Asks
@@ -76,13 +73,13 @@ anew_shown =
     ∷ part.Asks
     ∷ asked_each (drop 2 replies)
 
--- a part with requests of this cycle: for each request that goes out, in order, the place of its command and the moment at
--- which it went out; `None` for a null procedure
+-- a part with requests of this cycle: for each request that is sent, in order, the place of its command and the moment at which
+-- it was sent; `None` for a null procedure
 abbrev part_of_cycle : ℕ → List part.Turn → List (Step Asked) → List (Option (ℕ × ℕ)) → Part
 part_of_cycle cycle turns steps sent =
     record { turns = turns; steps = steps; marks = map (option_map (λ x. record { cycle = cycle; place = x.0; sent = x.1; expected = expected_first (drop x.0 commands) })) sent }
 
--- the parts of the run: until it begins anew, from there on, and after its end
+-- the parts of the run: until it resynchronizes, from there on, and after its end
 abbrev all_parts : List Part
 all_parts =
     part_of_cycle 1 begins_shown (seen breaks_moves) (Some (0, 40) ∷ None ∷ (map (λ place. Some (place, 95)) (2 ∷ 3 ∷ 4 ∷ 5 ∷ 6 ∷ []) ++ None ∷ None ∷ []))
@@ -90,24 +87,24 @@ all_parts =
     ∷ nothing
     ∷ []
 
--- what the line does in the first beginning shows these turns
+-- what the line does in the first synchronization shows these turns
 begins_are : shown reporting begins_turns (begins before) ≡ begins_shown
 unfolding is_elsewhere is_near header_at reply_at digits rounded
 begins_are = refl
 
--- what the line does in the second beginning shows these turns
+-- what the line does in the second synchronization shows these turns
 anew_are : shown reporting anew_turns (begins left) ≡ anew_shown
 unfolding is_elsewhere is_near header_at reply_at digits rounded
 anew_are = refl
 
 -- What happens on the line is possible.
 
--- the turns of the first beginning are possible
+-- the turns of the first synchronization are possible
 begins_possible : AreTurns reporting AnyState instrument.nothing begins_turns (begins before)
 unfolding is_elsewhere is_near header_at reply_at digits rounded
 begins_possible = (tt, (refl, (tt, (tt, (tt, (tt, (tt, (tt, (tt, (tt, (tt, (tt, ((tt, refl), units 24)))))))))))))
 
--- the turns of the second beginning are possible
+-- the turns of the second synchronization are possible
 anew_possible : AreTurns reporting AnyState instrument.nothing anew_turns (begins left)
 unfolding is_elsewhere is_near header_at reply_at digits rounded
 anew_possible = (tt, (tt, (tt, (tt, (tt, ((tt, refl), units 26))))))
@@ -137,7 +134,7 @@ chain_possible =
     ((tt, refl), (tt, ((tt, refl), (tt, ((tt, refl), (tt, (tt, (tt, (tt, (tt, (tt, (tt, (tt, (tt, (refl, ((8, _, refl), tt))))))))))))))))
     ((9, _, refl), ((10, _, refl), ((11, _, refl), ((11, _, refl), ((12, _, refl), (tt, (tt, (tt, ((tt, refl), (tt, (tt, (tt, (tt, ((13, _, refl), ((15, _, refl), tt))))))))))))))))
 
--- The word isn't a subsequence of the ids under way at the start, which are two zeros.
+-- The word isn't a subsequence of the ids in flight at the start, which are two zeros.
 
 -- two equal numbers aren't 6 and 0
 six : (n m : ℕ) → n ≡ m → n ≡ 6 → m ≡ 0 → ⊥
@@ -171,7 +168,7 @@ module _ (reads : Asked → List ℕ → Reading) where
 
   -- after the earlier acts, the later ones are a run
   abbrev RunsBehind : List Act → List Act → Type 0
-  RunsBehind earlier later = Runs plan commands (stood plan commands told earlier) later
+  RunsBehind earlier later = Runs plan commands (state_after plan commands told earlier) later
 
   -- the acts until the second connection is made are a run
   begins_runs : RunsBehind [] (take 16 begins_acts)
@@ -184,18 +181,18 @@ module _ (reads : Asked → List ℕ → Reading) where
   answers_eight =
       (refl, (tt, (tt, (refl, (tt, (tt, (refl, (tt, (tt, (refl, (tt, (tt, (refl, (tt, (tt, (refl, (tt, (tt, (refl, (tt, (tt, (refl, (tt, (tt, tt))))))))))))))))))))))))
 
-  -- after the beginning, the acts until command 1 is skipped are a run
+  -- after the synchronization, the acts until command 1 is skipped are a run
   breaks_runs : RunsBehind begins_acts (take 8 breaks_acts)
   unfolding is_elsewhere is_near header_at reply_at digits rounded
   breaks_runs = (tt, (refl, (tt, (tt, (refl, (tt, (tt, (tt, tt))))))))
 
-  -- after the acts until command 1 is skipped, those until seven requests are given up are a run
+  -- after the acts until command 1 is skipped, those until seven requests have timed out are a run
   gives_up_runs : RunsBehind (begins_acts ++ take 8 breaks_acts) (drop 8 breaks_acts)
   unfolding is_elsewhere is_near header_at reply_at digits rounded
   gives_up_runs =
       (refl, (tt, (refl, (tt, (refl, (tt, (refl, (tt, (refl, (tt, (tt, (refl, (tt, (tt, (refl, (tt, (tt, (refl, (tt, (tt, (tt, (refl, (tt, (tt, (tt, tt)))))))))))))))))))))))))
 
-  -- after the acts until seven requests are given up, those until the fourth connection is made are a run
+  -- after the acts until seven requests have timed out, those until the fourth connection is made are a run
   anew_runs : RunsBehind front (take 16 anew_acts)
   unfolding is_elsewhere is_near header_at reply_at digits rounded
   anew_runs = (tt, (refl, (tt, (tt, (refl, (tt, (tt, (refl, (tt, (tt, (refl, (tt, (tt, (tt, (refl, (tt, tt))))))))))))))))
@@ -205,7 +202,7 @@ module _ (reads : Asked → List ℕ → Reading) where
   unfolding is_elsewhere is_near header_at reply_at digits rounded
   answers_six = (refl, (tt, (tt, (refl, (tt, (tt, (refl, (tt, (tt, (refl, (tt, (tt, (refl, (tt, (tt, (refl, (tt, (tt, tt))))))))))))))))))
 
-  -- after the new beginning, the acts by which the second cycle is missed and the third begins are a run
+  -- after the new synchronization, the acts by which the second cycle is missed and the third begins are a run
   misses_runs : RunsBehind (front ++ anew_acts) (take 9 chain_acts)
   unfolding is_elsewhere is_near header_at reply_at digits rounded
   misses_runs = (tt, (tt, (tt, (tt, (tt, (tt, (tt, (tt, (tt, tt)))))))))
@@ -228,11 +225,11 @@ module _ (reads : Asked → List ℕ → Reading) where
       run_on plan commands (opening plan told) front (anew_acts ++ chain_acts)
       (run_on plan commands (opening plan told) begins_acts breaks_acts
       (run_on plan commands (opening plan told) (take 16 begins_acts) (drop 16 begins_acts) begins_runs answers_eight)
-      (run_on plan commands (stood plan commands told begins_acts) (take 8 breaks_acts) (drop 8 breaks_acts) breaks_runs gives_up_runs))
-      (run_on plan commands (stood plan commands told front) anew_acts chain_acts
-      (run_on plan commands (stood plan commands told front) (take 16 anew_acts) (drop 16 anew_acts) anew_runs answers_six)
-      (run_on plan commands (stood plan commands told (front ++ anew_acts)) (take 9 chain_acts) (drop 9 chain_acts) misses_runs
-      (run_on plan commands (stood plan commands told (front ++ (anew_acts ++ take 9 chain_acts))) (take 14 (drop 9 chain_acts)) (drop 23 chain_acts) answers_runs late_runs)))
+      (run_on plan commands (state_after plan commands told begins_acts) (take 8 breaks_acts) (drop 8 breaks_acts) breaks_runs gives_up_runs))
+      (run_on plan commands (state_after plan commands told front) anew_acts chain_acts
+      (run_on plan commands (state_after plan commands told front) (take 16 anew_acts) (drop 16 anew_acts) anew_runs answers_six)
+      (run_on plan commands (state_after plan commands told (front ++ anew_acts)) (take 9 chain_acts) (drop 9 chain_acts) misses_runs
+      (run_on plan commands (state_after plan commands told (front ++ (anew_acts ++ take 9 chain_acts))) (take 14 (drop 9 chain_acts)) (drop 23 chain_acts) answers_runs late_runs)))
 
   -- the parts of the run are these
   parts_are : parts_of plan commands (opening plan told) acts ≡ all_parts
@@ -240,12 +237,12 @@ module _ (reads : Asked → List ℕ → Reading) where
   parts_are = refl
 
   -- the records of the run are these
-  written : (stood plan commands told acts).records ≡ records
+  written : (state_after plan commands told acts).records ≡ records
   unfolding is_elsewhere is_near header_at reply_at digits rounded
   written = refl
 
-  -- the station begins anew where seven requests are given up
-  begins_anew : IsAnew plan commands told front (Told (at 345))
+  -- the station resynchronizes where seven requests have timed out
+  begins_anew : IsResynchronizing plan commands told front (Told (at 345))
   unfolding is_elsewhere is_near header_at reply_at digits rounded
   begins_anew = record { renews = refl; moment = at 345; told = refl; seven = refl; given_up = refl; word = refl; client = refl }
 

@@ -42,12 +42,12 @@ module _ (reads : Asked → List ℕ → Reading) (are : AreReadings reads) (acc
   zeroed_says : (x : Reading) → IsAskedReading call (record reply { rc = 0 }) x → reads call (as_zero line) ≡ x
   zeroed_says x is = are call (as_zero line) x (zero_reads call line reply x is_reply is)
 
-  -- the quality of an answer is that of what its line says, and its values are those of what is told
+  -- the quality of an answer is that of what its line says, and its values are those of what is recorded
   pub record IsJudged (q : Quality) (values : Option Answer) : Type 0 where
     pub quality_is : q ≡ quality_in accepted said
     pub values_are : values ≡ answer_in told
 
-  -- what is told of a line that isn't a warning is what it says
+  -- what is recorded of a line that isn't a warning is what it says
   told_as_said : (q : Quality) → quality_in accepted said ≡ q → (taken q reply ≡ reply) → reads call line ≡ told
   told_as_said q is same = line_says told (subst (λ (r : ReplyFields). IsAskedReading call r told) (ap (λ (k : Quality). taken k reply) is ∙ same) is_told)
 

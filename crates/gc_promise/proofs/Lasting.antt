@@ -19,7 +19,7 @@ use Rattle.gc_messages.specs.Following.{bytes_in}
 use Rattle.gc_station.specs.Keeping.{KeepsUp, closing_at}
 use Rattle.gc_station.specs.Records.{Record}
 use Rattle.gc_station.specs.Runs as runs
-use Rattle.gc_station.specs.Runs.{stood}
+use Rattle.gc_station.specs.Runs.{state_after}
 use Rattle.gc_station.specs.Scopes.{Scope, AreReadings}
 use Rattle.gc_messages.specs.declared.following.Followed.{Followed}
 use Rattle.gc_station.specs.declared.tally.Tally.{Tally}
@@ -38,14 +38,14 @@ use Rattle.gc_promise.proofs.Staying.{run_by, is_run, happen_two, life_two, part
 
 -- What the clauses say.
 
--- nothing stands in front of the rows of a file whose header stands already
+-- nothing comes before the rows of a file whose header is there already
 between_is : (course : Course) (between : Option (List ℕ)) → course.layout.headed ≡ true → Appends (Some []) between (front_text course.layout) → between ≡ Some []
 between_is course None headed front = absurd front
 between_is course (Some bytes) headed front =
     let none : front_text course.layout ≡ [] = rw (headed) refl in
     ap (λ (l : List ℕ). Some l) (front ∙ none)
 
--- What `append_at` tells is a run of a file.
+-- What `append_at` reports is a run of a file.
 
 -- two values are equal where `Some` of the one equals `Some` of the other
 same_file : {A : Type 0} (x y : A) → ◌≡◌ {A = Option A} (Some x) (Some y) → x ≡ y
@@ -57,8 +57,8 @@ Found R old new told file =
     (new.turns ≡ old.turns)
     ⊎ ((run : RunOfFile R) × IsRunOfFile run × (run.file ≡ file) × (run.told ≡ told) × (run.old.turns ≡ old.turns) × (run.new.turns ≡ new.turns))
 
--- where a station measured over a link that had told no acts, into a file that had taken no bytes, there is a run of the file
--- with these acts and bytes, or no act was made
+-- if a station measured over a link that had recorded no acts, into a file that had taken no bytes, there is a run of the file with
+-- these acts and bytes, or no act was made
 found : {R : Type 0} (station : Settings) (given : List ℕ) (old new : Places) (end : Result Tally Stop) (told : List Act) (file : Followed R)
     → station.layout.headed ≡ true → old.acts ≡ Some [] → new.acts ≡ Some told → old.taken ≡ Some [] → new.taken ≡ Some (bytes_in file)
     → Measures given station 18446744073709551615 old new end → Found R old new told file
@@ -73,7 +73,7 @@ found station given old new end told file headed none acts fresh took (inr (setu
   refl,
 )
 
--- what `append_at` tells is a run of the file that it hands back, or no act was made
+-- what `append_at` reports is a run of the file that it hands back, or no act was made
 pub appends_are_runs : {S R : Type 0} (source : Source S) (sink : Sink (Followed R)) (K E : Type 0) → ((f : Followed R) → sink.taken f ≡ Some (bytes_in f)) → AppendsAreRuns source sink K E
 appends_are_runs source sink K E taken lasts shown has_log station old new file acts turns turns' status tells = elim tells.run.ran [
   | inl ran ↦
@@ -100,7 +100,7 @@ module _ {R : Type 0} (m : Moment R) (is : IsMoment m) (reads : Asked → List �
   abbrev ran : RunsBehind m.run.course m.run.old m.run.new m.run.end
   ran = is.run.ran
 
-  -- no bytes stood in front of the run's rows
+  -- no bytes came before the run's rows
   none_between : ran.between ≡ Some []
   none_between = between_is m.run.course ran.between is.run.headed (subst (λ (t : Option (List ℕ)). Appends t ran.between (front_text m.run.course.layout)) is.run.fresh ran.front)
 
@@ -128,7 +128,7 @@ module _ {R : Type 0} (m : Moment R) (is : IsMoment m) (reads : Asked → List �
 
   -- the rows of what any acts settle end in a line feed, unless there is none
   rows_whole : (acts : List Act) → whole (rows_by m.run.course reads acts) ≡ rows_by m.run.course reads acts
-  rows_whole acts = texts_whole text (text_whole m.run.course.layout m.run.course.names) (stood m.run.course.plan m.run.course.tasks scope acts).records
+  rows_whole acts = texts_whole text (text_whole m.run.course.layout m.run.course.names) (state_after m.run.course.plan m.run.course.tasks scope acts).records
 
   -- The file.
 
@@ -186,8 +186,7 @@ module _ {R : Type 0} (m : Moment R) (is : IsMoment m) (reads : Asked → List �
       not_true true e = let wrong : false ≡ true = e in cc
       not_true false e = refl
 
-  -- where the first `count` lines of the rows are left, at least as many as had been taken at the turn, `AreLeft` holds of
-  -- them
+  -- if the first `count` lines of the rows are left, at least as many as had been taken at the turn, `AreLeft` holds of them
   left_of : (count : ℕ) → feeds taken ≤ count → AreLeft m reads (lines (take count (pieces (taken ++ rest))))
   left_of count least =
       let l = rows_left taken rest count taken_whole rest_whole least in
@@ -267,7 +266,7 @@ rows_outlast_failures m is reads are head first heads earlier occur trusted step
         (trusted, is, subst (λ (d : Bool). Occur is_trusted head (sides_ended sides run.steps Stopped) d later) (sym trusted) then_)
     occurs head sides doubted run (Unsynced read disk) later trusted is ends then_ = (trusted, is, ends.0, ends.1, then_)
 
-    -- after a run that ends in this way, as an event, the file stands as its calls and its ending leave it
+    -- after a run that ends in this way, as an event, the file is as its calls and its ending leave it
     event_sides : (sides : Sides) (run : Run) (ending : Ending) (later : List Event)
         → sides_after sides (event_of run ending ∷ later) ≡ sides_after (sides_ended sides run.steps ending) later
     event_sides sides run Stopped later = refl

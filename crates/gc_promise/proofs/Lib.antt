@@ -6,6 +6,7 @@ mod Taken
 mod Owning
 mod Judged
 mod Tabled
+mod Apart
 mod Finding
 mod Unbroken
 mod Objected

@@ -1,4 +1,4 @@
--- What stands under a name in the row of a record.
+-- What is under a name in the row of a record.
 use Rattle.std.proofs.Common.{◌≡◌, ◌||◌, ℕ, ℤ, zero, suc, Bool, true, false, List, [], ◌∷◌, ◌++◌, length, map, replicate, Option, Some, None, if◌then◌else◌, refl, sym, ap, ◌∙◌, subst, arith}
 use Rattle.std.specs.Prelude.{codes, nat_eq, not, slice_get}
 use Rattle.std.specs.Cmp.Lexicographic.{pointwise}
@@ -35,7 +35,7 @@ use Rattle.gc_promise.proofs.Plain.{decimal_plain, moment_plain}
 
 -- A row of a table.
 
--- the word of an outcome stands in a field as it is
+-- the word of an outcome appears unchanged in a field
 pub word_plain : (end : End) → escaped (word_of end) ≡ word_of end
 word_plain (Answered quality answer line) = refl
 word_plain (Unreadable line fault) = refl
@@ -45,16 +45,16 @@ word_plain Lost = refl
 word_plain Skipped = refl
 word_plain Missed = refl
 
--- the word of a quality stands in a field as it is
+-- the word of a quality appears unchanged in a field
 pub quality_plain : (o : Option Quality) → escaped (quality_text o) ≡ quality_text o
 quality_plain (Some quality.Fine) = refl
 quality_plain (Some quality.Warning) = refl
 quality_plain (Some quality.Refused) = refl
 quality_plain None = refl
 
--- Columns behind columns.
+-- Columns after columns.
 
--- where a test passes or the others agree, a choice of the same first value agrees
+-- if a test passes or the others agree, a choice of the same first value agrees
 pick : (b : Bool) (f x y : List ℕ) → (b ≡ false → x ≡ y) → (if b then f else x) ≡ (if b then f else y)
 pick true f x y same = refl
 pick false f x y same = same refl
@@ -67,7 +67,7 @@ is_among key names = list_any (λ name. pointwise nat_eq name key) names
 abbrev IsAmong : List ℕ → List (List ℕ) → Type 0
 IsAmong key names = is_among key names ≡ true
 
--- under a name that is among the first names of a row stands what stands under it in the first fields
+-- under a name that is among the first names of a row is what is under it in the first fields
 under_front : (key : List ℕ) (names fields more others : List (List ℕ)) → length fields ≡ length names → IsAmong key names
     → under key (names ++ more) (fields ++ others) ≡ under key names fields
 under_front key [] fields more others same among = cc
@@ -76,12 +76,12 @@ under_front key (n ∷ names) (f ∷ fields) more others same among =
     pick (pointwise nat_eq n key) f (under key (names ++ more) (fields ++ others)) (under key names fields)
     (λ other. under_front key names fields more others (omega (arith, same)) (sym (ap (λ b. b || is_among key names) other) ∙ among))
 
--- where neither of two tests passes, each fails
+-- if neither of two tests passes, each fails
 neither : (a b : Bool) → (a || b) ≡ false → (a ≡ false) × (b ≡ false)
 neither true b e = cc
 neither false b e = (refl, e)
 
--- under a name that isn't among the first names of a row stands what stands under it in the fields behind those
+-- under a name that isn't among the first names of a row is what is under it in the fields after those
 under_behind : (key : List ℕ) (names fields more others : List (List ℕ)) → length fields ≡ length names → is_among key names ≡ false
     → under key (names ++ more) (fields ++ others) ≡ under key more others
 under_behind key [] [] more others same none = refl
@@ -96,7 +96,7 @@ passes : (b : Bool) → not b ≡ false → b ≡ true
 passes true e = refl
 passes false e = cc
 
--- where no key of a list is missing among the names, each of its keys is among them
+-- if no key of a list is missing among the names, each of its keys is among them
 none_missing : (names keys : List (List ℕ)) → list_any (λ key. not (is_among key names)) keys ≡ false → AllByRecursion (λ key. IsAmong key names) keys
 none_missing names [] none = tt
 none_missing names (key ∷ keys) none =
@@ -124,7 +124,7 @@ module _ (when : When) (name : List ℕ) (command : Wish) (end : End) where
   abbrev row_at : Bool → List ℕ → List ℕ
   row_at columns field = under field (header columns) (map escaped (row_fields columns when name command end))
 
-  -- under `sent` a row has when the record's request went out
+  -- under `sent` a row has when the record's request was sent
   pub under_sent : (columns : Bool) → row_at columns (codes "sent") ≡ moment_text when.stamp.sent
   under_sent false = moment_plain when.stamp.sent
   under_sent true = moment_plain when.stamp.sent
@@ -159,7 +159,7 @@ module _ (when : When) (name : List ℕ) (command : Wish) (end : End) where
   by_line columns line =
       stamp_text when.run ∷ (when_fields when ++ (what_fields command name ++ ((word_of end ∷ fault_field (fault_of end) ∷ reply_fields line) ++ more_fields columns when command.call end)))
 
-  -- behind the line's fields stands what stands behind the first thirteen columns: the quality and the attempt
+  -- after the line's fields is what comes after the first thirteen columns: the quality and the attempt
   last_alone : (line : Option (List ℕ)) → under (codes "quality") (header false) (map escaped (by_line false line)) ≡ escaped (quality_text (quality_of end))
   last_alone None = refl
   last_alone (Some line) = refl
@@ -221,14 +221,14 @@ all_at P [] all (suc k) x e = cc
 all_at P (y ∷ ys) all zero x e = let same : y ≡ x = cc in subst P same all.0
 all_at P (y ∷ ys) all (suc k) x e = all_at P ys all.1 k x e
 
--- behind the first thirteen columns stand those of quantities, and those of the quality and the attempt
+-- after the first thirteen columns are those of quantities, and those of the quality and the attempt
 thirteen : (a b c d e f g h i j k l m : List ℕ) (others : List (List ℕ))
     → AllByRecursion (λ (name : List ℕ). under name (header true) (a ∷ b ∷ c ∷ d ∷ e ∷ f ∷ g ∷ h ∷ i ∷ j ∷ k ∷ l ∷ m ∷ others) ≡ under name (quantity_names ++ last_names) others) quantity_names
 thirteen a b c d e f g h i j k l m others =
     (refl, (refl, (refl, (refl, (refl, (refl, (refl, (refl, (refl, (refl, (refl, (refl, (refl, (refl, (refl, (refl, (refl, (refl, (refl, (refl, (refl, (refl, (refl, (refl, tt))))))))))))))))))))))))
 
 module _ (when : When) (text : List ℕ) (command : Wish) where
-  -- under this name a row has what its quantities and the last fields behind them have
+  -- under this name a row has what its quantities and the last fields after them have
   abbrev IsBehind : End → List ℕ → Type 0
   IsBehind end name =
       under name (header true) (map escaped (row_fields true when text command end))
@@ -243,7 +243,7 @@ module _ (when : When) (text : List ℕ) (command : Wish) where
       (escaped (decimal when.stamp.turn.place)) (escaped (decimal command.target)) (escaped text) (escaped (decimal (procedure_of command.call)))
       (escaped word) (escaped fault) (escaped first) (escaped code) (escaped values) (map escaped others)
 
-  -- under each name of a quantity a row has what its quantities and the last fields behind them have, however the command ended
+  -- under each name of a quantity a row has what its quantities and the last fields after them have, however the command ended
   behind_others : (end : End) → AllByRecursion (IsBehind end) quantity_names
   behind_others (Answered quality answer line) =
       by_parts (codes "answered") [] (com_of line) (code_of line) (values_of line)
@@ -261,92 +261,92 @@ abbrev pub texts_of : Answer → List (List ℕ)
 texts_of answer = map quantity_text (answer_fields answer).values
 
 -- where `texts` are put into the columns of quantities from the column `first` on, the field under `name` is the text that
--- stands under this name among `names`
+-- is under this name among `names`
 abbrev Stand : ℕ → List (List ℕ) → List (List ℕ) → List ℕ → Type 0
 Stand first names texts name = under name quantity_names (map escaped (spread first texts)) ≡ escaped (under name names texts)
 
--- where there are no texts, none stand under the names of quantities
+-- if there are no texts, none are under the names of quantities
 none_stand : AllByRecursion (Stand 0 [] []) quantity_names
 none_stand =
     (refl, (refl, (refl, (refl, (refl, (refl, (refl, (refl, (refl, (refl, (refl, (refl, (refl, (refl, (refl, (refl, (refl, (refl, (refl, (refl, (refl, (refl, (refl, (refl, tt))))))))))))))))))))))))
 
--- two angles stand under their names
+-- two angles are under their names
 two_stand : (a b : List ℕ) → AllByRecursion (Stand 0 (codes "hz_rad" ∷ codes "v_rad" ∷ []) (a ∷ b ∷ [])) quantity_names
 two_stand a b =
     (refl, (refl, (refl, (refl, (refl, (refl, (refl, (refl, (refl, (refl, (refl, (refl, (refl, (refl, (refl, (refl, (refl, (refl, (refl, (refl, (refl, (refl, (refl, (refl, tt))))))))))))))))))))))))
 
--- two angles and a distance stand under their names
+-- two angles and a distance are under their names
 three_stand : (a b c : List ℕ) → AllByRecursion (Stand 0 (codes "hz_rad" ∷ codes "v_rad" ∷ codes "distance_m" ∷ []) (a ∷ b ∷ c ∷ [])) quantity_names
 three_stand a b c =
     (refl, (refl, (refl, (refl, (refl, (refl, (refl, (refl, (refl, (refl, (refl, (refl, (refl, (refl, (refl, (refl, (refl, (refl, (refl, (refl, (refl, (refl, (refl, (refl, tt))))))))))))))))))))))))
 
--- two angles, a distance and a mode stand under their names
+-- two angles, a distance and a mode are under their names
 four_stand : (a b c d : List ℕ) → AllByRecursion (Stand 0 (codes "hz_rad" ∷ codes "v_rad" ∷ codes "distance_m" ∷ codes "mode" ∷ []) (a ∷ b ∷ c ∷ d ∷ [])) quantity_names
 four_stand a b c d =
     (refl, (refl, (refl, (refl, (refl, (refl, (refl, (refl, (refl, (refl, (refl, (refl, (refl, (refl, (refl, (refl, (refl, (refl, (refl, (refl, (refl, (refl, (refl, (refl, tt))))))))))))))))))))))))
 
--- the coordinates of a station and its instrument's height stand under their names
+-- the coordinates of a station and its instrument's height are under their names
 place_stand : (a b c d : List ℕ) → AllByRecursion (Stand 4 (codes "easting_m" ∷ codes "northing_m" ∷ codes "height_m" ∷ codes "instrument_height_m" ∷ []) (a ∷ b ∷ c ∷ d ∷ [])) quantity_names
 place_stand a b c d =
     (refl, (refl, (refl, (refl, (refl, (refl, (refl, (refl, (refl, (refl, (refl, (refl, (refl, (refl, (refl, (refl, (refl, (refl, (refl, (refl, (refl, (refl, (refl, (refl, tt))))))))))))))))))))))))
 
--- a reflector's height stands under its name
+-- a reflector's height is under its name
 reflector_stands : (a : List ℕ) → AllByRecursion (Stand 8 (codes "reflector_height_m" ∷ []) (a ∷ [])) quantity_names
 reflector_stands a =
     (refl, (refl, (refl, (refl, (refl, (refl, (refl, (refl, (refl, (refl, (refl, (refl, (refl, (refl, (refl, (refl, (refl, (refl, (refl, (refl, (refl, (refl, (refl, (refl, tt))))))))))))))))))))))))
 
--- a face stands under its name
+-- a face is under its name
 face_stands : (a : List ℕ) → AllByRecursion (Stand 9 (codes "face" ∷ []) (a ∷ [])) quantity_names
 face_stands a =
     (refl, (refl, (refl, (refl, (refl, (refl, (refl, (refl, (refl, (refl, (refl, (refl, (refl, (refl, (refl, (refl, (refl, (refl, (refl, (refl, (refl, (refl, (refl, (refl, tt))))))))))))))))))))))))
 
--- a prism type stands under its name
+-- a prism type is under its name
 prism_stands : (a : List ℕ) → AllByRecursion (Stand 10 (codes "prism_type" ∷ []) (a ∷ [])) quantity_names
 prism_stands a =
     (refl, (refl, (refl, (refl, (refl, (refl, (refl, (refl, (refl, (refl, (refl, (refl, (refl, (refl, (refl, (refl, (refl, (refl, (refl, (refl, (refl, (refl, (refl, (refl, tt))))))))))))))))))))))))
 
--- a temperature stands under its name
+-- a temperature is under its name
 temperature_stands : (a : List ℕ) → AllByRecursion (Stand 11 (codes "temperature_c" ∷ []) (a ∷ [])) quantity_names
 temperature_stands a =
     (refl, (refl, (refl, (refl, (refl, (refl, (refl, (refl, (refl, (refl, (refl, (refl, (refl, (refl, (refl, (refl, (refl, (refl, (refl, (refl, (refl, (refl, (refl, (refl, tt))))))))))))))))))))))))
 
--- a number of places stands under its name
+-- a number of places is under its name
 places_stand : (a : List ℕ) → AllByRecursion (Stand 12 (codes "places" ∷ []) (a ∷ [])) quantity_names
 places_stand a =
     (refl, (refl, (refl, (refl, (refl, (refl, (refl, (refl, (refl, (refl, (refl, (refl, (refl, (refl, (refl, (refl, (refl, (refl, (refl, (refl, (refl, (refl, (refl, (refl, tt))))))))))))))))))))))))
 
--- the three numbers of a version stand under their names
+-- the three numbers of a version are under their names
 version_stands : (a b c : List ℕ) → AllByRecursion (Stand 13 (codes "release" ∷ codes "version" ∷ codes "subversion" ∷ []) (a ∷ b ∷ c ∷ [])) quantity_names
 version_stands a b c =
     (refl, (refl, (refl, (refl, (refl, (refl, (refl, (refl, (refl, (refl, (refl, (refl, (refl, (refl, (refl, (refl, (refl, (refl, (refl, (refl, (refl, (refl, (refl, (refl, tt))))))))))))))))))))))))
 
--- a serial number stands under its name
+-- a serial number is under its name
 serial_stands : (a : List ℕ) → AllByRecursion (Stand 16 (codes "serial" ∷ []) (a ∷ [])) quantity_names
 serial_stands a =
     (refl, (refl, (refl, (refl, (refl, (refl, (refl, (refl, (refl, (refl, (refl, (refl, (refl, (refl, (refl, (refl, (refl, (refl, (refl, (refl, (refl, (refl, (refl, (refl, tt))))))))))))))))))))))))
 
--- an instrument's name stands under its name
+-- an instrument's name is under its name
 name_stands : (a : List ℕ) → AllByRecursion (Stand 17 (codes "instrument" ∷ []) (a ∷ [])) quantity_names
 name_stands a =
     (refl, (refl, (refl, (refl, (refl, (refl, (refl, (refl, (refl, (refl, (refl, (refl, (refl, (refl, (refl, (refl, (refl, (refl, (refl, (refl, (refl, (refl, (refl, (refl, tt))))))))))))))))))))))))
 
--- the six parts of a date and time stand under their names
+-- the six parts of a date and time are under their names
 date_stands : (a b c d e f : List ℕ)
     → AllByRecursion (Stand 18 (codes "year" ∷ codes "month" ∷ codes "day" ∷ codes "hour" ∷ codes "minute" ∷ codes "second" ∷ []) (a ∷ b ∷ c ∷ d ∷ e ∷ f ∷ [])) quantity_names
 date_stands a b c d e f =
     (refl, (refl, (refl, (refl, (refl, (refl, (refl, (refl, (refl, (refl, (refl, (refl, (refl, (refl, (refl, (refl, (refl, (refl, (refl, (refl, (refl, (refl, (refl, (refl, tt))))))))))))))))))))))))
 
--- the texts of an answer to this call stand under their names
+-- the texts of an answer to this call are under their names
 abbrev IsTold : Call → Answer → List ℕ → Type 0
 IsTold call answer = Stand (column_of call answer) (names_from (column_of call answer) (answer_fields answer).values) (texts_of answer)
 
--- a whole number that answers this call stands under the name that it has for the call
+-- a whole number that answers this call is under the name that it has for the call
 long_told : (call : Call) (n : ℤ) → AllByRecursion (IsTold call (Long n)) quantity_names
 long_told GetFace n = face_stands (quantity_text (value.Long n))
 long_told GetPrism n = prism_stands (quantity_text (value.Long n))
 long_told call n = serial_stands (quantity_text (value.Long n))
 
--- the texts of each answer to each call stand under their names
+-- the texts of each answer to each call are under their names
 answer_told : (call : Call) (answer : Answer) → AllByRecursion (IsTold call answer) quantity_names
 answer_told call Nothing = none_stand
 answer_told call (Short n) = places_stand (quantity_text (value.Short n))
@@ -364,7 +364,7 @@ answer_told call (Measured hz v distance) = three_stand (quantity_text (value.Do
 answer_told call (MeasuredMode hz v distance mode) =
     four_stand (quantity_text (value.Double hz)) (quantity_text (value.Double v)) (quantity_text (value.Double distance)) (quantity_text (value.Long mode))
 
--- where all fields of quantities are empty, the field under each name of one is empty
+-- if all fields of quantities are empty, the field under each name of one is empty
 blank : AllByRecursion (λ (name : List ℕ). under name quantity_names (map escaped (replicate 24 [])) ≡ []) quantity_names
 blank =
     (refl, (refl, (refl, (refl, (refl, (refl, (refl, (refl, (refl, (refl, (refl, (refl, (refl, (refl, (refl, (refl, (refl, (refl, (refl, (refl, (refl, (refl, (refl, (refl, tt))))))))))))))))))))))))
@@ -400,11 +400,11 @@ module _ (when : When) (text : List ℕ) (command : Wish) (name : List ℕ) (k :
       ∙ under_front name quantity_names (map escaped (quantity_fields command.call end)) last_names (map escaped (last_fields when end)) (filled command.call end)
       (all_at (λ key. IsAmong key quantity_names) quantity_names all_among k name is)
 
-  -- where all fields of quantities are empty, the field under this name is empty
+  -- if all fields of quantities are empty, the field under this name is empty
   none : under name quantity_names (map escaped (replicate 24 [])) ≡ []
   none = all_at (λ (n : List ℕ). under n quantity_names (map escaped (replicate 24 [])) ≡ []) quantity_names blank k name is
 
-  -- under the name of a quantity stands the answer's quantity of that name
+  -- under the name of a quantity is the answer's quantity of that name
   pub quantity_stands : (quality : Quality) (answer : Answer) (line : List ℕ) → IsAnswerTo command.call answer
       → field_of (Answered quality (Some answer) line) ≡ escaped (quantity_in command.call (Value answer) name)
   quantity_stands quality answer line of = behind (Answered quality (Some answer) line) ∙ columns_told command.call answer name k is of

@@ -1,4 +1,4 @@
--- Lines of JSON that a station wrote of a run in the field: their members are their own, that is, what stands in the line of an
+-- Lines of JSON that a station wrote of a run in the field: their members are their own, that is, what is in the line of an
 -- answer was made by the instrument on executing the very request of the line's cycle and place.
 use Rattle.std.proofs.Common.{◌≡◌, ℕ, ◌<◌, ◌^◌, true, List, [], ◌∷◌, ◌++◌, map, Option, Some, None, Result, if◌then◌else◌, refl, sym, ap, ◌∙◌, subst, append-nil}
 use Rattle.std.specs.Prelude.{codes, slice_get, All, Bool, false, ◌==◌}
@@ -36,7 +36,7 @@ use Rattle.gc_rows.proofs.Columns.{reply_columns}
 use Rattle.gc_rows.proofs.JsonLines.{front_of, reads_as}
 use Rattle.gc_rows.proofs.Members.{are_members}
 use Rattle.gc_links.specs.Acts.{Act}
-use Rattle.gc_station.specs.Answers.{answer_of, IsTrueRecord}
+use Rattle.gc_station.specs.Answers.{answer_of, AnswerIsJustified}
 use Rattle.gc_station.specs.Model.{opening}
 use Rattle.gc_station.specs.Parts.{Part, parts_of}
 use Rattle.gc_station.specs.Qualities.{IsAsListed, IsOfQuality, accepted_at, answer_in}
@@ -72,7 +72,7 @@ use Rattle.gc_promise.proofs.Unbroken.{line_unbroken}
 
 module _ (when : When) (text : List ℕ) (command : Wish) (name : List ℕ) (k : ℕ) (is : slice_get quantity_names k ≡ Some name) where
   module _ (fields : ReplyFields) (told : Reading) (is_told : IsAskedReading command.call fields told) where
-    -- where the command is answered by this line, the object has the line's quantity of this name
+    -- if the command is answered by this line, the object has the line's quantity of this name
     stands : (end : End) (quality : Quality) (values : Option Answer) (line : List ℕ) → end ≡ Answered quality values line → values ≡ answer_in told
         → at_member when text command end name ≡ escaped (quantity_in command.call told name)
     stands end quality values line e has = ap (λ (x : End). at_member when text command x name) e ∙ by_values values has where
@@ -84,7 +84,7 @@ module _ (when : When) (text : List ℕ) (command : Wish) (name : List ℕ) (k :
           ∙ ap (λ (x : Reading). escaped (quantity_in command.call x name)) (sym value)
       by_values None has = member_quantity when text command (Answered quality None line) name k is ∙ sym (nothing_in command.call name told (told_none told (sym has)))
 
-  -- where the command isn't answered, the object has nothing under the name of a quantity
+  -- if the command isn't answered, the object has nothing under the name of a quantity
   none_stands : (end : End) → ((quality : Quality) (answer : Option Answer) (line : List ℕ) → end ≡ Answered quality answer line → ⊥) → at_member when text command end name ≡ []
   none_stands (Answered quality answer line) other = absurd (other quality answer line refl)
   none_stands (Unreadable line fault) other = member_quantity when text command (Unreadable line fault) name k is
@@ -98,7 +98,7 @@ module _ (when : When) (text : List ℕ) (command : Wish) (name : List ℕ) (k :
 
 module _ {State : Type 0} (ends : Ends State) (kept : State → Option KeptReply) (course : Course) (reads : Asked → List ℕ → Reading) (are : AreReadings reads)
     (acts : List Act) (ps : List Part) (ss : List (Stretch State)) (r : Record) where
-  -- when and where the record's command was asked
+  -- when and if the record's command was asked
   abbrev when : When
   when = when_of course.layout.run r
 
@@ -110,7 +110,7 @@ module _ {State : Type 0} (ends : Ends State) (kept : State → Option KeptReply
   abbrev at : List ℕ → List ℕ
   at name = at_member when text r.command r.end name
 
-  -- where a line with the fields of a reply answered the command, the object says what the line says
+  -- if a line with the fields of a reply answered the command, the object says what the line says
   says : (line : List ℕ) → answer_of r.end ≡ Some line → (x : ReplyFields) × IsReply line x → IsAsListed reads course.tasks r
       → Says true at (accepted_at course.tasks r.place) r.command.call line
   says line answered reply listed =
@@ -143,7 +143,8 @@ module _ {State : Type 0} (ends : Ends State) (kept : State → Option KeptReply
       }
 
   -- the object of a record is its own, by what is known of the record
-  object_own : IsOwnAnswer ends AnyState kept course.tasks ps ss r → IsTrueRecord course.plan course.tasks (scope_of course reads) acts r → IsAsListed reads course.tasks r → IsOfItsTask course.tasks r
+  object_own : IsOwnAnswer ends AnyState kept course.tasks ps ss r → AnswerIsJustified course.plan course.tasks (scope_of course reads) acts r → IsAsListed reads course.tasks r
+      → IsOfItsTask course.tasks r
       → IsOwn ends AnyState kept true at course.tasks ps ss r
   object_own own came listed of =
       let word = member_outcome when text r.command r.end in
@@ -178,7 +179,7 @@ line_text when text command end = (codes "{\"run\":" ++ string_text (stamp_text 
 line_ends : (when : When) (text : List ℕ) (command : Wish) (end : End) → record_text Json when text command end ≡ line_text when text command end ++ 10 ∷ []
 line_ends when text command end = front_of (codes "{\"run\":" ++ string_text (stamp_text when.run)) (members_text (json_members when text command end))
 
--- where each text is a line and a line feed, the texts joined are the lines joined, each with its line feed
+-- if each text is a line and a line feed, the texts joined are the lines joined, each with its line feed
 each_line : {X : Type 0} (text line : X → List ℕ) → ((x : X) → text x ≡ line x ++ 10 ∷ []) → (xs : List X) → flat_map text xs ≡ lines_text (map line xs)
 each_line says_text line one [] = refl
 each_line says_text line one (x ∷ xs) = ap (λ (l : List ℕ). l ++ flat_map says_text xs) (one x) ∙ ap (λ (l : List ℕ). (line x ++ 10 ∷ []) ++ l) (each_line says_text line one xs)
@@ -189,7 +190,7 @@ name_bytes target [] are = All-from_recursion (λ (b : ℕ). b < 256) [] tt
 name_bytes target (name ∷ names) are =
     cond_both (name.target == target) name.text.items (name_text target names) (All (λ b. b < 256)) (λ _. are.0) (λ _. name_bytes target names are.1)
 
--- nothing stands in front of lines of JSON
+-- nothing comes before lines of JSON
 no_front : (headed : Bool) (form : Form) → form ≡ Json → (if headed then [] else head_text form) ≡ []
 no_front true form is = refl
 no_front false form is = ap head_text is
@@ -232,7 +233,7 @@ module _ {State : Type 0} (ends : Ends State) (kept : State → Option KeptReply
         own =
             object_own ends kept course reads are acts parts over r
             (all_written (IsOwnAnswer ends AnyState kept course.tasks parts over) (records_in course reads acts) written others order faithful.own n r got)
-            (all_written (IsTrueRecord course.plan course.tasks (scope_of course reads) acts) (records_in course reads acts) written others order
+            (all_written (AnswerIsJustified course.plan course.tasks (scope_of course reads) acts) (records_in course reads acts) written others order
             (answers_true course.plan course.tasks (scope_of course reads) acts there.runs) n r got)
             (all_written (λ (x : Record). IsAsListed reads course.tasks x) (records_in course reads acts) written others order
             (as_listed course.plan course.tasks (scope_of course reads) acts) n r got)

@@ -1,4 +1,4 @@
--- The rows of a run in the field are their own: what stands in a row of an answer was made by the instrument on executing the
+-- The rows of a run in the field are their own: what is in a row of an answer was made by the instrument on executing the
 -- very request of the row's cycle and place.
 use Rattle.std.proofs.Common.{◌≡◌, ℕ, ◌<◌, Bool, true, false, List, [], ◌∷◌, ◌++◌, length, Option, Some, Result, Ok, Err, refl, ap, ◌∙◌, arith}
 use Rattle.std.specs.Prelude.{codes}
@@ -21,7 +21,7 @@ use Rattle.gc_rows.specs.declared.when.When.{When}
 use Rattle.gc_rows.proofs.Columns.{reply_columns}
 use Rattle.gc_rows.proofs.Rows.{read_back}
 use Rattle.gc_links.specs.Acts.{Act}
-use Rattle.gc_station.specs.Answers.{answer_of, IsTrueRecord}
+use Rattle.gc_station.specs.Answers.{answer_of, AnswerIsJustified}
 use Rattle.gc_station.specs.Parts.{Part}
 use Rattle.gc_station.specs.Records.{Record}
 use Rattle.gc_station.specs.Scopes.{Scope}
@@ -44,7 +44,7 @@ a_reply line id h = by_read (reply_at line) refl where
   by_read (Ok r) e = (r, reply_found line r e)
   by_read (Err f) e = let none = ap id_in e in absurd (cc)
 
--- the line that answered a command is the line that its row tells
+-- the line that answered a command is the line that its row shows
 pub same_line : (end : End) (line : List ℕ) → answer_of end ≡ Some line → line_of end ≡ Some line
 same_line (Answered quality answer l) line e = e
 same_line (Unreadable l fault) line e = e
@@ -110,8 +110,8 @@ says layout columns names r line answered reply =
 
 module _ {State : Type 0} (ends : Ends State) (kept : State → Option KeptReply) (layout : Layout) (columns : Bool) (names : List Name) (form : layout.form ≡ table columns)
     (plan : Plan) (commands : List Task) (scope : Scope) (acts : List Act) (ps : List Part) (ss : List (Stretch State)) where
-  -- where a record is an answer, its row is its own
-  one : (r : Record) → IsOwnAnswer ends AnyState kept commands ps ss r → IsTrueRecord plan commands scope acts r → IsOwnRow ends AnyState kept layout names commands ps ss r
+  -- if a record is an answer, its row is its own
+  one : (r : Record) → IsOwnAnswer ends AnyState kept commands ps ss r → AnswerIsJustified plan commands scope acts r → IsOwnRow ends AnyState kept layout names commands ps ss r
   one r own came line answered =
       let true_one = came line answered in
       let fields = fields_of layout columns names r in
@@ -126,8 +126,8 @@ module _ {State : Type 0} (ends : Ends State) (kept : State → Option KeptReply
         own = own line answered;
       }
 
-  -- the rows of all of these records are their own, where the records are answers
-  each : (records : List Record) → AllByRecursion (IsOwnAnswer ends AnyState kept commands ps ss) records → AllByRecursion (IsTrueRecord plan commands scope acts) records
+  -- the rows of all of these records are their own, if the records are answers
+  each : (records : List Record) → AllByRecursion (IsOwnAnswer ends AnyState kept commands ps ss) records → AllByRecursion (AnswerIsJustified plan commands scope acts) records
       → AllByRecursion (IsOwnRow ends AnyState kept layout names commands ps ss) records
   each [] own came = tt
   each (r ∷ records) own came = (one r own.0 came.0, each records own.1 came.1)

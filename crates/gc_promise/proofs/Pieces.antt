@@ -1,5 +1,5 @@
--- Bytes as lines: how many there are, and which of them are those of a front. Bytes are whole where they end in a line feed or
--- are none.
+-- Bytes as lines: how many there are, and which of them are those of a front. Bytes are whole if they end in a line feed or are
+-- none.
 use Rattle.std.proofs.Common.{◌≡◌, inl, inr, ℕ, ◌+◌, ◌-◌, ◌≤◌, ◌==◌, true, false, List, [], ◌∷◌, ◌++◌, length, take, drop, refl, sym, ◌∙◌, ap, subst, arith, append_assoc, length-append, if◌then◌else◌}
 use Rattle.std.proofs.Math.Seq.{take-append-add}
 use Rattle.std.proofs.lemmas.Bool.{cases_Bool, eqb-true}
@@ -9,12 +9,12 @@ use Rattle.gc_files.specs.Rows.{has_feed, whole, line, IsFront}
 use Rattle.gc_files.specs.Runs.{lines, AreRows}
 use Rattle.gc_files.proofs.Whole.{whole_none}
 
--- these lines, with a byte more at the start of the first one; a line of that byte alone where there is none
+-- these lines, with a byte more at the start of the first one; a line of that byte alone if there is none
 abbrev pub onto : ℕ → List (List ℕ) → List (List ℕ)
 onto b [] = (b ∷ []) ∷ []
 onto b (row ∷ rows) = (b ∷ row) ∷ rows
 
--- the lines of bytes, without their line feeds; after the last line feed stands one more, if there is something
+-- the lines of bytes, without their line feeds; after the last line feed there is one more, if anything is left
 abbrev pub pieces : List ℕ → List (List ℕ)
 pieces [] = []
 pieces (b ∷ bs) = if b == 10 then [] ∷ pieces bs else onto b (pieces bs)
@@ -23,7 +23,7 @@ pieces (b ∷ bs) = if b == 10 then [] ∷ pieces bs else onto b (pieces bs)
 nil_cons : (b : ℕ) (bs : List ℕ) → [] ≡ b ∷ bs → ⊥
 nil_cons b bs is = cc
 
--- rows, lines without a line feed, stay rows with a byte in front that is no line feed
+-- rows, lines without a line feed, stay rows with a byte before it that is no line feed
 onto_rows : (b : ℕ) (rows : List (List ℕ)) → (b == 10) ≡ false → AreRows rows → AreRows (onto b rows)
 onto_rows b [] isnt are = (rw (isnt) refl, tt)
 onto_rows b (row ∷ rows) isnt are = (rw (isnt) are.0, are.1)
@@ -36,7 +36,7 @@ pieces_rows (b ∷ bs) = elim (cases_Bool (b == 10)) [
   | inr isnt ↦ rw (isnt) (onto_rows b (pieces bs) isnt (pieces_rows bs))
 ]
 
--- bytes that end in a line feed have one, and what stands after their first byte ends in one, too, or is empty
+-- bytes that end in a line feed have one, and what comes after their first byte ends in one, too, or is empty
 tail_whole : (b : ℕ) (bs : List ℕ) → whole (b ∷ bs) ≡ b ∷ bs → (has_feed (b ∷ bs) ≡ true) × (whole bs ≡ bs)
 tail_whole b bs is = elim (cases_Bool (has_feed (b ∷ bs))) [
   | inl some ↦
@@ -56,7 +56,7 @@ record Some (rows : List (List ℕ)) : Type 0 where
   others : List (List ℕ)
   is : rows ≡ row ∷ others
 
--- lines with a byte in front are at least one
+-- lines with a byte before it are at least one
 onto_some : (b : ℕ) (rows : List (List ℕ)) → Some (onto b rows)
 onto_some b [] = record { row = b ∷ []; others = []; is = refl }
 onto_some b (row ∷ rows) = record { row = b ∷ row; others = rows; is = refl }
@@ -73,17 +73,17 @@ some_piece (b ∷ bs) some = elim (cases_Bool (b == 10)) [
 feed_behind_first : (b : ℕ) (bs : List ℕ) → (b == 10) ≡ false → has_feed (b ∷ bs) ≡ true → has_feed bs ≡ true
 feed_behind_first b bs isnt some = subst (λ t. (if t then true else has_feed bs) ≡ true) isnt some
 
--- where there is a line, a byte in front of the lines is in front of their bytes
+-- if there is a line, a byte before the lines is before their bytes
 onto_lines : (b : ℕ) (rows : List (List ℕ)) → Some rows → lines (onto b rows) ≡ b ∷ lines rows
 onto_lines b [] some = let wrong : [] ≡ some.row ∷ some.others = some.is in cc
 onto_lines b (row ∷ rows) some = refl
 
--- where there is a line, a byte in front of it, and of others after it, is in front of it alone
+-- if there is a line, a byte before it, and of others after it, is before it alone
 onto_two : (b : ℕ) (rows others : List (List ℕ)) → Some rows → onto b (rows ++ others) ≡ onto b rows ++ others
 onto_two b [] others some = let wrong : [] ≡ some.row ∷ some.others = some.is in cc
 onto_two b (row ∷ rows) others some = refl
 
--- where there is a line, a byte in front makes no further one
+-- if there is a line, a byte before it makes no further one
 onto_length : (b : ℕ) (rows : List (List ℕ)) → Some rows → length (onto b rows) ≡ length rows
 onto_length b [] some = let wrong : [] ≡ some.row ∷ some.others = some.is in cc
 onto_length b (row ∷ rows) some = refl

@@ -1,4 +1,4 @@
--- Digits and moments stand in a field as they are: the escapes of a field (`escaped`) change nothing in them.
+-- Digits and moments appear unchanged in a field: the escapes of a field (`escaped`) change nothing in them.
 use Rattle.std.proofs.Common.{◌≡◌, ℕ, zero, suc, ◌+◌, ◌/◌, ◌%◌, ◌<◌, ◌≤◌, true, false, cond, List, [], ◌∷◌, ◌++◌, Option, Some, None, refl, ap, ◌∙◌, arith}
 use Rattle.std.specs.Prelude.{◌==◌, ◌&&◌, ◌||◌, codes, nat_lt, not}
 use Rattle.std.specs.Fmt.{decimal, digit_glyph, digits, digits_onto}
@@ -38,7 +38,7 @@ glyph n = small (n % 10) (omega arith) where
   small : (r : ℕ) → r < 10 → (48 ≤ digit_glyph false r) × (digit_glyph false r ≤ 57)
   small r few = cond_both (nat_lt r 10) (48 + r) (87 + r) (λ (x : ℕ). (48 ≤ x) × (x ≤ 57)) (λ _. (omega arith, omega (arith, few))) (λ no. let is = lt-ltb r 10 few in absurd (cc))
 
--- digits of a number put in front of digits are digits
+-- digits of a number put before digits are digits
 onto_digits : (k n : ℕ) (acc : List ℕ) → AreDigits acc → AreDigits (digits_onto k 10 false n acc)
 onto_digits zero n acc are = are
 onto_digits (suc k) n acc are =
@@ -54,15 +54,15 @@ decimal_digits n = onto_digits 64 n [] tt
 pub decimal_plain : (n : ℕ) → escaped (decimal n) ≡ decimal n
 decimal_plain n = digits_plain (decimal n) (decimal_digits n)
 
--- bytes that stand in a field as they are, and others behind them, stand so together
+-- bytes that appear unchanged in a field, and others after them, do so together
 plain_both : (xs ys : List ℕ) → escaped xs ≡ xs → escaped ys ≡ ys → escaped (xs ++ ys) ≡ xs ++ ys
 plain_both xs ys x y = flat_map-append escape xs ys ∙ ap (λ (l : List ℕ). l ++ escaped ys) x ∙ ap (λ (l : List ℕ). xs ++ l) y
 
--- two digits stand in a field as they are
+-- two digits appear unchanged in a field
 two_plain : (n : ℕ) → n < 100 → escaped (two_digits n) ≡ two_digits n
 two_plain n few = digits_plain (two_digits n) ((omega arith, omega (arith, few, div-add-mod n 10)), ((omega arith, omega arith), tt))
 
--- three digits stand in a field as they are
+-- three digits appear unchanged in a field
 three_plain : (n : ℕ) → n < 1000 → escaped (three_digits n) ≡ three_digits n
 three_plain n few =
     digits_plain (three_digits n)
@@ -85,7 +85,7 @@ later_small (suc n) year month day m d =
     (λ _. cond_both (nat_lt month 12) _ _ (λ e. ((days_after n e).month ≤ 12) × ((days_after n e).day ≤ 31))
     (λ less. later_small n year (month + 1) 1 (omega (arith, ltb-true month 12 less)) (omega arith)) (λ _. later_small n (year + 1) 1 1 (omega arith) (omega arith)))
 
--- a date stands in a field as it is
+-- a date appears unchanged in a field
 date_plain : (year month day : ℕ) → month ≤ 12 → day ≤ 31
     → escaped (decimal year ++ codes "-" ++ two_digits month ++ codes "-" ++ two_digits day) ≡ decimal year ++ codes "-" ++ two_digits month ++ codes "-" ++ two_digits day
 date_plain year month day m d =
@@ -94,7 +94,7 @@ date_plain year month day m d =
     (plain_both (decimal year ++ codes "-") (two_digits month) (plain_both (decimal year) (codes "-") (decimal_plain year) refl) (two_plain month (omega (arith, m)))) refl)
     (two_plain day (omega (arith, d)))
 
--- a time of day stands in a field as it is
+-- a time of day appears unchanged in a field
 time_plain : (millis : ℕ) → millis < 86400000 → escaped (time_text millis) ≡ time_text millis
 time_plain millis few =
     let hours = two_digits (millis / 3_600_000) in
@@ -107,7 +107,7 @@ time_plain millis few =
     (plain_both (58 ∷ []) (seconds ++ (46 ∷ rest)) refl
     (plain_both seconds (46 ∷ rest) (two_plain (millis / 1_000 % 60) (omega arith)) (plain_both (46 ∷ []) rest refl (three_plain (millis % 1_000) (omega arith)))))))
 
--- a stamp stands in a field as it is
+-- a stamp appears unchanged in a field
 stamp_plain : (utc : ℕ) → escaped (stamp_text utc) ≡ stamp_text utc
 stamp_plain utc =
     let days = utc / 86_400_000 in
@@ -117,7 +117,7 @@ stamp_plain utc =
     (plain_both (date ++ codes "T") (time_text (utc % 86_400_000))
     (plain_both date (codes "T") (date_plain (date_of days).year (date_of days).month (date_of days).day small.0 small.1) refl) (time_plain (utc % 86_400_000) (omega arith))) refl
 
--- a moment, or none, stands in a field as it is
+-- a moment, or none, appears unchanged in a field
 pub moment_plain : (o : Option ℕ) → escaped (moment_text o) ≡ moment_text o
 moment_plain None = refl
 moment_plain (Some utc) = stamp_plain utc

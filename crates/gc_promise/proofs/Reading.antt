@@ -113,7 +113,7 @@ enough cfg (suc m) (suc n) s xs few many = by (enough cfg m n) (next_record cfg 
 
 -- Texts that are read.
 
--- where a first record is read, the records are that one and those of what stands after it
+-- if a first record is read, the records are that one and those of what comes after it
 one_read : (xs behind : List ℕ) (row : List (List ℕ)) → next_record default_config st.StartRecord [] [] xs ≡ Some (row, st.StartRecord, behind)
     → records default_config xs ≡ row ∷ records default_config behind
 unfolding records_from

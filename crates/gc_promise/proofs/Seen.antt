@@ -8,9 +8,9 @@ use Rattle.gc_links.specs.Acts.{Act, Closed, Tells}
 use Rattle.gc_texts.specs.declared.fault.RunFault.{RunFault}
 use Rattle.gc_texts.specs.declared.fault.RunFault.TheVariants.{Output}
 use Rattle.gc_texts.specs.declared.tasks.Task.{Task}
-use Rattle.gc_station.specs.Keeping.{Turn, IsKept, AreKept}
+use Rattle.gc_station.specs.Keeping.{Snapshot, IsKept, AreKept}
 use Rattle.gc_station.specs.Records.{Record, texts_of, WritesPart}
-use Rattle.gc_station.specs.Runs.{Ran, stood}
+use Rattle.gc_station.specs.Runs.{Ran, state_after}
 use Rattle.gc_station.specs.Scopes.{Scope}
 use Rattle.gc_station.specs.declared.plan.Plan.{Plan}
 use Rattle.gc_station.specs.declared.tally.Tally.{Tally}
@@ -22,19 +22,19 @@ pub texts_two : (text : Record → List ℕ) (xs ys : List Record) → texts_of 
 texts_two text [] ys = refl
 texts_two text (r ∷ xs) ys = ap (λ (l : List ℕ). text r ++ l) (texts_two text xs ys) ∙ sym (append_assoc (text r) (texts_of text xs) (texts_of text ys))
 
--- where the text of each record ends in a line feed, so do the texts of all of them, unless they are none
+-- if the text of each record ends in a line feed, so do the texts of all of them, unless they are none
 pub texts_whole : (text : Record → List ℕ) → ((r : Record) → whole (text r) ≡ text r) → (rs : List Record) → whole (texts_of text rs) ≡ texts_of text rs
 texts_whole text each [] = refl
 texts_whole text each (r ∷ rs) = whole_more (text r) (texts_of text rs) (each r) ∙ ap (λ (l : List ℕ). text r ++ l) (texts_whole text each rs)
 
 module _ (plan : Plan) (commands : List Task) (scope : Scope) (text : Record → List ℕ) where
   -- at a turn, all that the acts `before` and some more after them settled was kept
-  pub record At (told : Option (List Act)) (taken : Option (List ℕ)) (before : List Act) (turn : Turn) : Type 0 where
+  pub record At (told : Option (List Act)) (taken : Option (List ℕ)) (before : List Act) (turn : Snapshot) : Type 0 where
     pub front : List Act
     pub kept : IsKept plan commands scope text told taken (before ++ front) turn
 
   -- where turns are `AreKept`, `At` holds of each of them
-  pub kept_at : (told : Option (List Act)) (taken : Option (List ℕ)) (before acts : List Act) (earlier later : List Turn) (turn : Turn)
+  pub kept_at : (told : Option (List Act)) (taken : Option (List ℕ)) (before acts : List Act) (earlier later : List Snapshot) (turn : Snapshot)
       → AreKept plan commands scope text told taken before acts (earlier ++ turn ∷ later) → At told taken before turn
   kept_at told taken before [] [] later turn are = absurd are
   kept_at told taken before [] (t ∷ earlier) later turn are = absurd are
@@ -45,20 +45,20 @@ module _ (plan : Plan) (commands : List Task) (scope : Scope) (text : Record →
       record { front = act ∷ rest.front; kept = subst (λ (xs : List Act). IsKept plan commands scope text told taken xs turn) (append_assoc before (act ∷ []) rest.front) rest.kept }
 
   -- at a turn of a run that began with no act and no byte, the book had taken the texts of what the acts done by then settled
-  pub seen_at : (turn : Turn) (front done : List Act) (bytes : List ℕ) → IsKept plan commands scope text (Some []) (Some []) front turn
-      → turn.acts ≡ Some done → turn.taken ≡ Some bytes → bytes ≡ texts_of text (stood plan commands scope done).records
+  pub seen_at : (turn : Snapshot) (front done : List Act) (bytes : List ℕ) → IsKept plan commands scope text (Some []) (Some []) front turn
+      → turn.acts ≡ Some done → turn.taken ≡ Some bytes → bytes ≡ texts_of text (state_after plan commands scope done).records
   seen_at turn front done bytes kept told taken =
       let is : done ≡ front = subst (λ (t : Option (List Act)). Tells (Some []) t front) told kept.tells in
-      let took : bytes ≡ texts_of text (stood plan commands scope front).records =
-      subst (λ (t : Option (List ℕ)). Appends (Some []) t (texts_of text (stood plan commands scope front).records)) taken kept.took in
-      took ∙ ap (λ (acts : List Act). texts_of text (stood plan commands scope acts).records) (sym is)
+      let took : bytes ≡ texts_of text (state_after plan commands scope front).records =
+      subst (λ (t : Option (List ℕ)). Appends (Some []) t (texts_of text (state_after plan commands scope front).records)) taken kept.took in
+      took ∙ ap (λ (acts : List Act). texts_of text (state_after plan commands scope acts).records) (sym is)
 
   -- what the book took is a front of the texts of what acts of the run settled
   pub record Fronted (told : List Act) (bytes : List ℕ) : Type 0 where
     pub acts : List Act
     pub others : List Act
     pub all : told ≡ acts ++ others
-    pub own : IsFront bytes (texts_of text (stood plan commands scope acts).records)
+    pub own : IsFront bytes (texts_of text (state_after plan commands scope acts).records)
 
   -- bytes are a front of themselves
   same_front : (bytes all : List ℕ) → bytes ≡ all → IsFront bytes all

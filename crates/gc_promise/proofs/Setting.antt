@@ -1,4 +1,4 @@
--- The row of a command that sets the clock: its request asked for the moment that stands under `sent`.
+-- The row of a command that sets the clock: its request asked for the moment that is under `sent`.
 use Rattle.std.proofs.Common.{◌≡◌, ℕ, Bool, true, false, List, [], Option, Some, None, if◌then◌else◌, refl, sym, ap, ◌∙◌, subst}
 use Rattle.std.specs.Prelude.{codes, slice_get}
 use Rattle.gc_catalogue.specs.declared.asked.Asked.{Asked}
@@ -18,12 +18,12 @@ use Rattle.gc_promise.specs.Fields.{IsSetTo}
 same_task : (x y : Task) → Some x ≡ Some y → x ≡ y
 same_task x y e = cc
 
--- what is asked at a moment, where the clock is set to it
+-- what is asked at a moment, if the clock is set to it
 set_at : (task : Task) (utc : ℕ) → task.now ≡ true → (command_sent (Some utc) task).call ≡ Table (SetDate (date_time utc))
 set_at task utc is = ap (λ (b : Bool). if b then Table (SetDate (date_time utc)) else task.command.call) is
 
 module _ (at : List ℕ → List ℕ) (commands : List Task) (r : Record) (of : IsOfItsTask commands r) (stands : at (codes "sent") ≡ moment_text r.sent) where
-  -- where the record's command sets the clock and its request went out, that asked for the moment under `sent`
+  -- if the record's command sets the clock and its request was sent, that asked for the moment under `sent`
   pub set_to : (task : Task) → slice_get commands r.place ≡ Some task → task.now ≡ true → went_out r.end ≡ true → IsSetTo at r
   set_to task listed now out = by_moment r.sent refl (of.sent ∙ out) where
     -- the lemma above, by the record's moment of sending
@@ -37,7 +37,7 @@ module _ (at : List ℕ → List ℕ) (commands : List Task) (r : Record) (of : 
           asked = ap (λ (w : Wish). w.call) (of.command ∙ ap (λ (o : Option ℕ). command_sent o of.task) is) ∙ set_at of.task utc (ap (λ (t : Task). t.now) own ∙ now);
         }
 
-  -- where no request went out, nothing stands under `sent`
+  -- if no request was sent, nothing is under `sent`
   pub never_sent : went_out r.end ≡ false → at (codes "sent") ≡ []
   never_sent out = stands ∙ by_moment r.sent (of.sent ∙ out) where
     -- the lemma above, by the record's moment of sending

@@ -16,14 +16,14 @@ use Rattle.gc_promise.proofs.Pieces.{pieces, pieces_rows, pieces_whole, pieces_f
 
 -- What was synced.
 
--- where there is a sync among the steps `xs`, there is one among `xs` and `ys` together
+-- if there is a sync among the steps `xs`, there is one among `xs` and `ys` together
 has_first : (xs ys : List Step) → has_sync xs ≡ true → has_sync (xs ++ ys) ≡ true
 has_first [] ys some = let wrong : false ≡ true = some in cc
 has_first (Append bytes ∷ xs) ys some = has_first xs ys some
 has_first (Cut size ∷ xs) ys some = has_first xs ys some
 has_first (Sync ∷ xs) ys some = refl
 
--- where there is a sync among the steps `ys`, there is one among `xs` and `ys` together
+-- if there is a sync among the steps `ys`, there is one among `xs` and `ys` together
 has_behind : (xs ys : List Step) → has_sync ys ≡ true → has_sync (xs ++ ys) ≡ true
 has_behind [] ys some = some
 has_behind (Append bytes ∷ xs) ys some = has_behind xs ys some
@@ -34,7 +34,7 @@ has_behind (Sync ∷ xs) ys some = refl
 front_nil : (all : List ℕ) → IsFront [] all
 front_nil all = record { rest = all; split = refl }
 
--- a front stays one where the same bytes stand before both
+-- a front stays one if the same bytes come before both
 front_behind : (xs front all : List ℕ) → IsFront front all → IsFront (xs ++ front) (xs ++ all)
 front_behind xs front all f = record { rest = f.rest; split = ap (λ (l : List ℕ). xs ++ l) f.split ∙ sym (append_assoc xs front f.rest) }
 
@@ -48,7 +48,7 @@ synced_more (Append bytes ∷ xs) ys = elim (cases_Bool (has_sync xs)) [
 synced_more (Cut size ∷ xs) ys = synced_more xs ys
 synced_more (Sync ∷ xs) ys = synced_more xs ys
 
--- where there is a sync among the later steps `ys`, all that the earlier steps `xs` appended is synced
+-- if there is a sync among the later steps `ys`, all that the earlier steps `xs` appended is synced
 synced_behind : (xs ys : List Step) → has_sync ys ≡ true → synced (xs ++ ys) ≡ appended xs ++ synced ys
 synced_behind [] ys some = refl
 synced_behind (Append bytes ∷ xs) ys some =
@@ -58,7 +58,7 @@ synced_behind (Sync ∷ xs) ys some = synced_behind xs ys some
 
 -- The run.
 
--- where no step cuts the file, none of the first ones does
+-- if no step cuts the file, none of the first ones does
 pub cuts_first : (xs ys : List Step) → cuts_none (xs ++ ys) ≡ true → cuts_none xs ≡ true
 cuts_first [] ys none = refl
 cuts_first (Append bytes ∷ xs) ys none = cuts_first xs ys none
@@ -73,7 +73,7 @@ run_by steps calls taken all left = record { rows = pieces all; steps = steps ++
 
 module _ (head held : List ℕ) (steps was since : List Step) (rest : List ℕ) (opened : opening.Ran held steps (start_of head held))
     (kept : synced was ≡ appended was) (is_whole : whole (appended was) ≡ appended was) where
-  -- where a sync is among the calls `was`, what stood at the start and all that these calls appended is synced, whatever calls
+  -- if a sync is among the calls `was`, what was at the start and all that these calls appended is synced, whatever calls
   -- follow
   synced_all : has_sync was ≡ true → IsFront (start_of head held ++ appended was) (synced (steps ++ (was ++ since)))
   synced_all some =

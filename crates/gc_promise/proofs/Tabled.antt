@@ -1,4 +1,4 @@
--- A table that a station wrote of a run in the field: its rows are their own, that is, what stands in a row of an answer was
+-- A table that a station wrote of a run in the field: its rows are their own, that is, what is in a row of an answer was
 -- made by the instrument on executing the very request of the row's cycle and place.
 use Rattle.std.proofs.Common.{◌≡◌, inl, inr, ℕ, zero, suc, Bool, true, false, List, [], ◌∷◌, ◌++◌, get_or, map, Option, Some, None, Result, if◌then◌else◌, refl, sym, ap, ◌∙◌, subst, arith, append_assoc}
 use Rattle.std.specs.Prelude.{codes, slice_get}
@@ -27,7 +27,7 @@ use Rattle.gc_rows.specs.declared.record.Form.{Form}
 use Rattle.gc_rows.specs.declared.when.When.{When}
 use Rattle.gc_rows.proofs.Columns.{reply_columns}
 use Rattle.gc_links.specs.Acts.{Act}
-use Rattle.gc_station.specs.Answers.{answer_of, IsTrueRecord}
+use Rattle.gc_station.specs.Answers.{answer_of, AnswerIsJustified}
 use Rattle.gc_station.specs.Model.{opening}
 use Rattle.gc_station.specs.Parts.{Part, parts_of}
 use Rattle.gc_station.specs.Qualities.{IsAsListed, IsOfQuality, accepted_at, answer_in}
@@ -69,7 +69,7 @@ no_reply word a u e (inl is) = a (ap first_of is)
 no_reply word a u e (inr (inl is)) = u (ap first_of is)
 no_reply word a u e (inr (inr is)) = e (ap first_of is)
 
--- where the outcome is that of a reply, a line answered the command
+-- if the outcome is that of a reply, a line answered the command
 pub line_in : (end : End) → IsReplied (word_of end) → (line : List ℕ) × (answer_of end ≡ Some line)
 line_in (Answered quality answer line) is = (line, refl)
 line_in (Unreadable line fault) is = (line, refl)
@@ -122,7 +122,7 @@ module _ (when : When) (text : List ℕ) (command : Wish) (name : List ℕ) (k :
   abbrev at_name : End → List ℕ
   at_name end = under name (header true) (map escaped (row_fields true when text command end))
 
-  -- where the command is answered by this line, the row has the line's quantity of this name
+  -- if the command is answered by this line, the row has the line's quantity of this name
   stands : (quality : Quality) (values : Option Answer) (line : List ℕ) → values ≡ answer_in told
       → at_name (Answered quality values line) ≡ escaped (quantity_in command.call told name)
   stands quality (Some answer) line has =
@@ -162,7 +162,7 @@ module _ {State : Type 0} (ends : Ends State) (kept : State → Option KeptReply
   at r name = under name (header columns) (map escaped (fields r))
 
   module _ (r : Record) where
-    -- when and where the record's command was asked
+    -- when and if the record's command was asked
     abbrev when : When
     when = when_of course.layout.run r
 
@@ -170,8 +170,8 @@ module _ {State : Type 0} (ends : Ends State) (kept : State → Option KeptReply
     abbrev text : List ℕ
     text = name_text r.command.target course.names
 
-    -- where the command is answered by a line, a row with columns of quantities (`b`) has the line's quantity under each name
-    -- of one
+    -- if the command is answered by a line, a row with columns of quantities (`b`) has the line's quantity under each name of
+    -- one
     quantity_at : (b : Bool) → b ≡ true → (fields : ReplyFields) (told : Reading) → IsAskedReading r.command.call fields told → (quality : Quality) (values : Option Answer) (line : List ℕ)
         → r.end ≡ Answered quality values line → values ≡ answer_in told → (name : List ℕ) → IsQuantity name
         → under name (header b) (map escaped (row_fields b when text r.command r.end)) ≡ escaped (quantity_in r.command.call told name)
@@ -180,13 +180,13 @@ module _ {State : Type 0} (ends : Ends State) (kept : State → Option KeptReply
         ∙ stands when text r.command name quantity.0 quantity.1 fields told is_told quality values line has
     quantity_at false shows fields told is_told quality values line is has name quantity = absurd (false≢true shows)
 
-    -- where the command isn't answered, a row with columns of quantities (`b`) has nothing under each name of one
+    -- if the command isn't answered, a row with columns of quantities (`b`) has nothing under each name of one
     no_quantity_at : (b : Bool) → b ≡ true → (word_of r.end ≡ codes "answered" → ⊥) → (name : List ℕ) → IsQuantity name
         → under name (header b) (map escaped (row_fields b when text r.command r.end)) ≡ []
     no_quantity_at true shows other name quantity = none_else when text r.command name quantity.0 quantity.1 r.end (λ quality answer line e. other (ap word_of e))
     no_quantity_at false shows other name quantity = absurd (false≢true shows)
 
-    -- where a line with the fields of a reply answered the command, the row says what the line says
+    -- if a line with the fields of a reply answered the command, the row says what the line says
     says : (line : List ℕ) → answer_of r.end ≡ Some line → (x : ReplyFields) × IsReply line x → IsAsListed reads course.tasks r
         → Says columns (at r) (accepted_at course.tasks r.place) r.command.call line
     says line answered reply listed =
@@ -221,7 +221,8 @@ module _ {State : Type 0} (ends : Ends State) (kept : State → Option KeptReply
         }
 
     -- the row of a record is its own, by what is known of the record
-    row_own : IsOwnAnswer ends AnyState kept course.tasks ps ss r → IsTrueRecord course.plan course.tasks (scope_of course reads) acts r → IsAsListed reads course.tasks r → IsOfItsTask course.tasks r
+    row_own : IsOwnAnswer ends AnyState kept course.tasks ps ss r → AnswerIsJustified course.plan course.tasks (scope_of course reads) acts r → IsAsListed reads course.tasks r
+        → IsOfItsTask course.tasks r
         → IsOwn ends AnyState kept columns (at r) course.tasks ps ss r
     row_own own came listed of =
         let word = under_outcome when text r.command r.end columns in
@@ -286,7 +287,7 @@ module _ {State : Type 0} (ends : Ends State) (kept : State → Option KeptReply
       let faithful = run_faithful ends AnyState kept is course.plan course.tasks (scope_of course reads) acts u rs there in
       row_own ends kept course reads are acts parts over columns r
       (all_written (IsOwnAnswer ends AnyState kept course.tasks parts over) (records_in course reads acts) written others order faithful.own n r at)
-      (all_written (IsTrueRecord course.plan course.tasks (scope_of course reads) acts) (records_in course reads acts) written others order
+      (all_written (AnswerIsJustified course.plan course.tasks (scope_of course reads) acts) (records_in course reads acts) written others order
       (answers_true course.plan course.tasks (scope_of course reads) acts there.runs) n r at)
       (all_written (λ (x : Record). IsAsListed reads course.tasks x) (records_in course reads acts) written others order
       (as_listed course.plan course.tasks (scope_of course reads) acts) n r at)

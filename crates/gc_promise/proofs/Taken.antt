@@ -9,7 +9,7 @@ use Rattle.gc_texts.specs.declared.fault.RunFault.TheVariants.{Output}
 use Rattle.gc_texts.specs.declared.tasks.Task.{Task}
 use Rattle.gc_links.specs.Acts.{Act, Closed}
 use Rattle.gc_station.specs.Records.{Record, texts_of, WritesPart}
-use Rattle.gc_station.specs.Runs.{Ran, stood}
+use Rattle.gc_station.specs.Runs.{Ran, state_after}
 use Rattle.gc_station.specs.Scopes.{Scope, AreReadings}
 use Rattle.gc_station.specs.declared.plan.Plan.{Plan}
 use Rattle.gc_station.specs.declared.tally.Tally.{Tally}
@@ -35,19 +35,19 @@ but_last xs x =
 -- The bytes.
 
 module _ (text : Record → List ℕ) where
-  -- a sink that had the bytes `start` has these records' texts after them now, all or, where the output failed, the first ones
-  -- and a part of the next
+  -- a sink that had the bytes `start` has these records' texts after them now, all or, if the output failed, the first ones and
+  -- a part of the next
   pub record Took (records : List Record) (result : Result Tally Stop) (start : List ℕ) (has : Option (List ℕ)) : Type 0 where
     pub torn : List ℕ
     pub are : AreWritten text records result torn
     pub is : has ≡ Some (start ++ (texts_of text are.written ++ torn))
 
-  -- what is appended to known bytes stands after them
+  -- what is appended to known bytes comes after them
   appended : (start bytes : List ℕ) (has : Option (List ℕ)) → Appends (Some start) has bytes → has ≡ Some (start ++ bytes)
   appended start bytes None e = absurd e
   appended start bytes (Some ys) e = ap Some e
 
-  -- where all texts were written, `Took` holds
+  -- if all texts were written, `Took` holds
   took_all : (records : List Record) (result : Result Tally Stop) (start : List ℕ) (has : Option (List ℕ)) → Appends (Some start) has (texts_of text records) → Took records result start has
   took_all records result start has took = record {
     torn = [];
@@ -61,7 +61,7 @@ module _ (text : Record → List ℕ) where
   parted (suc n) [] = refl
   parted (suc n) (x ∷ xs) = ap (λ (l : List ℕ). x ∷ l) (parted n xs)
 
-  -- where a part was written and the output failed, `Took` holds
+  -- if a part was written and the output failed, `Took` holds
   took_part : (before records : List Record) (start : List ℕ) (has : Option (List ℕ)) → WritesPart text before records (Some start) has → Took records (Err (Run Output)) start has
   took_part before records start has w = record {
     torn = take w.part (text w.next);
@@ -76,26 +76,26 @@ module _ (text : Record → List ℕ) where
   }
 
   module _ (plan : Plan) (commands : List Task) (scope : Scope) (told : List Act) (start : List ℕ) (has : Option (List ℕ)) where
-    -- where the texts of all records of these acts were written, `Took` holds
-    took_of : (acts measured : List Act) (result : Result Tally Stop) → measured ≡ acts → Appends (Some start) has (texts_of text (stood plan commands scope acts).records)
-        → Took (stood plan commands scope measured).records result start has
+    -- if the texts of all records of these acts were written, `Took` holds
+    took_of : (acts measured : List Act) (result : Result Tally Stop) → measured ≡ acts → Appends (Some start) has (texts_of text (state_after plan commands scope acts).records)
+        → Took (state_after plan commands scope measured).records result start has
     took_of acts measured result e took =
-        subst (λ (xs : List Act). Took (stood plan commands scope xs).records result start has) (sym e) (took_all (stood plan commands scope acts).records result start has took)
+        subst (λ (xs : List Act). Took (state_after plan commands scope xs).records result start has) (sym e) (took_all (state_after plan commands scope acts).records result start has took)
 
     -- `Took` holds of a run, whatever its end
     ran_took : (end : Result Tally RunFault) → Ran plan commands scope text (Some []) (Some told) (Some start) has end
-        → Took (stood plan commands scope (acts_measured (end_of_run end) told)).records (end_of_run end) start has
+        → Took (state_after plan commands scope (acts_measured (end_of_run end) told)).records (end_of_run end) start has
     ran_took (Ok tally) r = took_of r.1.acts told (Ok tally) r.1.tells r.1.took
     ran_took (Err Output) (inl r) =
         let whole : told ≡ (r.acts ++ r.last ∷ []) ++ Closed ∷ [] = r.tells ∙ sym (append_assoc r.acts (r.last ∷ []) (Closed ∷ [])) in
         let measured : acts_measured (Err (Run Output)) told ≡ r.acts ++ r.last ∷ [] = ap (acts_measured (Err (Run Output))) whole ∙ but_last (r.acts ++ r.last ∷ []) Closed in
-        subst (λ (acts : List Act). Took (stood plan commands scope acts).records (Err (Run Output)) start has) (sym measured)
-        (took_part (stood plan commands scope r.acts).records (stood plan commands scope (r.acts ++ r.last ∷ [])).records start has r.took)
+        subst (λ (acts : List Act). Took (state_after plan commands scope acts).records (Err (Run Output)) start has) (sym measured)
+        (took_part (state_after plan commands scope r.acts).records (state_after plan commands scope (r.acts ++ r.last ∷ [])).records start has r.took)
     ran_took (Err Output) (inr r) =
         took_of r.acts (acts_measured (Err (Run Output)) told) (Err (Run Output)) (ap (acts_measured (Err (Run Output))) r.tells ∙ but_last r.acts Closed) r.took
     ran_took (Err fault) r = took_of r.2.acts told (Err (Run fault)) r.2.tells r.2.took
 
--- what a sink took of a run is what was written of its records, after what the sink had and what stands in front of the records
+-- what a sink took of a run is what was written of its records, after what the sink had and what comes before the records
 pub behind_took : (course : Course) (old new : Places) (result : Result Tally Stop) → RunsBehind course old new result →
     (told : List Act) (had : List ℕ) → old.acts ≡ Some [] → new.acts ≡ Some told → old.taken ≡ Some had → (reads : Asked → List ℕ → Reading) → AreReadings reads →
     Took (text_in course.layout course.names) (records_in course reads (acts_measured result told)) result (had ++ front_text course.layout) new.taken

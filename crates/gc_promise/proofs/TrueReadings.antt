@@ -84,14 +84,14 @@ module _ (call : Call) where
 abbrev saying : List ℕ → Reading → (List ℕ → Reading) → List ℕ → Reading
 saying line reading says x = if pointwise nat_eq line x then reading else says x
 
--- the function with these readings put in front, for the calls that have them
+-- the function with these readings put before it, for the calls that have them
 abbrev pub patched : (Asked → List ℕ → Reading) → Asked → List ℕ → Reading
 patched reads (Table (Position hz v pos_mode atr_mode dummy)) = saying pointed (Value Nothing) (reads (Table (Position hz v pos_mode atr_mode dummy)))
 patched reads (Table (SimpleMea wait mode)) = saying measured (Value at_target) (saying elsewhere (Value away) (reads (Table (SimpleMea wait mode))))
 patched reads (Table InstrumentNo) = saying numbered (Value (Long (pos 31))) (saying empty (Unreadable Count) (reads (Table InstrumentNo)))
 patched reads call = reads call
 
--- where a function gives this reading of the line anyway, to put the reading in front changes nothing
+-- if a function gives this reading of the line anyway, to put the reading before it changes nothing
 said_so : (line : List ℕ) (reading : Reading) (says : List ℕ → Reading) → says line ≡ reading → saying line reading says ≡ says
 said_so line reading says e = fun_ext (λ x. by_test x (pointwise nat_eq line x) refl) where
   by_test : (x : List ℕ) (same : Bool) → pointwise nat_eq line x ≡ same → (if same then reading else says x) ≡ says x

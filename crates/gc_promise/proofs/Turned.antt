@@ -9,10 +9,10 @@ use Rattle.gc_catalogue.specs.declared.answer.Reading.TheVariants.{ComFault}
 use Rattle.gc_catalogue.specs.declared.asked.Asked.{Asked}
 use Rattle.gc_texts.specs.Nears.{is_elsewhere}
 use Rattle.gc_links.specs.Acts.{Act}
-use Rattle.gc_station.specs.Keeping.{AreKept, KeepsUp, Turn}
+use Rattle.gc_station.specs.Keeping.{AreKept, KeepsUp, Snapshot}
 use Rattle.gc_station.specs.Model.{Model, after, after_all, opening}
 use Rattle.gc_station.specs.Records.{Record, texts_of}
-use Rattle.gc_station.specs.Runs.{stood}
+use Rattle.gc_station.specs.Runs.{state_after}
 use Rattle.gc_station.specs.Scopes.{AreReadings}
 use Rattle.gc_promise.specs.Eventful.{acts, commands, plan, scope}
 use Rattle.gc_promise.proofs.Eventful.{all_run}
@@ -25,13 +25,13 @@ after_more s (d ∷ done) act = after_more (after plan commands s d) done act
 
 module _ (text : Record → List ℕ) where
   -- what is seen at each of these acts, from this model on, after the acts that were done
-  abbrev turns_from : Model → List Act → List Act → List Turn
+  abbrev turns_from : Model → List Act → List Act → List Snapshot
   turns_from s done [] = []
   turns_from s done (act ∷ acts) =
       record { acts = Some done; taken = Some (texts_of text s.records); lasts = true } ∷ turns_from (after plan commands s act) (done ++ act ∷ []) acts
 
   -- with these turns, at each act all that the acts before it settled is kept
-  kept_from : (reads : Asked → List ℕ → Reading) (s : Model) (done acts : List Act) → s ≡ stood plan commands (scope reads) done
+  kept_from : (reads : Asked → List ℕ → Reading) (s : Model) (done acts : List Act) → s ≡ state_after plan commands (scope reads) done
       → AreKept plan commands (scope reads) text (Some []) (Some []) done acts (turns_from s done acts)
   kept_from reads s done [] is = tt
   kept_from reads s done (act ∷ acts) is = (
@@ -41,7 +41,7 @@ module _ (text : Record → List ℕ) where
   )
 
   -- what is seen at the acts of the run
-  abbrev turns_by : (Asked → List ℕ → Reading) → List Turn
+  abbrev turns_by : (Asked → List ℕ → Reading) → List Snapshot
   turns_by reads = turns_from (opening plan (scope (patched reads))) [] acts
 
   -- some function, which `patched` never asks for what the run's replies say
@@ -49,7 +49,7 @@ module _ (text : Record → List ℕ) where
   any call line = ComFault 0
 
   -- what is seen at the acts of the run, whatever function says what replies say
-  abbrev pub turns : List Turn
+  abbrev pub turns : List Snapshot
   turns = turns_by any
 
   -- what is seen at the acts is the same with each function that says what replies say

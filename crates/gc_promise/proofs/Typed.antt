@@ -79,7 +79,7 @@ ends = (tt, (tt, (tt, (tt, (tt, (tt, (tt, (tt, (tt, (tt, (tt, (tt, (tt, (tt, (po
 abbrev is_small : ℕ → Bool
 is_small n = nat_lt n (2 ^ 64)
 
--- whether the moment at which a command went out is below 2^64, if it went out
+-- whether the moment at which a command was sent is below 2^64, if it was sent
 abbrev sent_is_small : Option ℕ → Bool
 sent_is_small None = true
 sent_is_small (Some utc) = is_small utc

@@ -73,7 +73,7 @@ string_lacks bytes =
     lacks_both (codes "\"" ++ flat_map behind_backslash (escaped bytes)) (codes "\"")
     (lacks_both (codes "\"") (flat_map behind_backslash (escaped bytes)) quote_lacks (mark_lacks (escaped bytes) (escaped_lacks bytes))) quote_lacks
 
--- a comma, where one is wanted, is no line feed
+-- a comma, if one is wanted, is no line feed
 comma_lacks : (behind : Bool) → Lacks 10 (comma_where behind)
 comma_lacks true = ((λ e. omega (arith, e)), tt)
 comma_lacks false = tt
@@ -98,7 +98,7 @@ name_lacks (b ∷ bs) is = ((λ e. let low = is.0.0 in omega (arith, e, low)), n
 
 -- Members.
 
--- the digits of a member that is a number stand as they are
+-- the digits of a member that is a number are unchanged
 abbrev HasPlainDigits : Member → Type 0
 HasPlainDigits (Text name bytes) = Unit {0}
 HasPlainDigits (Number name digits) = IsPlain digits
@@ -128,7 +128,7 @@ all_both : (xs ys : List Member) → AllByRecursion HasPlainDigits xs → AllByR
 all_both [] ys a b = b
 all_both (x ∷ xs) ys a b = (a.0, all_both xs ys a.1 b)
 
--- the member on the moment at which a command went out has plain digits
+-- the member on the moment at which a command was sent has plain digits
 sent_plain : (sent : Option ℕ) → AllByRecursion HasPlainDigits (sent_members sent)
 sent_plain None = tt
 sent_plain (Some utc) = (tt, tt)
@@ -202,12 +202,12 @@ worded_plain : (word : List ℕ) → AllByRecursion HasPlainDigits (worded_membe
 worded_plain [] = tt
 worded_plain (b ∷ bs) = (tt, tt)
 
--- the members behind all others have plain digits
+-- the members after all others have plain digits
 last_plain : (when : When) (end : End) → AllByRecursion HasPlainDigits (last_members when end)
 last_plain when end =
     all_both (worded_members (quality_text (quality_of end))) (attempt_members when) (worded_plain (quality_text (quality_of end))) (decimal_plain when.stamp.turn.attempt, tt)
 
--- the digits of all members of a record stand as they are
+-- the digits of all members of a record are unchanged
 members_plain : (when : When) (name : List ℕ) (command : Wish) (end : End) → IsEnd end → AllByRecursion HasPlainDigits (json_members when name command end)
 members_plain when name command end is =
     let rest = ending_members end ++ more_members when command.call end in

@@ -1,4 +1,4 @@
--- The rows of the eventful run, computed, are their own: what stands in a row of an answer was made by the instrument on
+-- The rows of the eventful run, computed, are their own: what is in a row of an answer was made by the instrument on
 -- executing the very request of the row's cycle and place.
 use Rattle.std.proofs.Common.{ℕ, List, [], Some, Ok, false, refl, subst, sym}
 use Rattle.std.specs.Fmt.{digits}
@@ -8,7 +8,7 @@ use Rattle.gc_catalogue.specs.declared.asked.Asked.{Asked}
 use Rattle.gc_rows.specs.declared.record.Form.{Form}
 use Rattle.gc_rows.specs.declared.record.Form.TheVariants.{Json}
 use Rattle.gc_texts.specs.Stamps.{days_after}
-use Rattle.gc_station.specs.Keeping.{Turn}
+use Rattle.gc_station.specs.Keeping.{Snapshot}
 use Rattle.gc_station.specs.declared.cause.Cause.TheVariants.{Done}
 use Rattle.gc_station.specs.Model.{opening}
 use Rattle.gc_station.specs.Parts.{parts_of}
@@ -30,12 +30,12 @@ use Rattle.gc_promise.proofs.Typed.{of_types}
 use Rattle.gc_promise.proofs.Objected.{objects_own}
 use Rattle.gc_promise.specs.Objects.{AreOfBytes}
 
--- the row of each of these records, where it is an answer, is its own
+-- the row of each of these records, if it is an answer, is its own
 abbrev AreOwn : (Asked → List ℕ → Reading) → List Record → Type 0
 AreOwn reads = AllByRecursion (IsOwnRow reporting AnyState nothing in_a_table [] commands (parts_of plan commands (opening plan (scope reads)) acts) (stretches reporting before runs))
 
 -- what is seen at each of its acts, where its records are written in this form
-abbrev turns_in : Form → List Turn
+abbrev turns_in : Form → List Snapshot
 turns_in form = turns (text_in (layout_in form) [])
 
 -- in each form, the run is one as a station's contract has it

@@ -1,8 +1,8 @@
--- An eventful run, this project's own. Each kind of act of a link comes in it, but for a clock that can't be read, which ends a run; each
--- kind of turn and of move, but for a lost line feed that joins two requests; and each of the seven ways in which a command may end. Of its
--- three cycles the second is missed. In the first one the reply to the first command of a chain is lost, and so the second one is skipped; then
--- seven requests are given up, and the station begins anew, with requests and a reply of before under way. In the third both commands of the
--- chain are answered.
+-- An eventful run, this project's own. Each kind of act of a link comes in it, but for a clock that can't be read, which ends a
+-- run; each kind of turn and of move, but for a lost line feed that joins two requests; and each of the seven ways in which a
+-- command may end. Of its three cycles the second is missed. In the first one the reply to the first command of a chain is
+-- lost, and so the second one is skipped; then seven requests have timed out, and the station resynchronizes, with requests and
+-- a reply of before in flight. In the third both commands of the chain are answered.
 use Rattle.std.specs.Prelude.{◌≡◌, ℕ, suc, ◌+◌, Bool, true, false, List, [], ◌∷◌, ◌++◌, ◌==◌, if◌then◌else◌, codes, drop, map, pos, refl, replicate, Option, Some, None}
 use Rattle.std.specs.List.{flat_map}
 use Rattle.gc_lines.specs.Lines.{with_end}
@@ -27,11 +27,11 @@ use Rattle.gc_texts.specs.declared.quality.Quality.TheVariants.{Fine}
 use Rattle.gc_texts.specs.declared.tasks.Task.{Task}
 use Rattle.gc_texts.specs.declared.turn.Turn as command
 use Rattle.gc_links.specs.Acts.{Act, Told, Put, Cut, Gave, Silent, Ended, Broke, Closed, Opened, Unopened}
-use Rattle.gc_station.specs.Beginnings.{IsAnew}
+use Rattle.gc_station.specs.Beginnings.{IsResynchronizing}
 use Rattle.gc_station.specs.Links.{AreChained}
 use Rattle.gc_station.specs.Progressing.{is_over}
 use Rattle.gc_station.specs.Records.{Record}
-use Rattle.gc_station.specs.Runs.{stood}
+use Rattle.gc_station.specs.Runs.{state_after}
 use Rattle.gc_station.specs.Scopes.{Scope}
 use Rattle.gc_station.specs.Tallies.{tally_of}
 use Rattle.gc_station.specs.declared.plan.Plan.{Plan}
@@ -73,8 +73,8 @@ plan = record { width = 7; deadline = 100; every = 150; cycles = 3; quiet = 10; 
 abbrev pub turn_at : ℕ → Bool → command.Turn
 turn_at place chained = record { place = place; attempt = 1; link = if chained then 1 else 0 }
 
--- a command that waits 50 ms, and whose chain of two commands at most doesn't go out again: its place, its target, what it asks, whether it
--- is chained to the one before it, and where its target stands
+-- a command that waits 50 ms, and whose chain of two commands at most isn't sent again: its place, its target, what it asks,
+-- whether it is chained to the one before it, and where its target is
 abbrev pub task : ℕ → ℕ → Asked → Bool → Option Near → Task
 task place target call chained near =
     record {
@@ -89,7 +89,7 @@ task place target call chained near =
       now = false;
     }
 
--- where a target stands: in this direction, within a hundredth of a radian
+-- where a target is: in this direction, within a hundredth of a radian
 abbrev pub stands : ℕ → Decimal → Decimal → Option Near
 stands target hz v = Some (record { target = target; place = record { hz = hz; v = v }; tolerance = decimal (pos 1) 2 refl })
 
@@ -148,7 +148,7 @@ scope reads = record { turns = 200; reads = reads }
 
 -- Acts and moves.
 
--- the acts by which each of these lines goes out at this moment
+-- the acts by which each of these lines is sent at this moment
 abbrev pub puts : ℕ → List (List ℕ) → List Act
 puts now lines = put_all now lines []
 
@@ -160,19 +160,19 @@ gave now lines = Gave (flat_map with_end lines) (at now)
 abbrev pub connects_again : ℕ → ℕ → List Act
 connects_again now later = Closed ∷ Told (at now) ∷ Silent (at later) ∷ Opened ∷ Put (10 ∷ []) ∷ Told (at later) ∷ []
 
--- the moves by which a request for the instrument's number goes out for each of these targets, at the first of these moments; the second is its
--- deadline
+-- the moves by which a request for the instrument's number is sent for each of these targets, at the first of these moments;
+-- the second is its deadline
 abbrev pub sends_all : ℕ → ℕ → List ℕ → List (Move (List ℕ))
 sends_all now deadline targets = flat_map (λ target. Sends target (Table InstrumentNo) deadline ∷ Tells now ∷ []) targets
 
--- The beginning.
+-- The synchronization.
 
--- under way at the start are a reply and a request, each with the id that command 0 will have
+-- in flight at the start are a reply and a request, each with the id that command 0 will have
 abbrev pub before : UnderWay (List ℕ)
 before = record { up = record { id = 0; call = Table InstrumentNo } ∷ []; down = codes "%R1P,0,0:0,4" ∷ []; state = codes "5" }
 
--- no connection can be made at first. Over the first one the first null procedure goes out; its echo and the old reply come in one piece; and the
--- connection breaks. All eight null procedures are answered over the second one
+-- no connection can be made at first. Over the first one the first null procedure is sent; its echo and the old reply come in
+-- one piece; and the connection breaks. All eight null procedures are answered over the second one
 abbrev pub begins_acts : List Act
 begins_acts =
     Unopened
@@ -187,8 +187,8 @@ begins_acts =
     ∷ connects_again 15 35
     ++ exchanged 40 asked replies []
 
--- the line repeats the old request: one copy reaches the instrument, and the other is lost. It repeats the reply to that, and both copies are
--- lost; so is the reply to the first null procedure. The instrument starts anew
+-- the line repeats the old request: one copy reaches the instrument, and the other is lost. It repeats the reply to that, and
+-- both copies are lost; so is the reply to the first null procedure. The instrument starts again
 abbrev pub begins_turns : List (Turn (List ℕ))
 begins_turns =
     Asks
@@ -209,7 +209,7 @@ begins_turns =
 -- The first cycle.
 
 -- no reply to command 0 comes until its deadline, and the reply to a null procedure settles it as lost. So command 1, which is
--- chained to it, is skipped. Commands 2 to 6 go out, and after their deadline two null procedures; no reply comes to any of
+-- chained to it, is skipped. Commands 2 to 6 are sent, and after their deadline two null procedures; no reply comes to any of
 -- these seven. Meanwhile the line is dead: the connection is closed, and a third one is made
 abbrev pub breaks_acts : List Act
 breaks_acts =
@@ -230,8 +230,9 @@ breaks_acts =
     ∷ Silent (at 345)
     ∷ []
 
--- command 0 is executed, and its reply is lost. Wish 2 is executed, and its reply stays under way. The requests of commands 3 to 5 are lost,
--- and so is that of the first of the two null procedures; the requests of command 6 and of the other one stay under way
+-- command 0 is executed, and its reply is lost. Command 2 is executed, and its reply stays in flight. The requests of commands 3
+-- to 5 are lost, and so is that of the first of the two null procedures; the requests of command 6 and of the other one stay in
+-- flight
 abbrev pub breaks_moves : List (Move (List ℕ))
 breaks_moves =
     Tells 40
@@ -263,11 +264,11 @@ breaks_moves =
     ∷ Tells 245
     ∷ map Tells (295 ∷ 295 ∷ 305 ∷ 305 ∷ 315 ∷ 345 ∷ 345 ∷ [])
 
--- The station begins anew.
+-- The station resynchronizes.
 
--- the replies to commands 2 and 6 come, and that to command 6 answers the first null procedure, whose id it has. Then the reply to the null
--- procedure of before comes, with the id that command 0 will have; the first null procedure's own reply; and the second one's. The connection
--- ends, and the beginning goes on over a fourth one
+-- the replies to commands 2 and 6 come, and that to command 6 answers the first null procedure, whose id it has. Then the reply
+-- to the null procedure of before comes, with the id that command 0 will have; the first null procedure's own reply; and the
+-- second one's. The connection ends, and the synchronization goes on over a fourth one
 abbrev pub anew_acts : List Act
 anew_acts =
     Told (at 345)
@@ -280,7 +281,7 @@ anew_acts =
     ∷ connects_again 355 375
     ++ exchanged 380 (drop 2 asked) (drop 2 replies) []
 
--- both requests of before reach the instrument. The request of the third null procedure is lost, and goes out again
+-- both requests of before reach the instrument. The request of the third null procedure is lost, and is sent again
 abbrev pub anew_turns : List (Turn (List ℕ))
 anew_turns =
     Asks
@@ -301,11 +302,11 @@ anew_turns =
 
 -- The second cycle, and the third.
 
--- the clock is read nine times: the second cycle begins and is missed, its seven commands are passed over, and the third cycle
--- begins. Wish 0 is answered, and the others go out; the last request is cut after five bytes, and the connection is closed.
+-- the clock is read nine times: the second cycle begins and is missed, its seven commands are left out, and the third cycle
+-- begins. Command 0 is answered, and the others are sent; the last request is cut after five bytes, and the connection is closed.
 -- Over the fifth connection come noise, a second reply to command 0, and the replies to commands 1 to 4, that to command 3
--- twice. Commands 5 and 6 are given up; the reply to command 5 comes late, and the reply to a null procedure settles command 6
--- as lost
+-- twice. Commands 5 and 6 have timed out; the reply to command 5 comes late, and the reply to a null procedure settles command
+-- 6 as lost
 abbrev pub chain_acts : List Act
 chain_acts =
     map (λ now. Told (at now)) (replicate 9 385)
@@ -322,9 +323,9 @@ chain_acts =
     ∷ Closed
     ∷ []
 
--- the line repeats the request of command 0, which is executed twice. The instrument changes by itself before it executes commands 1, 2 and 3,
--- as by a hand that turns it, and starts anew before it executes command 4. The line repeats the reply to command 3, and loses the request of
--- command 6
+-- the line repeats the request of command 0, which is executed twice. The instrument changes by itself before it executes
+-- commands 1, 2 and 3, as by a hand that turns it, and starts again before it executes command 4. The line repeats the reply to
+-- command 3, and loses the request of command 6
 abbrev pub chain_moves : List (Move (List ℕ))
 chain_moves =
     map Tells (replicate 9 385)
@@ -367,7 +368,7 @@ chain_moves =
 
 -- The whole run.
 
--- the acts until seven requests are given up
+-- the acts until seven requests have timed out
 abbrev pub front : List Act
 front = begins_acts ++ breaks_acts
 
@@ -375,15 +376,15 @@ front = begins_acts ++ breaks_acts
 abbrev pub acts : List Act
 acts = front ++ (anew_acts ++ chain_acts)
 
--- what happens until the station begins anew
+-- what happens until the station resynchronizes
 abbrev pub first_run : Run (List ℕ)
 first_run = record { turns = begins_turns; moves = breaks_moves }
 
--- the run as two: until the station begins anew, and from there on; and what is after its end, where nothing happens
+-- the run as two: until the station resynchronizes, and from there on; and what is after its end, where nothing happens
 abbrev pub runs : List (Run (List ℕ))
 runs = first_run ∷ record { turns = anew_turns; moves = chain_moves } ∷ record { turns = []; moves = [] } ∷ []
 
--- what is under way where the station begins anew
+-- what is in flight if the station resynchronizes
 abbrev pub left : UnderWay (List ℕ)
 left = left_by_run WINDOW reporting before first_run
 
@@ -397,7 +398,7 @@ last_stretch = record { from = leaves (turned reporting anew_turns (begins left)
 
 -- The records of the run.
 
--- the record of a command of this cycle and place, for this target and with this call: it went out at the moment `sent`, if it
+-- the record of a command of this cycle and place, for this target and with this call: it was sent at the moment `sent`, if it
 -- did, and ended at the moment `utc`
 abbrev pub ended : Option ℕ → ℕ → ℕ → ℕ → ℕ → Asked → End → Record
 ended sent utc cycle place target call end =
@@ -461,7 +462,7 @@ records =
     ∷ ended (Some 390) 445 3 6 4 (Table InstrumentNo) end.Lost
     ∷ []
 
--- how many commands ended in each of the seven ways; no chain goes out again
+-- how many commands ended in each of the seven ways; no chain is sent again
 abbrev pub tally : Tally
 tally = record { answered = 3; late = 1; lost = 7; skipped = 1; unreadable = 1; missed = 7; elsewhere = 1; again = 0 }
 
@@ -478,19 +479,19 @@ connections (_ ∷ acts) = connections acts
 pub record IsEventful (reads : Asked → List ℕ → Reading) : Type 0 where
   pub is : IsAnInstrument reporting AnyState nothing
   pub field : IsInField reporting AnyState nothing plan commands (scope reads) acts before runs
-  pub over : is_over (stood plan commands (scope reads) acts).progress ≡ true
-  pub written : (stood plan commands (scope reads) acts).records ≡ records
+  pub over : is_over (state_after plan commands (scope reads) acts).progress ≡ true
+  pub written : (state_after plan commands (scope reads) acts).records ≡ records
   -- commands end in each of the seven ways
   pub counted : tally_of records ≡ tally
-  -- command 1 goes out only once command 0 was answered well
+  -- command 1 is sent only once command 0 was answered well
   pub chained : AreChained commands 0 1
   -- a reply is lost: in the first cycle, too, the instrument made this line on executing the request of command 0
   pub made : WasMadeOn WINDOW reporting first_stretch.from first_stretch.moves 8 points pointed
-  -- the station begins anew where seven requests wait that are all given up. Two requests and a reply are under way then
-  pub begins_anew : IsAnew plan commands (scope reads) front (Told (at 345))
+  -- the station resynchronizes where seven requests wait that have all timed out. Two requests and a reply are in flight then
+  pub begins_anew : IsResynchronizing plan commands (scope reads) front (Told (at 345))
   pub up : left.up ≡ record { id = 6; call = Table InstrumentNo } ∷ record { id = 0; call = Table NullProc } ∷ []
   pub down : left.down ≡ codes "%R1P,0,2:0,27" ∷ []
-  -- the instrument starts anew in the third cycle, after five executions
+  -- the instrument starts again in the third cycle, after five executions
   pub starts : (world reporting last_stretch).wire.starts ≡ 5 ∷ []
   -- five connections are made
   pub connected : connections acts ≡ 5

@@ -1,6 +1,6 @@
--- What stands in a row of a table, or in an object, under each name: this project's own. Both are given by the function from a
--- name to the text under it, so that one definition serves both. A part is what a station sees of its run from one beginning to
--- the next, and a stretch what happens on the line meanwhile, once it has begun.
+-- What is in a row of a table, or in an object, under each name: this project's own. Both are given by the function from a name
+-- to the text under it, so that one definition serves both. A part is what a station sees of its run from one synchronization
+-- to the next, and a stretch what happens on the line meanwhile, once it has synchronized.
 use Rattle.std.specs.Prelude.{◌≡◌, ◌⊎◌, ℕ, Bool, true, false, List, [], ◌∷◌, map, Some, nat_eq, if◌then◌else◌, slice_get, codes, Option}
 use Rattle.std.specs.Cmp.Lexicographic.{pointwise}
 use Rattle.std.specs.Fmt.{decimal}
@@ -35,15 +35,15 @@ use Rattle.gc_field.specs.World.{Ends}
 use Rattle.gc_field.specs.Runs.{IsItsOwn}
 use Rattle.gc_field.specs.Shown.{Stretch}
 
--- the field that stands under a name, in a row whose fields stand under these names; an empty one where there is no such name
--- or no field for it
+-- the field that is under a name, in a row whose fields are under these names; an empty one if there is no such name or
+-- no field for it
 abbrev pub under : List ℕ → List (List ℕ) → List (List ℕ) → List ℕ
 under name [] fields = []
 under name (n ∷ names) [] = []
 under name (n ∷ names) (field ∷ fields) = if pointwise nat_eq n name then field else under name names fields
 
--- the row of a record has when its request went out, its cycle, the place and the attempt of its turn, its target, procedure and outcome,
--- however its command ended. Nothing stands under `sent` where no request went out
+-- the row of a record has when its request was sent, its cycle, the place and the attempt of its turn, its target, procedure
+-- and outcome, however its command ended. Nothing is under `sent` if no request was sent
 pub record IsOf (at : List ℕ → List ℕ) (r : Record) : Type 0 where
   pub sent : at (codes "sent") ≡ moment_text r.sent
   pub cycle : at (codes "cycle") ≡ decimal r.cycle
@@ -53,7 +53,7 @@ pub record IsOf (at : List ℕ → List ℕ) (r : Record) : Type 0 where
   pub procedure : at (codes "procedure") ≡ decimal (procedure_of r.command.call)
   pub outcome : at (codes "outcome") ≡ word_of r.end
 
--- the row of a command that sets the clock: the request asked for the moment that stands under `sent`, cut to seconds
+-- the row of a command that sets the clock: the request asked for the moment that is under `sent`, cut to seconds
 pub record IsSetTo (at : List ℕ → List ℕ) (r : Record) : Type 0 where
   pub utc : ℕ
   pub sent : at (codes "sent") ≡ stamp_text utc
@@ -67,19 +67,19 @@ IsReplied outcome = (outcome ≡ codes "answered") ⊎ (outcome ≡ codes "unrea
 abbrev pub IsQuantity : List ℕ → Type 0
 IsQuantity name = (k : ℕ) × (slice_get quantity_names k ≡ Some name)
 
--- the text of the quantity of this name in an answer to what was asked: an answer to a call of the table has the quantities of its call, in the
--- manual's order. Empty where it has no such quantity; a procedure that isn't in the table has none
+-- the text of the quantity of this name in an answer to what was asked: an answer to a call of the table has the quantities of
+-- its call, in the manual's order. Empty if it has no such quantity; a procedure that isn't in the table has none
 abbrev pub quantity_of : Asked → Answer → List ℕ → List ℕ
 quantity_of (Table call) answer name = under name (quantities_told (call_fields call).number) (map quantity_text (answer_fields answer).values)
 quantity_of (Raw raw) answer name = []
 
--- the text of the quantity of this name in a reply to what was asked, by what the reply says. Empty where it is no answer
+-- the text of the quantity of this name in a reply to what was asked, by what the reply says. Empty if it is no answer
 abbrev pub quantity_in : Asked → Reading → List ℕ → List ℕ
 quantity_in asked (reading.Value answer) name = quantity_of asked answer name
 quantity_in asked _ name = []
 
--- the quality of an answer whose reply says this, where these return codes are accepted: fine if both codes are 0, a warning if the return
--- code is an accepted one, and else refused. (Where the values don't read, the command isn't answered.)
+-- the quality of an answer whose reply says this, if these return codes are accepted: fine if both codes are 0, a warning if
+-- the return code is an accepted one, and else refused. (Where the values don't read, the command isn't answered.)
 abbrev pub quality_in : Codes → Reading → Quality
 quality_in accepted (reading.Value answer) = Fine
 quality_in accepted (reading.Refused code) = if are_accepted accepted code then Warning else Refused
@@ -111,9 +111,10 @@ pub record Says (has_quantities : Bool) (at : List ℕ → List ℕ) (accepted :
       (name : List ℕ) → IsQuantity name → at name ≡ escaped (quantity_in call told name)
 
 module _ {State : Type 0} (ends : Ends State) (Good : State → Type 0) (kept : State → Option KeptReply) where
-  -- the row of record `r`, in which `at` gives the text under each name, is its own: it has the record's moment of sending, cycle, place,
-  -- attempt, target, procedure and outcome. Where the command sets the clock and its request went out, that asked for this very moment. Where the outcome is that of a reply, the row says what a line says that the instrument made on
-  -- executing the request of that very cycle and place, in a run with the parts `ps` and the stretches `ss`. Where the outcome
+  -- the row of record `r`, in which `at` gives the text under each name, is its own: it has the record's moment of sending,
+  -- cycle, place, attempt, target, procedure and outcome. If the command sets the clock and its request was sent, that asked
+  -- for this very moment. If the outcome is that of a reply, the row says what a line says that the instrument made on
+  -- executing the request of that very cycle and place, in a run with the parts `ps` and the stretches `ss`. If the outcome
   -- isn't `answered`, the row has neither a quantity nor a quality
   pub record IsOwn (has_quantities : Bool) (at : List ℕ → List ℕ) (commands : List Task) (ps : List Part) (ss : List (Stretch State)) (r : Record) : Type 0 where
     pub is_of : IsOf at r

@@ -15,18 +15,18 @@ use Rattle.gc_lines.specs.declared.ports.Sink.{Ghosts as Sink}
 use Rattle.gc_messages.specs.Following.{bytes_in}
 use Rattle.gc_messages.specs.declared.following.Followed.{Followed}
 use Rattle.gc_messages.specs.declared.streams.Streams.{Streams}
-use Rattle.gc_station.specs.Keeping.{Turn}
+use Rattle.gc_station.specs.Keeping.{Snapshot}
 use Rattle.gc_station.specs.Records.{texts_of}
-use Rattle.gc_station.specs.Runs.{stood}
+use Rattle.gc_station.specs.Runs.{state_after}
 use Rattle.gc_station.specs.Scopes.{AreReadings}
 use Rattle.gc_station.specs.declared.tally.Tally.{Tally}
 use Rattle.gc_measuring.specs.Measuring.{Places, Course, text_in, RunsBehind}
-use Rattle.gc_measuring.specs.Telling.{TellsAppended}
+use Rattle.gc_measuring.specs.Telling.{ReportsAppended}
 use Rattle.gc_measuring.specs.declared.stop.Stop.{Stop}
 use Rattle.gc_words.specs.declared.settings.Settings.{Settings}
 
 -- a run that appends to a file: what it measures, what was seen at its start and at its end, how it ended, the acts that its
--- link told, and the file that it left
+-- link recorded, and the file that it left
 pub record RunOfFile (R : Type 0) : Type 0 where
   pub course : Course
   pub old : Places
@@ -35,8 +35,8 @@ pub record RunOfFile (R : Type 0) : Type 0 where
   pub told : List Act
   pub file : Followed R
 
--- the link had told nothing before the run, and `told` are the acts that it has told since; and the file has what was appended
--- to it since it was opened: as clause `told` of `append_at` says it of the file that it hands back
+-- the link had recorded nothing before the run, and `told` are the acts that it has recorded since; and the file has what was
+-- appended to it since it was opened: as clause `told` of `append_at` says it of the file that it hands back
 pub record IsRunOfFile {R : Type 0} (run : RunOfFile R) : Type 0 where
   pub headed : run.course.layout.headed ≡ true
   pub none : run.old.acts ≡ Some []
@@ -45,15 +45,15 @@ pub record IsRunOfFile {R : Type 0} (run : RunOfFile R) : Type 0 where
   pub took : run.new.taken ≡ Some (bytes_in run.file)
   pub ran : RunsBehind run.course run.old run.new run.end
 
--- what clause `told` of `append_at` says (`TellsAppended`) comes to this: either no act was made (`turns' ≡ turns`), or there is a run of
+-- what clause `told` of `append_at` says (`ReportsAppended`) comes to this: either no act was made (`turns' ≡ turns`), or there is a run of
 -- this file, with these acts, which took the turns (what was seen at each act) from `turns` to `turns'`. `source` and `sink` are the
 -- ghost members of the program's input and of such files as sinks; `K` and `E` are the types of the output and the messages. The other
--- arguments are `TellsAppended`'s own: `lasts`, whether a file is durable; `shown`, the bytes written to the messages; `has_log`,
+-- arguments are `ReportsAppended`'s own: `lasts`, whether a file is durable; `shown`, the bytes written to the messages; `has_log`,
 -- whether the run keeps a log
 abbrev pub AppendsAreRuns : {S R : Type 0} → Source S → Sink (Followed R) → Type 0 → Type 0 → Type 0
 AppendsAreRuns {S = S} {R = R} source sink K E = (lasts : Followed R → Bool) (shown : E → Option (List ℕ)) (has_log : Bool) (station : Settings)
-    (old new : Streams S K E) (file : Followed R) (acts : Option (List Act)) (turns turns' : List Turn) (status : ℕ)
-    → TellsAppended source sink lasts shown has_log station old new (Some file) acts turns turns' status
+    (old new : Streams S K E) (file : Followed R) (acts : Option (List Act)) (turns turns' : List Snapshot) (status : ℕ)
+    → ReportsAppended source sink lasts shown has_log station old new (Some file) acts turns turns' status
     → (turns' ≡ turns)
     ⊎ ((run : RunOfFile R) × IsRunOfFile run × (run.file ≡ file) × (acts ≡ Some run.told) × (run.old.turns ≡ turns) × (run.new.turns ≡ turns'))
 
@@ -61,7 +61,7 @@ AppendsAreRuns {S = S} {R = R} source sink K E = (lasts : Followed R → Bool) (
 -- file as it was then, and the calls that this file had had by the moment, since it was opened
 pub record Moment (R : Type 0) : Type 0 where
   pub run : RunOfFile R
-  pub turn : Turn
+  pub turn : Snapshot
   pub done : List Act
   pub was : Followed R
   pub calls : List Step
@@ -69,8 +69,8 @@ pub record Moment (R : Type 0) : Type 0 where
 -- the moment's turn was seen at an act of the run. The acts of `done` were done then, and the file was as `was` has it, opened so that it
 -- syncs
 pub record IsSeen {R : Type 0} (m : Moment R) : Type 0 where
-  pub earlier : List Turn
-  pub later : List Turn
+  pub earlier : List Snapshot
+  pub later : List Snapshot
   pub among : m.run.new.turns ≡ m.run.old.turns ++ (earlier ++ m.turn ∷ later)
   pub done : m.turn.acts ≡ Some m.done
   pub taken : m.turn.taken ≡ Some (bytes_in m.was)
@@ -95,7 +95,7 @@ pub record IsMoment {R : Type 0} (m : Moment R) : Type 0 where
 -- the rows of all records that these acts settle, in order, as the run writes them
 abbrev pub rows_by : Course → (Asked → List ℕ → Reading) → List Act → List ℕ
 rows_by course reads acts =
-    texts_of (text_in course.layout course.names) (stood course.plan course.tasks (record { turns = course.turns; reads = reads }) acts).records
+    texts_of (text_in course.layout course.names) (state_after course.plan course.tasks (record { turns = course.turns; reads = reads }) acts).records
 
 -- `left` has the rows that are left of a run, after a moment. `settled`: the rows that the run had written by the moment's act,
 -- into this file and into others before it, are those of all records that the acts of `done` settled. `has`: all that this file
@@ -109,7 +109,8 @@ pub record AreLeft {R : Type 0} (m : Moment R) (reads : Asked → List ℕ → R
   pub all : m.run.told ≡ acts ++ others
   pub own : IsFront (bytes_in m.was ++ more) (rows_by m.run.course reads acts)
 
--- the calls of an opening of a file that held these bytes: a torn row was cut off, and a head was written where no whole row was left
+-- the calls of an opening of a file that held these bytes: a torn row was cut off, and a head was written if no whole row was
+-- left
 abbrev pub Opens : List ℕ → List ℕ → List Step → Type 0
 Opens head held steps = opening.Ran held steps (start_of head held)
 
@@ -147,13 +148,13 @@ pub data Ending : Type 0 where
   Stopped : Ending
   Unsynced : (read disk : List ℕ) → Ending
 
--- a run may end in this way after these calls. Where a sync failed, `read` is what such a sync may leave of what a read
--- returned before, and `disk` what it may leave of what the disk held
+-- a run may end in this way after these calls. If a sync failed, `read` is what such a sync may leave of what a read returned
+-- before, and `disk` what it may leave of what the disk held
 abbrev pub Ends : Sides → List Step → Ending → Type 0
 Ends sides steps Stopped = Unit {0}
 Ends sides steps (Unsynced read disk) = Loses (later_by steps sides.read) read × Loses (later_by steps sides.disk) disk
 
--- how a file stands after these calls and this ending: what a read returns, and what the disk holds
+-- the state of a file after these calls and this ending: what a read returns, and what the disk holds
 abbrev pub sides_ended : Sides → List Step → Ending → Sides
 sides_ended sides steps Stopped = done_by steps sides
 sides_ended sides steps (Unsynced read disk) = record { read = settled read; disk = settled disk }
@@ -163,7 +164,7 @@ abbrev pub doubt_of : Ending → Bool
 doubt_of Stopped = false
 doubt_of (Unsynced read disk) = true
 
--- how a file that held `first`, all of it on the disk, stands after these events
+-- the state of a file that held `first`, all of it on the disk, after these events
 abbrev pub sides_from : List ℕ → List Event → Sides
 sides_from first events = sides_after (one (settled first)) events
 

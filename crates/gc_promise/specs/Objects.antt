@@ -1,6 +1,6 @@
 -- What a station wrote of a run in the field as lines of JSON, as they are read: this project's own. Texts are taken to be
--- bytes, and numbers to have 64 bits, as those of the program do. A part is what a station sees of its run from one beginning
--- to the next, and a stretch what happens on the line meanwhile, once it has begun.
+-- bytes, and numbers to have 64 bits, as those of the program do. A part is what a station sees of its run from one
+-- synchronization to the next, and a stretch what happens on the line meanwhile, once it has synchronized.
 use Rattle.std.specs.Prelude.{◌≡◌, ℕ, ◌<◌, ◌^◌, true, List, ◌∷◌, [], ◌++◌, length, All, Option, Some, Result, slice_get}
 use Rattle.std.specs.List.{AllByRecursion, flat_map}
 use Rattle.json.specs.Find.{get_member}
@@ -37,7 +37,7 @@ pub record AreOfBytes (course : Course) (records : List Record) : Type 0 where
   pub names : AllByRecursion (λ (name : Name). All (λ b. b < 256) name.text.items) course.names
   pub each : AllByRecursion (λ (r : Record). IsWhen (when_of course.layout.run r) × (r.command.target < 2 ^ 64) × IsEnd r.end) records
 
--- the digits of a number or the bytes of a string; empty where there is neither
+-- the digits of a number or the bytes of a string; empty if there is neither
 abbrev pub text_of : Option json.Json → List ℕ
 text_of (Some (json.number digits)) = digits
 text_of (Some (json.string bytes)) = bytes
@@ -55,7 +55,7 @@ module _ {State : Type 0} (ends : Ends State) (Good : State → Type 0) (kept : 
     pub own : IsOwn ends Good kept true (λ name. text_of (get_member name members)) commands ps ss r
 
   -- what a sink took of a run, after what it had: lines, in none of which is a line feed, and which are the run's records, one
-  -- for one and in order, each its own. Where the output failed, a part of one more line may stand after them
+  -- for one and in order, each its own. If the output failed, a part of one more line may come after them
   pub record AreOwnObjects (course : Course) (reads : Asked → List ℕ → Reading) (acts : List Act) (ps : List Part) (ss : List (Stretch State))
       (result : Result Tally Stop) (had : List ℕ) (has : Option (List ℕ)) : Type 0 where
     pub lines : List (List ℕ)

@@ -1,6 +1,6 @@
--- The rows of a station in the field, this project's own: what stands in the columns of a row of an answer was made by the
+-- The rows of a station in the field, this project's own: what is in the columns of a row of an answer was made by the
 -- instrument on executing the very request of that row's cycle and place. A part is what a station sees of its run from one
--- beginning to the next, and a stretch what happens on the line meanwhile, once it has begun.
+-- synchronization to the next, and a stretch what happens on the line meanwhile, once it has synchronized.
 use Rattle.std.specs.Prelude.{◌≡◌, ℕ, Bool, List, [], ◌++◌, map, Option, Some, codes}
 use Rattle.std.specs.Fmt.{decimal}
 use Rattle.std.specs.List.{AllByRecursion}
@@ -22,7 +22,7 @@ use Rattle.gc_station.specs.Answers.{answer_of}
 use Rattle.gc_station.specs.Model.{opening}
 use Rattle.gc_station.specs.Parts.{Part, parts_of}
 use Rattle.gc_station.specs.Records.{Record}
-use Rattle.gc_station.specs.Runs.{stood}
+use Rattle.gc_station.specs.Runs.{state_after}
 use Rattle.gc_station.specs.Scopes.{Scope}
 use Rattle.gc_station.specs.declared.plan.Plan.{Plan}
 use Rattle.gc_words.specs.declared.layout.Layout.{Layout}
@@ -40,8 +40,8 @@ use Rattle.gc_promise.specs.Tables.{table}
 abbrev pub column : List ℕ → List (List ℕ) → List ℕ
 column name fields = under name rows.names fields
 
--- the fields of a row say when the record's request went out, its cycle, the place of its turn, its target, procedure and outcome, and the codes and parameters of the
--- line of its reply
+-- the fields of a row say when the record's request was sent, its cycle, the place of its turn, its target, procedure and
+-- outcome, and the codes and parameters of the line of its reply
 pub record FieldsSay (fields : List (List ℕ)) (r : Record) (line : List ℕ) : Type 0 where
   pub sent : column (codes "sent") fields ≡ moment_text r.sent
   pub cycle : column (codes "cycle") fields ≡ decimal r.cycle
@@ -66,7 +66,7 @@ module _ {State : Type 0} (ends : Ends State) (Good : State → Type 0) (kept : 
     pub says : FieldsSay fields r line
     pub own : IsItsOwn ends Good kept commands ps ss r line
 
-  -- where the record is an answer, its row is its own
+  -- if the record is an answer, its row is its own
   abbrev pub IsOwnRow : Layout → List Name → List Task → List Part → List (Stretch State) → Record → Type 0
   IsOwnRow layout names commands ps ss r = (line : List ℕ) → answer_of r.end ≡ Some line → IsRowOwn layout names commands ps ss r line
 
@@ -77,4 +77,4 @@ RowsAreTheirOwn State =
     (ends : Ends State) (kept : State → Option KeptReply) → IsAnInstrument ends AnyState kept →
     (layout : Layout) (columns : Bool) (names : List Name) → layout.form ≡ table columns →
     (plan : Plan) (commands : List Task) (scope : Scope) (acts : List Act) (u : UnderWay State) (rs : List (Run State)) → IsInField ends AnyState kept plan commands scope acts u rs →
-    AllByRecursion (IsOwnRow ends AnyState kept layout names commands (parts_of plan commands (opening plan scope) acts) (stretches ends u rs)) (stood plan commands scope acts).records
+    AllByRecursion (IsOwnRow ends AnyState kept layout names commands (parts_of plan commands (opening plan scope) acts) (stretches ends u rs)) (state_after plan commands scope acts).records

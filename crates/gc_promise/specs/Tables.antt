@@ -1,7 +1,7 @@
 -- What a station wrote of a run in the field, as it is read: this project's own. The bytes are those that a sink took of a run,
--- as the clauses of `measure_at` and `append_at` have it: what stands in front of the records, and their texts in order. A part
--- is what a station sees of its run from one beginning to the next, and a stretch what happens on the line meanwhile, once it
--- has begun.
+-- as the clauses of `measure_at` and `append_at` have it: what comes before the records, and their texts in order. A part is
+-- what a station sees of its run from one synchronization to the next, and a stretch what happens on the line meanwhile, once
+-- it has synchronized.
 use Rattle.std.specs.Prelude.{◌≡◌, ℕ, ◌-◌, ◌<◌, Bool, true, false, List, [], ◌∷◌, ◌++◌, length, take, Option, Some, Result, Err, if◌then◌else◌, slice_get}
 use Rattle.csv.specs.Reading.{default_config, records}
 use Rattle.gc_catalogue.specs.declared.answer.Reading.{Reading}
@@ -16,7 +16,7 @@ use Rattle.gc_links.specs.Acts.{Act}
 use Rattle.gc_station.specs.Model.{opening}
 use Rattle.gc_station.specs.Parts.{Part, parts_of}
 use Rattle.gc_station.specs.Records.{Record}
-use Rattle.gc_station.specs.Runs.{stood}
+use Rattle.gc_station.specs.Runs.{state_after}
 use Rattle.gc_station.specs.Scopes.{Scope, AreReadings}
 use Rattle.gc_station.specs.declared.tally.Tally.{Tally}
 use Rattle.gc_words.specs.declared.layout.Layout.{Layout}
@@ -37,23 +37,24 @@ use Rattle.gc_promise.specs.Fields.{under, IsOwn}
 abbrev pub scope_of : Course → (Asked → List ℕ → Reading) → Scope
 scope_of course reads = record { turns = course.turns; reads = reads }
 
--- the acts of a run, among those that its link told: all but the close after an output that failed
+-- the acts of a run, among those that its link recorded: all but the close after an output that failed
 abbrev pub acts_measured : Result Tally Stop → List Act → List Act
 acts_measured (Err (Run Output)) told = take (length told - 1) told
 acts_measured _ told = told
 
 -- the records of a run by these acts
 abbrev pub records_in : Course → (Asked → List ℕ → Reading) → List Act → List Record
-records_in course reads acts = (stood course.plan course.tasks (scope_of course reads) acts).records
+records_in course reads acts = (state_after course.plan course.tasks (scope_of course reads) acts).records
 
 -- What a sink took.
 
--- these bytes are a front of the text of the first of these records, but not all of it; and there are none where there is no record
+-- these bytes are a front of the text of the first of these records, but not all of it; and there are none if there is no
+-- record
 abbrev pub IsTorn : (Record → List ℕ) → List Record → List ℕ → Type 0
 IsTorn text [] torn = torn ≡ []
 IsTorn text (next ∷ later) torn = (rest : List ℕ) × (text next ≡ torn ++ rest) × (0 < length rest)
 
--- which records of a run were written whole: all of them, but where the output failed; and what was written after these
+-- which records of a run were written whole: all of them, but if the output failed; and what was written after these
 pub record AreWritten (text : Record → List ℕ) (records : List Record) (result : Result Tally Stop) (torn : List ℕ) : Type 0 where
   pub written : List Record
   pub unwritten : List Record
@@ -73,7 +74,7 @@ abbrev pub header : Bool → List (List ℕ)
 header false = rows.names ++ rows.last_names
 header true = rows.names ++ (quantity_names ++ rows.last_names)
 
--- the header as a row, where it is written
+-- the header as a row, if it is written
 abbrev pub head_rows : Layout → Bool → List (List (List ℕ))
 head_rows layout columns = if layout.headed then [] else header columns ∷ []
 
@@ -84,7 +85,7 @@ AreReadAs bytes rows = (behind : List ℕ) → records default_config (bytes ++ 
 
 module _ {State : Type 0} (ends : Ends State) (Good : State → Type 0) (kept : State → Option KeptReply) where
   -- what a sink took of a run, after what it had: a table, whose rows are the run's records, one for one and in order, each its
-  -- own. Where the output failed, a part of one more row may stand after them. `behind` is said of the file of --append: after
+  -- own. If the output failed, a part of one more row may come after them. `behind` is said of the file of --append: after
   -- earlier bytes, which a reader takes for `earlier`, the reader goes on with these rows
   pub record IsOwnTable (course : Course) (columns : Bool) (reads : Asked → List ℕ → Reading) (acts : List Act) (ps : List Part) (ss : List (Stretch State))
       (result : Result Tally Stop) (had : List ℕ) (has : Option (List ℕ)) : Type 0 where

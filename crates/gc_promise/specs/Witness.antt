@@ -5,7 +5,7 @@ use Rattle.gc_catalogue.specs.declared.asked.Asked.{Asked}
 use Rattle.gc_rows.specs.declared.record.Form.{Form}
 use Rattle.gc_rows.specs.declared.record.Form.TheVariants.{Csv, Json}
 use Rattle.gc_links.specs.Acts.{Act}
-use Rattle.gc_station.specs.Keeping.{Turn}
+use Rattle.gc_station.specs.Keeping.{Snapshot}
 use Rattle.gc_station.specs.Model.{opening}
 use Rattle.gc_station.specs.Parts.{parts_of}
 use Rattle.gc_station.specs.Records.{Record, texts_of}
@@ -24,7 +24,7 @@ use Rattle.gc_promise.specs.Tables.{IsOwnTable, table}
 abbrev pub layout_in : Form → Layout
 layout_in form = record { form = form; headed = true; run = 0 }
 
--- a table whose header stands already
+-- a table whose header is there already
 abbrev pub in_a_table : Layout
 in_a_table = layout_in Csv
 
@@ -56,9 +56,9 @@ course form = record { plan = plan; tasks = commands; turns = 200; layout = layo
 abbrev pub taken : Form → List ℕ
 taken form = texts_of (text_in (layout_in form) []) records
 
--- the ports of a station whose link told these acts, whose sink took these bytes, and with these turns, what was seen at each
--- act
-abbrev pub places : List Act → List ℕ → List Turn → Places
+-- the ports of a station whose link recorded these acts, whose sink took these bytes, and with these turns, what was seen at
+-- each act
+abbrev pub places : List Act → List ℕ → List Snapshot → Places
 places told taken turns =
     record { input = record { remaining = None; reads = 0; ended = true; failed = false }; acts = Some told; taken = Some taken; messages = None; turns = turns }
 
@@ -89,7 +89,7 @@ module _ (reads : Asked → List ℕ → Reading) where
         (Ok tally) [] (Some (taken Json))
 
 -- `HasOwnRows` holds for every function that gives what each reply says of its call, and there is such a function. In each form
--- the run is one as a station's contract has it: its link told these acts, and its sink took the texts of its records
+-- the run is one as a station's contract has it: its link recorded these acts, and its sink took the texts of its records
 pub record SomeRowIsItsOwn : Type 0 where
   pub own : ForReadings HasOwnRows
-  pub measured : (form : Form) → (turns : List Turn) × RunsBehind (course form) (places [] [] []) (places acts (taken form) turns) (Ok tally)
+  pub measured : (form : Form) → (turns : List Snapshot) × RunsBehind (course form) (places [] [] []) (places acts (taken form) turns) (Ok tally)

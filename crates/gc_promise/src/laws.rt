@@ -15,11 +15,11 @@ use std::rt::Files;
 /// records, one row or object each, in order. A row of an answer has in its columns what a reply's line says, and the
 /// instrument made that line on executing the request of that row's very cycle and place.
 pub fn rows_are_their_own<State>()
-    // Of the bytes that a sink took of a run, as `measure_at` and `append_at` have it: a reader of comma-separated values gives the header, and
-    // the run's records as rows, one for one and in order. Under the names of the header each row has when its record's request went out, if
-    // it did, the cycle, place, attempt, target, procedure and outcome. Where its command sets the clock and the request went out, that asked
-    // for this very moment, cut to seconds. Where the outcome is that of a reply, it has the codes, the values and the quantities of such a
-    // line.
+    // Of the bytes that a sink took of a run, as `measure_at` and `append_at` have it: a reader of comma-separated values gives
+    // the header, and the run's records as rows, one for one and in order. Under the names of the header each row has when its
+    // record's request was sent, if it was, the cycle, place, attempt, target, procedure and outcome. If its command sets the
+    // clock and the request was sent, that asked for this very moment, cut to seconds. If the outcome is that of a reply, it
+    // has the codes, the values and the quantities of such a line.
     ensures tables { TablesAreTheirOwn State }
 
     // The same of lines of JSON: a reader of JSON gives each line as an object, whose members have under these names what a row has.

@@ -1,5 +1,5 @@
--- The columns of a record. A mark is a byte that ends a field, as a comma (44) or a colon (58): what stands before the first
--- mark of a text and behind it, and what that is in the lines of requests and replies.
+-- The columns of a record. A mark is a byte that ends a field, as a comma (44) or a colon (58): what comes before the first
+-- mark of a text and after it, and what that is in the lines of requests and replies.
 use Rattle.std.proofs.Common.{◌≡◌, ◌≢◌, ℕ, ◌+◌, ◌<◌, ◌==◌, List, [], ◌∷◌, ◌++◌, Option, Some, None, false, inl, inr, ◌⊎◌, IfSome, refl, sym, ap, subst, ◌∙◌, arith, append_assoc, append-nil}
 use Rattle.std.specs.Str.Parse.{AllDigits}
 use Rattle.std.proofs.lemmas.Bool.{cond-true, cond-false, eq-eqb}
@@ -35,14 +35,14 @@ id_lacks : (id : Option ℕ) → IfSome id (λ i. i < 8) → Lacks 58 (id_text i
 id_lacks None small = tt
 id_lacks (Some i) small = ((λ e. absurd (omega (arith, e))), ((λ e. absurd (omega (arith, e, small))), tt))
 
--- `id_text` is an id behind a comma, or nothing where there is no id. In digits with it behind them, the digits are what stands
+-- `id_text` is an id after a comma, or nothing if there is no id. In digits with it after them, the digits are what comes
 -- before the first comma
 number_first : (ds : List ℕ) (id : Option ℕ) → Lacks 44 ds → before 44 (ds ++ id_text id) ≡ ds
 number_first ds None lacks = ap (before 44) (append-nil ds) ∙ before_none 44 ds lacks
 number_first ds (Some i) lacks = before_mark 44 ds ((48 + i) ∷ []) lacks
 
--- where digits of a code end with nothing or with a comma and parameters (`EndsCode`), the digits are what stands before the
--- first comma, and the parameters what stands behind it
+-- where digits of a code end with nothing or with a comma and parameters (`EndsCode`), the digits are what comes before the
+-- first comma, and the parameters what comes after it
 code_first : (ds tail params : List ℕ) → Lacks 44 ds → EndsCode tail params → (before 44 (ds ++ tail) ≡ ds) × (behind 44 (ds ++ tail) ≡ params)
 code_first ds tail params lacks (inl none) =
     let whole : ds ++ tail ≡ ds = ap (λ l. ds ++ l) none.0 ∙ append-nil ds in

@@ -21,7 +21,7 @@ same_front : (text : List ℕ) → without_front text ≡ front_off text
 same_front [] = refl
 same_front (b ∷ bs) = ap (λ t. cond (b == 32) t (b ∷ bs)) (same_front bs)
 
--- a byte stands in front of a text as in gc_values
+-- a byte comes before a text as in gc_values
 same_before : (b : ℕ) (text : List ℕ) → before_text b text ≡ kept_front b text
 same_before b [] = refl
 same_before b (x ∷ xs) = refl
@@ -69,12 +69,12 @@ not_blank text some = is (is_blank text) refl where
 
 -- Commas outside double quotes.
 
--- no comma of a text is outside double quotes; `quoted` says whether one is open in front of the text
+-- no comma of a text is outside double quotes; `quoted` says whether one is open before the text
 abbrev Keeps : Bool → List ℕ → Type 0
 Keeps quoted [] = Unit {0}
 Keeps quoted (b ∷ bs) = (b ≡ 44 → quoted ≡ true) × Keeps (turned b quoted) bs
 
--- whether a double quote is open behind a text
+-- whether a double quote is open after a text
 abbrev ends : Bool → List ℕ → Bool
 ends quoted [] = quoted
 ends quoted (b ∷ bs) = ends (turned b quoted) bs
@@ -84,7 +84,7 @@ abbrev IsOdd : Bool → ℕ → Type 0
 IsOdd true n = n % 2 ≡ 1
 IsOdd false n = n % 2 ≡ 0
 
--- a text in front of the first piece
+-- a text before the first piece
 abbrev before_first : List ℕ → List (List ℕ) → List (List ℕ)
 before_first [] ps = ps
 before_first (b ∷ bs) ps = onto b (before_first bs ps)
@@ -97,7 +97,7 @@ no_end b quoted keeps = is (b == 44) refl where
   is true comma = ap not (keeps (eqb-true b 44 comma))
   is false comma = refl
 
--- the bytes of a text without a comma outside double quotes stand in the first piece
+-- the bytes of a text without a comma outside double quotes are in the first piece
 walked : (quoted : Bool) (piece rest : List ℕ) → Keeps quoted piece → pieces quoted (piece ++ rest) ≡ before_first piece (pieces (ends quoted piece) rest)
 walked quoted [] rest keeps = refl
 walked quoted (b ∷ bs) rest keeps =
@@ -115,12 +115,12 @@ odd_more quoted front b odd = is quoted (b == 34) odd (quotes-append front (b �
   is false true odd more = omega (arith, odd, more)
   is false false odd more = omega (arith, odd, more)
 
--- where a number is odd, a double quote is open
+-- if a number is odd, a double quote is open
 open_where : (quoted : Bool) (n : ℕ) → IsOdd quoted n → n % 2 ≡ 1 → quoted ≡ true
 open_where true n odd one = refl
 open_where false n odd one = absurd (omega (arith, odd, one))
 
--- a text whose commas are each behind an odd number of double quotes has none outside them; `front` is what stands in front of `piece`
+-- a text whose commas are each after an odd number of double quotes has none outside them; `front` is what comes before `piece`
 keeps_from : (quoted : Bool) (front piece : List ℕ) → KeepsCommas (front ++ piece) → IsOdd quoted (quotes front) → Keeps quoted piece
 keeps_from quoted front [] keeps odd = tt
 keeps_from quoted front (b ∷ bs) keeps odd = (
@@ -128,23 +128,23 @@ keeps_from quoted front (b ∷ bs) keeps odd = (
   keeps_from (turned b quoted) (front ++ b ∷ []) bs (subst KeepsCommas (sym (append_assoc front (b ∷ []) bs)) keeps) (odd_more quoted front b odd),
 )
 
--- whether a double quote is open behind a text says whether the number of double quotes is odd
+-- whether a double quote is open after a text says whether the number of double quotes is odd
 odd_behind : (quoted : Bool) (front piece : List ℕ) → IsOdd quoted (quotes front) → IsOdd (ends quoted piece) (quotes (front ++ piece))
 odd_behind quoted front [] odd = subst (λ t. IsOdd quoted (quotes t)) (sym (append-nil front)) odd
 odd_behind quoted front (b ∷ bs) odd =
     subst (λ t. IsOdd (ends (turned b quoted) bs) (quotes t)) (append_assoc front (b ∷ []) bs) (odd_behind (turned b quoted) (front ++ b ∷ []) bs (odd_more quoted front b odd))
 
--- behind a piece no double quote is open
+-- after a piece no double quote is open
 closed_where : (quoted : Bool) (n : ℕ) → IsOdd quoted n → n % 2 ≡ 0 → quoted ≡ false
 closed_where true n odd even = absurd (omega (arith, odd, even))
 closed_where false n odd even = refl
 
--- bytes in front of an empty piece are that piece
+-- bytes before an empty piece are that piece
 first_is : (piece : List ℕ) (ps : List (List ℕ)) → before_first piece ([] ∷ ps) ≡ piece ∷ ps
 first_is [] ps = refl
 first_is (b ∷ bs) ps = ap (onto b) (first_is bs ps)
 
--- a piece, and a text behind it, are cut behind the piece
+-- a piece, and a text after it, are cut after the piece
 cut_behind : (piece rest : List ℕ) → IsPiece piece → pieces false (piece ++ rest) ≡ before_first piece (pieces false rest)
 cut_behind piece rest is =
     walked false piece rest (keeps_from false [] piece is.keeps refl)
@@ -199,7 +199,7 @@ many_are_none text items are many =
 
 -- The bytes of items.
 
--- padded parameters have at most as many bytes as what stands round them, too
+-- padded parameters have at most as many bytes as what surrounds them, too
 items_short : (ps is : List (List ℕ)) → ArePieces ps is → bytes_in is ≤ bytes_in ps
 items_short [] [] are = omega arith
 items_short [] (i ∷ is) are = absurd are
@@ -211,7 +211,7 @@ items_short (p ∷ ps) (i ∷ is) are =
     let rest = items_short ps is are.2 in
     omega (arith, whole, front, behind, rest)
 
--- texts, each behind a comma, have at least as many bytes as the texts
+-- texts, each after a comma, have at least as many bytes as the texts
 behind_commas : (ts : List (List ℕ)) → bytes_in ts ≤ length (flat_map (λ u. 44 ∷ u) ts)
 behind_commas [] = omega arith
 behind_commas (t ∷ ts) =
@@ -236,14 +236,14 @@ items_fit text (item ∷ items) are =
     let short = items_short are.pieces (item ∷ items) are.pieces_are in
     omega (arith, whole, long, short)
 
--- a text's items are of bytes where the text is.
+-- a text's items are of bytes if the text is.
 
 -- a text of bytes is of bytes without the spaces at its front
 front_bytes : (text : List ℕ) → AllByRecursion (λ b. b < 256) text → AllByRecursion (λ b. b < 256) (without_front text)
 front_bytes [] are = tt
 front_bytes (b ∷ bs) are = cond_both (b == 32) (without_front bs) (b ∷ bs) (AllByRecursion (λ b. b < 256)) (λ _. front_bytes bs are.1) (λ _. are)
 
--- a byte in front of a text of bytes makes a text of bytes
+-- a byte before a text of bytes makes a text of bytes
 before_bytes : (b : ℕ) (text : List ℕ) → b < 256 → AllByRecursion (λ b. b < 256) text → AllByRecursion (λ b. b < 256) (before_text b text)
 before_bytes b [] is are = cond_both (b == 32) [] (b ∷ []) (AllByRecursion (λ b. b < 256)) (λ _. tt) (λ _. (is, tt))
 before_bytes b (x ∷ xs) is are = (is, are)
@@ -295,11 +295,11 @@ bytes_below [] k lt = absurd (omega (arith, lt))
 bytes_below (t ∷ ts) zero lt = omega arith
 bytes_below (t ∷ ts) (suc k) lt = let rest = bytes_below ts k (omega (arith, lt)) in omega (arith, rest)
 
--- where a number is at most another, and that one at most a third, it is at most the third
+-- if a number is at most another, and that one at most a third, it is at most the third
 pub up_to : (a b c : ℕ) → a ≤ b → b ≤ c → a ≤ c
 up_to a b c first second = omega (arith, first, second)
 
--- where a text is refused for its double quotes, or for its many items, it doesn't split
+-- if a text is refused for its double quotes, or for its many items, it doesn't split
 pub refused_is_none : (text : List ℕ) (e : ValueFault) → (e ≡ OpenQuote) ⊎ (e ≡ TooMany) → (e ≡ OpenQuote → quotes text % 2 ≡ 1)
     → (e ≡ TooMany → (items : List (List ℕ)) × IsParams text items × (16 < length items)) → split_items text ≡ None
 refused_is_none text e (inl quoted) odd many = open_is_none text (odd quoted)

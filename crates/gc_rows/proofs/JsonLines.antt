@@ -33,7 +33,7 @@ what_text old target procedure name =
     flat_map-append member_text name (Number (codes "procedure") procedure ∷ []) ∙ ap (λ l. n ++ l) (append-nil p) in
     append_assoc (old ++ t) n p ∙ append_assoc old t (n ++ p) ∙ ap (λ l. old ++ (t ++ l)) (sym last)
 
--- the quality and the attempt, appended one after the other, are the members behind all others
+-- the quality and the attempt, appended one after the other, are the members after all others
 pub last_text : (old attempt : List ℕ) (quality : List Member)
     → (old ++ members_text quality) ++ number_member (codes "attempt") attempt ≡ old ++ members_text (quality ++ Number (codes "attempt") attempt ∷ [])
 last_text old attempt quality =
@@ -43,7 +43,7 @@ last_text old attempt quality =
     flat_map-append member_text quality (Number (codes "attempt") attempt ∷ []) ∙ ap (λ l. q ++ l) (append-nil a) in
     append_assoc old q a ∙ ap (λ l. old ++ l) (sym last)
 
--- behind `front`, four lists of members, written one after the other, and the end of the line are the members of the lists
+-- after `front`, four lists of members, written one after the other, and the end of the line are the members of the lists
 -- joined and that end
 pub all_members : (front : List ℕ) (ws hs es qs : List Member)
     → ((((front ++ members_text ws) ++ members_text hs) ++ members_text es) ++ members_text qs) ++ codes "}\n" ≡ (front ++ members_text (ws ++ (hs ++ (es ++ qs)))) ++ codes "}\n"
@@ -58,7 +58,7 @@ all_members front ws hs es qs =
     append_assoc ((front ++ w) ++ h) e q ∙ append_assoc (front ++ w) h (e ++ q) ∙ append_assoc front w (h ++ (e ++ q)) in
     ap (λ l. l ++ codes "}\n") (grouped ∙ ap (λ l. front ++ l) (sym joined))
 
--- three texts that are appended one after the other to `old` are one text behind it
+-- three texts that are appended one after the other to `old` are one text after it
 pub three_members : (old a b c : List ℕ) → ((old ++ a) ++ b) ++ c ≡ old ++ (a ++ (b ++ (c ++ [])))
 three_members old a b c =
     append_assoc (old ++ a) b c ∙ append_assoc old a (b ++ c) ∙ ap (λ l. old ++ (a ++ (b ++ l))) (sym (append-nil c))
@@ -68,7 +68,7 @@ marked_as : (b : ℕ) → IsShown b → ((b == 34) || (b == 92)) ≡ true → be
 unfolding escape_byte
 marked_as b shown marked = let some : nat_lt 0 b ≡ true = lt-ltb 0 b (omega (arith, shown.0)) in rw (marked, some) refl
 
--- any other printable byte stands as it is, as with a writer of JSON
+-- any other printable byte is unchanged, as with a writer of JSON
 plain_as : (b : ℕ) → IsShown b → ((b == 34) || (b == 92)) ≡ false → behind_backslash b ≡ escape_byte b
 plain_as b shown plain =
     rw plain (sym (escape_byte_plain b (λ e. let bad : true ≡ false = subst (λ x. ((x == 34) || (x == 92)) ≡ false) e plain in cc)
@@ -101,13 +101,14 @@ regroup name text others close =
     let k = 44 ∷ 34 ∷ (name ++ 34 ∷ 58 ∷ []) in
     append_assoc (k ++ text) others close ∙ append_assoc k text (others ++ close) ∙ ap (λ l. 44 ∷ 34 ∷ (l ++ (text ++ (others ++ close)))) (sym front)
 
--- the bracket behind the texts of a list, and what follows, are written as a writer of JSON does it
+-- the bracket after the texts of a list, and what follows, are written as a writer of JSON does it
 closed_as : (behind : Bool) (others : List Token) → codes "]" ++ print_from true others ≡ print_from behind (end_array ∷ others)
 unfolding print_from
 closed_as true others = refl
 closed_as false others = refl
 
--- a text of a list, with what stands behind it, is written as a writer of JSON does it; `behind` says whether another stands in front
+-- a text of a list, with what comes after it, is written as a writer of JSON does it; `behind` says whether another stands
+-- before it
 text_as : (behind : Bool) (text : List ℕ) (others : List Token) → comma_where behind ++ ((34 ∷ (escape text ++ 34 ∷ [])) ++ print_from true others) ≡ print_from behind (Token.string text ∷ others)
 unfolding print_from
 text_as true text others = refl
@@ -221,7 +222,7 @@ read_back run members below are = (
   reads_as run members below are,
 )
 
--- the strings of the texts from place k on, behind `mid`, are the comma and the string of the text there, and those behind it
+-- the strings of the texts from place k on, after `mid`, are the comma and the string of the text there, and those after it
 pub strings_next : (old mid : List ℕ) (texts : List (List ℕ)) (k : ℕ) (behind next : Bool) → k < length texts → next ≡ true → mid ++ strings_text behind (drop k texts) ≡ old
     → ((mid ++ comma_where behind) ++ string_text (get_or texts k [])) ++ strings_text next (drop (k + 1) texts) ≡ old
 strings_next old mid texts k behind next lt more so =

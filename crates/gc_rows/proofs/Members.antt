@@ -52,11 +52,11 @@ all_both : {X : Type 0} (P : X → Type 0) (xs ys : List X) → AllByRecursion P
 all_both P [] ys hx hy = hy
 all_both P (x ∷ xs) ys hx hy = (hx.0, all_both P xs ys hx.1 hy)
 
--- whether a byte may stand in a plain name: printable ASCII but the double quote and the backslash
+-- whether a byte may occur in a plain name: printable ASCII but the double quote and the backslash
 abbrev is_fit : ℕ → Bool
 is_fit b = (nat_lt 31 b && nat_lt b 127) && (not (b == 34) && not (b == 92))
 
--- whether each byte of a name may stand in a plain name
+-- whether each byte of a name may occur in a plain name
 abbrev are_fit : List ℕ → Bool
 are_fit [] = true
 are_fit (b ∷ bs) = is_fit b && are_fit bs
@@ -101,7 +101,7 @@ abbrev all_fit : List (List ℕ) → Bool
 all_fit [] = true
 all_fit (name ∷ names) = are_fit name && all_fit names
 
--- where each of these names passes the test `are_fit`, the one at place n does
+-- if each of these names passes the test `are_fit`, the one at place n does
 name_fits : (names : List (List ℕ)) (n : ℕ) → all_fit names ≡ true → are_fit (get_or names n []) ≡ true
 name_fits [] n e = refl
 name_fits (name ∷ names) zero e = left (are_fit name) (all_fit names) e
@@ -111,7 +111,7 @@ name_fits (name ∷ names) (suc n) e = name_fits names n (right (are_fit name) (
 quantity_named : (column : ℕ) → IsPlainName (quantity_name column)
 quantity_named column = plain_name (quantity_name column) (name_fits quantity_names column refl)
 
--- a plain name with `_text` behind it is plain
+-- a plain name with `_text` after it is plain
 text_named : (name : List ℕ) → IsPlainName name → IsPlainName (name ++ codes "_text")
 text_named name is = all_both (λ b. (32 ≤ b) × ((b ≢ 34) × (b ≢ 92))) name (codes "_text") is (plain_name (codes "_text") refl)
 
@@ -123,12 +123,12 @@ all_bytes bs h = All-from_recursion (λ b. b < 256) bs h
 stamp_bytes : (utc : ℕ) → utc < 2 ^ 64 → All (λ b. b < 256) (stamp_text utc)
 stamp_bytes utc h = all_bytes (stamp_text utc) (bytes_shown (stamp_text utc) (recursion_from_All IsShown (stamp_text utc) (stamp_shown utc h)))
 
--- what stands before the first mark of bytes is of bytes
+-- what comes before the first mark of bytes is of bytes
 before_bytes : (mark : ℕ) (bs : List ℕ) → AllByRecursion (λ b. b < 256) bs → AllByRecursion (λ b. b < 256) (before mark bs)
 before_bytes mark [] h = tt
 before_bytes mark (b ∷ bs) h = cond_both (b == mark) [] (b ∷ before mark bs) (AllByRecursion (λ b. b < 256)) (λ _. tt) (λ _. (h.0, before_bytes mark bs h.1))
 
--- what stands behind the first mark of bytes is of bytes
+-- what comes after the first mark of bytes is of bytes
 behind_bytes : (mark : ℕ) (bs : List ℕ) → AllByRecursion (λ b. b < 256) bs → AllByRecursion (λ b. b < 256) (behind mark bs)
 behind_bytes mark [] h = tt
 behind_bytes mark (b ∷ bs) h = cond_both (b == mark) bs (behind mark bs) (AllByRecursion (λ b. b < 256)) (λ _. h.1) (λ _. behind_bytes mark bs h.1)
@@ -137,27 +137,27 @@ behind_bytes mark (b ∷ bs) h = cond_both (b == mark) bs (behind mark bs) (AllB
 values_bytes : (line : List ℕ) → All (λ b. b < 256) line → AllByRecursion (λ b. b < 256) (values_of line)
 values_bytes line h = behind_bytes 44 (behind 58 (behind 44 line)) (behind_bytes 58 (behind 44 line) (behind_bytes 44 line (recursion_from_All (λ b. b < 256) line h)))
 
--- where no digit follows `ds`, which are digits, the run of digits at the front of `ds` and `rest` is as long as `ds`
+-- if no digit follows `ds`, which are digits, the run of digits at the front of `ds` and `rest` is as long as `ds`
 digits_run : (ds rest : List ℕ) → AreDigits ds → prefix_len is_ascii_digit rest ≡ 0 → prefix_len is_ascii_digit (ds ++ rest) ≡ length ds
 digits_run [] rest h none = none
 digits_run (d ∷ ds) rest h none =
     let more = digits_run ds rest h.1 none in
     ap (λ b. cond b (1 + prefix_len is_ascii_digit (ds ++ rest)) 0) (and_from _ _ (le-leb 48 d h.0.0) (le-leb d 57 h.0.1)) ∙ omega (arith, more)
 
--- where no digit follows `ds`, which are digits, the library's reader of digits takes `ds` and leaves `rest`
+-- if no digit follows `ds`, which are digits, the library's reader of digits takes `ds` and leaves `rest`
 digits_then : (ds rest : List ℕ) → AreDigits ds → 0 < length ds → prefix_len is_ascii_digit rest ≡ 0 → after_digits (ds ++ rest) ≡ Some rest
 digits_then ds rest h some none =
     ap (λ n. cond (n == 0) None (Some (drop n (ds ++ rest)))) (digits_run ds rest h none)
     ∙ ap (λ b. cond b None (Some (drop (length ds) (ds ++ rest)))) (ne_eqb (length ds) 0 (λ e. omega (arith, some, e))) ∙ ap Some (drop_at ds rest _ refl)
 
--- a reader that takes a leading zero alone, and else all digits, leaves `rest` behind digits of which a leading zero stands
+-- a reader that takes a leading zero alone, and else all digits, leaves `rest` after digits of which a leading zero stands
 -- alone; `z` is whether the first digit is a zero
 first_digit : (z : Bool) (d : ℕ) (ds rest : List ℕ) → (z ≡ true → ds ≡ []) → after_digits (d ∷ ds ++ rest) ≡ Some rest → cond z (Some (ds ++ rest)) (after_digits (d ∷ ds ++ rest)) ≡ Some rest
 first_digit true d ds rest alone more = ap (λ l. Some (l ++ rest)) (alone refl)
 first_digit false d ds rest alone more = more
 
--- where no digit follows a whole part, the library's reader takes the whole part and leaves `rest`; and the whole part begins
--- with no minus
+-- if no digit follows a whole part, the library's reader takes the whole part and leaves `rest`; and the whole part begins with
+-- no minus
 whole_then : (ds rest : List ℕ) → IsWholePart ds → prefix_len is_ascii_digit rest ≡ 0 → (after_whole (ds ++ rest) ≡ Some rest) × ((head (ds ++ rest) == 45) ≡ false)
 whole_then [] rest is none = let some = is.some in absurd (omega (arith, some))
 whole_then (d ∷ ds) rest is none = (
@@ -198,7 +198,7 @@ digits_are : (ds : List ℕ) → AllDigits 10 ds → AreDigits ds
 digits_are [] h = tt
 digits_are (d ∷ ds) h = (digit_from_value d h.0, digits_are ds h.1)
 
--- digits without the zeros in front of them are a whole part
+-- digits without the zeros before them are a whole part
 behind_zeros : (ds : List ℕ) → AreDigits ds → 0 < length ds → IsWholePart (without_zeros ds)
 behind_zeros [] digits some = absurd (omega (arith, some))
 behind_zeros (b ∷ []) digits some = record { are_digits = digits; some = some; no_zero_in_front = λ rest e. sym (ap (drop 1) e) }
@@ -206,7 +206,7 @@ behind_zeros (b ∷ c ∷ ds) digits some =
     cond_both (b == 48) (without_zeros (c ∷ ds)) (b ∷ c ∷ ds) IsWholePart (λ _. behind_zeros (c ∷ ds) digits.1 (omega arith))
     (λ none. record { are_digits = digits; some = some; no_zero_in_front = λ rest e. absurd (false≢true (sym none ∙ eq-eqb b 48 (ap (λ l. get_or l 0 0) e))) })
 
--- a code without the zeros in front of it is a number of JSON
+-- a code without the zeros before it is a number of JSON
 code_number : (ds : List ℕ) → AllDigits 10 ds → 0 < length ds → IsNumber (without_zeros ds)
 code_number ds digits some = whole_number false (without_zeros ds) (behind_zeros ds (digits_are ds digits) some)
 
@@ -337,7 +337,7 @@ all_texts : (texts : List (List ℕ)) → AreOfBytes texts → AllByRecursion (�
 all_texts [] are = tt
 all_texts (text ∷ texts) are = (all_bytes text are.0, all_texts texts are.1)
 
--- the member of a text's items, where it splits, reads back; `z` is whether it does
+-- the member of a text's items, if it splits, reads back; `z` is whether it does
 items_where : (z : Bool) (items : List (List ℕ)) → AreOfBytes items → AllByRecursion IsMember (item_members (cond z (Some items) None))
 items_where true items are = ((plain_name (codes "items") refl, all_texts items are), tt)
 items_where false items are = tt
@@ -367,7 +367,7 @@ worded_are (Answered Warning answer line) = (quality_is (codes "warning") refl, 
 worded_are (Answered Refused answer line) = (quality_is (codes "refused") refl, tt)
 worded_are end = tt
 
--- the members behind all others read back
+-- the members after all others read back
 last_are : (when : When) (end : End) → IsWhen when → AllByRecursion IsMember (last_members when end)
 last_are when end is =
     all_both IsMember (worded_members (quality_text (quality_of end))) (attempt_members when) (worded_are end)

@@ -21,7 +21,7 @@ use Rattle.gc_values.specs.declared.value.Value.{Value}
 use Rattle.gc_texts.proofs.LogStamps.{IsShown, escaped_prints}
 use Rattle.gc_texts.proofs.Logs.{one_text}
 
--- the field of the run and four lists of fields, each field behind a comma, and then a line feed, are one row of all these
+-- the field of the run and four lists of fields, each field after a comma, and then a line feed, are one row of all these
 -- fields
 pub all_fields : (run : List ℕ) (ws hs es qs : List (List ℕ))
     → (((((field_text run) ++ behind_commas ws) ++ behind_commas hs) ++ behind_commas es) ++ behind_commas qs) ++ codes "\n" ≡ row_of (run ∷ (ws ++ (hs ++ (es ++ qs))))
@@ -38,17 +38,18 @@ all_fields run ws hs es qs =
     append_assoc ((a ++ w) ++ h) e q ∙ append_assoc (a ++ w) h (e ++ q) ∙ append_assoc a w (h ++ (e ++ q)) in
     ap (λ l. l ++ n) (grouped ∙ ap (λ l. a ++ l) (sym joined))
 
--- empty fields, each behind a comma, are as many commas
+-- empty fields, each after a comma, are as many commas
 blanks_text : (n : ℕ) → behind_commas (replicate n []) ≡ replicate n 44
 blanks_text zero = refl
 blanks_text (suc n) = ap (λ l. 44 ∷ l) (blanks_text n)
 
--- values, each as a quantity behind a comma, are their texts behind commas
+-- values, each as a quantity after a comma, are their texts after commas
 values_text : (values : List Value) → flat_map value_text values ≡ behind_commas (map quantity_text values)
 values_text [] = refl
 values_text (v ∷ vs) = ap (λ l. value_text v ++ l) (values_text vs)
 
--- behind any bytes: `first` commas, the values as quantities, and a comma for each further column are the values in their columns
+-- after any bytes: `first` commas, the values as quantities, and a comma for each further column are the values in their
+-- columns
 pub spread_text : (old : List ℕ) (first : ℕ) (values : List Value)
     → ((old ++ replicate first 44) ++ flat_map value_text values) ++ replicate (24 - first - length values) 44 ≡ old ++ behind_commas (spread first (map quantity_text values))
 spread_text old first values =
@@ -73,11 +74,11 @@ or_same false true z = refl
 or_same false false true = refl
 or_same false false false = refl
 
--- a byte calls for quotes exactly where the writer of comma-separated values says so
+-- a byte calls for quotes exactly if the writer of comma-separated values says so
 same_byte : (b : ℕ) → is_special b ≡ needs_byte default_writer b
 same_byte b = or_same ((b == 44) || (b == 34)) (b == 13) (b == 10)
 
--- a text stands within quotes exactly where the writer of comma-separated values puts it there
+-- a text is within quotes exactly if the writer of comma-separated values puts it there
 same_any : (text : List ℕ) → list_any is_special text ≡ list_any (needs_byte default_writer) text
 same_any [] = refl
 same_any (b ∷ bs) = ap (λ x. x || list_any is_special bs) (same_byte b) ∙ ap (λ x. needs_byte default_writer b || x) (same_any bs)
@@ -98,7 +99,7 @@ same_field text = elim (cases_Bool (list_any is_special text)) [
   | inr plain ↦ rw (plain, sym (same_any text) ∙ plain) refl
 ]
 
--- fields, each behind a comma, are what the writer of comma-separated values writes of them
+-- fields, each after a comma, are what the writer of comma-separated values writes of them
 same_fields : (fields : List (List ℕ)) → behind_commas fields ≡ fields_text default_writer (map escaped fields)
 unfolding fields_text
 same_fields [] = refl
@@ -161,7 +162,7 @@ field_shown bytes are =
     (All-append IsShown (flat_map within_quotes text) (34 ∷ []) (doubled_shown text (recursion_from_All IsShown text shown)) mark))
     (λ _. shown)
 
--- fields of any bytes, each behind a comma, are printable
+-- fields of any bytes, each after a comma, are printable
 fields_shown : (fields : List (List ℕ)) → AllByRecursion (All (λ b. b < 256)) fields → All IsShown (behind_commas fields)
 fields_shown [] are = All-from_recursion IsShown [] tt
 fields_shown (f ∷ fs) are =

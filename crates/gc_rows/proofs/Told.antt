@@ -1,4 +1,4 @@
--- The values of an answer stand under their names, and a row has as many fields as its header. Quantities are the values of
+-- The values of an answer are under their names, and a row has as many fields as its header. Quantities are the values of
 -- answers; a row has 24 columns for them, of which an answer fills those from its own column on.
 use Rattle.std.proofs.Common.{◌≡◌, ◌≤◌, ℕ, suc, ◌+◌, ◌-◌, true, false, List, [], ◌++◌, length, map, replicate, Some, None, refl, ap, arith, ◌∙◌}
 use Rattle.std.proofs.lemmas.List.{length-append, length-map, length-replicate}
@@ -17,7 +17,7 @@ use Rattle.gc_rows.specs.Told.{QuantitiesHaveTheirNames, RowsFillTheirColumns}
 use Rattle.gc_texts.specs.declared.wish.Wish.{Wish}
 use Rattle.gc_rows.specs.declared.when.When.{When}
 
--- the law: the values of an answer stand under the names of the quantities that its procedure returns
+-- the law: the values of an answer are under the names of the quantities that its procedure returns
 pub have_their_names : QuantitiesHaveTheirNames
 have_their_names GetPrecision (Short n) is = refl
 have_their_names GetPrecision answer is = cc
@@ -97,7 +97,7 @@ pub quantities_fill : (asked : Asked) (end : End) → length (quantity_fields as
 quantities_fill asked (Answered quality (Some answer) line) = columns_filled asked answer
 quantities_fill asked end = refl
 
--- however a command ended, its quantities and, behind them, its quality and its attempt have 26 fields
+-- however a command ended, its quantities and, after them, its quality and its attempt have 26 fields
 more_fill : (when : When) (asked : Asked) (end : End) → length (quantity_fields asked end ++ last_fields when end) ≡ 26
 more_fill when asked end = length-append (quantity_fields asked end) (last_fields when end) ∙ ap (λ n. n + 2) (quantities_fill asked end)
 

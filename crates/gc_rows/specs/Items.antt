@@ -1,6 +1,6 @@
--- The items of a reply's values: what stands between the commas, where these aren't within double quotes, without the spaces round it. Commas
--- and strings in double quotes are those of the GeoCOM manual's chapter on the ASCII protocol; the spaces and the limit of 16 are this
--- project's own.
+-- The items of a reply's values: what lies between the commas, if these aren't within double quotes, without the spaces round
+-- it. Commas and strings in double quotes are those of the GeoCOM manual's chapter on the ASCII protocol; the spaces and the
+-- limit of 16 are this project's own.
 use Rattle.std.specs.Prelude.{ℕ, ◌+◌, ◌%◌, ◌==◌, ◌&&◌, Bool, true, false, not, nat_lt, List, [], ◌∷◌, length, map, Option, Some, None, if◌then◌else◌}
 use Rattle.gc_values.specs.Params.{quotes}
 
@@ -9,7 +9,7 @@ abbrev pub without_front : List ℕ → List ℕ
 without_front [] = []
 without_front (b ∷ bs) = if b == 32 then without_front bs else b ∷ bs
 
--- a byte in front of a text; a space in front of nothing is left out
+-- a byte before a text; a space before nothing is left out
 abbrev pub before_text : ℕ → List ℕ → List ℕ
 before_text b [] = if b == 32 then [] else b ∷ []
 before_text b (x ∷ xs) = b ∷ x ∷ xs
@@ -28,11 +28,12 @@ abbrev pub onto : ℕ → List (List ℕ) → List (List ℕ)
 onto b [] = []
 onto b (piece ∷ pieces) = (b ∷ piece) ∷ pieces
 
--- whether a double quote is open behind a byte; `quoted` says whether one is in front of it
+-- whether a double quote is open after a byte; `quoted` says whether one is before it
 abbrev pub turned : ℕ → Bool → Bool
 turned b quoted = if b == 34 then not quoted else quoted
 
--- the pieces of a text, which is cut at each comma outside double quotes; `quoted` says whether a double quote is open in front of the text
+-- the pieces of a text, which is cut at each comma outside double quotes; `quoted` says whether a double quote is open before
+-- the text
 abbrev pub pieces : Bool → List ℕ → List (List ℕ)
 pieces quoted [] = [] ∷ []
 pieces quoted (b ∷ bs) = if (b == 44) && not quoted then [] ∷ pieces false bs else onto b (pieces (turned b quoted) bs)
@@ -42,7 +43,7 @@ abbrev pub is_blank : List ℕ → Bool
 is_blank [] = true
 is_blank (b ∷ bs) = (b == 32) && is_blank bs
 
--- the items of a text; there is none where it is blank
+-- the items of a text; there is none if it is blank
 abbrev pub items_of : List ℕ → List (List ℕ)
 items_of text = if is_blank text then [] else map trimmed (pieces false text)
 

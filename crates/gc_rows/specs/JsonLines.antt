@@ -1,5 +1,6 @@
--- Lines of JSON: a record as one object, whose members' names are this project's own. A string is printable ASCII: other bytes stand as
--- `\x` and two digits, and so does a backslash, as in a row; and then each backslash and each double quote stands behind a backslash.
+-- Lines of JSON: a record as one object, whose members' names are this project's own. A string is printable ASCII: other bytes
+-- are written as `\x` and two digits, and so is a backslash, as in a row; and then each backslash and each double quote comes
+-- after a backslash.
 use Rattle.std.specs.Prelude.{ℕ, ◌+◌, ◌==◌, ◌||◌, Bool, true, false, List, [], ◌∷◌, ◌++◌, Option, Some, None, if◌then◌else◌, codes}
 use Rattle.std.specs.Fmt.{decimal}
 use Rattle.std.specs.List.{flat_map}
@@ -21,7 +22,7 @@ use Rattle.gc_texts.specs.Cuts.{before, behind}
 use Rattle.gc_rows.specs.Rows.{com_of, code_of, values_of, procedure_of}
 use Rattle.gc_texts.specs.Stamps.{stamp_text}
 
--- a byte of a string: a double quote and a backslash stand behind a backslash
+-- a byte of a string: a double quote or a backslash, after a backslash
 abbrev pub behind_backslash : ℕ → List ℕ
 behind_backslash b = if (b == 34) || (b == 92) then 92 ∷ b ∷ [] else b ∷ []
 
@@ -40,7 +41,7 @@ pub data Member : Type 0 where
   Number : (name digits : List ℕ) → Member
   Texts : (name : List ℕ) (texts : List (List ℕ)) → Member
 
--- the name of a member behind a comma, with its colon
+-- the name of a member after a comma, with its colon
 abbrev pub named : List ℕ → List ℕ
 named name = codes ",\"" ++ name ++ codes "\":"
 
@@ -52,12 +53,12 @@ text_member name bytes = named name ++ string_text bytes
 abbrev pub number_member : List ℕ → List ℕ → List ℕ
 number_member name digits = named name ++ digits
 
--- a comma where one is wanted
+-- a comma if one is wanted
 abbrev pub comma_where : Bool → List ℕ
 comma_where true = codes ","
 comma_where false = []
 
--- strings that hold these bytes, with commas between them, and one in front of the first where `behind` says so
+-- strings that hold these bytes, with commas between them, and one before the first where `behind` says so
 abbrev pub strings_text : Bool → List (List ℕ) → List ℕ
 strings_text behind [] = []
 strings_text behind (bytes ∷ others) = comma_where behind ++ (string_text bytes ++ strings_text true others)
@@ -84,13 +85,13 @@ members_text members = flat_map member_text members
 abbrev pub json_line : ℕ → List Member → List ℕ
 json_line run members = codes "{\"run\":" ++ string_text (stamp_text run) ++ members_text members ++ codes "}\n"
 
--- digits without the zeros in front of them; the last digit stays
+-- digits without the zeros before them; the last digit stays
 abbrev pub without_zeros : List ℕ → List ℕ
 without_zeros [] = []
 without_zeros (b ∷ []) = b ∷ []
 without_zeros (b ∷ c ∷ rest) = if b == 48 then without_zeros (c ∷ rest) else b ∷ c ∷ rest
 
--- when a command was sent, where it was
+-- when a command was sent, if it was
 abbrev pub sent_members : Option ℕ → List Member
 sent_members None = []
 sent_members (Some utc) = Text (codes "sent") (stamp_text utc) ∷ []
@@ -101,7 +102,7 @@ when_members when =
     sent_members when.stamp.sent
     ++ (Text (codes "time") (stamp_text when.stamp.utc) ∷ Number (codes "cycle") (decimal when.stamp.cycle) ∷ Number (codes "place") (decimal when.stamp.turn.place) ∷ [])
 
--- what a target is called, where it has a name
+-- what a target is called, if it has a name
 abbrev pub name_members : List ℕ → List Member
 name_members [] = []
 name_members (b ∷ bs) = Text (codes "name") (b ∷ bs) ∷ []
@@ -111,12 +112,12 @@ abbrev pub what_members : Wish → List ℕ → List Member
 what_members command name =
     Number (codes "target") (decimal command.target) ∷ (name_members name ++ Number (codes "procedure") (decimal (procedure_of command.call)) ∷ [])
 
--- the fault of a reply's values, where they don't read
+-- the fault of a reply's values, if they don't read
 abbrev pub fault_members : Option ValueFault → List Member
 fault_members None = []
 fault_members (Some fault) = Number (codes "fault") (decimal (fault_number fault)) ∷ []
 
--- what a reply's line says, where there is one: its communication code, its return code, and its values
+-- what a reply's line says, if there is one: its communication code, its return code, and its values
 abbrev pub reply_members : Option (List ℕ) → List Member
 reply_members None = []
 reply_members (Some line) =
@@ -138,7 +139,7 @@ abbrev pub values_members : ℕ → List Value → List ℕ → List Member
 values_members column [] came = []
 values_members column (v ∷ vs) came = value_members (quantity_name column) v (before 44 came) ++ values_members (column + 1) vs (behind 44 came)
 
--- the items of a reply's values, where these split
+-- the items of a reply's values, if these split
 abbrev pub item_members : Option (List (List ℕ)) → List Member
 item_members None = []
 item_members (Some items) = Texts (codes "items") items ∷ []
@@ -148,12 +149,12 @@ abbrev pub answer_members : Asked → Answer → List ℕ → List Member
 answer_members (Table call) answer line = values_members (column_of call answer) (answer_fields answer).values (values_of line)
 answer_members (Raw raw) answer line = item_members (split_items (values_of line))
 
--- the quantities or the items of a command's answer, where it ended with one
+-- the quantities or the items of a command's answer, if it ended with one
 abbrev pub quantity_members : Asked → End → List Member
 quantity_members asked (Answered quality (Some answer) line) = answer_members asked answer line
 quantity_members asked _ = []
 
--- a member for the word of a quality; none where the word is empty
+-- a member for the word of a quality; none if the word is empty
 abbrev pub worded_members : List ℕ → List Member
 worded_members [] = []
 worded_members (b ∷ bs) = Text (codes "quality") (b ∷ bs) ∷ []
@@ -162,14 +163,14 @@ worded_members (b ∷ bs) = Text (codes "quality") (b ∷ bs) ∷ []
 abbrev pub attempt_members : When → List Member
 attempt_members when = Number (codes "attempt") (decimal when.stamp.turn.attempt) ∷ []
 
--- the members behind all others: the quality of the command's answer, where it was answered, and the attempt of its chain
+-- the members after all others: the quality of the command's answer, if it was answered, and the attempt of its chain
 abbrev pub last_members : When → End → List Member
 last_members when end = worded_members (quality_text (quality_of end)) ++ attempt_members when
 
--- the members of the quantities or the items of an answer, and behind them the last ones
+-- the members of the quantities or the items of an answer, and after them the last ones
 abbrev pub more_members : When → Asked → End → List Member
 more_members when asked end = quantity_members asked end ++ last_members when end
 
--- the members of a record's object behind the first, which is `run`
+-- the members of a record's object after the first, which is `run`
 abbrev pub json_members : When → List ℕ → Wish → End → List Member
 json_members when name command end = when_members when ++ (what_members command name ++ (ending_members end ++ more_members when command.call end))

@@ -35,14 +35,14 @@ pub record ColumnsSay (line : List ℕ) (r : ReplyFields) : Type 0 where
 abbrev pub ColumnsAreFields : Type 0
 ColumnsAreFields = (line : List ℕ) (r : ReplyFields) → IsReply line r → ColumnsSay line r
 
--- where a reply's values are parameters of the grammar, these are the items that an object has of them
+-- if a reply's values are parameters of the grammar, these are the items that an object has of them
 abbrev pub ItemsAreTheGrammars : Type 0
 ItemsAreTheGrammars = (text : List ℕ) (items : List (List ℕ)) → IsParams text items → items_of text ≡ items
 
 -- rows read back by a reader of comma-separated values, whatever bytes their fields hold. `row`: a row of two fields or more
--- gives its fields, and the reader goes on behind the row. `table`: rows of two fields or more give a table of their fields.
--- `names`: what stands in front of all records is the row of the columns' names. `once`: no two lists of bytes have one escaped
--- form, in which a field is read back
+-- gives its fields, and the reader goes on after the row. `table`: rows of two fields or more give a table of their fields.
+-- `names`: what comes before all records is the row of the columns' names. `once`: no two lists of bytes have one escaped form,
+-- in which a field is read back
 pub record RowsReadBack : Type 0 where
   pub row : (fields : List (List ℕ)) (behind : List ℕ) → 1 < length fields
       → next_record default_config StartRecord [] [] (row_of fields ++ behind) ≡ Some (map escaped fields, StartRecord, behind)
@@ -56,7 +56,7 @@ abbrev pub RowsArePrintable : Type 0
 RowsArePrintable =
     (fields : List (List ℕ)) → AllByRecursion (All (λ b. b < 256)) fields → (text : List ℕ) × (row_of fields ≡ text ++ codes "\n") × IsPrintable text
 
--- a name that stands in a string as it is: printable ASCII without a double quote and a backslash
+-- a name that appears unchanged in a string: printable ASCII without a double quote and a backslash
 abbrev pub IsPlainName : List ℕ → Type 0
 IsPlainName name = AllByRecursion (λ b. (32 ≤ b) × ((b ≢ 34) × (b ≢ 92))) name
 

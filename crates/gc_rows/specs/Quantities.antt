@@ -1,4 +1,4 @@
--- Quantities: the values of an answer, each as a text, and the columns in which they stand. Their names and their order are this
+-- Quantities: the values of an answer, each as a text, and the columns in which they are. Their names and their order are this
 -- project's own, and their units the manual's: angles in radians, lengths in metres, a temperature in degrees Celsius.
 use Rattle.std.specs.Prelude.{ℕ, List, [], ◌∷◌, get_or, codes}
 use Rattle.std.specs.Fmt.{decimal}
@@ -20,7 +20,7 @@ quantity_names =
     ∷ codes "serial" ∷ codes "instrument" ∷ codes "year" ∷ codes "month"
     ∷ codes "day" ∷ codes "hour" ∷ codes "minute" ∷ codes "second" ∷ []
 
--- the name of the quantity in a column, counted from 0; nothing behind the last column
+-- the name of the quantity in a column, counted from 0; nothing after the last column
 abbrev pub quantity_name : ℕ → List ℕ
 quantity_name column = get_or quantity_names column []
 
@@ -30,7 +30,7 @@ column_of_long GetFace = 9
 column_of_long GetPrism = 10
 column_of_long _ = 16
 
--- the column of the first value of a call's answer, counted from 0; the others stand behind it
+-- the column of the first value of a call's answer, counted from 0; the others come after it
 abbrev pub column_of : Call → Answer → ℕ
 column_of call Nothing = 0
 column_of call (Angles hz v) = 0

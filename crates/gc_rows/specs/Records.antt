@@ -15,18 +15,18 @@ use Rattle.gc_rows.specs.Quantities.{quantity_names}
 use Rattle.gc_rows.specs.Rows.{row_of, row_fields}
 use Rattle.gc_texts.specs.Stamps.{stamp_text}
 
--- the number of a fault behind a space, where there is one
+-- the number of a fault after a space, if there is one
 abbrev pub spaced_fault : Option ValueFault → List ℕ
 spaced_fault None = []
 spaced_fault (Some fault) = codes " " ++ decimal (fault_number fault)
 
--- the line of a reply behind a space, as it stands in a row, where there is one
+-- the line of a reply after a space, as it is in a row, if there is one
 abbrev pub spaced_line : Option (List ℕ) → List ℕ
 spaced_line None = []
 spaced_line (Some line) = codes " " ++ escaped line
 
--- how a command ended, in words: the outcome, the number of its fault, and the line of its reply, where there are these. Its bytes stand as
--- in a row, so that no reply draws itself as another record
+-- how a command ended, in words: the outcome, the number of its fault, and the line of its reply, if there are these. Its bytes
+-- are as in a row, so that no reply draws itself as another record
 abbrev pub ending_text : End → List ℕ
 ending_text end = codes " " ++ word_of end ++ spaced_fault (fault_of end) ++ spaced_line (line_of end)
 
@@ -48,19 +48,19 @@ names =
     codes "run" ∷ codes "sent" ∷ codes "time" ∷ codes "cycle" ∷ codes "place" ∷ codes "target" ∷ codes "name" ∷ codes "procedure"
     ∷ codes "outcome" ∷ codes "fault" ∷ codes "rc_com" ∷ codes "rc" ∷ codes "values" ∷ []
 
--- the names of the columns behind all others
+-- the names of the columns after all others
 abbrev pub last_names : List (List ℕ)
 last_names = codes "quality" ∷ codes "attempt" ∷ []
 
--- what stands in front of all records: the names of the columns as a row, in the forms that have columns
+-- what comes before all records: the names of the columns as a row, in the forms that have columns
 abbrev pub head_text : Form → List ℕ
 head_text Lines = []
 head_text Json = []
 head_text Csv = row_of (names ++ last_names)
 head_text Columns = row_of (names ++ (quantity_names ++ last_names))
 
--- the bytes that a file of records begins with: what stands in front of all records, or, in a file of JSON, in front of which
--- nothing stands, the bytes that each line begins with
+-- the bytes that a file of records begins with: what comes before all records, or, in a file of JSON, which nothing precedes,
+-- the bytes that each line begins with
 abbrev pub sign_text : Form → List ℕ
 sign_text Json = codes "{\"run\":\""
 sign_text Lines = head_text Lines

@@ -1,5 +1,5 @@
--- Rows: a record as a row of comma-separated values. The columns are this project's own, and how a field is quoted is RFC 4180's. Each
--- field is printable ASCII: other bytes stand as `\x` and two digits, and so does a backslash.
+-- Rows: a record as a row of comma-separated values. The columns are this project's own, and how a field is quoted is RFC
+-- 4180's. Each field is printable ASCII: other bytes are written as `\x` and two digits, and so is a backslash.
 use Rattle.std.specs.Prelude.{ℕ, ◌-◌, ◌==◌, ◌||◌, Bool, true, false, List, [], ◌∷◌, ◌++◌, length, map, replicate, Option, Some, None, if◌then◌else◌, codes}
 use Rattle.std.specs.Fmt.{decimal}
 use Rattle.std.specs.List.{flat_map, list_any}
@@ -31,11 +31,11 @@ code_of line = before 44 (behind 58 (behind 44 line))
 abbrev pub values_of : List ℕ → List ℕ
 values_of line = behind 44 (behind 58 (behind 44 line))
 
--- whether a byte may stand in a field only within quotes: a comma, a double quote, CR or LF
+-- whether a byte may occur in a field only within quotes: a comma, a double quote, CR or LF
 abbrev pub is_special : ℕ → Bool
 is_special b = (b == 44) || (b == 34) || (b == 13) || (b == 10)
 
--- a byte within quotes: a double quote stands twice
+-- a byte within quotes: a double quote is doubled
 abbrev pub within_quotes : ℕ → List ℕ
 within_quotes b = if b == 34 then 34 ∷ 34 ∷ [] else b ∷ []
 
@@ -47,11 +47,11 @@ csv_field text = if list_any is_special text then codes "\"" ++ flat_map within_
 abbrev pub field_text : List ℕ → List ℕ
 field_text bytes = csv_field (escaped bytes)
 
--- a field that holds these bytes, behind a comma
+-- a field that holds these bytes, after a comma
 abbrev pub behind_comma : List ℕ → List ℕ
 behind_comma bytes = 44 ∷ field_text bytes
 
--- fields that hold these bytes, each behind a comma
+-- fields that hold these bytes, each after a comma
 abbrev pub behind_commas : List (List ℕ) → List ℕ
 behind_commas fields = flat_map behind_comma fields
 
@@ -60,7 +60,7 @@ abbrev pub row_of : List (List ℕ) → List ℕ
 row_of [] = codes "\n"
 row_of (first ∷ others) = field_text first ++ behind_commas others ++ codes "\n"
 
--- the text of a moment; empty where there is none
+-- the text of a moment; empty if there is none
 abbrev pub moment_text : Option ℕ → List ℕ
 moment_text None = []
 moment_text (Some utc) = stamp_text utc
@@ -77,12 +77,12 @@ procedure_of asked = (asked_request None asked).rpc
 abbrev pub what_fields : Wish → List ℕ → List (List ℕ)
 what_fields command name = decimal command.target ∷ name ∷ decimal (procedure_of command.call) ∷ []
 
--- the number of a fault; empty where there is none
+-- the number of a fault; empty if there is none
 abbrev pub fault_field : Option ValueFault → List ℕ
 fault_field None = []
 fault_field (Some fault) = decimal (fault_number fault)
 
--- what a reply's line says: its communication code, its return code, and its values; three empty fields where there is no reply
+-- what a reply's line says: its communication code, its return code, and its values; three empty fields if there is no reply
 abbrev pub reply_fields : Option (List ℕ) → List (List ℕ)
 reply_fields None = [] ∷ [] ∷ [] ∷ []
 reply_fields (Some line) = com_of line ∷ code_of line ∷ values_of line ∷ []
@@ -91,12 +91,12 @@ reply_fields (Some line) = com_of line ∷ code_of line ∷ values_of line ∷ [
 abbrev pub ending_fields : End → List (List ℕ)
 ending_fields end = word_of end ∷ fault_field (fault_of end) ∷ reply_fields (line_of end)
 
--- a value as a field, behind a comma
+-- a value as a field, after a comma
 abbrev pub value_text : Value → List ℕ
 value_text value = behind_comma (quantity_text value)
 
--- 24 fields: the texts stand in columns one behind the other, the first in column `first`, counted from 0, and the other
--- columns are empty
+-- 24 fields: the texts are in columns one after the other, the first in column `first`, counted from 0, and the other columns
+-- are empty
 abbrev pub spread : ℕ → List (List ℕ) → List (List ℕ)
 spread first texts = replicate first [] ++ (texts ++ replicate (24 - first - length texts) [])
 
@@ -105,16 +105,16 @@ abbrev pub answer_columns : Asked → Answer → List (List ℕ)
 answer_columns (Table call) answer = spread (column_of call answer) (map quantity_text (answer_fields answer).values)
 answer_columns (Raw raw) answer = replicate 24 []
 
--- the quantities of a command's answer, each in its column; all columns are empty where it ended without one
+-- the quantities of a command's answer, each in its column; all columns are empty if it ended without one
 abbrev pub quantity_fields : Asked → End → List (List ℕ)
 quantity_fields asked (Answered quality (Some answer) line) = answer_columns asked answer
 quantity_fields asked _ = replicate 24 []
 
--- the fields behind all others: the quality of the command's answer, empty where it wasn't answered, and the attempt of its chain
+-- the fields after all others: the quality of the command's answer, empty if it wasn't answered, and the attempt of its chain
 abbrev pub last_fields : When → End → List (List ℕ)
 last_fields when end = quality_text (quality_of end) ∷ decimal when.stamp.turn.attempt ∷ []
 
--- the fields behind the first thirteen: those of the quantities if a row has columns for them (`true`), and the last ones
+-- the fields after the first thirteen: those of the quantities if a row has columns for them (`true`), and the last ones
 abbrev pub more_fields : Bool → When → Asked → End → List (List ℕ)
 more_fields true when asked end = quantity_fields asked end ++ last_fields when end
 more_fields false when asked end = last_fields when end

@@ -17,7 +17,7 @@ use Rattle.gc_rows.specs.declared.when.When.{When}
 abbrev pub angles : List (List ℕ)
 angles = codes "hz_rad" ∷ codes "v_rad" ∷ []
 
--- the angles, and behind them the slope distance
+-- the angles, and after them the slope distance
 abbrev pub measured : List (List ℕ)
 measured = angles ++ codes "distance_m" ∷ []
 
@@ -25,7 +25,8 @@ measured = angles ++ codes "distance_m" ∷ []
 abbrev pub versions : List (List ℕ)
 versions = codes "release" ∷ codes "version" ∷ codes "subversion" ∷ []
 
--- the names of the quantities that the procedure with this number returns, in their order on the line; none where it isn't among these
+-- the names of the quantities that the procedure with this number returns, in their order on the line; none if it isn't among
+-- these
 abbrev pub quantities_told : ℕ → List (List ℕ)
 quantities_told rpc =
     -- COM_GetDoublePrecision
@@ -52,12 +53,12 @@ quantities_told rpc =
     else (if rpc == 17017 then measured ++ codes "mode" ∷ []
     else []))))))))))))
 
--- the names of the columns in which values stand, the first of them in this one
+-- the names of the columns in which values are, the first of them in this one
 abbrev pub names_from : ℕ → List Value → List (List ℕ)
 names_from column [] = []
 names_from column (v ∷ vs) = quantity_name column ∷ names_from (column + 1) vs
 
--- the values of an answer stand under the names of the quantities that its procedure returns, in that order
+-- the values of an answer are under the names of the quantities that its procedure returns, in that order
 abbrev pub QuantitiesHaveTheirNames : Type 0
 QuantitiesHaveTheirNames =
     (call : Call) (answer : Answer) → IsAnswerOf call answer → names_from (column_of call answer) (answer_fields answer).values ≡ quantities_told (call_fields call).number

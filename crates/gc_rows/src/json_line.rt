@@ -22,13 +22,13 @@ use itoa::Buffer;
 /// The most bytes of a line.
 pub(crate) const JSON_ROOM: usize = 40_960;
 
-// The most bytes of a member's name of at most 37 bytes, with a comma in front, within quotes, and with a colon behind.
+// The most bytes of a member's name of at most 37 bytes, with a comma before it, within quotes, and with a colon after.
 const NAME_ROOM: usize = 1 + 2 + 37 + 1;
 
 // The most bytes of a value's two members: the number with its name, and how it came, of at most 512 bytes, with its name.
 const VALUE_ROOM: usize = 8 * 512 + 640;
 
-// The most bytes of up to 16 strings that hold 512 bytes together: each byte may be escaped as four, each of these stand behind a
+// The most bytes of up to 16 strings that hold 512 bytes together: each byte may be escaped as four, each of these come after a
 // backslash, and each string has its quotes and a comma.
 const STRINGS_ROOM: usize = 8 * 512 + 3 * 16;
 
@@ -42,10 +42,10 @@ const ANSWER_ROOM: usize = 6 * VALUE_ROOM;
 // escaped.
 const QUALITY_ROOM: usize = NAME_ROOM + 2 + 8 * 16;
 
-// The most bytes of the members behind all others: the quality, and the attempt, a name and at most 20 digits.
+// The most bytes of the members after all others: the quality, and the attempt, a name and at most 20 digits.
 const LAST_ROOM: usize = QUALITY_ROOM + NAME_ROOM + 20;
 
-// The most bytes of the members behind how a command ended: those of its answer and the last ones.
+// The most bytes of the members after how a command ended: those of its answer and the last ones.
 const MORE_ROOM: usize = ANSWER_ROOM + LAST_ROOM;
 
 // Appends a text with a backslash before each double quote and each backslash.
@@ -75,7 +75,7 @@ fn append_string<const N: usize>(line: &mut ArrayVec<u8, N>, bytes: &[u8])
     append(line, b"\"");
 }
 
-// Appends a comma, the name of a member within double quotes, and a colon. The name is `name` with `ending` behind it.
+// Appends a comma, the name of a member within double quotes, and a colon. The name is `name` with `ending` after it.
 fn append_name<const N: usize>(line: &mut ArrayVec<u8, N>, name: &[u8], ending: &[u8])
     requires short { length name.now ≤ 32 }
     requires ends { length ending.now ≤ 5 }
@@ -170,7 +170,7 @@ fn append_what<const N: usize>(line: &mut ArrayVec<u8, N>, command: &Wish, name:
     );
 }
 
-// Digits without the zeros in front of them; the last digit stays.
+// Digits without the zeros before them; the last digit stays.
 fn without_zeros(digits: &[u8]) -> &[u8]
     ensures is { result.now ≡ without_zeros digits.now }
     ensures short { length result.now ≤ length digits.now }
@@ -181,7 +181,7 @@ fn without_zeros(digits: &[u8]) -> &[u8]
     }
 }
 
-// Appends the number of the fault of a reply's values, where they don't read.
+// Appends the number of the fault of a reply's values, if they don't read.
 fn append_fault<const N: usize>(line: &mut ArrayVec<u8, N>, fault: Option<ValueFault>)
     requires { array_vec_len line.old + 64 ≤ N }
     ensures text { line.new.items ≡ line.old.items ++ members_text (fault_members fault) }
@@ -208,7 +208,7 @@ fn append_texts<const N: usize>(line: &mut ArrayVec<u8, N>, reply: &Line)
     append_text(line, b"values", texts.values);
 }
 
-// Appends what a reply's line says, where there is a reply: its communication code, its return code, and its values.
+// Appends what a reply's line says, if there is a reply: its communication code, its return code, and its values.
 fn append_reply<const N: usize>(line: &mut ArrayVec<u8, N>, reply: Option<&Line>)
     requires { array_vec_len line.old + 5346 ≤ N }
     ensures text { line.new.items ≡ line.old.items ++ members_text (reply_members (option_map (λ l. l.now.items) reply.entry)) }
@@ -231,7 +231,7 @@ fn append_ending<const N: usize>(line: &mut ArrayVec<u8, N>, ending: Ending<'_>)
 }
 
 // Appends the members of a value. A text gives one: its bytes as a string, under this name. A number gives two: the number in
-// its one written form, under this name, and behind it, under the name with `_text`, how the reply's line wrote it (`came`).
+// its one written form, under this name, and after it, under the name with `_text`, how the reply's line wrote it (`came`).
 fn append_value<const N: usize>(line: &mut ArrayVec<u8, N>, name: &[u8], value: &Value, came: &[u8])
     requires named { length name.now ≤ 32 }
     requires short { length came.now ≤ 514 }
@@ -249,7 +249,7 @@ fn append_value<const N: usize>(line: &mut ArrayVec<u8, N>, name: &[u8], value: 
     }
 }
 
-// Appends values, each under the name of its column: the first in column `first`, and the others behind it. `came` are the same
+// Appends values, each under the name of its column: the first in column `first`, and the others after it. `came` are the same
 // values as the reply's line has them, with the commas between them.
 fn append_values<const N: usize>(
     line: &mut ArrayVec<u8, N>,
@@ -311,7 +311,7 @@ fn append_list<const N: usize>(line: &mut ArrayVec<u8, N>, texts: &Items<'_>)
     append(line, b"]");
 }
 
-// Appends the items of a reply's values, where these split.
+// Appends the items of a reply's values, if these split.
 fn append_items<const N: usize>(line: &mut ArrayVec<u8, N>, values: &[u8])
     requires short { length values.now ≤ 512 }
     requires room { array_vec_len line.old + LIST_ROOM ≤ N }
@@ -357,7 +357,7 @@ fn append_quantities<const N: usize>(line: &mut ArrayVec<u8, N>, asked: &Asked, 
     }
 }
 
-// Appends the member `quality`, which holds this word. Where the word is empty, nothing is appended.
+// Appends the member `quality`, which holds this word. If the word is empty, nothing is appended.
 fn append_quality<const N: usize>(line: &mut ArrayVec<u8, N>, word: &[u8])
     requires short { length word.now ≤ 16 }
     requires room { array_vec_len line.old + QUALITY_ROOM ≤ N }
@@ -369,7 +369,7 @@ fn append_quality<const N: usize>(line: &mut ArrayVec<u8, N>, word: &[u8])
     }
 }
 
-// Appends the member of the answer's quality, where the command was answered, and the one of the attempt of its chain.
+// Appends the member of the answer's quality, if the command was answered, and the one of the attempt of its chain.
 fn append_last<const N: usize>(line: &mut ArrayVec<u8, N>, when: &When, ending: Ending<'_>)
     requires { array_vec_len line.old + LAST_ROOM ≤ N }
     ensures text { line.new.items ≡ line.old.items ++ members_text (last_members when.now (ending_seen ending.entry)) }
@@ -383,7 +383,7 @@ fn append_last<const N: usize>(line: &mut ArrayVec<u8, N>, when: &When, ending: 
     );
 }
 
-// Appends a member for each quantity of a command's answer, or one for its items, and behind them the last members.
+// Appends a member for each quantity of a command's answer, or one for its items, and after them the last members.
 fn append_more<const N: usize>(
     line: &mut ArrayVec<u8, N>,
     when: &When,

@@ -1,4 +1,4 @@
-//! Quantities: the values of an answer, each as a text, and the columns in which they stand.
+//! Quantities: the values of an answer, each as a text, and the columns in which they are.
 
 ghost use Rattle.std.specs.Prelude.{◌≡◌, ◌+◌, ◌≤◌, length};
 ghost use Rattle.gc_catalogue.specs.Answers.{answer_fields};
@@ -20,7 +20,7 @@ pub(crate) const MOST_VALUES: usize = 6;
 /// The most bytes of a quantity.
 pub(crate) const QUANTITY_ROOM: usize = 64;
 
-/// The name of the quantity in a column, counted from 0; nothing behind the last column.
+/// The name of the quantity in a column, counted from 0; nothing after the last column.
 pub(crate) fn quantity_name(column: usize) -> &'static [u8]
     ensures is { result.now ≡ quantity_name column }
     ensures short { length result.now ≤ 32 }
@@ -123,7 +123,7 @@ fn station_values(station: &Station) -> ArrayVec<Value, MOST_VALUES>
     values
 }
 
-/// The column of the first value of a call's answer, counted from 0. The others stand behind it.
+/// The column of the first value of a call's answer, counted from 0. The others come after it.
 pub(crate) fn column_of(call: &Call, answer: &Answer) -> usize
     ensures is { result ≡ column_of call.now answer.now }
     ensures fits { column_of call.now answer.now + length (answer_fields answer.now).values ≤ 24 }

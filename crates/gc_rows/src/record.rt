@@ -22,7 +22,7 @@ pub enum Form {
     /// Each a line: the moment, the place, the target, and how the command ended, with the bytes of the reply escaped as in a
     /// log.
     Lines,
-    /// Each a row of comma-separated values, quoted as RFC 4180 has it, with the names of the columns in front of all.
+    /// Each a row of comma-separated values, quoted as RFC 4180 has it, with the names of the columns before all.
     Csv,
     /// As `Csv`, with a column for each quantity that an answer may have.
     Columns,
@@ -65,8 +65,8 @@ pub fn write_head<K: Sink>(sink: &mut K, form: Form) -> Result<(), usize>
     write_whole(sink, head(form))
 }
 
-/// Writes a record: its moments, the target's name, of at most 64 bytes and empty where it has none, the command, and how it
-/// ended. It goes out in one write where the sink takes all of it. `Err(n)`: the sink took the first n bytes of it, which aren't
+/// Writes a record: its moments, the target's name, of at most 64 bytes and empty if it has none, the command, and how it
+/// ended. It is sent in one write if the sink takes all of it. `Err(n)`: the sink took the first n bytes of it, which aren't
 /// all, and failed.
 pub fn write_record<K: Sink>(
     sink: &mut K,
@@ -89,7 +89,7 @@ pub fn write_record<K: Sink>(
     }
 }
 
-// The most bytes of how a command ended: the word, a fault, and the reply's line, each byte of which may stand as four.
+// The most bytes of how a command ended: the word, a fault, and the reply's line, each byte of which may be written as four.
 const ENDING_ROOM: usize = 1 + 16 + 21 + 1 + 4 * 512;
 
 // The most bytes of a record's line: a moment, a place and a target, the words, and the reply's line.
@@ -111,7 +111,7 @@ fn record_line(when: &When, command: &Wish, ending: Ending<'_>) -> ArrayVec<u8, 
     line
 }
 
-// How a command ended: its word, the number of its fault, and the line of the reply, escaped as in a log; each behind a space.
+// How a command ended: its word, the number of its fault, and the line of the reply, escaped as in a log; each after a space.
 fn ending_text(ending: Ending<'_>) -> ArrayVec<u8, ENDING_ROOM>
     ensures { result.items ≡ ending_text (ending_seen ending.entry) }
 {
@@ -123,7 +123,7 @@ fn ending_text(ending: Ending<'_>) -> ArrayVec<u8, ENDING_ROOM>
     text
 }
 
-// Appends the number of a fault behind a space, where there is one.
+// Appends the number of a fault after a space, if there is one.
 fn append_fault<const N: usize>(text: &mut ArrayVec<u8, N>, fault: Option<ValueFault>)
     requires { array_vec_len text.old + 21 ≤ N }
     ensures text { text.new.items ≡ text.old.items ++ spaced_fault fault }
@@ -135,7 +135,7 @@ fn append_fault<const N: usize>(text: &mut ArrayVec<u8, N>, fault: Option<ValueF
     }
 }
 
-// Appends the line of a reply, escaped as in a log, behind a space, where there is one.
+// Appends the line of a reply, escaped as in a log, after a space, if there is one.
 fn append_line<const N: usize>(text: &mut ArrayVec<u8, N>, line: Option<&Line>)
     requires { array_vec_len text.old + 2049 ≤ N }
     ensures { text.new.items ≡ text.old.items ++ spaced_line (option_map (λ l. l.now.items) line.entry) }

@@ -30,11 +30,12 @@ const VALUE_ROOM: usize = 1 + 8 * QUANTITY_ROOM + 2;
 // The most bytes of the quantities of an answer in a row: six values, and a comma for each column.
 const QUANTITIES_ROOM: usize = 6 * VALUE_ROOM + QUANTITIES;
 
-// The most bytes of the fields behind all others: a comma and the word of a quality, of at most 16 bytes, and a comma and the digits
-// of an attempt, of which there are at most 20. Each of these bytes has the room of one that is escaped and doubled within quotes.
+// The most bytes of the fields after all others: a comma and the word of a quality, of at most 16 bytes, and a comma and the
+// digits of an attempt, of which there are at most 20. Each of these bytes has the room of one that is escaped and doubled
+// within quotes.
 const LAST_ROOM: usize = (1 + 8 * 16 + 2) + (1 + 8 * 20 + 2);
 
-// The most bytes of a row behind its first thirteen fields: the quantities and the last ones.
+// The most bytes of a row after its first thirteen fields: the quantities and the last ones.
 const MORE_ROOM: usize = QUANTITIES_ROOM + LAST_ROOM;
 
 // A comma before each column of a quantity.
@@ -67,7 +68,7 @@ pub(crate) fn texts_of(line: &[u8]) -> ReplyTexts<'_>
     }
 }
 
-// What stands before the first mark, and what stands behind it; without a mark, all of the text and nothing.
+// What comes before the first mark, and what comes after it; without a mark, all of the text and nothing.
 fn parts(mark: u8, text: &[u8]) -> (&[u8], &[u8])
     ensures front { result.0.now ≡ before mark text.now }
     ensures rest { result.1.now ≡ behind mark text.now }
@@ -76,7 +77,7 @@ fn parts(mark: u8, text: &[u8]) -> (&[u8], &[u8])
     (before(mark, text), behind(mark, text))
 }
 
-// Whether a field has to stand within quotes: it has a comma, a double quote, a CR or a line feed.
+// Whether a field has to be within quotes: it has a comma, a double quote, a CR or a line feed.
 fn is_special(text: &[u8]) -> bool
     ensures { result ≡ list_any is_special text.now }
 {
@@ -135,7 +136,7 @@ fn append_next<const N: usize>(row: &mut ArrayVec<u8, N>, bytes: &[u8])
     append_field(row, bytes);
 }
 
-// Appends `count` empty fields, each behind a comma.
+// Appends `count` empty fields, each after a comma.
 fn append_blanks<const N: usize>(row: &mut ArrayVec<u8, N>, count: usize)
     requires few { count ≤ 24 }
     requires room { array_vec_len row.old + count ≤ N }
@@ -145,7 +146,7 @@ fn append_blanks<const N: usize>(row: &mut ArrayVec<u8, N>, count: usize)
     append(row, &COMMAS[..count]);
 }
 
-// The text of a moment; empty where there is none.
+// The text of a moment; empty if there is none.
 fn moment_text(moment: Option<u64>) -> ArrayVec<u8, STAMP_ROOM>
     ensures { result.items ≡ moment_text moment }
 {
@@ -181,7 +182,7 @@ fn append_what<const N: usize>(row: &mut ArrayVec<u8, N>, command: &Wish, name: 
     append_next(row, digits.format(command.call.number()).as_bytes());
 }
 
-// The number of a fault; empty where there is none.
+// The number of a fault; empty if there is none.
 fn fault_text(fault: Option<ValueFault>) -> ArrayVec<u8, 20>
     ensures { result.items ≡ fault_field fault }
 {
@@ -192,7 +193,7 @@ fn fault_text(fault: Option<ValueFault>) -> ArrayVec<u8, 20>
     text
 }
 
-// Appends what a reply's line says: its communication code, its return code, and its values. The three fields are empty where
+// Appends what a reply's line says: its communication code, its return code, and its values. The three fields are empty if
 // there is no reply.
 fn append_reply<const N: usize>(row: &mut ArrayVec<u8, N>, line: Option<&Line>)
     requires { array_vec_len row.old + 12297 ≤ N }
@@ -221,7 +222,7 @@ fn append_ending<const N: usize>(row: &mut ArrayVec<u8, N>, ending: Ending<'_>)
     append_reply(row, ending.line());
 }
 
-// Appends values as quantities, each a field behind a comma.
+// Appends values as quantities, each a field after a comma.
 fn append_values<const N: usize>(row: &mut ArrayVec<u8, N>, values: &[Value])
     requires few { length values.now ≤ 6 }
     requires room { array_vec_len row.old + VALUE_ROOM * length values.now ≤ N }
@@ -259,7 +260,7 @@ fn append_answer<const N: usize>(row: &mut ArrayVec<u8, N>, asked: &Asked, answe
     }
 }
 
-// Appends the quantities of a command's answer, each in its column. All columns are empty where it ended without one.
+// Appends the quantities of a command's answer, each in its column. All columns are empty if it ended without one.
 fn append_quantities<const N: usize>(row: &mut ArrayVec<u8, N>, asked: &Asked, ending: Ending<'_>)
     requires { array_vec_len row.old + QUANTITIES_ROOM ≤ N }
     ensures text { row.new.items ≡ row.old.items ++ behind_commas (quantity_fields asked.now (ending_seen ending.entry)) }
@@ -271,7 +272,7 @@ fn append_quantities<const N: usize>(row: &mut ArrayVec<u8, N>, asked: &Asked, e
     }
 }
 
-// Appends the quality of a command's answer, an empty field where the command wasn't answered, and the attempt of its chain.
+// Appends the quality of a command's answer, an empty field if the command wasn't answered, and the attempt of its chain.
 fn append_last<const N: usize>(row: &mut ArrayVec<u8, N>, when: &When, ending: Ending<'_>)
     requires { array_vec_len row.old + LAST_ROOM ≤ N }
     ensures text { row.new.items ≡ row.old.items ++ behind_commas (last_fields when.now (ending_seen ending.entry)) }
@@ -284,7 +285,7 @@ fn append_last<const N: usize>(row: &mut ArrayVec<u8, N>, when: &When, ending: E
     );
 }
 
-// Appends the quantities of a command's answer, each in its column, and behind them the last fields.
+// Appends the quantities of a command's answer, each in its column, and after them the last fields.
 fn append_both<const N: usize>(
     row: &mut ArrayVec<u8, N>,
     when: &When,

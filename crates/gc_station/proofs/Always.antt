@@ -1,12 +1,12 @@
--- Facts of every run: what holds at the start, and after each act of a run, holds after a whole run. An act is one call of the
--- link, with what came of it.
+-- Facts of every run: what holds at the start, and after each act of a run, holds after a whole run. An act is one call on the
+-- link, with its result.
 use Rattle.std.proofs.Common.{◌≡◌, List, [], ◌∷◌, ◌++◌, sym, ap, ◌∙◌, subst}
 use Rattle.gc_texts.specs.declared.tasks.Task.{Task}
 use Rattle.gc_station.specs.declared.plan.Plan.{Plan}
 use Rattle.gc_station.specs.declared.progress.Progress.{Progress}
 use Rattle.gc_links.specs.Acts.{Act}
 use Rattle.gc_station.specs.Progressing.{turned}
-use Rattle.gc_station.specs.Runs.{stood}
+use Rattle.gc_station.specs.Runs.{state_after}
 use Rattle.gc_station.specs.Scopes.{Scope}
 use Rattle.gc_station.specs.Model.{Model, opening, action_at, with_progress, Performs, moved, after, after_all, Runs}
 use Rattle.gc_station.proofs.Counts.{ended_progress}
@@ -32,17 +32,18 @@ module _ (plan : Plan) (commands : List Task) where
       → P (moved plan commands (action_at plan (after_all plan commands s done)) (with_progress turned (after_all plan commands s done)) act).progress (done ++ act ∷ []))
       → P s.progress [] → (acts : List Act) → Runs plan commands s acts → P (after_all plan commands s acts).progress acts
   always_far s P step start acts runs = always s (λ (done : List Act) (t : Model). P t.progress done) far start acts runs where
-    -- each act keeps P of the model's progress: the loss of what waits, at the end of an act, changes no progress
+    -- each act keeps P of the model's progress: the loss of what is outstanding, at the end of an act, changes no progress
     far : (done : List Act) (act : Act) → Runs plan commands s done → Performs commands (after_all plan commands s done) (action_at plan (after_all plan commands s done)) act
         → P (after_all plan commands s done).progress done → P (after plan commands (after_all plan commands s done) act).progress (done ++ act ∷ [])
     far done act runs o p =
         let t = after_all plan commands s done in
         subst (λ (q : Progress). P q (done ++ act ∷ [])) (sym (ended_progress (moved plan commands (action_at plan t) (with_progress turned t) act))) (step done act runs o p)
 
--- the progress after one act more is what `moved` makes of it: the loss of what waits, at the end of the act, changes no progress
+-- the progress after one act more is what `moved` makes of it: the loss of what is outstanding, at the end of the act, changes
+-- no progress
 pub progress_behind : (plan : Plan) (commands : List Task) (scope : Scope) (done : List Act) (act : Act)
-    → (stood plan commands scope (done ++ act ∷ [])).progress ≡ (moved plan commands (action_at plan (stood plan commands scope done))
-    (with_progress turned (stood plan commands scope done)) act).progress
+    → (state_after plan commands scope (done ++ act ∷ [])).progress ≡ (moved plan commands (action_at plan (state_after plan commands scope done))
+    (with_progress turned (state_after plan commands scope done)) act).progress
 progress_behind plan commands scope done act =
-    let s = stood plan commands scope done in
+    let s = state_after plan commands scope done in
     ap (λ (x : Model). x.progress) (after_all-append plan commands (opening plan scope) done (act ∷ [])) ∙ ended_progress (moved plan commands (action_at plan s) (with_progress turned s) act)

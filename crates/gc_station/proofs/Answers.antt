@@ -1,6 +1,6 @@
 -- Each record is of its very request: an answer came after it, with its id, and in time; a late reply came too late; and a lost
--- one is lost for a cause. Each act keeps `IsHonest` (of `Waiting`): the requests that wait were put among the acts, and the
--- records are true. An act is one call of the link, with what came of it.
+-- one is lost for a cause. Each act preserves `IsHonest` (of `Waiting`): the outstanding requests were put among the acts, and the
+-- records are true. An act is one call on the link, with its result.
 use Rattle.std.proofs.Common.{◌≡◌, inl, inr, ℕ, ◌+◌, ◌%◌, ◌<◌, ◌≤◌, Bool, true, false, List, [], ◌∷◌, ◌++◌, length, drop, if◌then◌else◌, Option, Some, None, nat_eq, refl, sym, ap, ◌∙◌, subst, arith, append_assoc, append-nil, length-append}
 use Rattle.std.specs.List.{AllByRecursion}
 use Rattle.std.proofs.lemmas.Bool.Decides.{nat_tests}
@@ -22,16 +22,16 @@ use Rattle.gc_station.specs.declared.progress.Action.TheVariants as actions
 use Rattle.gc_station.specs.declared.progress.Progress.{Progress}
 use Rattle.gc_station.specs.declared.progress.Until.{Until}
 use Rattle.gc_links.specs.Acts.{Act, Told, Untold, Put, Cut, Gave, Silent, Ended, Broke, Closed, Opened, Unopened}
-use Rattle.gc_station.specs.Answers.{IsBefore, first_deadline, deadline_behind, IsTrueRecord}
-use Rattle.gc_station.specs.Ends.{IsTrulyLate, IsTrulyLost}
+use Rattle.gc_station.specs.Answers.{ReadsBefore, first_deadline, deadline_after, AnswerIsJustified}
+use Rattle.gc_station.specs.Ends.{LateIsJustified, LostIsJustified}
 use Rattle.gc_station.specs.Deciding.{later}
 use Rattle.gc_station.specs.Quiet.{IsAsking}
-use Rattle.gc_station.specs.Progressing.{turned, told, reckoned_early, begun, skipped, passed, skipped_at, cleared, null_sent, renewed, sent, asking, loses_all, setup_sent}
+use Rattle.gc_station.specs.Progressing.{turned, moment_noted, reckoned_early, cycle_begun, skipped, attempts_left_out, skipped_at, cleared, null_sent, renewed, sent, asking, loses_all, setup_sent}
 use Rattle.gc_station.specs.Marks.{commands_in}
 use Rattle.gc_station.specs.Reasons.{IsFor}
 use Rattle.gc_station.specs.Records.{Record}
-use Rattle.gc_station.specs.Runs.{stood}
-use Rattle.gc_station.specs.Model.{Model, opening, action_at, waiting_of, mark_next, place_next, request_text, null_text, first_text, with_progress, is_heard, client_sent, asks_null, asks_first, asks_next, is_chained_behind_next, others_behind_next, is_chained_behind, others_behind, after_pass, with_passes, passes_next, with_listed, skip_listed, with_records, skips, skips_first, after_clock, after_put, after_open, after_read, Puts, ReadsClock, IsOpening, IsReading, Performs, moved, Runs, cycle_length, place_out, mark_setup, text_or_null, asks_or_null, asks_setup}
+use Rattle.gc_station.specs.Runs.{state_after}
+use Rattle.gc_station.specs.Model.{Model, opening, action_at, waiting_of, mark_next, place_next, request_text, null_text, first_text, with_progress, is_heard, client_sent, asks_null, asks_first, asks_next, is_chained_after_next, others_after_next, is_chained_after, others_after, after_pass, with_passes, passes_next, with_listed, skip_listed, with_records, skips, skips_first, after_clock, after_put, after_open, after_read, Puts, ReadsClock, IsOpening, IsReading, Performs, moved, Runs, cycle_length, place_out, mark_setup, text_or_null, asks_or_null, asks_setup}
 use Rattle.gc_station.proofs.EachRun.{fine_stood}
 use Rattle.gc_station.proofs.Outs.{prepare_cycle, prepare_place, send_cycle, send_place, sending_asks}
 use Rattle.gc_station.proofs.Facts.{action_for}
@@ -40,34 +40,34 @@ use Rattle.gc_station.proofs.Going.{after_all-append}
 use Rattle.gc_station.proofs.Growing.{losing_records}
 use Rattle.gc_station.proofs.Lists.{all_append, all_on, Rows, rows_more}
 use Rattle.gc_station.proofs.Losing.{losing_honest}
-use Rattle.gc_station.proofs.Waiting.{Stayed, Waits, IsTrue, Honest, IsHonest, Marked, asked_more, asked_as, asked_among, stays_still, more_true, still, moment_told}
+use Rattle.gc_station.proofs.Waiting.{Stayed, Waits, IsJustified, Honest, IsHonest, Marked, asked_more, asked_as, asked_among, stays_still, more_true, still, moment_told}
 use Rattle.gc_station.proofs.Pieces.{piece_honest}
 use Rattle.gc_station.specs.Scopes.{Scope}
 
--- A request goes out.
+-- A request is sent.
 
--- an act that puts bytes tells no moment
-puts_still : (bytes : List ℕ) (act : Act) → Puts bytes act → (d : ℕ) → IsBefore d act
+-- an act that puts bytes reads no moment
+puts_still : (bytes : List ℕ) (act : Act) → Puts bytes act → (d : ℕ) → ReadsBefore d act
 puts_still bytes (Put out) o d = tt
 puts_still bytes (Cut out n) o d = tt
 puts_still bytes act o d = absurd o
 
--- the client (the first argument) once a request with this target, call and deadline was sent, where the window has room: the
--- next id is counted on, and one more request waits
+-- the client (the first argument) once a request with this target, call and deadline was sent, if the window has room: the next
+-- id is counted on, and one more request is outstanding
 abbrev pub with_sent : ById Asked → ℕ → Asked → ℕ → ById Asked
 with_sent c target call deadline = record { next = (c.next + 1) % 8; waiting = c.waiting ++ pending_of target call deadline ∷ [] }
 
--- where the window has room, a send isn't refused, and leaves the client `with_sent`
+-- if the window has room, a send isn't refused, and leaves the client `with_sent`
 pub client_is : (c : ById Asked) (target : ℕ) (call : Asked) (deadline : ℕ) → length c.waiting < 7 → client_sent c (sends WINDOW c target call deadline) ≡ with_sent c target call deadline
 client_is c target call deadline room = ap (λ (b : Bool). client_sent c (id_send c target call deadline b)) (not_full (length c.waiting) 7 room) where
   -- a number below 7 isn't 7
   not_full : (n w : ℕ) → n < w → nat_eq n w ≡ false
   not_full n w low = grind (arith, nat_tests, low)
 
--- an act that sends a request keeps `Honest`: one more request waits, behind the others
+-- an act that sends a request preserves `Honest`: one more request is outstanding, after the others
 sent_honest : (plan : Plan) (commands : List Task) (scope : Scope) (acts : List Act) (act : Act) (c : ById Asked) (marks : List (Option Mark))
     (records : List Record) (target : ℕ) (call : Asked) (deadline : ℕ) (mark : Option Mark)
-    → ((d : ℕ) → IsBefore d act) → c.next < 8 → length c.waiting < 7 → length marks ≡ length c.waiting
+    → ((d : ℕ) → ReadsBefore d act) → c.next < 8 → length c.waiting < 7 → length marks ≡ length c.waiting
     → Waits plan commands scope (acts ++ act ∷ []) ((c.next + 1) % 8) (length c.waiting + 1) (length acts) (length c.waiting) (pending_of target call deadline) mark
     → Honest plan commands scope acts (acts ++ act ∷ []) c marks records
     → Honest plan commands scope (acts ++ act ∷ []) (acts ++ act ∷ []) (with_sent c target call deadline) (marks ++ mark ∷ []) records
@@ -92,18 +92,19 @@ sent_honest plan commands scope acts act c marks records target call deadline ma
       written = h.written;
     }
 
--- the request that goes out waits as `Waits` says, put as the last of the acts
+-- the request that is sent waits as `Waits` says, put as the last of the acts
 asked_here : (plan : Plan) (commands : List Task) (scope : Scope) (acts : List Act) (act : Act) (target : ℕ) (call : Asked) (deadline : ℕ) (mark : Option Mark)
-    → Invariant plan commands (stood plan commands scope acts)
-    → length (stood plan commands scope acts).client.waiting < 7 → (0 < length (stood plan commands scope acts).client.waiting → IsAsking (action_at plan (stood plan commands scope acts)))
+    → Invariant plan commands (state_after plan commands scope acts)
+    → length (state_after plan commands scope acts).client.waiting < 7
+    → (0 < length (state_after plan commands scope acts).client.waiting → IsAsking (action_at plan (state_after plan commands scope acts)))
     → ((m : Mark) → mark ≡ Some m → Marked plan commands scope acts m)
-    → ((m : Mark) → mark ≡ Some m → deadline ≡ deadline_behind plan commands scope acts)
-    → Puts (request_text (stood plan commands scope acts).client call) act
-    → Waits plan commands scope (acts ++ act ∷ []) (((stood plan commands scope acts).client.next + 1) % 8)
-    (length (stood plan commands scope acts).client.waiting + 1) (length acts) (length (stood plan commands scope acts).client.waiting)
+    → ((m : Mark) → mark ≡ Some m → deadline ≡ deadline_after plan commands scope acts)
+    → Puts (request_text (state_after plan commands scope acts).client call) act
+    → Waits plan commands scope (acts ++ act ∷ []) (((state_after plan commands scope acts).client.next + 1) % 8)
+    (length (state_after plan commands scope acts).client.waiting + 1) (length acts) (length (state_after plan commands scope acts).client.waiting)
     (pending_of target call deadline) mark
 asked_here plan commands scope acts act target call deadline mark fine room asks its at puts =
-    let c = (stood plan commands scope acts).client in
+    let c = (state_after plan commands scope acts).client in
     record {
       before = acts;
       request = act;
@@ -118,47 +119,48 @@ asked_here plan commands scope acts act target call deadline mark fine room asks
       stays = tt;
     }
 
--- an act that sends a command keeps `Honest`
+-- an act that sends a command preserves `Honest`
 command_honest : (plan : Plan) (commands : List Task) (scope : Scope) (acts : List Act) (act : Act) (target : ℕ) (call : Asked) (mark : Mark)
-    → Invariant plan commands (stood plan commands scope acts) → IsHonest plan commands scope acts (acts ++ act ∷ []) (stood plan commands scope acts)
-    → Marked plan commands scope acts mark → length (stood plan commands scope acts).client.waiting < 7
-    → Puts (request_text (stood plan commands scope acts).client call) act
-    → Honest plan commands scope (acts ++ act ∷ []) (acts ++ act ∷ []) (with_sent (stood plan commands scope acts).client target call (deadline_behind plan commands scope acts))
-    ((stood plan commands scope acts).marks ++ Some mark ∷ []) (stood plan commands scope acts).records
+    → Invariant plan commands (state_after plan commands scope acts) → IsHonest plan commands scope acts (acts ++ act ∷ []) (state_after plan commands scope acts)
+    → Marked plan commands scope acts mark → length (state_after plan commands scope acts).client.waiting < 7
+    → Puts (request_text (state_after plan commands scope acts).client call) act
+    → Honest plan commands scope (acts ++ act ∷ []) (acts ++ act ∷ []) (with_sent (state_after plan commands scope acts).client target call (deadline_after plan commands scope acts))
+    ((state_after plan commands scope acts).marks ++ Some mark ∷ []) (state_after plan commands scope acts).records
 command_honest plan commands scope acts act target call mark fine h is room puts =
-    let s = stood plan commands scope acts in
+    let s = state_after plan commands scope acts in
     let c = s.client in
-    sent_honest plan commands scope acts act c s.marks s.records target call (deadline_behind plan commands scope acts)
+    sent_honest plan commands scope acts act c s.marks s.records target call (deadline_after plan commands scope acts)
     (Some mark) (puts_still _ act puts) fine.digit room fine.paired
-    (asked_here plan commands scope acts act target call (deadline_behind plan commands scope acts) (Some mark) fine room (λ above. sending_asks plan s is.sends)
+    (asked_here plan commands scope acts act target call (deadline_after plan commands scope acts) (Some mark) fine room (λ above. sending_asks plan s is.sends)
     (λ m its. let same : mark ≡ m = cc in subst (λ (x : Mark). Marked plan commands scope acts x) same is) (λ m its. refl) puts) h
 
--- the act that sends the first of these commands, with this mark, keeps `IsHonest`
+-- the act that sends the first of these commands, with this mark, preserves `IsHonest`
 first_honest : (plan : Plan) (commands : List Task) (scope : Scope) (acts : List Act) (act : Act) (next_is_chained : Bool) (behind : ℕ) (left : List Task) (mark : Mark)
-    → Invariant plan commands (stood plan commands scope acts) → IsHonest plan commands scope acts (acts ++ act ∷ []) (stood plan commands scope acts)
-    → Marked plan commands scope acts mark → length (stood plan commands scope acts).client.waiting < 7
-    → drop (place_out plan commands (stood plan commands scope acts)) commands ≡ left
-    → Puts (first_text mark.sent (stood plan commands scope acts).client left) act
+    → Invariant plan commands (state_after plan commands scope acts) → IsHonest plan commands scope acts (acts ++ act ∷ []) (state_after plan commands scope acts)
+    → Marked plan commands scope acts mark → length (state_after plan commands scope acts).client.waiting < 7
+    → drop (place_out plan commands (state_after plan commands scope acts)) commands ≡ left
+    → Puts (first_text mark.sent (state_after plan commands scope acts).client left) act
     → IsHonest plan commands scope (acts ++ act ∷ []) (acts ++ act ∷ [])
-    (with_progress (sent next_is_chained behind) (asks_first mark left (with_progress turned (stood plan commands scope acts))))
+    (with_progress (sent next_is_chained behind) (asks_first mark left (with_progress turned (state_after plan commands scope acts))))
 first_honest plan commands scope acts act next_is_chained behind [] mark fine h is room at puts =
     still plan commands scope acts act _ _ _ (puts_still [] act puts) h
 first_honest plan commands scope acts act next_is_chained behind (task ∷ others) mark fine h is room at puts =
-    let s = stood plan commands scope acts in
-    let d : later s.progress.moment.elapsed task.deadline ≡ deadline_behind plan commands scope acts = ap (λ (left : List Task). later s.progress.moment.elapsed (first_deadline left)) (sym at) in
+    let s = state_after plan commands scope acts in
+    let d : later s.progress.moment.elapsed task.deadline ≡ deadline_after plan commands scope acts = ap (λ (left : List Task). later s.progress.moment.elapsed (first_deadline left)) (sym at) in
     subst (λ (c : ById Asked). Honest plan commands scope (acts ++ act ∷ []) (acts ++ act ∷ []) c (s.marks ++ Some mark ∷ []) s.records)
     (sym (ap (λ (e : ℕ). client_sent s.client (sends WINDOW s.client task.command.target (call_at task mark.sent) e)) d
-    ∙ client_is s.client task.command.target (call_at task mark.sent) (deadline_behind plan commands scope acts) room))
+    ∙ client_is s.client task.command.target (call_at task mark.sent) (deadline_after plan commands scope acts) room))
     (command_honest plan commands scope acts act task.command.target (call_at task mark.sent) mark fine h is room puts)
 
--- an act that sends a null procedure after commands keeps `IsHonest`
+-- an act that sends a null procedure after commands preserves `IsHonest`
 null_honest : (plan : Plan) (commands : List Task) (scope : Scope) (acts : List Act) (act : Act) (f : Progress → Progress)
-    → Invariant plan commands (stood plan commands scope acts) → IsHonest plan commands scope acts (acts ++ act ∷ []) (stood plan commands scope acts)
-    → length (stood plan commands scope acts).client.waiting < 7 → (0 < length (stood plan commands scope acts).client.waiting → IsAsking (action_at plan (stood plan commands scope acts)))
-    → Puts (request_text (stood plan commands scope acts).client (Table NullProc)) act
-    → IsHonest plan commands scope (acts ++ act ∷ []) (acts ++ act ∷ []) (with_progress f (asks_null plan (with_progress turned (stood plan commands scope acts))))
+    → Invariant plan commands (state_after plan commands scope acts) → IsHonest plan commands scope acts (acts ++ act ∷ []) (state_after plan commands scope acts)
+    → length (state_after plan commands scope acts).client.waiting < 7
+    → (0 < length (state_after plan commands scope acts).client.waiting → IsAsking (action_at plan (state_after plan commands scope acts)))
+    → Puts (request_text (state_after plan commands scope acts).client (Table NullProc)) act
+    → IsHonest plan commands scope (acts ++ act ∷ []) (acts ++ act ∷ []) (with_progress f (asks_null plan (with_progress turned (state_after plan commands scope acts))))
 null_honest plan commands scope acts act f fine h room asks puts =
-    let s = stood plan commands scope acts in
+    let s = state_after plan commands scope acts in
     let d = later s.progress.moment.elapsed plan.deadline in
     subst (λ (c : ById Asked). Honest plan commands scope (acts ++ act ∷ []) (acts ++ act ∷ []) c (s.marks ++ None ∷ []) s.records) (sym (client_is s.client 0 (Table NullProc) d room))
     (sent_honest plan commands scope acts act s.client s.marks s.records 0 (Table NullProc) d None (puts_still _ act puts) fine.digit room fine.paired
@@ -167,21 +169,21 @@ null_honest plan commands scope acts act f fine h room asks puts =
       never : (m : Mark) → None ≡ Some m → ⊥
       never m e = cc
 
--- the act that sends the first of these commands of the set-up, with this mark, keeps `IsHonest`
+-- the act that sends the first of these commands of the setup, with this mark, preserves `IsHonest`
 setup_honest : (plan : Plan) (commands : List Task) (scope : Scope) (acts : List Act) (act : Act) (left : List Task) (mark : Mark)
-    → Invariant plan commands (stood plan commands scope acts) → IsHonest plan commands scope acts (acts ++ act ∷ []) (stood plan commands scope acts)
-    → Marked plan commands scope acts mark → length (stood plan commands scope acts).client.waiting < 7
-    → drop (place_out plan commands (stood plan commands scope acts)) commands ≡ left
-    → Puts (text_or_null mark.sent (stood plan commands scope acts).client left) act
-    → IsHonest plan commands scope (acts ++ act ∷ []) (acts ++ act ∷ []) (with_progress (setup_sent plan) (asks_or_null plan mark left (with_progress turned (stood plan commands scope acts))))
+    → Invariant plan commands (state_after plan commands scope acts) → IsHonest plan commands scope acts (acts ++ act ∷ []) (state_after plan commands scope acts)
+    → Marked plan commands scope acts mark → length (state_after plan commands scope acts).client.waiting < 7
+    → drop (place_out plan commands (state_after plan commands scope acts)) commands ≡ left
+    → Puts (text_or_null mark.sent (state_after plan commands scope acts).client left) act
+    → IsHonest plan commands scope (acts ++ act ∷ []) (acts ++ act ∷ []) (with_progress (setup_sent plan) (asks_or_null plan mark left (with_progress turned (state_after plan commands scope acts))))
 setup_honest plan commands scope acts act [] mark fine h is room at puts =
-    null_honest plan commands scope acts act (setup_sent plan) fine h room (λ above. sending_asks plan (stood plan commands scope acts) is.sends) puts
+    null_honest plan commands scope acts act (setup_sent plan) fine h room (λ above. sending_asks plan (state_after plan commands scope acts) is.sends) puts
 setup_honest plan commands scope acts act (task ∷ others) mark fine h is room at puts =
-    let s = stood plan commands scope acts in
-    let d : later s.progress.moment.elapsed task.deadline ≡ deadline_behind plan commands scope acts = ap (λ (left : List Task). later s.progress.moment.elapsed (first_deadline left)) (sym at) in
+    let s = state_after plan commands scope acts in
+    let d : later s.progress.moment.elapsed task.deadline ≡ deadline_after plan commands scope acts = ap (λ (left : List Task). later s.progress.moment.elapsed (first_deadline left)) (sym at) in
     subst (λ (c : ById Asked). Honest plan commands scope (acts ++ act ∷ []) (acts ++ act ∷ []) c (s.marks ++ Some mark ∷ []) s.records)
     (sym (ap (λ (e : ℕ). client_sent s.client (sends WINDOW s.client task.command.target (call_at task mark.sent) e)) d
-    ∙ client_is s.client task.command.target (call_at task mark.sent) (deadline_behind plan commands scope acts) room))
+    ∙ client_is s.client task.command.target (call_at task mark.sent) (deadline_after plan commands scope acts) room))
     (command_honest plan commands scope acts act task.command.target (call_at task mark.sent) mark fine h is room puts)
 
 -- `IsHonest` holds after a write, whole or cut, if it holds after a whole one
@@ -194,24 +196,24 @@ put_honest plan commands scope acts requests f t act h = h
 
 -- the record of a command that isn't sent is true: it is neither an answer nor late nor lost
 unsent_true : (plan : Plan) (commands : List Task) (scope : Scope) (all : List Act) (b : Bool) (utc : ℕ) (mark : Mark) (command : Wish)
-    → IsTrue plan commands scope all (record { sent = None; utc = utc; cycle = mark.cycle; place = mark.place; turn = mark.expected.turn; command = command; end = if b then Missed else Skipped })
+    → IsJustified plan commands scope all (record { sent = None; utc = utc; cycle = mark.cycle; place = mark.place; turn = mark.expected.turn; command = command; end = if b then Missed else Skipped })
 unsent_true plan commands scope all true utc mark command = record { answered = λ line e. cc; late = λ e. cc; lost = λ e. cc }
 unsent_true plan commands scope all false utc mark command = record { answered = λ line e. cc; late = λ e. cc; lost = λ e. cc }
 
 -- the record of the first of these commands, which isn't sent, is true
 skips_first_true : (plan : Plan) (commands : List Task) (scope : Scope) (all : List Act) (p : Progress) (m : Moment) (mark : Mark) (left : List Task)
-    → AllByRecursion (IsTrue plan commands scope all) (skips_first p m mark left)
+    → AllByRecursion (IsJustified plan commands scope all) (skips_first p m mark left)
 skips_first_true plan commands scope all p m mark [] = tt
 skips_first_true plan commands scope all p m mark (task ∷ others) = (unsent_true plan commands scope all p.missed (skipped_at m p) mark task.command, tt)
 
--- the record of the next command, where it isn't sent, is true
-skips_true : (plan : Plan) (commands : List Task) (scope : Scope) (all : List Act) (p : Progress) (act : Act) → AllByRecursion (IsTrue plan commands scope all) (skips plan commands p act)
+-- the record of the next command, if it isn't sent, is true
+skips_true : (plan : Plan) (commands : List Task) (scope : Scope) (all : List Act) (p : Progress) (act : Act) → AllByRecursion (IsJustified plan commands scope all) (skips plan commands p act)
 skips_true plan commands scope all p (Told m) = skips_first_true plan commands scope all p m (mark_next plan commands p) (drop (place_next commands p) commands)
 skips_true plan commands scope all p act = tt
 
 -- Each action.
 
--- an act that reads the clock keeps `IsHonest`
+-- an act that reads the clock preserves `IsHonest`
 clock_honest : (plan : Plan) (commands : List Task) (scope : Scope) (acts : List Act) (act : Act) (f : Moment → Progress → Progress) (s : Model)
     → IsHonest plan commands scope acts (acts ++ act ∷ []) s → ReadsClock act
     → IsHonest plan commands scope (acts ++ act ∷ []) (acts ++ act ∷ []) (after_clock f (with_progress turned s) act)
@@ -219,101 +221,104 @@ clock_honest plan commands scope acts (Told m) f s h o = moment_told plan comman
 clock_honest plan commands scope acts Untold f s h o = still plan commands scope acts Untold _ _ _ (λ d. tt) h
 clock_honest plan commands scope acts act f s h o = absurd o
 
--- an act that passes attempts over keeps `IsHonest`
+-- an act that passes attempts over preserves `IsHonest`
 pass_honest : (plan : Plan) (commands : List Task) (scope : Scope) (acts : List Act) (act : Act) (s : Model)
     → IsHonest plan commands scope acts (acts ++ act ∷ []) s → ReadsClock act
     → IsHonest plan commands scope (acts ++ act ∷ []) (acts ++ act ∷ []) (after_pass plan commands (with_progress turned s) act)
 pass_honest plan commands scope acts (Told m) s h o =
     let p = turned s.progress in
     let n = p.next_others in
-    clock_honest plan commands scope acts (Told m) (λ m p'. reckoned_early plan (commands_in s.marks) (passed (is_chained_behind n commands p) (others_behind n commands p) m p'))
+    clock_honest plan commands scope acts (Told m) (λ m p'. reckoned_early plan (commands_in s.marks) (attempts_left_out (is_chained_after n commands p) (others_after n commands p) m p'))
     (with_passes (passes_next plan commands p) s) (record { waiting = h.waiting; written = h.written }) o
 pass_honest plan commands scope acts Untold s h o = clock_honest plan commands scope acts Untold (λ m p. p) s h o
 pass_honest plan commands scope acts act s h o = absurd o
 
--- an attempt to connect keeps `IsHonest`
+-- an attempt to connect preserves `IsHonest`
 open_honest : (plan : Plan) (commands : List Task) (scope : Scope) (acts : List Act) (act : Act) (s : Model) → IsHonest plan commands scope acts (acts ++ act ∷ []) s → IsOpening act
     → IsHonest plan commands scope (acts ++ act ∷ []) (acts ++ act ∷ []) (after_open plan (with_progress turned s) act)
 open_honest plan commands scope acts Opened s h o = still plan commands scope acts Opened _ _ _ (λ d. tt) h
 open_honest plan commands scope acts Unopened s h o = still plan commands scope acts Unopened _ _ _ (λ d. tt) h
 open_honest plan commands scope acts act s h o = absurd o
 
--- a read keeps `IsHonest`, whatever came of it
+-- a read preserves `IsHonest`, whatever came of it
 read_honest : (plan : Plan) (commands : List Task) (scope : Scope) (acts : List Act) (until : Until) (act : Act) (tail : List Record)
-    → Invariant plan commands (stood plan commands scope acts) → IsHonest plan commands scope acts (acts ++ act ∷ []) (stood plan commands scope acts)
+    → Invariant plan commands (state_after plan commands scope acts) → IsHonest plan commands scope acts (acts ++ act ∷ []) (state_after plan commands scope acts)
     → IsReading act
-    → (stood plan commands scope (acts ++ act ∷ [])).records ≡ (after_read plan until (with_progress turned (stood plan commands scope acts)) act).records ++ tail
-    → IsHonest plan commands scope (acts ++ act ∷ []) (acts ++ act ∷ []) (after_read plan until (with_progress turned (stood plan commands scope acts)) act)
+    → (state_after plan commands scope (acts ++ act ∷ [])).records ≡ (after_read plan until (with_progress turned (state_after plan commands scope acts)) act).records ++ tail
+    → IsHonest plan commands scope (acts ++ act ∷ []) (acts ++ act ∷ []) (after_read plan until (with_progress turned (state_after plan commands scope acts)) act)
 read_honest plan commands scope acts until Untold tail fine h o ends = still plan commands scope acts Untold _ _ _ (λ d. tt) h
 read_honest plan commands scope acts until (Gave bytes m) tail fine h o ends =
-    let s = stood plan commands scope acts in
+    let s = state_after plan commands scope acts in
     piece_honest plan commands scope acts bytes m (is_heard s.progress.phase) s.progress.word tail ends (record { digit = fine.digit; few = fine.window }) h
 read_honest plan commands scope acts until (Silent m) tail fine h o ends = moment_told plan commands scope acts (Silent m) m.elapsed _ _ _ (λ d low. low) (λ d past. past) h
 read_honest plan commands scope acts until Ended tail fine h o ends = still plan commands scope acts Ended _ _ _ (λ d. tt) h
 read_honest plan commands scope acts until Broke tail fine h o ends = still plan commands scope acts Broke _ _ _ (λ d. tt) h
 read_honest plan commands scope acts until act tail fine h o ends = absurd o
 
--- a close tells no moment
-close_still : (act : Act) → act ≡ Closed → (d : ℕ) → IsBefore d act
-close_still act is d = subst (λ (x : Act). IsBefore d x) (sym is) tt
+-- a close reads no moment
+close_still : (act : Act) → act ≡ Closed → (d : ℕ) → ReadsBefore d act
+close_still act is d = subst (λ (x : Act). ReadsBefore d x) (sym is) tt
 
--- each act keeps `IsHonest`, before what waits is lost
+-- each act preserves `IsHonest`, before what is outstanding is lost
 moved_honest : (plan : Plan) (commands : List Task) (scope : Scope) (acts : List Act) (action : Action) (act : Act) (tail : List Record)
-    → Invariant plan commands (stood plan commands scope acts) → IsHonest plan commands scope acts (acts ++ act ∷ []) (stood plan commands scope acts)
-    → action_at plan (stood plan commands scope acts) ≡ action → IsFor plan (stood plan commands scope acts).progress (waiting_of (stood plan commands scope acts)) action
-    → Performs commands (stood plan commands scope acts) action act
-    → (stood plan commands scope (acts ++ act ∷ [])).records ≡ (moved plan commands action (with_progress turned (stood plan commands scope acts)) act).records ++ tail
-    → IsHonest plan commands scope (acts ++ act ∷ []) (acts ++ act ∷ []) (moved plan commands action (with_progress turned (stood plan commands scope acts)) act)
+    → Invariant plan commands (state_after plan commands scope acts) → IsHonest plan commands scope acts (acts ++ act ∷ []) (state_after plan commands scope acts)
+    → action_at plan (state_after plan commands scope acts) ≡ action → IsFor plan (state_after plan commands scope acts).progress (waiting_of (state_after plan commands scope acts)) action
+    → Performs commands (state_after plan commands scope acts) action act
+    → (state_after plan commands scope (acts ++ act ∷ [])).records ≡ (moved plan commands action (with_progress turned (state_after plan commands scope acts)) act).records ++ tail
+    → IsHonest plan commands scope (acts ++ act ∷ []) (acts ++ act ∷ []) (moved plan commands action (with_progress turned (state_after plan commands scope acts)) act)
 moved_honest plan commands scope acts actions.ReadClock act tail fine h is needs o ends =
-    let s = stood plan commands scope acts in clock_honest plan commands scope acts act (λ m p. reckoned_early plan (commands_in s.marks) (told m p)) s h o
+    let s = state_after plan commands scope acts in clock_honest plan commands scope acts act (λ m p. reckoned_early plan (commands_in s.marks) (moment_noted m p)) s h o
 moved_honest plan commands scope acts actions.Renew act tail fine h is needs o ends =
-    clock_honest plan commands scope acts act (λ m p. reckoned_early plan 0 (renewed plan m p)) (stood plan commands scope acts) h o
-moved_honest plan commands scope acts actions.Begin act tail fine h is needs o ends = clock_honest plan commands scope acts act (begun plan (cycle_length plan commands)) (stood plan commands scope acts) h o
-moved_honest plan commands scope acts actions.Open act tail fine h is needs o ends = open_honest plan commands scope acts act (stood plan commands scope acts) h o
+    clock_honest plan commands scope acts act (λ m p. reckoned_early plan 0 (renewed plan m p)) (state_after plan commands scope acts) h o
+moved_honest plan commands scope acts actions.Begin act tail fine h is needs o ends = clock_honest plan commands scope acts act (cycle_begun plan (cycle_length plan commands))
+    (state_after plan commands scope acts) h o
+moved_honest plan commands scope acts actions.Open act tail fine h is needs o ends = open_honest plan commands scope acts act (state_after plan commands scope acts) h o
 moved_honest plan commands scope acts actions.Clear act tail fine h is needs o ends =
-    let s = stood plan commands scope acts in
+    let s = state_after plan commands scope acts in
     put_honest plan commands scope (acts ++ act ∷ []) _ (with_progress cleared) (with_progress turned s) act (still plan commands scope acts act _ _ _ (puts_still (10 ∷ []) act o) h)
 moved_honest plan commands scope acts actions.Ask act tail fine h is needs o ends =
-    let s = stood plan commands scope acts in
+    let s = state_after plan commands scope acts in
     put_honest plan commands scope (acts ++ act ∷ []) _ (with_progress (null_sent plan)) (with_progress turned s) act
     (still plan commands scope acts act _ _ _ (puts_still (null_text s.progress.word) act o) h)
 moved_honest plan commands scope acts actions.Prepare act tail fine h is needs o ends =
-    let s = stood plan commands scope acts in
+    let s = state_after plan commands scope acts in
     put_honest plan commands scope (acts ++ act ∷ []) _ (λ (x : Model). with_progress (setup_sent plan) (asks_setup plan commands x)) (with_progress turned s) act
     (setup_honest plan commands scope acts act (drop s.progress.prepared commands) (mark_setup commands s.progress) fine h
     (record { sends = inr is; cycle = sym (prepare_cycle plan s is); place = sym (prepare_place plan commands s is); sent = refl }) needs.3.1
     (ap (λ n. drop n commands) (prepare_place plan commands s is)) o)
 moved_honest plan commands scope acts actions.Send act tail fine h is needs o ends =
-    let s = stood plan commands scope acts in
-    put_honest plan commands scope (acts ++ act ∷ []) _ (λ (x : Model). with_progress (sent (is_chained_behind_next commands x.progress) (others_behind_next commands x.progress)) (asks_next plan commands x)) (with_progress turned s) act
-    (first_honest plan commands scope acts act (is_chained_behind_next commands s.progress) (others_behind_next commands s.progress) (drop (place_next commands s.progress) commands) (mark_next plan commands s.progress) fine h
+    let s = state_after plan commands scope acts in
+    put_honest plan commands scope (acts ++ act ∷ []) _
+    (λ (x : Model). with_progress (sent (is_chained_after_next commands x.progress) (others_after_next commands x.progress)) (asks_next plan commands x))
+    (with_progress turned s) act
+    (first_honest plan commands scope acts act (is_chained_after_next commands s.progress) (others_after_next commands s.progress) (drop (place_next commands s.progress) commands) (mark_next plan commands s.progress) fine h
     (record { sends = inl is; cycle = sym (send_cycle plan s is); place = sym (send_place plan commands s is); sent = refl }) needs.3.1
     (ap (λ n. drop n commands) (send_place plan commands s is)) o)
 moved_honest plan commands scope acts actions.Skip act tail fine h is needs o ends =
-    let s = stood plan commands scope acts in
-    clock_honest plan commands scope acts act (λ m p. reckoned_early plan (commands_in s.marks) (skipped (is_chained_behind_next commands s.progress) (others_behind_next commands s.progress) m p))
+    let s = state_after plan commands scope acts in
+    clock_honest plan commands scope acts act (λ m p. reckoned_early plan (commands_in s.marks) (skipped (is_chained_after_next commands s.progress) (others_after_next commands s.progress) m p))
     (with_listed (skip_listed plan commands (with_progress turned s) act) (with_records (skips plan commands s.progress act) s))
     (record {
       waiting = h.waiting;
-      written = all_append (IsTrue plan commands scope (acts ++ act ∷ [])) s.records
+      written = all_append (IsJustified plan commands scope (acts ++ act ∷ [])) s.records
           (skips plan commands s.progress act) h.written (skips_true plan commands scope (acts ++ act ∷ []) s.progress act);
     }) o
-moved_honest plan commands scope acts actions.Pass act tail fine h is needs o ends = pass_honest plan commands scope acts act (stood plan commands scope acts) h o
+moved_honest plan commands scope acts actions.Pass act tail fine h is needs o ends = pass_honest plan commands scope acts act (state_after plan commands scope acts) h o
 moved_honest plan commands scope acts actions.Flush act tail fine h is needs o ends =
-    let s = stood plan commands scope acts in
+    let s = state_after plan commands scope acts in
     put_honest plan commands scope (acts ++ act ∷ []) _ (λ (x : Model). with_progress asking (asks_null plan x)) (with_progress turned s) act
     (null_honest plan commands scope acts act asking fine h needs.4.1 (λ above. subst IsAsking (sym is) tt) o)
 moved_honest plan commands scope acts (actions.Read until) act tail fine h is needs o ends = read_honest plan commands scope acts until act tail fine h o ends
 moved_honest plan commands scope acts (actions.Close why) act tail fine h is needs o ends = still plan commands scope acts act _ _ _ (close_still act o) h
 moved_honest plan commands scope acts (actions.Stop why) act tail fine h is needs o ends = absurd o
 
--- acts of a run keep `IsHonest`
+-- acts of a run preserve `IsHonest`
 honest_along : (plan : Plan) (commands : List Task) (scope : Scope) (done acts : List Act)
-    → IsHonest plan commands scope done done (stood plan commands scope done) → Runs plan commands (stood plan commands scope done) acts
-    → IsHonest plan commands scope (done ++ acts) (done ++ acts) (stood plan commands scope (done ++ acts))
-honest_along plan commands scope done [] h runs = subst (λ (xs : List Act). IsHonest plan commands scope xs xs (stood plan commands scope xs)) (sym (append-nil done)) h
+    → IsHonest plan commands scope done done (state_after plan commands scope done) → Runs plan commands (state_after plan commands scope done) acts
+    → IsHonest plan commands scope (done ++ acts) (done ++ acts) (state_after plan commands scope (done ++ acts))
+honest_along plan commands scope done [] h runs = subst (λ (xs : List Act). IsHonest plan commands scope xs xs (state_after plan commands scope xs)) (sym (append-nil done)) h
 honest_along plan commands scope done (act ∷ acts) h runs =
-    let s = stood plan commands scope done in
+    let s = state_after plan commands scope done in
     let t = moved plan commands (action_at plan s) (with_progress turned s) act in
     let next = after_all-append plan commands (opening plan scope) done (act ∷ []) in
     let fine = fine_stood plan commands scope done in
@@ -324,28 +329,28 @@ honest_along plan commands scope done (act ∷ acts) h runs =
     let both = losing_honest plan commands scope done act fine runs.0 one in
     let here = subst (λ (x : Model). IsHonest plan commands scope (done ++ act ∷ []) (done ++ act ∷ []) x) (sym next) both in
     let goes_on = subst (λ (x : Model). Runs plan commands x acts) (sym next) runs.1 in
-    subst (λ (xs : List Act). IsHonest plan commands scope xs xs (stood plan commands scope xs)) (append_assoc done (act ∷ []) acts)
+    subst (λ (xs : List Act). IsHonest plan commands scope xs xs (state_after plan commands scope xs)) (append_assoc done (act ∷ []) acts)
     (honest_along plan commands scope (done ++ act ∷ []) acts here goes_on)
 
 -- each record of a run is true, whatever ending it has
 all_true : (plan : Plan) (commands : List Task) (scope : Scope) (acts : List Act) → Runs plan commands (opening plan scope) acts
-    → AllByRecursion (IsTrue plan commands scope acts) (stood plan commands scope acts).records
+    → AllByRecursion (IsJustified plan commands scope acts) (state_after plan commands scope acts).records
 all_true plan commands scope acts runs = (honest_along plan commands scope [] acts (record { waiting = tt; written = tt }) runs).written
 
 -- each record of a reply in time is true
 pub answers_true : (plan : Plan) (commands : List Task) (scope : Scope) (acts : List Act) → Runs plan commands (opening plan scope) acts
-    → AllByRecursion (IsTrueRecord plan commands scope acts) (stood plan commands scope acts).records
-answers_true plan commands scope acts runs = all_on (IsTrue plan commands scope acts) (IsTrueRecord plan commands scope acts)
-    (stood plan commands scope acts).records (λ r is. is.answered) (all_true plan commands scope acts runs)
+    → AllByRecursion (AnswerIsJustified plan commands scope acts) (state_after plan commands scope acts).records
+answers_true plan commands scope acts runs = all_on (IsJustified plan commands scope acts) (AnswerIsJustified plan commands scope acts)
+    (state_after plan commands scope acts).records (λ r is. is.answered) (all_true plan commands scope acts runs)
 
 -- each late record is true
 pub late_true : (plan : Plan) (commands : List Task) (scope : Scope) (acts : List Act) → Runs plan commands (opening plan scope) acts
-    → AllByRecursion (IsTrulyLate plan commands scope acts) (stood plan commands scope acts).records
-late_true plan commands scope acts runs = all_on (IsTrue plan commands scope acts) (IsTrulyLate plan commands scope acts)
-    (stood plan commands scope acts).records (λ r is. is.late) (all_true plan commands scope acts runs)
+    → AllByRecursion (LateIsJustified plan commands scope acts) (state_after plan commands scope acts).records
+late_true plan commands scope acts runs = all_on (IsJustified plan commands scope acts) (LateIsJustified plan commands scope acts)
+    (state_after plan commands scope acts).records (λ r is. is.late) (all_true plan commands scope acts runs)
 
 -- each lost record is true
 pub lost_true : (plan : Plan) (commands : List Task) (scope : Scope) (acts : List Act) → Runs plan commands (opening plan scope) acts
-    → AllByRecursion (IsTrulyLost plan commands scope acts) (stood plan commands scope acts).records
-lost_true plan commands scope acts runs = all_on (IsTrue plan commands scope acts) (IsTrulyLost plan commands scope acts)
-    (stood plan commands scope acts).records (λ r is. is.lost) (all_true plan commands scope acts runs)
+    → AllByRecursion (LostIsJustified plan commands scope acts) (state_after plan commands scope acts).records
+lost_true plan commands scope acts runs = all_on (IsJustified plan commands scope acts) (LostIsJustified plan commands scope acts)
+    (state_after plan commands scope acts).records (λ r is. is.lost) (all_true plan commands scope acts runs)

@@ -1,8 +1,8 @@
--- The turns of a station's parts, and which ids of the word they leave. A part reaches from one beginning to the next. The word
--- is the ids of a beginning's null procedures, and what is left of it are those that aren't answered yet; `the_word` is all
--- eight. `AreBegun word parts`: the lines of each part but the last answered all ids of its beginning, `word` for the first
--- part and all eight for each later one; and the last part did so, too, or has no step of the client. An act is one call of the
--- link, with what came of it.
+-- The turns of a station's parts, and which ids of the word they leave. A part reaches from one synchronization to the next.
+-- The word is the ids of a synchronization's null procedures, and what is left of it are those that aren't answered yet;
+-- `the_word` is all eight. `AreBegun word parts`: the lines of each part but the last answered all ids of its synchronization,
+-- `word` for the first part and all eight for each later one; and the last part did so, too, or has no step of the client. An
+-- act is one call on the link, with its result.
 use Rattle.std.proofs.Common.{◌≡◌, inl, inr, ℕ, ◌||◌, ◌&&◌, Bool, true, false, not, List, [], ◌∷◌, ◌++◌, drop, map, if◌then◌else◌, refl, sym, ◌∙◌, ap, subst}
 use Rattle.gc_client.specs.Beginning.{the_word, left_by}
 use Rattle.gc_client.specs.Rule.{heard}
@@ -13,27 +13,27 @@ use Rattle.gc_station.specs.declared.mark.Mark.{Mark}
 use Rattle.gc_station.specs.declared.plan.Plan.{Plan}
 use Rattle.gc_station.specs.declared.progress.Action.{Action}
 use Rattle.gc_station.specs.declared.progress.Action.TheVariants as action
-use Rattle.gc_station.specs.Beginnings.{heard_at, left_behind}
+use Rattle.gc_station.specs.Beginnings.{lines_heard_at, unanswered_after}
 use Rattle.gc_station.specs.Begun.{AreBegun, heard_in}
 use Rattle.gc_station.specs.Deciding.{has_begun, is_none_left}
 use Rattle.gc_station.specs.Parts as part
 use Rattle.gc_station.specs.Parts.{Part, acting, beginning, doing, ends_part, in_front, joined, nothing, parts_of}
 use Rattle.gc_station.specs.Progressing.{is_over, loses_all}
-use Rattle.gc_station.specs.Model.{Performs, Runs, Model, after, is_heard, lines_behind, mark_next, action_at, place_next, mark_setup}
+use Rattle.gc_station.specs.Model.{Performs, Runs, Model, after, is_heard, lines_completed, mark_next, action_at, place_next, mark_setup}
 use Rattle.gc_station.proofs.Beginnings.{word_after as word_left, word_anew}
 use Rattle.gc_station.proofs.Turns.{over_stays}
 use Rattle.gc_station.proofs.Words.{left_none}
 
 -- What is heard among turns.
 
--- the lines of two lists of turns, one behind the other, are those of the first and then those of the second
+-- the lines of two lists of turns, one after the other, are those of the first and then those of the second
 pub heard_append : (xs ys : List part.Turn) → heard_in (xs ++ ys) ≡ heard_in xs ++ heard_in ys
 heard_append [] ys = refl
 heard_append (part.Asks ∷ xs) ys = heard_append xs ys
 heard_append (part.Hears line ∷ xs) ys = ap (λ l. line ∷ l) (heard_append xs ys)
 
 -- what two lists of lines leave of a word is what the second leaves of what the first left
-pub left_append : (word : List ℕ) (xs ys : List (List ℕ)) → left_behind word (xs ++ ys) ≡ left_behind (left_behind word xs) ys
+pub left_append : (word : List ℕ) (xs ys : List (List ℕ)) → unanswered_after word (xs ++ ys) ≡ unanswered_after (unanswered_after word xs) ys
 left_append word [] ys = refl
 left_append word (line ∷ xs) ys = left_append (left_by word (heard line)) xs ys
 
@@ -42,31 +42,31 @@ heard_lines : (lines : List (List ℕ)) → heard_in (map part.Hears lines) ≡ 
 heard_lines [] = refl
 heard_lines (line ∷ lines) = ap (λ l. line ∷ l) (heard_lines lines)
 
--- What an act does while it begins.
+-- What an act does while it synchronizes.
 
--- where no id is left, the word is empty
+-- if no id is left, the word is empty
 pub word_of : (w : List ℕ) → is_none_left w ≡ true → w ≡ []
 word_of [] e = refl
 word_of (asked ∷ others) e = cc
 
 module _ (plan : Plan) (commands : List Task) where
-  -- the lines heard by the turns of a piece are its lines where it is heard, and none where it is dropped
+  -- the lines heard by the turns of a piece are its lines if it is heard, and none if it is discarded
   heard_piece : (h : Bool) (lines : List (List ℕ)) → heard_in (if h then map part.Hears lines else []) ≡ (if h then lines else [])
   heard_piece true lines = heard_lines lines
   heard_piece false lines = refl
 
-  -- the lines that a station hears by an act while it begins are those that the act brings
-  heard_by : (s : Model) (o : Action) (act : Act) → Performs commands s o act → heard_in (beginning s o act).turns ≡ heard_at s act
+  -- the lines that a station hears by an act while it synchronizes are those that the act brings
+  heard_by : (s : Model) (o : Action) (act : Act) → Performs commands s o act → heard_in (beginning s o act).turns ≡ lines_heard_at s act
   heard_by s action.Ask (Put bytes) obeys = refl
   heard_by s action.Ask (Cut bytes count) obeys = refl
-  heard_by s (action.Read until) (Gave piece m) obeys = heard_piece (is_heard s.progress.phase) (lines_behind s.rest piece)
+  heard_by s (action.Read until) (Gave piece m) obeys = heard_piece (is_heard s.progress.phase) (lines_completed s.rest piece)
   heard_by s (action.Close why) (Gave piece m) obeys = cc
   heard_by s o (Gave piece m) obeys = absurd obeys
   heard_by s o act obeys = refl
 
-  -- the turns of a piece, while the station begins, are its lines where it is heard, and none where it is dropped
+  -- the turns of a piece, while the station synchronizes, are its lines if it is heard, and none if it is discarded
   pub turns_gave : (s : Model) (o : Action) (piece : List ℕ) (m : Moment) → Performs commands s o (Gave piece m)
-      → (beginning s o (Gave piece m)).turns ≡ (if is_heard s.progress.phase then map part.Hears (lines_behind s.rest piece) else [])
+      → (beginning s o (Gave piece m)).turns ≡ (if is_heard s.progress.phase then map part.Hears (lines_completed s.rest piece) else [])
   turns_gave s (action.Read until) piece m obeys = refl
   turns_gave s (action.Close why) piece m obeys = cc
   turns_gave s o piece m obeys = absurd obeys
@@ -85,21 +85,21 @@ module _ (plan : Plan) (commands : List Task) where
   turns_plain s (action.Read until) (Gave piece m) h = absurd h
   turns_plain s o act h = refl
 
-  -- after an act while the station begins, the ids that are left are those that the lines of the act leave
+  -- after an act while the station synchronizes, the ids that are left are those that the lines of the act leave
   pub word_after : (s : Model) (act : Act) → Performs commands s (action_at plan s) act → has_begun s.progress ≡ false
-      → (after plan commands s act).progress.word ≡ left_behind s.progress.word (heard_in (beginning s (action_at plan s) act).turns)
-  word_after s act obeys begins = word_left plan commands s act obeys begins ∙ ap (λ l. left_behind s.progress.word l) (sym (heard_by s (action_at plan s) act obeys))
+      → (after plan commands s act).progress.word ≡ unanswered_after s.progress.word (heard_in (beginning s (action_at plan s) act).turns)
+  word_after s act obeys begins = word_left plan commands s act obeys begins ∙ ap (λ l. unanswered_after s.progress.word l) (sym (heard_by s (action_at plan s) act obeys))
 
   -- Each part begins first.
 
-  -- the part of an act while the station begins has no steps of the client
+  -- the part of an act while the station synchronizes has no steps of the client
   pub steps_none : (s : Model) (o : Action) (act : Act) → (beginning s o act).steps ≡ []
   steps_none s action.Ask (Put bytes) = refl
   steps_none s action.Ask (Cut bytes count) = refl
   steps_none s (action.Read until) (Gave piece m) = refl
   steps_none s o act = refl
 
-  -- the part of an act while the station begins has no marks
+  -- the part of an act while the station synchronizes has no marks
   pub marks_none : (s : Model) (o : Action) (act : Act) → (beginning s o act).marks ≡ []
   marks_none s action.Ask (Put bytes) = refl
   marks_none s action.Ask (Cut bytes count) = refl
@@ -117,55 +117,56 @@ FirstHasNone [] = Unit {0}
 FirstHasNone (p ∷ ps) = p.turns ≡ []
 
 -- what two lists of turns leave of a word is what the second leaves of what the first left
-left_both : (word : List ℕ) (xs ys : List part.Turn) → left_behind word (heard_in (xs ++ ys)) ≡ left_behind (left_behind word (heard_in xs)) (heard_in ys)
-left_both word xs ys = ap (λ l. left_behind word l) (heard_append xs ys) ∙ left_append word (heard_in xs) (heard_in ys)
+left_both : (word : List ℕ) (xs ys : List part.Turn) → unanswered_after word (heard_in (xs ++ ys)) ≡ unanswered_after (unanswered_after word (heard_in xs)) (heard_in ys)
+left_both word xs ys = ap (λ l. unanswered_after word l) (heard_append xs ys) ∙ left_append word (heard_in xs) (heard_in ys)
 
--- where the part p of an act of a beginning is joined to the front of the first part: the parts then have begun from `word`
--- (`AreBegun`), if without p they have begun from the ids that the lines of p leave of `word`
-begun_on : (word : List ℕ) (p : Part) (ps : List Part) → p.steps ≡ [] → AreBegun (left_behind word (heard_in p.turns)) ps → AreBegun word (in_front p false ps)
+-- if the part p of an act of a synchronization is joined to the front of the first part: the parts then have synchronized from
+-- `word` (`AreBegun`), if without p they have synchronized from the ids that the lines of p leave of `word`
+begun_on : (word : List ℕ) (p : Part) (ps : List Part) → p.steps ≡ [] → AreBegun (unanswered_after word (heard_in p.turns)) ps → AreBegun word (in_front p false ps)
 begun_on word p [] e h = inl e
 begun_on word p (q ∷ []) e (inl f) = inl (nil_both p.steps q.steps e f)
 begun_on word p (q ∷ []) e (inr f) = inr (left_both word p.turns q.turns ∙ f)
 begun_on word p (q ∷ r ∷ ps) e h = (left_both word p.turns q.turns ∙ h.0, h.1)
 
--- where the parts have begun with no id left (`AreBegun []`), they still have with p joined to the front of the first part
+-- if the parts have synchronized with no id left (`AreBegun []`), they still have with p joined to the front of the first part
 begun_in : (p : Part) (ps : List Part) → AreBegun [] ps → AreBegun [] (in_front p false ps)
 begun_in p [] h = inr (left_none (heard_in p.turns))
 begun_in p (q ∷ []) h = inr (left_none (heard_in (p.turns ++ q.turns)))
 begun_in p (q ∷ r ∷ ps) h = (left_none (heard_in (p.turns ++ q.turns)), h.1)
 
--- where parts have begun from all eight ids, p and these parts after it have begun with no id left: p had begun already
+-- where parts have synchronized from all eight ids, p and these parts after it have synchronized with no id left: p had
+-- synchronized already
 begun_out : (p : Part) (ps : List Part) → AreBegun the_word ps → AreBegun [] (p ∷ ps)
 begun_out p [] h = inr (left_none (heard_in p.turns))
 begun_out p (q ∷ ps) h = (left_none (heard_in p.turns), h)
 
 module _ (plan : Plan) (commands : List Task) where
-  -- where nothing is lost the station has begun
+  -- if nothing is lost the station has synchronized
   pub goes_begun : (t : Model) → loses_all t.progress ≡ false → has_begun t.progress ≡ true
   goes_begun t e = still (has_begun t.progress) (is_over t.progress) e where
-    -- the lemma above, by whether the station has begun, and whether the run is over
+    -- the lemma above, by whether the station has synchronized, and whether the run is over
     still : (b over : Bool) → (not b || over) ≡ false → b ≡ true
     still true over e = refl
     still false over e = cc
 
-  -- where a part ends with the model t, the acts after it begin with all eight ids; or the run is over, and there are none
+  -- if a part ends with the model t, the acts after it begin with all eight ids; or the run is over, and there are none
   next_begun : (t : Model) (acts : List Act) → loses_all t.progress ≡ true → (has_begun t.progress ≡ false → t.progress.word ≡ the_word)
       → Runs plan commands t acts → AreBegun t.progress.word (parts_of plan commands t acts)
       → AreBegun the_word (parts_of plan commands t acts)
   next_begun t acts loses anew runs h = by_case (has_begun t.progress) refl loses where
-    -- where the run is over no act follows, so the parts are the one in which nothing happens
+    -- if the run is over no act follows, so the parts are the one in which nothing happens
     none_over : (acts : List Act) → is_over t.progress ≡ true → Runs plan commands t acts → AreBegun the_word (parts_of plan commands t acts)
     none_over [] over runs = inl refl
     none_over (act ∷ acts) over runs = absurd (over_stays plan commands t act over runs.0)
 
-    -- the lemma above, by whether the station has begun (b): if it hasn't, its word is whole; if it has, the run is over
+    -- the lemma above, by whether the station has synchronized (b): if it hasn't, its word is whole; if it has, the run is over
     by_case : (b : Bool) → has_begun t.progress ≡ b → (not b || is_over t.progress) ≡ true → AreBegun the_word (parts_of plan commands t acts)
     by_case true e over = none_over acts over runs
     by_case false e over = subst (λ w. AreBegun w (parts_of plan commands t acts)) (anew e) h
 
-  -- where the parts of the acts after `act` have begun from the ids that it leaves, the parts with `act` in front have begun
-  -- from the ids before it. `begun` is whether the station had begun before the act, and `lost` whether all that waits is lost
-  -- at its end
+  -- if the parts of the acts after `act` have synchronized from the ids that it leaves, the parts with `act` before it have
+  -- synchronized from the ids before it. `begun` is whether the station had synchronized before the act, and `lost` whether all
+  -- that is outstanding is lost at its end
   parts_begun_with : (s : Model) (act : Act) (acts : List Act) (begun lost : Bool) → has_begun s.progress ≡ begun → loses_all (after plan commands s act).progress ≡ lost
       → Performs commands s (action_at plan s) act → Runs plan commands (after plan commands s act) acts
       → AreBegun (after plan commands s act).progress.word (parts_of plan commands (after plan commands s act) acts)
@@ -187,26 +188,26 @@ module _ (plan : Plan) (commands : List Task) where
       subst (λ w. AreBegun w (p ∷ parts_of plan commands t acts)) (sym (word_of s.progress.word e))
       (begun_out p (parts_of plan commands t acts) (next_begun t acts f (λ begins. word_anew plan commands s act obeys e begins) runs h))
 
-  -- all parts of a run have begun, as `AreBegun` says
+  -- all parts of a run have synchronized, as `AreBegun` says
   pub parts_begun : (s : Model) (acts : List Act) → Runs plan commands s acts → AreBegun s.progress.word (parts_of plan commands s acts)
   parts_begun s [] runs = inl refl
   parts_begun s (act ∷ acts) runs =
       parts_begun_with s act acts (has_begun s.progress) (loses_all (after plan commands s act).progress) refl refl runs.0 runs.1 (parts_begun (after plan commands s act) acts runs.1)
 
-  -- Once it has begun there are no turns.
+  -- Once it has synchronized there are no turns.
 
-  -- parts of which the first has no turns stay so with a part without turns in front
+  -- parts of which the first has no turns stay so with a part without turns before it
   none_in_front : (p : Part) (b : Bool) (ps : List Part) → p.turns ≡ [] → (b ≡ false → FirstHasNone ps) → FirstHasNone (in_front p b ps)
   none_in_front p true ps e h = e
   none_in_front p false [] e h = e
   none_in_front p false (q ∷ ps) e h = nil_both p.turns q.turns e (h refl)
 
-  -- the part of a command that goes out has no turns
+  -- the part of a command that is sent has no turns
   none_asking : (now : ℕ) (mark : Mark) (tasks : List Task) → (part.asking_first now mark tasks).turns ≡ []
   none_asking now mark [] = refl
   none_asking now mark (task ∷ others) = refl
 
-  -- the part of a command of the set-up that goes out has no turns
+  -- the part of a command of the setup that is sent has no turns
   none_setup : (now : ℕ) (mark : Mark) (tasks : List Task) → (part.asking_or_null plan now mark tasks).turns ≡ []
   none_setup now mark [] = refl
   none_setup now mark (task ∷ others) = refl
@@ -218,7 +219,7 @@ module _ (plan : Plan) (commands : List Task) where
   none_putting s action.Send = none_asking s.progress.moment.elapsed (mark_next plan commands s.progress) (drop (place_next commands s.progress) commands)
   none_putting s o = refl
 
-  -- the part of an act once the station has begun has no turns
+  -- the part of an act once the station has synchronized has no turns
   pub none_doing : (s : Model) (o : Action) (act : Act) → (doing plan commands s o act).turns ≡ []
   none_doing s o (Put bytes) = none_putting s o
   none_doing s o (Cut bytes count) = none_putting s o
@@ -226,7 +227,7 @@ module _ (plan : Plan) (commands : List Task) where
   none_doing s o (Gave piece m) = refl
   none_doing s o act = refl
 
-  -- the first part of acts, once the station has begun, has no turns
+  -- the first part of acts, once the station has synchronized, has no turns
   pub no_turns : (s : Model) (acts : List Act) → has_begun s.progress ≡ true → FirstHasNone (parts_of plan commands s acts)
   no_turns s [] e = refl
   no_turns s (act ∷ acts) e =

@@ -1,6 +1,6 @@
--- A beginning goes on by its answers, and no command goes out before the last of them. The word is the ids of a beginning that
--- aren't answered yet; a line answers the first of them if it has that id. An act is one call of the link, with what came of
--- it.
+-- A synchronization goes on by its answers, and no command is sent before the last of them. The word is the ids of a
+-- synchronization that aren't answered yet; a line answers the first of them if it has that id. An act is one call on the link,
+-- with its result.
 use Rattle.std.proofs.Common.{◌≡◌, inl, inr, ℕ, Bool, true, false, List, [], ◌∷◌, ◌++◌, length, Option, Some, None, nat_eq, refl, sym, ap, ◌∙◌, subst}
 use Rattle.std.specs.List.{filter_map}
 use Rattle.std.proofs.lemmas.Bool.{eqb-true}
@@ -15,12 +15,12 @@ use Rattle.gc_station.specs.declared.progress.Action.{Action}
 use Rattle.gc_station.specs.declared.progress.Action.TheVariants as actions
 use Rattle.gc_station.specs.declared.progress.Progress.{Progress}
 use Rattle.gc_links.specs.Acts.{Act}
-use Rattle.gc_station.specs.Beginnings.{heard_at, heard_behind, left_behind, NoneBeforeTheLastAnswer, IsOfBeginning, IsAnew, BeginsSo}
+use Rattle.gc_station.specs.Beginnings.{lines_heard_at, lines_heard, unanswered_after, NoneBeforeTheLastAnswer, IsSynchronizing, IsResynchronizing, SynchronizesInOrder}
 use Rattle.gc_station.specs.Deciding.{has_begun, is_none_left}
 use Rattle.gc_station.specs.Progressing.{turned}
 use Rattle.gc_station.specs.Quiet.{IsAsking}
 use Rattle.gc_station.specs.Reasons.{IsFor}
-use Rattle.gc_station.specs.Runs.{stood}
+use Rattle.gc_station.specs.Runs.{state_after}
 use Rattle.gc_station.specs.Scopes.{Scope}
 use Rattle.gc_station.specs.Model.{Model, opening, action_at, waiting_of, with_progress, Performs, moved, after, after_all, Runs}
 use Rattle.gc_station.proofs.Always.{progress_behind}
@@ -29,9 +29,9 @@ use Rattle.gc_station.proofs.Counts.{ended_progress}
 use Rattle.gc_station.proofs.EachRun.{fine_stood}
 use Rattle.gc_station.proofs.Facts.{action_for}
 use Rattle.gc_station.proofs.Going.{after_all-append, runs_behind}
-use Rattle.gc_station.proofs.Midway.{clash}
 use Rattle.gc_station.proofs.Quiets.{asks_only}
 use Rattle.gc_station.proofs.Words.{word_moved, renews_only, renews_needs}
+use Rattle.gc_station.proofs.Ticking.{not_both}
 
 -- Lines answer the ids of a word, the null procedures that aren't answered yet, in their order: the word is a subsequence of the
 -- lines' ids.
@@ -42,7 +42,7 @@ left_answered : (word : List ℕ) (line : List ℕ) (others : List (List ℕ)) (
     → IsSubsequence (left_by word (heard line)) (filter_map heard others ++ ids) → IsSubsequence word (filter_map heard (line ∷ others) ++ ids)
 left_answered [] line others ids h = tt
 left_answered (asked ∷ rest) line others ids h = by_id (heard line) refl h where
-  -- the lemma above, where the line has an id: the word's first one (`true`) or another
+  -- the lemma above, if the line has an id: the word's first one (`true`) or another
   by_test : (id : ℕ) (b : Bool) → nat_eq id asked ≡ b → IsSubsequence (left_by_one b asked rest) (filter_map heard others ++ ids) → IsSubsequence (asked ∷ rest) (id ∷ (filter_map heard others ++ ids))
   by_test id true e h = inl (sym (eqb-true id asked e), h)
   by_test id false e h = inr h
@@ -53,23 +53,23 @@ left_answered (asked ∷ rest) line others ids h = by_id (heard line) refl h whe
   by_id (Some id) e h = rw e (by_test id (nat_eq id asked) refl h)
 
 -- if what these lines leave of the word is a subsequence of `ids`, the word is a subsequence of the lines' ids and then `ids`
-lines_answered : (word : List ℕ) (lines : List (List ℕ)) (ids : List ℕ) → IsSubsequence (left_behind word lines) ids → IsSubsequence word (filter_map heard lines ++ ids)
+lines_answered : (word : List ℕ) (lines : List (List ℕ)) (ids : List ℕ) → IsSubsequence (unanswered_after word lines) ids → IsSubsequence word (filter_map heard lines ++ ids)
 lines_answered word [] ids h = h
 lines_answered word (line ∷ others) ids h = left_answered word line others ids (lines_answered (left_by word (heard line)) others ids h)
 
 module _ (plan : Plan) (commands : List Task) where
-  -- a station that begins doesn't begin anew
+  -- a synchronizing station doesn't resynchronize
   begins_not : (s : Model) (o : Action) → IsFor plan s.progress (waiting_of s) o → has_begun s.progress ≡ false → o ≡ actions.Renew → ⊥
-  begins_not s o needs begins is = let it = subst (λ (x : Action). IsFor plan s.progress (waiting_of s) x) is needs in clash (has_begun s.progress) it.1 begins
+  begins_not s o needs begins is = let it = subst (λ (x : Action). IsFor plan s.progress (waiting_of s) x) is needs in not_both (has_begun s.progress) it.1 begins
 
-  -- while the station begins, the ids that an act leaves unanswered are those that its lines leave
+  -- while the station synchronizes, the ids that an act leaves unanswered are those that its lines leave
   pub word_after : (s : Model) (act : Act) → Performs commands s (action_at plan s) act → has_begun s.progress ≡ false
-      → (after plan commands s act).progress.word ≡ left_behind s.progress.word (heard_at s act)
+      → (after plan commands s act).progress.word ≡ unanswered_after s.progress.word (lines_heard_at s act)
   word_after s act obeys begins =
       ap (λ (p : Progress). p.word) (ended_progress (moved plan commands (action_at plan s) (with_progress turned s) act))
       ∙ word_moved plan commands s (action_at plan s) act obeys (begins_not s (action_at plan s) (action_for plan s.progress (waiting_of s)) begins)
 
-  -- where the station begins anew, all ids of the word are left
+  -- if the station resynchronizes, all ids of the word are left
   pub word_anew : (s : Model) (act : Act) → Performs commands s (action_at plan s) act → has_begun s.progress ≡ true
       → has_begun (after plan commands s act).progress ≡ false → (after plan commands s act).progress.word ≡ the_word
   word_anew s act obeys begun begins =
@@ -85,52 +85,53 @@ module _ (plan : Plan) (commands : List Task) where
   none_left (asked ∷ others) ids e = cc
 
   -- if the word after an act is a subsequence of `ids`, the word before it is a subsequence of the ids of the act's lines and
-  -- then `ids`; `begun` is whether the station had begun before the act
+  -- then `ids`; `begun` is whether the station had synchronized before the act
   one_before : (s : Model) (act : Act) (ids : List ℕ) (begun : Bool) → has_begun s.progress ≡ begun → Performs commands s (action_at plan s) act
       → IsSubsequence (after plan commands s act).progress.word ids
-      → IsSubsequence s.progress.word (filter_map heard (heard_at s act) ++ ids)
+      → IsSubsequence s.progress.word (filter_map heard (lines_heard_at s act) ++ ids)
   one_before s act ids true begun obeys h = none_left s.progress.word _ begun
-  one_before s act ids false begins obeys h = lines_answered s.progress.word (heard_at s act) ids (subst (λ (w : List ℕ). IsSubsequence w ids) (word_after s act obeys begins) h)
+  one_before s act ids false begins obeys h = lines_answered s.progress.word (lines_heard_at s act) ids (subst (λ (w : List ℕ). IsSubsequence w ids) (word_after s act obeys begins) h)
 
-  -- where the station has begun after these acts, the word before them is a subsequence of the ids of the lines that they bring
+  -- if the station has synchronized after these acts, the word before them is a subsequence of the ids of the lines that they
+  -- bring
   none_before : (s : Model) (acts : List Act) → Runs plan commands s acts → has_begun (after_all plan commands s acts).progress ≡ true
-      → IsSubsequence s.progress.word (filter_map heard (heard_behind plan commands s acts))
+      → IsSubsequence s.progress.word (filter_map heard (lines_heard plan commands s acts))
   none_before s [] runs begun = none_left s.progress.word [] begun
   none_before s (act ∷ acts) runs begun =
       let u = after plan commands s act in
-      let ids = filter_map heard (heard_behind plan commands u acts) in
-      subst (λ (all : List ℕ). IsSubsequence s.progress.word all) (sym (filter_map-append heard (heard_at s act) (heard_behind plan commands u acts)))
+      let ids = filter_map heard (lines_heard plan commands u acts) in
+      subst (λ (all : List ℕ). IsSubsequence s.progress.word all) (sym (filter_map-append heard (lines_heard_at s act) (lines_heard plan commands u acts)))
       (one_before s act ids (has_begun s.progress) refl runs.0 (none_before u acts runs.1 begun))
 
--- where a command or a null procedure after commands goes out, the station has begun
+-- if a command or a null procedure after commands is sent, the station has synchronized
 asking_begun : (plan : Plan) (s : Model) (o : Action) → IsAsking o → IsFor plan s.progress (waiting_of s) o → has_begun s.progress ≡ true
 asking_begun plan s actions.Prepare asks needs = needs.1
 asking_begun plan s actions.Send asks needs = needs.1
 asking_begun plan s actions.Flush asks needs = needs.1
 asking_begun plan s o asks needs = absurd asks
 
--- no command goes out before the last answer of a beginning
+-- no command is sent before the last answer of a synchronization
 pub none_before_the_last : NoneBeforeTheLastAnswer
 none_before_the_last plan commands scope earlier between runs asks =
-    let t = stood plan commands scope (earlier ++ between) in
+    let t = state_after plan commands scope (earlier ++ between) in
     let begun = asking_begun plan t (action_at plan t) asks (action_for plan t.progress (waiting_of t)) in
-    none_before plan commands (stood plan commands scope earlier) between (runs_behind plan commands (opening plan scope) earlier between runs)
+    none_before plan commands (state_after plan commands scope earlier) between (runs_behind plan commands (opening plan scope) earlier between runs)
     (ap (λ (x : Model). has_begun x.progress) (sym (after_all-append plan commands (opening plan scope) earlier between)) ∙ begun)
 
--- Each act while it begins, and where it begins anew.
+-- Each act while it synchronizes, and if it resynchronizes.
 
 module _ (plan : Plan) (commands : List Task) (scope : Scope) (acts : List Act) (act : Act) where
   -- the model before the act
   abbrev here : Model
-  here = stood plan commands scope acts
+  here = state_after plan commands scope acts
 
   -- the model after the act
   abbrev there : Model
-  there = stood plan commands scope (acts ++ act ∷ [])
+  there = state_after plan commands scope (acts ++ act ∷ [])
 
-  -- an act of a run, while the station begins, is `IsOfBeginning`: the client is new, a request that goes out is the null
+  -- an act of a run, while the station synchronizes, is `IsSynchronizing`: the client is new, a request that is sent is the null
   -- procedure of the first id left, and the act's lines answer ids in order
-  of_beginning : Performs commands here (action_at plan here) act → has_begun here.progress ≡ false → IsOfBeginning plan commands scope acts act
+  of_beginning : Performs commands here (action_at plan here) act → has_begun here.progress ≡ false → IsSynchronizing plan commands scope acts act
   of_beginning obeys begins =
       let fine = fine_stood plan commands scope acts in
       let new = fine.begins begins in
@@ -142,9 +143,9 @@ module _ (plan : Plan) (commands : List Task) (scope : Scope) (acts : List Act) 
         left = ap (λ (x : Model). x.progress.word) (after_all-append plan commands (opening plan scope) acts (act ∷ [])) ∙ word_after plan commands here act obeys begins;
       }
 
-  -- an act of a run at which the station begins anew is `IsAnew`: it reads the clock where seven requests wait, all given up;
-  -- after it the client is new, and all eight ids are left
-  is_anew : Performs commands here (action_at plan here) act → has_begun here.progress ≡ true → has_begun there.progress ≡ false → IsAnew plan commands scope acts act
+  -- an act of a run at which the station resynchronizes is `IsResynchronizing`: it reads the clock where seven requests are
+  -- outstanding, all timed out; after it the client is new, and all eight ids are left
+  is_anew : Performs commands here (action_at plan here) act → has_begun here.progress ≡ true → has_begun there.progress ≡ false → IsResynchronizing plan commands scope acts act
   is_anew obeys begun begins =
       let far = progress_behind plan commands scope acts act in
       let on = after_all-append plan commands (opening plan scope) acts (act ∷ []) in
@@ -160,8 +161,8 @@ module _ (plan : Plan) (commands : List Task) (scope : Scope) (acts : List Act) 
         client = (fine_stood plan commands scope (acts ++ act ∷ [])).begins begins;
       }
 
-  -- each act of a run is as `BeginsSo` says: `IsOfBeginning` while the station begins, and `IsAnew` where it begins anew
-  pub begins_so : Runs plan commands (opening plan scope) (acts ++ act ∷ []) → BeginsSo plan commands scope acts act
+  -- each act of a run is as `SynchronizesInOrder` says: `IsSynchronizing` while the station synchronizes, and `IsResynchronizing` if it resynchronizes
+  pub begins_so : Runs plan commands (opening plan scope) (acts ++ act ∷ []) → SynchronizesInOrder plan commands scope acts act
   begins_so runs =
       let obeys = (runs_split plan commands (opening plan scope) acts [] act runs).1 in
       record { starts = refl; begins = λ begins. of_beginning obeys begins; anew = λ begun begins. is_anew obeys begun begins }

@@ -1,7 +1,7 @@
--- Where commands go out behind calls of the table. A course is what a client has sent and settled so far, and the client after
--- that; its steps are to send, to hear a line, to be told a moment and to restart. `behind_by` says of steps how many requests are
--- behind the last call of the table that a reply ended, and `Counts` that a course is so. A part reaches from one beginning to the
--- next. An act is one call of the link, with what came of it.
+-- Where commands are sent after calls of the table. A course is what a client has sent and settled so far, and the client after
+-- that; its steps are to send, to hear a line, to read the clock and to restart. `behind_by` says of steps how many requests
+-- are after the last call of the table that a reply ended, and `Counts` that a course is so. A part reaches from one
+-- synchronization to the next. An act is one call on the link, with its result.
 use Rattle.std.proofs.Common.{◌≡◌, ◌⊎◌, inl, inr, ℕ, zero, suc, ◌+◌, ◌-◌, ◌<◌, ◌≤◌, Bool, true, false, List, [], ◌∷◌, ◌++◌, length, map, Option, Some, None, refl, sym, ap, ◌∙◌, subst, arith, append_assoc, append-nil, if◌then◌else◌, nat_lt}
 use Rattle.std.specs.Prelude.{slice_get}
 use Rattle.std.proofs.lemmas.Bool.{ltb-true}
@@ -22,7 +22,7 @@ use Rattle.gc_station.proofs.Meets.{settle_length}
 
 -- Steps.
 
--- how many requests are behind the last call of the table that a reply ended, after one step of this client; `b` were before
+-- how many requests are after the last call of the table that a reply ended, after one step of this client; `b` were before
 abbrev pub behind_step : ById Asked → ℕ → Step Asked → ℕ
 behind_step c b (Send target call deadline) = one_more b
 behind_step c b (Hear line) = if ends_with_table (hears c line (heard line)).settlements then length (hears c line (heard line)).client.waiting else b
@@ -34,8 +34,8 @@ abbrev pub behind_by : ById Asked → ℕ → List (Step Asked) → ℕ
 behind_by c b [] = b
 behind_by c b (step ∷ steps) = behind_by (stepped c step) (behind_step c b step) steps
 
--- a request near the end of a course is a call of the table that a reply ended: at most `b` went out behind it. Or no more than
--- `b` went out
+-- a request near the end of a course is a call of the table that a reply ended: at most `b` was sent after it. Or no more than
+-- `b` was sent
 abbrev pub IsWithin : Course Asked → ℕ → Type 0
 IsWithin x b =
     (length x.sent ≤ b)
@@ -45,13 +45,13 @@ IsWithin x b =
 abbrev pub Counts : Course Asked → ℕ → Type 0
 Counts x b = b < 7 → IsWithin x b
 
--- a list with more behind it has the same element at a place of its own
+-- a list with more after it has the same element at a place of its own
 get_more : {A : Type 0} (xs ys : List A) (k : ℕ) (x : A) → slice_get xs k ≡ Some x → slice_get (xs ++ ys) k ≡ Some x
 get_more [] ys k x e = cc
 get_more (y ∷ xs) ys zero x e = e
 get_more (y ∷ xs) ys (suc k) x e = get_more xs ys k x e
 
--- an element of the list behind is at its place behind the list in front
+-- an element of the list after is at its place after the list before it
 pub get_behind : {A : Type 0} (xs ys : List A) (n k : ℕ) → n ≡ length xs + k → slice_get (xs ++ ys) n ≡ slice_get ys k
 get_behind [] ys n k e = let same : n ≡ k = omega (arith, e) in ap (slice_get ys) same
 get_behind (x ∷ xs) ys zero k e = absurd (omega (arith, e))
@@ -66,7 +66,7 @@ get_low (y ∷ xs) (suc k) x e = let low = get_low xs k x e in omega (arith, low
 -- a request that a reply meets isn't lost
 met_kept : (p : Pending Asked) (line : List ℕ) → (met p line).outcome ≡ Lost → ⊥
 met_kept p line e = by_test p.given_up e where
-  -- the lemma above, whether the request was given up (`true`)
+  -- the lemma above, whether the request timed out (`true`)
   by_test : (b : Bool) → (if b then Late else Answered line) ≡ Lost → ⊥
   by_test true e = cc
   by_test false e = cc
@@ -92,11 +92,11 @@ table_one : (o : Option (Settlement Asked)) → is_tables o ≡ true → (x : Se
 table_one None e = cc
 table_one (Some x) e = (x, refl, e)
 
--- where the last request that a line settles is a call of the table, a reply ended that
+-- if the last request that a line settles is a call of the table, a reply ended that
 ends_replied : (c : ById Asked) (line : List ℕ) (o : Option ℕ) → ends_with_table (hears c line o).settlements ≡ true → EndsReplied (hears c line o).settlements
 ends_replied c line None e = cc
 ends_replied c line (Some id) e = by_test _ _ refl e where
-  -- the lemma above, by whether the id is of a request that waits (`true`)
+  -- the lemma above, by whether the id is of an outstanding request (`true`)
   by_test : (k : ℕ) (b : Bool) → nat_lt k (length c.waiting) ≡ b → ends_with_table (id_settled c line k b).settlements ≡ true → EndsReplied (id_settled c line k b).settlements
   by_test k false fits e = cc
   by_test k true fits e =
@@ -112,7 +112,7 @@ ends_replied c line (Some id) e = by_test _ _ refl e where
         replied = (last.2, settle_kept k line c.waiting last.0 low (ap (slice_get xs) (sym at) ∙ last.1));
       }
 
--- a course that is one for one has as many settlements and requests that wait as it sent
+-- a course that is one for one has as many settlements and outstanding requests as it sent
 one_many : (x : Course Asked) → IsOneForOne x → length x.settlements + length x.client.waiting ≡ length x.sent
 one_many x one =
     let a = length-append (map of_settled x.settlements) (map of_pending x.client.waiting) in
@@ -121,13 +121,13 @@ one_many x one =
     let e = ap length one in
     omega (arith, a, b, d, e)
 
--- more settlements, and no fewer behind, keep `IsWithin`
+-- more settlements, and no fewer after, preserve `IsWithin`
 within_more : (x : Course Asked) (more : List (Settlement Asked)) (client : ById Asked) (b : ℕ) → IsWithin x b
     → IsWithin (record { sent = x.sent; settlements = x.settlements ++ more; client = client }) b
 within_more x more client b (inl few) = inl few
 within_more x more client b (inr (k, s, at, replied, near)) = inr (k, s, get_more x.settlements more k s at, replied, near)
 
--- one more request, and one more behind, keeps `IsWithin`
+-- one more request, and one more after, preserves `IsWithin`
 within_sent : (x : Course Asked) (target : ℕ) (call : Asked) (o : Option (Sending (ById Asked))) (b : ℕ) → IsWithin x b → IsWithin (sent_on x target call o) (b + 1)
 within_sent x target call None b (inl few) = inl (omega (arith, few))
 within_sent x target call None b (inr (k, s, at, replied, near)) = inr (k, s, at, replied, omega (arith, near))
@@ -136,15 +136,15 @@ within_sent x target call (Some sending) b (inl few) =
 within_sent x target call (Some sending) b (inr (k, s, at, replied, near)) =
     let more = length-append x.sent (record { target = target; call = call } ∷ []) in inr (k, s, at, replied, omega (arith, more, near))
 
--- one more, where it is below seven, is one more
+-- one more, if it is below seven, is one more
 one_more_is : (b : ℕ) → one_more b < 7 → (b < 7) × (one_more b ≡ b + 1)
 one_more_is b low = either (λ n. n < 7 → (b < 7) × (n ≡ b + 1)) (b + 1) b (nat_lt b WINDOW) (λ e l. (ltb-true b WINDOW e, refl))
     (λ e l. let high : 7 ≤ b = ltb_not b e in absurd (omega (arith, l, high))) low where
-      -- where the test whether b is below seven fails, it isn't
+      -- if the test whether b is below seven fails, it isn't
       ltb_not : (n : ℕ) → nat_lt n WINDOW ≡ false → 7 ≤ n
       ltb_not n e = grind (arith, e)
 
--- a step keeps `Counts`, where the course is one for one after it
+-- a step preserves `Counts`, if the course is one for one after it
 counts_step : (x : Course Asked) (b : ℕ) (step : Step Asked) → IsOneForOne (goes WINDOW x step) → Counts x b → Counts (goes WINDOW x step) (behind_step x.client b step)
 counts_step x b (Send target call deadline) one h low =
     let is = one_more_is b low in
@@ -177,7 +177,7 @@ reached steps = course WINDOW begun steps
 reached_more : (done : List (Step Asked)) (step : Step Asked) → reached (done ++ step ∷ []) ≡ goes WINDOW (reached done) step
 reached_more done step = course_append begun done (step ∷ [])
 
--- steps keep `Counts`, behind the steps that were done
+-- steps preserve `Counts`, after the steps that were done
 pub counts_steps : (done steps : List (Step Asked)) (b : ℕ) → Counts (reached done) b → Counts (reached (done ++ steps)) (behind_by (reached done).client b steps)
 counts_steps done [] b h = subst (λ (l : List (Step Asked)). Counts (reached l) b) (sym (append-nil done)) h
 counts_steps done (step ∷ steps) b h =
@@ -194,10 +194,10 @@ counts_steps done (step ∷ steps) b h =
       goes_client : (x : Course Asked) (step : Step Asked) → (goes WINDOW x step).client ≡ stepped x.client step
       goes_client x step = course_client (step ∷ []) x
 
--- where `Counts` holds with fewer than seven behind, one of the last seven requests is a call of the table that a reply ended
+-- where `Counts` holds with fewer than seven after, one of the last seven requests is a call of the table that a reply ended
 pub near_so : (x : Course Asked) (b : ℕ) → Counts x b → b < 7 → IsNearTheTable x
 near_so x b h low = by_case (h low) where
-  -- the lemma above, whether no more than `b` requests went out, or such a call did before them
+  -- the lemma above, whether no more than `b` requests were sent, or such a call did before them
   by_case : IsWithin x b → IsNearTheTable x
   by_case (inl few) = inl (omega (arith, few, low))
   by_case (inr (k, s, at, replied, near)) = inr (k, s, at, replied, omega (arith, near, low))

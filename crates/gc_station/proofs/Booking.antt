@@ -1,7 +1,7 @@
--- What is written down of a client's steps: how each request ended, by its mark. A course is what a client has sent and settled
--- so far, and the client after that. A step is a send, a line heard, a moment told or a restart. `Books` says that a part's
--- steps take a client, its marks and its records to those after them; `Wrote` says the same of the marks and the records alone,
--- by what was settled and sent.
+-- What is recorded of a client's steps: how each request ended, by its mark. A course is what a client has sent and settled so
+-- far, and the client after that. A step is a send, a line heard, a moment read or a restart. `Books` says that a part's steps
+-- take a client, its marks and its records to those after them; `Wrote` says the same of the marks and the records alone, by
+-- what was settled and sent.
 use Rattle.std.proofs.Common.{◌≡◌, ℕ, zero, suc, ◌+◌, ◌<◌, ◌≤◌, Bool, true, false, List, [], ◌∷◌, ◌++◌, length, map, drop, Option, Some, None, refl, sym, ◌∙◌, ap, subst, arith, append_assoc, append-nil}
 use Rattle.std.specs.Prelude.{slice_get}
 use Rattle.std.specs.List.{AllByRecursion}
@@ -27,6 +27,7 @@ use Rattle.gc_station.specs.Marks.{value_as, warned_as, refused_as, answer_as, e
 use Rattle.gc_station.specs.Records.{Record}
 use Rattle.gc_station.specs.Model.{client_sent}
 use Rattle.gc_station.specs.Parts.{Turn, Part, only_turns, only, nothing, joined, asking, IsOf, AreOf, went_out, sent_with, sent_of, timeless}
+use Rattle.gc_station.proofs.Records.{records-none}
 
 -- Steps.
 
@@ -114,14 +115,13 @@ course_client (s ∷ ss) x = course_client ss (goes 7 x s) ∙ ap (λ c. client_
 
 -- Lists.
 
--- what is left of two lists in a row without their first n elements, where the first list has n: that of the first, and the
--- second
+-- what is left of two lists in a row without their first n elements, if the first list has n: that of the first, and the second
 drop_append : {A : Type 0} (n : ℕ) (xs ys : List A) → n ≤ length xs → drop n (xs ++ ys) ≡ drop n xs ++ ys
 drop_append zero xs ys le = refl
 drop_append (suc n) [] ys le = absurd (omega (arith, le))
 drop_append (suc n) (x ∷ xs) ys le = drop_append n xs ys (omega (arith, le))
 
--- an empty list stays empty where elements are dropped
+-- an empty list stays empty where elements are discarded
 drop_none : {A : Type 0} (n : ℕ) (xs : List A) → xs ≡ [] → drop n xs ≡ []
 drop_none zero xs e = e
 drop_none (suc n) [] e = refl
@@ -132,11 +132,6 @@ drop_twice : {A : Type 0} (ss ts : List (Settlement Asked)) (xs : List A) → dr
 drop_twice [] ts xs = refl
 drop_twice (s ∷ ss) ts [] = drop_none (length ts) [] refl
 drop_twice (s ∷ ss) ts (x ∷ xs) = drop_twice ss ts xs
-
--- no settlements have no records
-pub records_none : (reads : Asked → List ℕ → Reading) (utc : ℕ) (ms : List (Option Mark)) → records_of reads utc ms [] ≡ []
-records_none reads utc [] = refl
-records_none reads utc (m ∷ ms) = refl
 
 -- records without their moment are those of moment 0
 records_timeless : (reads : Asked → List ℕ → Reading) (utc : ℕ) (ms : List (Option Mark)) (ss : List (Settlement Asked)) → map timeless (records_of reads utc ms ss) ≡ records_of reads 0 ms ss
@@ -154,45 +149,45 @@ records_append reads (m ∷ ms) [] ts = refl
 records_append reads (None ∷ ms) (s ∷ ss) ts = records_append reads ms ss ts
 records_append reads (Some mark ∷ ms) (s ∷ ss) ts = ap (λ rs. record_of reads 0 mark s ∷ rs) (records_append reads ms ss ts)
 
--- settlements have the same records with more marks behind those of their requests
+-- settlements have the same records with more marks after those of their requests
 records_more : (reads : Asked → List ℕ → Reading) (ms more : List (Option Mark)) (ss : List (Settlement Asked)) → length ss ≤ length ms → records_of reads 0 (ms ++ more) ss ≡ records_of reads 0 ms ss
-records_more reads [] more [] le = records_none reads 0 more
+records_more reads [] more [] le = records-none reads 0 more
 records_more reads [] more (s ∷ ss) le = absurd (omega (arith, le))
 records_more reads (m ∷ ms) more [] le = refl
 records_more reads (None ∷ ms) more (s ∷ ss) le = records_more reads ms more ss (omega (arith, le))
 records_more reads (Some mark ∷ ms) more (s ∷ ss) le = ap (λ rs. record_of reads 0 mark s ∷ rs) (records_more reads ms more ss (omega (arith, le)))
 
--- a command that an answer ended went out, whether it was measured elsewhere or not
+-- a command that an answer ended was sent, whether it was measured elsewhere or not
 value_sent : (q : Quality) (away : Bool) (answer : Answer) (line : List ℕ) → went_out (value_as q away answer line) ≡ true
 value_sent q true answer line = refl
 value_sent q false answer line = refl
 
--- a command that a reply with an accepted return code ended went out
+-- a command that a reply with an accepted return code ended was sent
 warned_sent : (near : Option Near) (zeroed : Reading) (line : List ℕ) → went_out (warned_as near zeroed line) ≡ true
 warned_sent near (kind.Value answer) line = value_sent quality.Warning (is_elsewhere near answer) answer line
 warned_sent near (kind.Refused code) line = refl
 warned_sent near (kind.ComFault code) line = refl
 warned_sent near (kind.Unreadable fault) line = refl
 
--- a command that a refusal ended went out, whether its return code is accepted or not
+-- a command that a refusal ended was sent, whether its return code is accepted or not
 refused_sent : (accepted : Bool) (near : Option Near) (zeroed : Reading) (line : List ℕ) → went_out (refused_as accepted near zeroed line) ≡ true
 refused_sent true near zeroed line = warned_sent near zeroed line
 refused_sent false near zeroed line = refl
 
--- a command that a reply in time ended went out
+-- a command that a reply in time ended was sent
 end_sent : (expected : Expected) (reading zeroed : Reading) (line : List ℕ) → went_out (answer_as expected reading zeroed line) ≡ true
 end_sent expected (kind.Value answer) zeroed line = value_sent quality.Fine (is_elsewhere expected.near answer) answer line
 end_sent expected (kind.Refused code) zeroed line = refused_sent (are_accepted expected.accepted code) expected.near zeroed line
 end_sent expected (kind.ComFault code) zeroed line = refl
 end_sent expected (kind.Unreadable fault) zeroed line = refl
 
--- a command whose request was settled went out, however it ended
+-- a command whose request was settled was sent, however it ended
 pub ended_sent : (reads : Asked → List ℕ → Reading) (expected : Expected) (call : Asked) (o : Outcome) → went_out (end_of reads expected call o) ≡ true
 ended_sent reads expected call (Answered line) = end_sent expected (reads call line) (reads call (as_zero line)) line
 ended_sent reads expected call Late = refl
 ended_sent reads expected call Lost = refl
 
--- all records of settlements are of commands that went out
+-- all records of settlements are of commands that were sent
 records_sent : (reads : Asked → List ℕ → Reading) (utc : ℕ) (ms : List (Option Mark)) (ss : List (Settlement Asked)) → sent_of (records_of reads utc ms ss) ≡ records_of reads utc ms ss
 records_sent reads utc [] ss = refl
 records_sent reads utc (m ∷ ms) [] = refl
@@ -201,23 +196,23 @@ records_sent reads utc (Some mark ∷ ms) (s ∷ ss) =
     let r = record_of reads utc mark s in
     ap (λ (b : Bool). sent_with b r (sent_of (records_of reads utc ms ss))) (ended_sent reads mark.expected s.call s.outcome) ∙ ap (λ rs. r ∷ rs) (records_sent reads utc ms ss)
 
--- the record r, if its command went out (b), may be put in front of `xs` before `ys` are appended, or after
+-- the record r, if its command was sent (b), may be put before `xs` before `ys` are appended, or after
 sent_more : (b : Bool) (r : Record) (xs ys : List Record) → sent_with b r (xs ++ ys) ≡ sent_with b r xs ++ ys
 sent_more true r xs ys = refl
 sent_more false r xs ys = refl
 
--- the records that went out, of two lists, are those of the first and then those of the second
+-- the records of commands that were sent, of two lists, are those of the first and then those of the second
 pub sent_both : (xs ys : List Record) → sent_of (xs ++ ys) ≡ sent_of xs ++ sent_of ys
 sent_both [] ys = refl
 sent_both (r ∷ xs) ys = ap (sent_with (went_out r.end) r) (sent_both xs ys) ∙ sent_more (went_out r.end) r (sent_of xs) (sent_of ys)
 
--- the records of settlements, behind others, are all of commands that went out
+-- the records of settlements, after others, are all of commands that were sent
 pub sent_records : (reads : Asked → List ℕ → Reading) (rs : List Record) (utc : ℕ) (ms : List (Option Mark)) (ss : List (Settlement Asked))
     → sent_of (rs ++ records_of reads utc ms ss) ≡ sent_of rs ++ records_of reads utc ms ss
 sent_records reads rs utc ms ss = sent_both rs (records_of reads utc ms ss) ∙ ap (λ xs. sent_of rs ++ xs) (records_sent reads utc ms ss)
 
--- `AreOf` says of marks and requests, one for one, that each request is of the command that its mark names. Where it holds of
--- `ms` and `xs`, and of `ns` and `ys`, it holds of both joined
+-- `AreOf` says of marks and requests, one for one, that each request is of the command that its mark names. If it holds of `ms`
+-- and `xs`, and of `ns` and `ys`, it holds of both joined
 pub of_append : (commands : List Task) (ms ns : List (Option Mark)) (xs ys : List (Wanted Asked)) → AreOf commands ms xs → AreOf commands ns ys → AreOf commands (ms ++ ns) (xs ++ ys)
 of_append commands [] ns [] ys h g = g
 of_append commands [] ns (x ∷ xs) ys h g = absurd h
@@ -251,7 +246,7 @@ all_records reads P (m ∷ ms) [] f = tt
 all_records reads P (None ∷ ms) (s ∷ ss) f = all_records reads P ms ss (λ n mark x at got. f (suc n) mark x at got)
 all_records reads P (Some mark ∷ ms) (s ∷ ss) f = (f 0 mark s refl refl, all_records reads P ms ss (λ n other x at got. f (suc n) other x at got))
 
--- What is written down.
+-- What is recorded.
 
 -- a station with the marks `ms` and the records `rs` sends the requests `asks`, with the marks `more`, and the settlements `ss`
 -- come: then it has the marks `ms'` and the records `rs'`, which are compared without their moments
@@ -262,8 +257,9 @@ pub record Wrote (reads : Asked → List ℕ → Reading) (commands : List Task)
   pub records : map timeless rs' ≡ map timeless rs ++ records_of reads 0 (ms ++ more) ss
   pub sent : AreOf commands more asks
 
--- where `Wrote` holds of settlements, and of others behind them, it holds of all
-wrote_both : (reads : Asked → List ℕ → Reading) (commands : List Task) (ms ms1 ms2 more1 more2 : List (Option Mark)) (rs rs1 rs2 : List Record) (ss1 ss2 : List (Settlement Asked)) (asks1 asks2 : List (Wanted Asked))
+-- where `Wrote` holds of settlements, and of others after them, it holds of all
+wrote_both : (reads : Asked → List ℕ → Reading) (commands : List Task) (ms ms1 ms2 more1 more2 : List (Option Mark)) (rs rs1 rs2 : List Record) (ss1 ss2 : List (Settlement Asked))
+    (asks1 asks2 : List (Wanted Asked))
     → Wrote reads commands ms rs more1 ss1 asks1 ms1 rs1 → Wrote reads commands ms1 rs1 more2 ss2 asks2 ms2 rs2
     → Wrote reads commands ms rs (more1 ++ more2) (ss1 ++ ss2) (asks1 ++ asks2) ms2 rs2
 wrote_both reads commands ms ms1 ms2 more1 more2 rs rs1 rs2 ss1 ss2 asks1 asks2 h g =
@@ -315,12 +311,12 @@ books_both reads commands c c1 c2 ms ms1 ms2 rs rs1 rs2 p q h g =
 
 -- Single steps.
 
--- where nothing is settled and nothing sent, the marks and the records stay
+-- if nothing is settled and nothing sent, the marks and the records stay
 wrote_none : (reads : Asked → List ℕ → Reading) (commands : List Task) (ms : List (Option Mark)) (rs : List Record) → Wrote reads commands ms rs [] [] [] ms rs
 wrote_none reads commands ms rs = record {
   marks = sym (append-nil ms);
   count = omega arith;
-  records = sym (append-nil (map timeless rs)) ∙ ap (λ l. map timeless rs ++ l) (sym (records_none reads 0 (ms ++ [])));
+  records = sym (append-nil (map timeless rs)) ∙ ap (λ l. map timeless rs ++ l) (sym (records-none reads 0 (ms ++ [])));
   sent = tt;
 }
 
@@ -328,7 +324,7 @@ wrote_none reads commands ms rs = record {
 pub books_nothing : (reads : Asked → List ℕ → Reading) (commands : List Task) (c : ById Asked) (ms : List (Option Mark)) (rs : List Record) → Books reads commands c ms rs nothing c ms rs
 books_nothing reads commands c ms rs = record { client = refl; wrote = wrote_none reads commands ms rs }
 
--- turns of a beginning leave the client, the marks and the records
+-- turns of a synchronization leave the client, the marks and the records
 pub books_turns : (reads : Asked → List ℕ → Reading) (commands : List Task) (c : ById Asked) (ms : List (Option Mark)) (rs : List Record) (turns : List Turn)
     → Books reads commands c ms rs (only_turns turns) c ms rs
 books_turns reads commands c ms rs turns = record { client = refl; wrote = wrote_none reads commands ms rs }
@@ -374,7 +370,7 @@ books_line reads commands c ms rs utc line paired =
 abbrev pub restarting : Part
 restarting = only (Restart ∷ [])
 
--- a restart: all requests that wait are lost, which takes out their marks and adds their records
+-- a restart: all outstanding requests are lost, which removes their marks and adds their records
 pub books_restart : (reads : Asked → List ℕ → Reading) (commands : List Task) (c : ById Asked) (ms : List (Option Mark)) (rs : List Record) (utc : ℕ) → length ms ≡ length c.waiting
     → Books reads commands c ms rs restarting fresh (drop (length (map lost c.waiting)) ms) (rs ++ records_of reads utc ms (map lost c.waiting))
 books_restart reads commands c ms rs utc paired =
@@ -385,12 +381,12 @@ books_restart reads commands c ms rs utc paired =
 abbrev pub sending_of : ById Asked → ℕ → Asked → ℕ → Sending (ById Asked)
 sending_of c target call deadline = record { id = c.next; client = client_sent c (id_send c target call deadline false) }
 
--- a send isn't refused where the window has room
+-- a send isn't refused if the window has room
 pub sends_with_room : (c : ById Asked) (target : ℕ) (call : Asked) (deadline : ℕ) → length c.waiting < 7 → sends 7 c target call deadline ≡ Some (sending_of c target call deadline)
 sends_with_room c target call deadline room = ap (λ b. id_send c target call deadline b) (ne_eqb (length c.waiting) 7 (λ e. omega (arith, e, room)))
 
--- a send to `target` of `call` with the outcome `o` (the last argument; `None` where the client refuses it) takes the client c
--- to `client_sent c o`, and adds its mark to the marks `ms`; the records `rs` stay
+-- a send to `target` of `call` with the outcome `o` (the last argument; `None` if the client refuses it) takes the client c to
+-- `client_sent c o`, and adds its mark to the marks `ms`; the records `rs` stay
 abbrev pub SentAt : (Asked → List ℕ → Reading) → List Task → ById Asked → List (Option Mark) → List Record → ℕ → Asked → Option Mark → Option (Sending (ById Asked)) → Type 0
 SentAt reads commands c ms rs target call mark o =
     ((sent_on (course_at c) target call o).client ≡ client_sent c o)
@@ -405,12 +401,12 @@ sent_some reads commands c ms rs target call mark x is = (
   record {
     marks = refl;
     count = omega arith;
-    records = sym (append-nil (map timeless rs)) ∙ ap (λ l. map timeless rs ++ l) (sym (records_none reads 0 (ms ++ mark ∷ [])));
+    records = sym (append-nil (map timeless rs)) ∙ ap (λ l. map timeless rs ++ l) (sym (records-none reads 0 (ms ++ mark ∷ [])));
     sent = (is, tt);
   },
 )
 
--- a send where there is room: its mark is added, and the records stay
+-- a send if there is room: its mark is added, and the records stay
 pub books_send : (reads : Asked → List ℕ → Reading) (commands : List Task) (c : ById Asked) (ms : List (Option Mark)) (rs : List Record) (target : ℕ) (call : Asked)
     (deadline : ℕ) (mark : Option Mark) → length c.waiting < 7 → IsOf commands mark (record { target = target; call = call })
     → Books reads commands c ms rs (asking target call deadline mark) (client_sent c (sends 7 c target call deadline)) (ms ++ mark ∷ []) rs

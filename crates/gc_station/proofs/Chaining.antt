@@ -1,7 +1,7 @@
--- A command of a chain goes out only after the answer of the one before it. The two fields on chains of a progress are
--- `next_is_chained`, whether the next command waits for that answer, and `chain_unbroken`. An act is one call of the link, with
--- what came of it. `Chain` says that both fields are true to the acts so far, and `Whole` that the command before the next one
--- went out, with no connection closed and no new beginning since.
+-- A command of a chain is sent only after the answer of the one before it. The two fields on chains of a progress are
+-- `next_is_chained`, whether the next command waits for that answer, and `chain_unbroken`. An act is one call on the link, with
+-- its result. `Chain` says that both fields are true to the acts so far, and `Whole` that the command before the next one was
+-- sent, with no connection closed and no new synchronization since.
 use Rattle.std.proofs.Common.{◌≡◌, ◌⊎◌, inl, inr, ℕ, ◌+◌, ◌-◌, ◌<◌, ◌≤◌, ◌||◌, Bool, true, false, List, [], ◌∷◌, ◌++◌, length, drop, map, Option, Some, None, refl, sym, ap, ◌∙◌, subst, arith, append_assoc}
 use Rattle.std.specs.List.{AllByRecursion}
 use Rattle.std.proofs.lemmas.List.{length-drop, map-append}
@@ -10,27 +10,25 @@ use Rattle.gc_texts.specs.declared.tasks.Task.{Task}
 use Rattle.gc_texts.specs.Endings.{End, Answered}
 use Rattle.gc_texts.specs.Qualities.{is_good}
 use Rattle.gc_texts.specs.declared.quality.Quality.{Quality}
-use Rattle.gc_station.specs.declared.cause.Cause.{Cause}
-use Rattle.gc_station.specs.declared.cause.Cause.TheVariants as cause
 use Rattle.gc_station.specs.declared.plan.Plan.{Plan}
 use Rattle.gc_station.specs.declared.progress.Action.{Action}
-use Rattle.gc_station.specs.declared.progress.Action.TheVariants.{Begin, Renew, Open, Send, Skip, Pass, Read, Close, Stop, Prepare}
+use Rattle.gc_station.specs.declared.progress.Action.TheVariants.{Begin, Renew, Send, Skip, Pass, Close, Stop, Prepare}
 use Rattle.gc_station.specs.declared.progress.Progress.{Progress}
 use Rattle.gc_station.specs.declared.progress.Waiting.{Waiting}
-use Rattle.gc_links.specs.Acts.{Act, Told, Cut, Opened}
-use Rattle.gc_station.specs.Answers.{IsTrueRecord, answer_of}
+use Rattle.gc_links.specs.Acts.{Act, Told}
+use Rattle.gc_station.specs.Answers.{AnswerIsJustified, answer_of}
 use Rattle.gc_station.specs.Chains.{IsChained, IsLinked}
 use Rattle.gc_station.specs.Deciding.{has_begun}
 use Rattle.gc_station.specs.EachOnce.{Parted, Request, of_record, of_task, requests, sent_by, still_waiting, of_text, in_text}
 use Rattle.gc_station.specs.Marks.{commands_in, is_well, last_well}
 use Rattle.gc_station.specs.Qualities.{IsAsListed}
 use Rattle.gc_station.specs.Quiet.{KeepsOpen}
-use Rattle.gc_station.specs.Progressing.{failing, turned, begun}
+use Rattle.gc_station.specs.Progressing.{turned, cycle_begun}
 use Rattle.gc_station.specs.Reasons.{IsFor, MayGo}
 use Rattle.gc_station.specs.Records.{Record}
-use Rattle.gc_station.specs.Runs.{stood}
+use Rattle.gc_station.specs.Runs.{state_after}
 use Rattle.gc_station.specs.Scopes.{Scope}
-use Rattle.gc_station.specs.Model.{Model, requests_out, Performs, Runs, opening, action_at, waiting_of, place_next, cycles_begun, is_chained, is_chained_behind_next, is_chained_behind, ended, with_progress, with_rest, moved, after, after_all, cycle_length}
+use Rattle.gc_station.specs.Model.{Model, Performs, Runs, opening, action_at, waiting_of, place_next, cycles_begun, is_chained, is_chained_after_next, ended, with_progress, moved, after, after_all, cycle_length}
 use Rattle.gc_station.proofs.Answers.{answers_true}
 use Rattle.gc_station.proofs.Counts.{ended_progress, ended_passes}
 use Rattle.gc_station.proofs.Each.{each_settled, sent_next}
@@ -41,159 +39,59 @@ use Rattle.gc_station.proofs.Facts.{or_true, action_for}
 use Rattle.gc_station.proofs.Invariant.{Invariant}
 use Rattle.gc_station.proofs.Going.{after_all-append}
 use Rattle.gc_station.proofs.Lists.{all_append}
-use Rattle.gc_station.proofs.Midway.{clash}
 use Rattle.gc_station.proofs.Nearly.{as_listed}
-use Rattle.gc_station.proofs.Walk.{closed_along, is_prepared, is_sent, moved_changed, walk}
+use Rattle.gc_station.proofs.Walk.{moved_changed}
 use Rattle.gc_station.proofs.Words.{begun_kept}
+use Rattle.gc_station.proofs.ChainSteps.{Still, Next, Anew, Past, Steps, broken, moved_steps, stays_open}
+use Rattle.gc_station.proofs.Ticking.{not_both}
 
--- What an act does to the place in a cycle, and to the chain that is there.
+-- What every run keeps of the chain where it is.
 
--- from p to q the next command stays the same, and so do the fields that chains look at, but that the chain may break
-record Still (p q : Progress) : Type 0 where
-  left : q.left ≡ p.left
-  unsent : q.unsent ≡ p.unsent
-  missed : q.missed ≡ p.missed
-  next_is_chained : q.next_is_chained ≡ p.next_is_chained
-  chain_unbroken : q.chain_unbroken ≡ true → p.chain_unbroken ≡ true
-
--- q has one command less to be sent than p, and the next one of q waits for the answer of the one before it as `next_is_chained`
--- says
-record Next (next_is_chained : Bool) (p q : Progress) : Type 0 where
-  left : q.left ≡ p.left
-  unsent : q.unsent ≡ p.unsent - 1
-  missed : q.missed ≡ p.missed
-  is_bound : q.next_is_chained ≡ next_is_chained
-
--- q is at the beginning of a cycle of `count` commands: all are unsent, and no chain has begun
-record Anew (count : ℕ) (q : Progress) : Type 0 where
-  unsent : q.unsent ≡ count
-  chain_unbroken : q.chain_unbroken ≡ false
-
--- q has the further attempts of a chain passed over that the next command of p begins; the next one of q waits as `is_chained_behind`
--- says
-record Past (commands : List Task) (p q : Progress) : Type 0 where
-  left : q.left ≡ p.left
-  unsent : q.unsent ≡ p.unsent - p.next_others
-  missed : q.missed ≡ p.missed
-  is_bound : q.next_is_chained ≡ is_chained_behind p.next_others commands p
-  chain_unbroken : q.chain_unbroken ≡ false
-
--- what an act of an action does to the fields on chains, from p to q: it leaves them, breaks the chain, goes on to the next
--- command, passes over attempts, or begins a cycle. Where an action has two cases, the first is that the clock couldn't be read
-abbrev Steps : Plan → List Task → Action → Progress → Progress → Type 0
-Steps plan commands Begin p q = Still p q ⊎ Anew (cycle_length plan commands) q
-Steps plan commands Renew p q = Still p q ⊎ (Still p q × (q.chain_unbroken ≡ false))
-Steps plan commands Send p q = Next (is_chained_behind_next commands p) p q
-Steps plan commands Skip p q = Still p q ⊎ (Next (is_chained_behind_next commands p) p q × (q.chain_unbroken ≡ false))
-Steps plan commands Pass p q = Still p q ⊎ Past commands p q
-Steps plan commands Prepare p q = Still p q × (q.chain_unbroken ≡ false)
-Steps plan commands (Close why) p q = Still p q × (q.chain_unbroken ≡ false)
-Steps plan commands _ p q = Still p q
-
--- where these fields are the same, `Still` holds
-still : (p q : Progress) → q.left ≡ p.left → q.unsent ≡ p.unsent → q.missed ≡ p.missed → q.next_is_chained ≡ p.next_is_chained → q.chain_unbroken ≡ p.chain_unbroken → Still p q
-still p q left unsent missed next_is_chained chain_unbroken = record { left = left; unsent = unsent; missed = missed; next_is_chained = next_is_chained; chain_unbroken = λ e. sym chain_unbroken ∙ e }
-
--- where these fields are the same, but for a chain that is broken in q, `Still` holds, and q's chain is broken
-broken : (p q : Progress) → q.left ≡ p.left → q.unsent ≡ p.unsent → q.missed ≡ p.missed → q.next_is_chained ≡ p.next_is_chained → q.chain_unbroken ≡ false → Still p q × (q.chain_unbroken ≡ false)
-broken p q left unsent missed next_is_chained chain_unbroken = (
-  record {
-    left = left;
-    unsent = unsent;
-    missed = missed;
-    next_is_chained = next_is_chained;
-    chain_unbroken =
-        λ e. let both : true ≡ false = sym e ∙ chain_unbroken in cc;
-  },
-  chain_unbroken,
-)
-
--- an act of each action does to these fields what `Steps` says
-moved_steps : (plan : Plan) (commands : List Task) (action : Action) (s : Model) (act : Act)
-    → Steps plan commands action s.progress (moved plan commands action s act).progress
-moved_steps plan commands Begin s (Told m) = inr (record { unsent = refl; chain_unbroken = refl })
-moved_steps plan commands Begin s act = inl (still s.progress _ refl refl refl refl refl)
-moved_steps plan commands Renew s (Told m) = inr (broken s.progress _ refl refl refl refl refl)
-moved_steps plan commands Renew s act = inl (still s.progress _ refl refl refl refl refl)
-moved_steps plan commands Open s Opened = still s.progress _ refl refl refl refl refl
-moved_steps plan commands Open s act = (broken s.progress _ refl refl refl refl refl).0
-moved_steps plan commands Prepare s (Cut bytes n) =
-    subst (λ (x : Model). Still s.progress (failing (cause.Write (requests_out plan commands s.progress) n) x.progress) × (x.progress.chain_unbroken ≡ false)) (is_prepared plan commands s)
-    (broken s.progress _ refl refl refl refl refl)
-moved_steps plan commands Prepare s act =
-    subst (λ (x : Model). Still s.progress x.progress × (x.progress.chain_unbroken ≡ false)) (is_prepared plan commands s) (broken s.progress _ refl refl refl refl refl)
-moved_steps plan commands Send s (Cut bytes n) =
-    subst (λ (x : Model). Next (is_chained_behind_next commands s.progress) s.progress (failing (cause.Write (requests_out plan commands s.progress) n) x.progress)) (is_sent plan commands s)
-    (record { left = refl; unsent = refl; missed = refl; is_bound = refl })
-moved_steps plan commands Send s act =
-    subst (λ (x : Model). Next (is_chained_behind_next commands s.progress) s.progress x.progress) (is_sent plan commands s) (record { left = refl; unsent = refl; missed = refl; is_bound = refl })
-moved_steps plan commands Skip s (Told m) = inr (record { left = refl; unsent = refl; missed = refl; is_bound = refl }, refl)
-moved_steps plan commands Skip s act = inl (still s.progress _ refl refl refl refl refl)
-moved_steps plan commands Pass s (Told m) = inr (record { left = refl; unsent = refl; missed = refl; is_bound = refl; chain_unbroken = refl })
-moved_steps plan commands Pass s act = inl (still s.progress _ refl refl refl refl refl)
-moved_steps plan commands (Close why) s act =
-    closed_along (λ (q : Progress). Still s.progress q × (q.chain_unbroken ≡ false)) plan (waiting_of (with_rest [] s)) why s.progress
-    (broken s.progress _ refl refl refl refl refl) (broken s.progress _ refl refl refl refl refl)
-moved_steps plan commands action s act =
-    let is = moved_changed plan commands action s act in
-    still s.progress _ (ap (λ (x : Model). x.progress.left) is) (ap (λ (x : Model). x.progress.unsent) is) (ap (λ (x : Model). x.progress.missed) is)
-    (ap (λ (x : Model). x.progress.next_is_chained) is)
-    (ap (λ (x : Model). x.progress.chain_unbroken) is)
-
--- no act but that of a close closes the connection
-pub stays_open : (plan : Plan) (commands : List Task) (next : Action) (s : Model) (act : Act) → Performs commands s next act → ((why : Cause) → next ≡ Close why → ⊥) → KeepsOpen act
-stays_open plan commands (Read until) s act o other = walk plan commands (λ a (t : Model). KeepsOpen a) (Read until) s act o (λ bytes m. tt, λ m. tt, tt, tt, tt)
-stays_open plan commands (Close why) s act o other = absurd (other why refl)
-stays_open plan commands (Stop why) s act o other = absurd o
-stays_open plan commands next s act o other = walk plan commands (λ a (t : Model). KeepsOpen a) next s act o (λ m. tt, λ n. tt)
-
--- What every run keeps of the chain where it stands.
-
--- the station has begun after each of these acts
+-- the station has synchronized after each of these acts
 abbrev pub StaysBegun : Plan → List Task → Model → List Act → Type 0
 StaysBegun plan commands s [] = Unit {0}
 StaysBegun plan commands s (act ∷ acts) = (has_begun (after plan commands s act).progress ≡ true) × StaysBegun plan commands (after plan commands s act) acts
 
--- `StaysBegun` holds with one act more, if the station has begun after it
+-- `StaysBegun` holds after one more act, if the station has synchronized after it
 stays_more : (plan : Plan) (commands : List Task) (s : Model) (acts : List Act) (act : Act) → StaysBegun plan commands s acts
     → has_begun (after_all plan commands s (acts ++ act ∷ [])).progress ≡ true → StaysBegun plan commands s (acts ++ act ∷ [])
 stays_more plan commands s [] act h e = (e, tt)
 stays_more plan commands s (x ∷ acts) act h e = (h.0, stays_more plan commands (after plan commands s x) acts act h.1 e)
 
--- none of these acts sends a command of the set-up
+-- none of these acts sends a command of the setup
 abbrev pub PreparesNothing : Plan → List Task → Model → List Act → Type 0
 PreparesNothing plan commands s [] = Unit {0}
 PreparesNothing plan commands s (act ∷ acts) = (action_at plan s ≡ Prepare → ⊥) × PreparesNothing plan commands (after plan commands s act) acts
 
--- `PreparesNothing` holds of two lists of acts, the second behind the first, if it holds of each
+-- `PreparesNothing` holds of two lists of acts, the second after the first, if it holds of each
 pub prepares_none : (plan : Plan) (commands : List Task) (s : Model) (xs ys : List Act) → PreparesNothing plan commands s xs
     → PreparesNothing plan commands (after_all plan commands s xs) ys → PreparesNothing plan commands s (xs ++ ys)
 prepares_none plan commands s [] ys h k = k
 prepares_none plan commands s (x ∷ xs) ys h k = (h.0, prepares_none plan commands (after plan commands s x) xs ys h.1 k)
 
--- where a station has the progress p: the command before the next one, of the same cycle, went out among these acts, and since
--- then no connection was closed, the station didn't begin anew, and no command of the set-up went out
+-- if a station has the progress p: the command before the next one, of the same cycle, was sent among these acts, and since
+-- then no connection was closed, the station didn't resynchronize, and no command of the setup was sent
 record Whole (plan : Plan) (commands : List Task) (scope : Scope) (acts : List Act) (p : Progress) : Type 0 where
   before : List Act
   request : Act
   between : List Act
   order : acts ≡ before ++ request ∷ between
-  sends : action_at plan (stood plan commands scope before) ≡ Send
-  cycle : cycles_begun plan p ≡ cycles_begun plan (stood plan commands scope before).progress
-  place : place_next commands p ≡ place_next commands (stood plan commands scope before).progress + 1
+  sends : action_at plan (state_after plan commands scope before) ≡ Send
+  cycle : cycles_begun plan p ≡ cycles_begun plan (state_after plan commands scope before).progress
+  place : place_next commands p ≡ place_next commands (state_after plan commands scope before).progress + 1
   stays : AllByRecursion KeepsOpen between
   begun : has_begun p ≡ true
-  passes : (stood plan commands scope acts).passes ≡ (stood plan commands scope before).passes
-  keeps : StaysBegun plan commands (stood plan commands scope before) (request ∷ between)
-  cycles : PreparesNothing plan commands (stood plan commands scope before) (request ∷ between)
+  passes : (state_after plan commands scope acts).passes ≡ (state_after plan commands scope before).passes
+  keeps : StaysBegun plan commands (state_after plan commands scope before) (request ∷ between)
+  cycles : PreparesNothing plan commands (state_after plan commands scope before) (request ∷ between)
 
--- where all acts (`all`) are `before` and then `behind`, and the station has begun after all of them, it has begun after
--- `behind`, counted from the model after `before`
+-- if all acts (`all`) are `before` and then `behind`, and the station has synchronized after all of them, it has synchronized
+-- after `behind`, counted from the model after `before`
 begun_there : (plan : Plan) (commands : List Task) (scope : Scope) (before behind all : List Act) (q : Progress) → all ≡ before ++ behind
-    → (stood plan commands scope all).progress ≡ q → has_begun q ≡ true
-    → has_begun (after_all plan commands (stood plan commands scope before) behind).progress ≡ true
-begun_there plan commands scope before behind all q action there begun =
-    ap (λ (x : Model). has_begun x.progress) (sym (ap (stood plan commands scope) action ∙ after_all-append plan commands (opening plan scope) before behind)) ∙ ap has_begun there ∙ begun
+    → (state_after plan commands scope all).progress ≡ q → has_begun q ≡ true
+    → has_begun (after_all plan commands (state_after plan commands scope before) behind).progress ≡ true
+begun_there plan commands scope before behind all q action there cycle_begun =
+    ap (λ (x : Model). has_begun x.progress) (sym (ap (state_after plan commands scope) action ∙ after_all-append plan commands (opening plan scope) before behind)) ∙ ap has_begun there ∙ cycle_begun
 
 -- the two fields on chains of p are true after these acts: `next_is_chained` is what the text says of the next command, or true
 -- in a missed cycle; and if `chain_unbroken` is true, `Whole` holds
@@ -201,25 +99,26 @@ record Chain (plan : Plan) (commands : List Task) (scope : Scope) (acts : List A
   next_is_chained : plan.setup < place_next commands p → p.next_is_chained ≡ (p.missed || is_chained (drop (place_next commands p) commands))
   chain_unbroken : p.chain_unbroken ≡ true → Whole plan commands scope acts p
 
--- from one model to another nothing is passed over, or no chain goes on there
-abbrev Keeps : Model → Model → Type 0
-Keeps s t = (t.passes ≡ s.passes) ⊎ (t.progress.chain_unbroken ≡ false)
+-- from one model to another nothing is left out, or no chain goes on there
+abbrev LeavesNothingOut : Model → Model → Type 0
+LeavesNothingOut s t = (t.passes ≡ s.passes) ⊎ (t.progress.chain_unbroken ≡ false)
 
 -- no act passes commands over, but one after which no chain goes on
-moved_keeps : (plan : Plan) (commands : List Task) (action : Action) (s : Model) (act : Act) → Keeps s (moved plan commands action s act)
+moved_keeps : (plan : Plan) (commands : List Task) (action : Action) (s : Model) (act : Act) → LeavesNothingOut s (moved plan commands action s act)
 moved_keeps plan commands Pass s (Told m) = inr refl
 moved_keeps plan commands Pass s act = inl refl
 moved_keeps plan commands action s act = inl (ap (λ (x : Model). x.passes) (moved_changed plan commands action s act))
 
--- nothing that is passed over since: where the chain goes on, no act passes commands over
-still_passes : (s t : Model) (before : List Request) → Keeps s t → t.progress.chain_unbroken ≡ true → s.passes ≡ before → t.passes ≡ before
+-- nothing that is left out since: if the chain goes on, no act passes commands over
+still_passes : (s t : Model) (before : List Request) → LeavesNothingOut s t → t.progress.chain_unbroken ≡ true → s.passes ≡ before → t.passes ≡ before
 still_passes s t before (inl same) e is = same ∙ is
-still_passes s t before (inr none) e is = absurd (clash t.progress.chain_unbroken e none)
+still_passes s t before (inr none) e is = absurd (not_both t.progress.chain_unbroken e none)
 
--- `Chain` lasts over an act that leaves these fields and doesn't close the connection
+-- `Chain` is preserved by an act that leaves these fields and doesn't close the connection
 chain_still : (plan : Plan) (commands : List Task) (scope : Scope) (acts : List Act) (act : Act) (p q : Progress)
-    → (stood plan commands scope (acts ++ act ∷ [])).progress ≡ q → Still p q → (has_begun p ≡ true → q.chain_unbroken ≡ true → has_begun q ≡ true)
-    → Keeps (stood plan commands scope acts) (stood plan commands scope (acts ++ act ∷ [])) → KeepsOpen act → (action_at plan (stood plan commands scope acts) ≡ Prepare → ⊥)
+    → (state_after plan commands scope (acts ++ act ∷ [])).progress ≡ q → Still p q → (has_begun p ≡ true → q.chain_unbroken ≡ true → has_begun q ≡ true)
+    → LeavesNothingOut (state_after plan commands scope acts) (state_after plan commands scope (acts ++ act ∷ [])) → KeepsOpen act
+    → (action_at plan (state_after plan commands scope acts) ≡ Prepare → ⊥)
     → Chain plan commands scope acts p → Chain plan commands scope (acts ++ act ∷ []) q
 chain_still plan commands scope acts act p q there k begins keeps stays other h =
     let place_is : place_next commands q ≡ place_next commands p = ap (λ (n : ℕ). length commands - n) k.unsent in
@@ -230,7 +129,7 @@ chain_still plan commands scope acts act p q there k begins keeps stays other h 
       chain_unbroken = λ e.
           let w = h.chain_unbroken (k.chain_unbroken e) in
           let order = ap (λ xs. xs ++ act ∷ []) w.order ∙ append_assoc w.before (w.request ∷ w.between) (act ∷ []) in
-          let begun = begins w.begun e in
+          let cycle_begun = begins w.begun e in
           record {
             before = w.before;
             request = w.request;
@@ -240,20 +139,22 @@ chain_still plan commands scope acts act p q there k begins keeps stays other h 
             cycle = ap (λ (n : ℕ). plan.cycles - n) k.left ∙ w.cycle;
             place = place_is ∙ w.place;
             stays = all_append KeepsOpen w.between (act ∷ []) w.stays (stays, tt);
-            begun = begun;
-            passes = still_passes (stood plan commands scope acts) (stood plan commands scope (acts ++ act ∷ [])) (stood plan commands scope w.before).passes keeps (ap (λ (x : Progress). x.chain_unbroken) there ∙ e) w.passes;
+            begun = cycle_begun;
+            passes = still_passes (state_after plan commands scope acts) (state_after plan commands scope (acts ++ act ∷ [])) (state_after plan commands scope w.before).passes keeps
+                (ap (λ (x : Progress). x.chain_unbroken) there ∙ e) w.passes;
             keeps =
-                stays_more plan commands (stood plan commands scope w.before) (w.request ∷ w.between) act w.keeps
-                (begun_there plan commands scope w.before (w.request ∷ (w.between ++ act ∷ [])) (acts ++ act ∷ []) q order there begun);
+                stays_more plan commands (state_after plan commands scope w.before) (w.request ∷ w.between) act w.keeps
+                (begun_there plan commands scope w.before (w.request ∷ (w.between ++ act ∷ [])) (acts ++ act ∷ []) q order there cycle_begun);
             cycles =
                 let back = after_all-append plan commands (opening plan scope) w.before (w.request ∷ w.between) in
-                let here : after_all plan commands (stood plan commands scope w.before) (w.request ∷ w.between) ≡ stood plan commands scope acts = sym back ∙ ap (stood plan commands scope) (sym w.order) in
-                prepares_none plan commands (stood plan commands scope w.before) (w.request ∷ w.between) (act ∷ []) w.cycles
+                let here : after_all plan commands (state_after plan commands scope w.before) (w.request ∷ w.between)
+                ≡ state_after plan commands scope acts = sym back ∙ ap (state_after plan commands scope) (sym w.order) in
+                prepares_none plan commands (state_after plan commands scope w.before) (w.request ∷ w.between) (act ∷ []) w.cycles
                 (subst (λ (x : Model). PreparesNothing plan commands x (act ∷ [])) (sym here) (other, tt));
           };
     }
 
--- `Chain` lasts over an act that breaks the chain, as a close or a new beginning does
+-- `Chain` is preserved by an act that breaks the chain, as a close or a new synchronization does
 chain_closed : (plan : Plan) (commands : List Task) (scope : Scope) (acts all : List Act) (p q : Progress) → Still p q → q.chain_unbroken ≡ false
     → Chain plan commands scope acts p → Chain plan commands scope all q
 chain_closed plan commands scope acts all p q k broken h =
@@ -262,34 +163,34 @@ chain_closed plan commands scope acts all p q k broken h =
       next_is_chained = λ above.
           k.next_is_chained ∙ h.next_is_chained (subst (λ (n : ℕ). plan.setup < n) place_is above) ∙ ap (λ (b : Bool). b || is_chained (drop (place_next commands p) commands)) (sym k.missed)
           ∙ ap (λ (n : ℕ). q.missed || is_chained (drop n commands)) (sym place_is);
-      chain_unbroken = λ e. absurd (clash q.chain_unbroken e broken);
+      chain_unbroken = λ e. absurd (not_both q.chain_unbroken e broken);
     }
 
 -- `Chain` holds at the beginning of a cycle
 chain_anew : (plan : Plan) (commands : List Task) (scope : Scope) (acts : List Act) (q : Progress) → Anew (cycle_length plan commands) q → Chain plan commands scope acts q
 chain_anew plan commands scope acts q a =
     let none : place_next commands q ≤ plan.setup = omega (arith, a.unsent) in
-    record { next_is_chained = λ above. absurd (omega (arith, none, above)); chain_unbroken = λ e. absurd (clash q.chain_unbroken e a.chain_unbroken) }
+    record { next_is_chained = λ above. absurd (omega (arith, none, above)); chain_unbroken = λ e. absurd (not_both q.chain_unbroken e a.chain_unbroken) }
 
--- where one command less is left, the next one stands one place further
+-- if one command less is left, the next one is one place further on
 next_place : (commands : List Task) (p q : Progress) → q.unsent ≡ p.unsent - 1 → 0 < p.unsent → p.unsent ≤ length commands → place_next commands q ≡ place_next commands p + 1
 next_place commands p q less some within = omega (arith, less, some, within)
 
--- after a command that was sent or passed over, `next_is_chained` is what the text says of the next command, or true in a missed
+-- after a command that was sent or left out, `next_is_chained` is what the text says of the next command, or true in a missed
 -- cycle
-next_bound : (commands : List Task) (p q : Progress) → Next (is_chained_behind_next commands p) p q → place_next commands q ≡ place_next commands p + 1
+next_bound : (commands : List Task) (p q : Progress) → Next (is_chained_after_next commands p) p q → place_next commands q ≡ place_next commands p + 1
     → q.next_is_chained ≡ (q.missed || is_chained (drop (place_next commands q) commands))
 next_bound commands p q n at =
     n.is_bound ∙ ap (λ (b : Bool). b || is_chained (drop (place_next commands p + 1) commands)) (sym n.missed) ∙ ap (λ (k : ℕ). q.missed || is_chained (drop k commands)) (sym at)
 
 -- `Chain` holds after a command that isn't sent
-chain_skipped : (plan : Plan) (commands : List Task) (scope : Scope) (acts : List Act) (p q : Progress) → Next (is_chained_behind_next commands p) p q
+chain_skipped : (plan : Plan) (commands : List Task) (scope : Scope) (acts : List Act) (p q : Progress) → Next (is_chained_after_next commands p) p q
     → q.chain_unbroken ≡ false → 0 < p.unsent → p.unsent ≤ length commands → Chain plan commands scope acts q
 chain_skipped plan commands scope acts p q n broken some within =
     let at = next_place commands p q n.unsent some within in
-    record { next_is_chained = λ above. next_bound commands p q n at; chain_unbroken = λ e. absurd (clash q.chain_unbroken e broken) }
+    record { next_is_chained = λ above. next_bound commands p q n at; chain_unbroken = λ e. absurd (not_both q.chain_unbroken e broken) }
 
--- `Chain` holds after the further attempts of a chain are passed over
+-- `Chain` holds after the further attempts of a chain are left out
 chain_past : (plan : Plan) (commands : List Task) (scope : Scope) (acts : List Act) (p q : Progress) → Past commands p q → p.unsent ≤ length commands → Chain plan commands scope acts q
 chain_past plan commands scope acts p q k within =
     record {
@@ -297,15 +198,15 @@ chain_past plan commands scope acts p q k within =
           k.is_bound ∙ ap (λ (b : Bool). b || is_chained (drop (place_next commands p + p.next_others) commands)) (sym k.missed)
           ∙ ap (λ (xs : List Task). q.missed || is_chained xs) (drop_past commands p.unsent p.next_others within)
           ∙ ap (λ (n : ℕ). q.missed || is_chained (drop (length commands - n) commands)) (sym k.unsent);
-      chain_unbroken = λ e. absurd (clash q.chain_unbroken e k.chain_unbroken);
+      chain_unbroken = λ e. absurd (not_both q.chain_unbroken e k.chain_unbroken);
     }
 
 -- `Chain` holds after a command that is sent
 chain_sent : (plan : Plan) (commands : List Task) (scope : Scope) (acts : List Act) (act : Act) (p q : Progress)
-    → p ≡ turned (stood plan commands scope acts).progress → (stood plan commands scope (acts ++ act ∷ [])).progress ≡ q
-    → action_at plan (stood plan commands scope acts) ≡ Send → (q.chain_unbroken ≡ true → has_begun q ≡ true)
-    → Next (is_chained_behind_next commands p) p q → 0 < p.unsent → p.unsent ≤ length commands
-    → Keeps (stood plan commands scope acts) (stood plan commands scope (acts ++ act ∷ [])) → Chain plan commands scope (acts ++ act ∷ []) q
+    → p ≡ turned (state_after plan commands scope acts).progress → (state_after plan commands scope (acts ++ act ∷ [])).progress ≡ q
+    → action_at plan (state_after plan commands scope acts) ≡ Send → (q.chain_unbroken ≡ true → has_begun q ≡ true)
+    → Next (is_chained_after_next commands p) p q → 0 < p.unsent → p.unsent ≤ length commands
+    → LeavesNothingOut (state_after plan commands scope acts) (state_after plan commands scope (acts ++ act ∷ [])) → Chain plan commands scope (acts ++ act ∷ []) q
 chain_sent plan commands scope acts act p q here there is begins n some within keeps =
     let at = next_place commands p q n.unsent some within in
     record {
@@ -320,66 +221,68 @@ chain_sent plan commands scope acts act p q here there is begins n some within k
         place = at ∙ ap (λ (x : Progress). place_next commands x + 1) here;
         stays = tt;
         begun = begins e;
-        passes = still_passes (stood plan commands scope acts) (stood plan commands scope (acts ++ act ∷ [])) (stood plan commands scope acts).passes keeps (ap (λ (x : Progress). x.chain_unbroken) there ∙ e) refl;
+        passes = still_passes (state_after plan commands scope acts) (state_after plan commands scope (acts ++ act ∷ [])) (state_after plan commands scope acts).passes keeps
+            (ap (λ (x : Progress). x.chain_unbroken) there ∙ e) refl;
         keeps = (begun_there plan commands scope acts (act ∷ []) (acts ++ act ∷ []) q refl there (begins e), tt);
         cycles = (λ prepares. let both : Send ≡ Prepare = sym is ∙ prepares in cc, tt);
       };
     }
 
--- `Chain` lasts over an act of any action
+-- `Chain` is preserved by an act of any action
 chain_moved : (plan : Plan) (commands : List Task) (scope : Scope) (acts : List Act) (act : Act) (action : Action) (w : Waiting) (q : Progress)
-    → Invariant plan commands (stood plan commands scope acts)
-    → action_at plan (stood plan commands scope acts) ≡ action → IsFor plan (stood plan commands scope acts).progress w action → Performs commands (stood plan commands scope acts) action act
-    → (stood plan commands scope (acts ++ act ∷ [])).progress ≡ q → (has_begun (stood plan commands scope acts).progress ≡ true → q.chain_unbroken ≡ true → has_begun q ≡ true)
-    → Steps plan commands action (turned (stood plan commands scope acts).progress) q
-    → Keeps (stood plan commands scope acts) (stood plan commands scope (acts ++ act ∷ []))
-    → Chain plan commands scope acts (turned (stood plan commands scope acts).progress) → Chain plan commands scope (acts ++ act ∷ []) q
+    → Invariant plan commands (state_after plan commands scope acts)
+    → action_at plan (state_after plan commands scope acts) ≡ action → IsFor plan (state_after plan commands scope acts).progress w action
+    → Performs commands (state_after plan commands scope acts) action act
+    → (state_after plan commands scope (acts ++ act ∷ [])).progress ≡ q → (has_begun (state_after plan commands scope acts).progress ≡ true → q.chain_unbroken ≡ true → has_begun q ≡ true)
+    → Steps plan commands action (turned (state_after plan commands scope acts).progress) q
+    → LeavesNothingOut (state_after plan commands scope acts) (state_after plan commands scope (acts ++ act ∷ []))
+    → Chain plan commands scope acts (turned (state_after plan commands scope acts).progress) → Chain plan commands scope (acts ++ act ∷ []) q
 chain_moved plan commands scope acts act Begin w q fine is needs o at begins (inl k) keeps h =
-    chain_still plan commands scope acts act _ q at k begins keeps (stays_open plan commands Begin (stood plan commands scope acts) act o (λ why e. cc))
+    chain_still plan commands scope acts act _ q at k begins keeps (stays_open plan commands Begin (state_after plan commands scope acts) act o (λ why e. cc))
     (λ e. let both : Begin ≡ Prepare = sym is ∙ e in cc) h
 chain_moved plan commands scope acts act Begin w q fine is needs o at begins (inr a) keeps h = chain_anew plan commands scope (acts ++ act ∷ []) q a
 chain_moved plan commands scope acts act Renew w q fine is needs o at begins (inl k) keeps h =
-    chain_still plan commands scope acts act _ q at k begins keeps (stays_open plan commands Renew (stood plan commands scope acts) act o (λ why e. cc))
+    chain_still plan commands scope acts act _ q at k begins keeps (stays_open plan commands Renew (state_after plan commands scope acts) act o (λ why e. cc))
     (λ e. let both : Renew ≡ Prepare = sym is ∙ e in cc) h
 chain_moved plan commands scope acts act Renew w q fine is needs o at begins (inr k) keeps h = chain_closed plan commands scope acts (acts ++ act ∷ []) _ q k.0 k.1 h
 chain_moved plan commands scope acts act Send w q fine is needs o at begins n keeps h =
-    chain_sent plan commands scope acts act (turned (stood plan commands scope acts).progress) q refl at is (begins needs.1) n needs.2 (omega (arith, fine.unsent)) keeps
+    chain_sent plan commands scope acts act (turned (state_after plan commands scope acts).progress) q refl at is (begins needs.1) n needs.2 (omega (arith, fine.unsent)) keeps
 chain_moved plan commands scope acts act Skip w q fine is needs o at begins (inl k) keeps h =
-    chain_still plan commands scope acts act _ q at k begins keeps (stays_open plan commands Skip (stood plan commands scope acts) act o (λ why e. cc))
+    chain_still plan commands scope acts act _ q at k begins keeps (stays_open plan commands Skip (state_after plan commands scope acts) act o (λ why e. cc))
     (λ e. let both : Skip ≡ Prepare = sym is ∙ e in cc) h
 chain_moved plan commands scope acts act Skip w q fine is needs o at begins (inr n) keeps h =
-    chain_skipped plan commands scope (acts ++ act ∷ []) (turned (stood plan commands scope acts).progress) q n.0 n.1 needs.2 (omega (arith, fine.unsent))
+    chain_skipped plan commands scope (acts ++ act ∷ []) (turned (state_after plan commands scope acts).progress) q n.0 n.1 needs.2 (omega (arith, fine.unsent))
 chain_moved plan commands scope acts act Pass w q fine is needs o at begins (inl k) keeps h =
-    chain_still plan commands scope acts act _ q at k begins keeps (stays_open plan commands Pass (stood plan commands scope acts) act o (λ why e. cc))
+    chain_still plan commands scope acts act _ q at k begins keeps (stays_open plan commands Pass (state_after plan commands scope acts) act o (λ why e. cc))
     (λ e. let both : Pass ≡ Prepare = sym is ∙ e in cc) h
 chain_moved plan commands scope acts act Pass w q fine is needs o at begins (inr k) keeps h =
-    chain_past plan commands scope (acts ++ act ∷ []) (turned (stood plan commands scope acts).progress) q k (omega (arith, fine.unsent))
+    chain_past plan commands scope (acts ++ act ∷ []) (turned (state_after plan commands scope acts).progress) q k (omega (arith, fine.unsent))
 chain_moved plan commands scope acts act Prepare w q fine is needs o at begins k keeps h = chain_closed plan commands scope acts (acts ++ act ∷ []) _ q k.0 k.1 h
 chain_moved plan commands scope acts act (Close why) w q fine is needs o at begins k keeps h = chain_closed plan commands scope acts (acts ++ act ∷ []) _ q k.0 k.1 h
 chain_moved plan commands scope acts act (Stop why) w q fine is needs o at begins k keeps h = absurd o
 chain_moved plan commands scope acts act next w q fine is needs o at begins k keeps h =
-    chain_still plan commands scope acts act _ q at k begins keeps (stays_open plan commands next (stood plan commands scope acts) act o (λ why e. cc))
+    chain_still plan commands scope acts act _ q at k begins keeps (stays_open plan commands next (state_after plan commands scope acts) act o (λ why e. cc))
     (λ e. let both : next ≡ Prepare = sym is ∙ e in cc) h
 
--- what is lost after an act leaves `Keeps`
-kept_ended : (s t : Model) → Keeps s t → Keeps s (ended t)
+-- what is lost after an act leaves `LeavesNothingOut`
+kept_ended : (s t : Model) → LeavesNothingOut s t → LeavesNothingOut s (ended t)
 kept_ended s t (inl same) = inl (ended_passes t ∙ same)
 kept_ended s t (inr none) = inr (ap (λ (p : Progress). p.chain_unbroken) (ended_progress t) ∙ none)
 
--- `Chain` lasts over all acts of a run
-chain_along : (plan : Plan) (commands : List Task) (scope : Scope) (done acts : List Act) → Runs plan commands (stood plan commands scope done) acts
-    → Chain plan commands scope done (stood plan commands scope done).progress
-    → Chain plan commands scope (done ++ acts) (stood plan commands scope (done ++ acts)).progress
-chain_along plan commands scope done [] runs h = subst (λ (xs : List Act). Chain plan commands scope xs (stood plan commands scope xs).progress) (sym (all_of done)) h where
-  -- nothing appended changes no list
+-- `Chain` is preserved by all acts of a run
+chain_along : (plan : Plan) (commands : List Task) (scope : Scope) (done acts : List Act) → Runs plan commands (state_after plan commands scope done) acts
+    → Chain plan commands scope done (state_after plan commands scope done).progress
+    → Chain plan commands scope (done ++ acts) (state_after plan commands scope (done ++ acts)).progress
+chain_along plan commands scope done [] runs h = subst (λ (xs : List Act). Chain plan commands scope xs (state_after plan commands scope xs).progress) (sym (all_of done)) h where
+  -- a list with nothing appended is itself
   all_of : (xs : List Act) → xs ++ [] ≡ xs
   all_of [] = refl
   all_of (x ∷ xs) = ap (λ ys. x ∷ ys) (all_of xs)
 chain_along plan commands scope done (act ∷ acts) runs h =
-    let s = stood plan commands scope done in
+    let s = state_after plan commands scope done in
     let t = moved plan commands (action_at plan s) (with_progress turned s) act in
     let next = after_all-append plan commands (opening plan scope) done (act ∷ []) in
-    let far : (stood plan commands scope (done ++ act ∷ [])).progress ≡ t.progress = ap (λ (x : Model). x.progress) next ∙ ended_progress t in
+    let far : (state_after plan commands scope (done ++ act ∷ [])).progress ≡ t.progress = ap (λ (x : Model). x.progress) next ∙ ended_progress t in
     let at_turn : Chain plan commands scope done (turned s.progress) = record {
       next_is_chained = h.next_is_chained;
       chain_unbroken = λ e.
@@ -401,13 +304,13 @@ chain_along plan commands scope done (act ∷ acts) runs h =
     } in
     let one = chain_moved plan commands scope done act (action_at plan s) (waiting_of s) t.progress (fine_stood plan commands scope done) refl (action_for plan s.progress (waiting_of s)) runs.0 far
     (begun_kept plan commands s (action_at plan s) act runs.0) (moved_steps plan commands (action_at plan s) (with_progress turned s) act)
-    (subst (λ (x : Model). Keeps s x) (sym next) (kept_ended s t (moved_keeps plan commands (action_at plan s) (with_progress turned s) act))) at_turn in
+    (subst (λ (x : Model). LeavesNothingOut s x) (sym next) (kept_ended s t (moved_keeps plan commands (action_at plan s) (with_progress turned s) act))) at_turn in
     let here = subst (λ (p : Progress). Chain plan commands scope (done ++ act ∷ []) p) (sym far) one in
     let goes_on = subst (λ (x : Model). Runs plan commands x acts) (sym next) runs.1 in
-    subst (λ (xs : List Act). Chain plan commands scope xs (stood plan commands scope xs).progress) (append_assoc done (act ∷ []) acts)
+    subst (λ (xs : List Act). Chain plan commands scope xs (state_after plan commands scope xs).progress) (append_assoc done (act ∷ []) acts)
     (chain_along plan commands scope (done ++ act ∷ []) acts goes_on here)
 
--- where none is unsent, no command is left
+-- if none is unsent, no command is left
 pub none_behind : (commands : List Task) → drop (length commands - 0) commands ≡ []
 none_behind commands = let at : length commands - 0 ≡ length commands = omega arith in ap (λ (n : ℕ). drop n commands) at ∙ all_dropped commands where
   -- a list without as many elements as it has is empty
@@ -417,14 +320,15 @@ none_behind commands = let at : length commands - 0 ≡ length commands = omega 
 
 -- `Chain` holds after every run
 chain_stood : (plan : Plan) (commands : List Task) (scope : Scope) (acts : List Act) → Runs plan commands (opening plan scope) acts
-    → Chain plan commands scope acts (stood plan commands scope acts).progress
+    → Chain plan commands scope acts (state_after plan commands scope acts).progress
 chain_stood plan commands scope acts runs = chain_along plan commands scope [] acts runs (record { next_is_chained = λ above. sym (ap is_chained (none_behind commands)); chain_unbroken = λ e. cc })
 
--- after every run, where the next command isn't the first of its cycle, it counts as chained as the text says, or in a missed cycle
+-- after every run, if the next command isn't the first of its cycle, it counts as chained as the text says, or in a missed
+-- cycle
 pub bound_stood : (plan : Plan) (commands : List Task) (scope : Scope) (acts : List Act) → Runs plan commands (opening plan scope) acts
-    → plan.setup < place_next commands (stood plan commands scope acts).progress
-    → (stood plan commands scope acts).progress.next_is_chained
-    ≡ ((stood plan commands scope acts).progress.missed || is_chained (drop (place_next commands (stood plan commands scope acts).progress) commands))
+    → plan.setup < place_next commands (state_after plan commands scope acts).progress
+    → (state_after plan commands scope acts).progress.next_is_chained
+    ≡ ((state_after plan commands scope acts).progress.missed || is_chained (drop (place_next commands (state_after plan commands scope acts).progress) commands))
 bound_stood plan commands scope acts runs above = (chain_stood plan commands scope acts runs).next_is_chained above
 
 -- What the last record says.
@@ -445,14 +349,14 @@ well_end : (end : End) → is_well end ≡ true → (quality : Quality) × (said
 well_end (Answered quality said line) e = (quality, said, line, refl, e)
 well_end end e = cc
 
--- where the last of `r` and the records behind it was answered well, `Last` holds of all of them
+-- if the last of `r` and the records after it was answered well, `Last` holds of all of them
 last_one : (r : Record) (rs : List Record) → last_well (is_well r.end) rs ≡ true → Last (r ∷ rs)
 last_one r [] e = let it = well_end r.end e in record { earlier = []; answer = r; last = refl; quality = it.0; said = it.1; line = it.2; answered = it.3; well = it.4 }
 last_one r (x ∷ rs) e =
     let l = last_one x rs e in
     record { earlier = r ∷ l.earlier; answer = l.answer; last = ap (λ xs. r ∷ xs) l.last; quality = l.quality; said = l.said; line = l.line; answered = l.answered; well = l.well }
 
--- where the last of some records was answered well, `Last` holds of them
+-- if the last of some records was answered well, `Last` holds of them
 last_of : (rs : List Record) → last_well false rs ≡ true → Last rs
 last_of [] e = cc
 last_of (r ∷ rs) e = last_one r rs e
@@ -475,34 +379,34 @@ all_last : {A : Type 0} (P : A → Type 0) (xs : List A) (x : A) → AllByRecurs
 all_last P [] x all = all.0
 all_last P (y ∷ xs) x all = all_last P xs x all.1
 
--- the commands that had their turn, with the next one behind them, are those that had their turn one place later
-last_sent : (plan : Plan) (commands : List Task) (begun place : ℕ) (left : List Task) → drop place commands ≡ left → 0 < length left → 0 < begun
+-- the commands that had their turn, with the next one after them, are those that had their turn one place later
+last_sent : (plan : Plan) (commands : List Task) (cycle_begun place : ℕ) (left : List Task) → drop place commands ≡ left → 0 < length left → 0 < cycle_begun
     → plan.setup ≤ place
-    → (task : Task) × (sent_by plan.setup commands begun place ++ requests begun place (of_task task ∷ []) ≡ sent_by plan.setup commands begun (place + 1))
-last_sent plan commands begun place [] at some many within = absurd (omega (arith, some))
-last_sent plan commands begun place (task ∷ others) at some many within = (task, sent_next plan.setup commands begun place task others at within many)
+    → (task : Task) × (sent_by plan.setup commands cycle_begun place ++ requests cycle_begun place (of_task task ∷ []) ≡ sent_by plan.setup commands cycle_begun (place + 1))
+last_sent plan commands cycle_begun place [] at some many within = absurd (omega (arith, some))
+last_sent plan commands cycle_begun place (task ∷ others) at some many within = (task, sent_next plan.setup commands cycle_begun place task others at within many)
 
--- a request of this very place isn't in front of it
+-- a request of this very place isn't before it
 not_in_front : (cycle place : ℕ) (r : Request) → r.cycle ≡ cycle → r.place ≡ place → IsInFront cycle place r → ⊥
 not_in_front cycle place r at is (inl less) = omega (arith, less, at)
 not_in_front cycle place r at is (inr same) = omega (arith, same.1, is)
 
--- where a chained command is to go out, `IsLinked` holds: the command before it went out and was answered well, and the station
--- has begun after each act since, none of which sends a command of the set-up
+-- if a chained command is to be sent, `IsLinked` holds: the command before it was sent and was answered well, and the station
+-- has synchronized after each act since, none of which sends a command of the setup
 pub chain_whole : (plan : Plan) (commands : List Task) (scope : Scope) (acts : List Act) → Runs plan commands (opening plan scope) acts
-    → action_at plan (stood plan commands scope acts) ≡ Send → IsChained plan commands (stood plan commands scope acts)
-    → (l : IsLinked plan commands scope acts) × StaysBegun plan commands (stood plan commands scope l.before) (l.request ∷ l.between)
-    × PreparesNothing plan commands (stood plan commands scope l.before) (l.request ∷ l.between)
+    → action_at plan (state_after plan commands scope acts) ≡ Send → IsChained plan commands (state_after plan commands scope acts)
+    → (l : IsLinked plan commands scope acts) × StaysBegun plan commands (state_after plan commands scope l.before) (l.request ∷ l.between)
+    × PreparesNothing plan commands (state_after plan commands scope l.before) (l.request ∷ l.between)
 chain_whole plan commands scope acts runs is chained = of_may needs.4 where
-  -- the station as it stands
+  -- the model after these acts
   s : Model
-  s = stood plan commands scope acts
+  s = state_after plan commands scope acts
 
-  -- its fields on chains are true
+  -- the fields on chains of that model say what happened
   h : Chain plan commands scope acts s.progress
   h = chain_stood plan commands scope acts runs
 
-  -- it has what every run keeps
+  -- the invariant of every run holds of it
   fine : Invariant plan commands s
   fine = fine_stood plan commands scope acts
 
@@ -514,13 +418,13 @@ chain_whole plan commands scope acts runs is chained = of_may needs.4 where
   next_is_chained : s.progress.next_is_chained ≡ true
   next_is_chained = h.next_is_chained chained.0 ∙ ap (λ (b : Bool). s.progress.missed || b) chained.1 ∙ or_true s.progress.missed
 
-  -- the command before the next one, where no command waits: `Whole` says that it went out, and `Last` that the last record was
-  -- answered well; that record is its own, so `IsLinked` holds of it
+  -- the command before the next one, if no command is outstanding: `Whole` says that it was sent, and `Last` that the last
+  -- record was answered well; that record is its own, so `IsLinked` holds of it
   of_last : commands_in s.marks ≡ 0 → s.progress.chain_unbroken ≡ true → Last s.records → Whole plan commands scope acts s.progress
-      → (l : IsLinked plan commands scope acts) × StaysBegun plan commands (stood plan commands scope l.before) (l.request ∷ l.between)
-      × PreparesNothing plan commands (stood plan commands scope l.before) (l.request ∷ l.between)
+      → (l : IsLinked plan commands scope acts) × StaysBegun plan commands (state_after plan commands scope l.before) (l.request ∷ l.between)
+      × PreparesNothing plan commands (state_after plan commands scope l.before) (l.request ∷ l.between)
   of_last settled it l w =
-      let b = stood plan commands scope w.before in
+      let b = state_after plan commands scope w.before in
       let before = fine_stood plan commands scope w.before in
       let asked = subst (λ (o : Action). IsFor plan b.progress (waiting_of b) o) w.sends (action_for plan b.progress (waiting_of b)) in
       let some = asked.2 in
@@ -540,7 +444,8 @@ chain_whole plan commands scope acts runs is chained = of_may needs.4 where
       (subst (λ (ys : List Request). Parted (of_text commands (map of_record s.records)) ys (sent_by plan.setup commands (cycles_begun plan s.progress) (place_next commands s.progress))) w.passes
       (subst (λ (xs : List Request). Parted xs s.passes (sent_by plan.setup commands (cycles_begun plan s.progress) (place_next commands s.progress)))
       (sym (each_settled commands s.marks s.client.waiting s.records (of_text commands (map of_record s.records ++ still_waiting s.marks s.client.waiting)) settled refl)) fine.each)) in
-      let front = parted_all (IsInFront cycle place) (of_text commands (map of_record b.records ++ still_waiting b.marks b.client.waiting)) b_passes (sent_by plan.setup commands cycle place) before.each
+      let front = parted_all (IsInFront cycle place) (of_text commands (map of_record b.records ++ still_waiting b.marks b.client.waiting)) b_passes
+      (sent_by plan.setup commands cycle place) before.each
       (sent_before plan.setup commands cycle place within) in
       let kept = parted_last one (of_text commands (map of_record s.records)) b_passes (sent_by plan.setup commands cycle place) all
       (λ xs e. not_in_front cycle place one refl refl (all_last (IsInFront cycle place) xs one (subst (AllByRecursion (IsInFront cycle place)) e front))) in
@@ -550,8 +455,8 @@ chain_whole plan commands scope acts runs is chained = of_may needs.4 where
       let ends : of_text commands (map of_record l.earlier) ++ in_text commands (of_record l.answer) ∷ [] ≡ kept.0 ++ one ∷ [] =
       sym (listed_last commands (map of_record l.earlier) (of_record l.answer) of_a_cycle) ∙ ap (of_text commands) (sym listed_all) ∙ kept.1 in
       let own = end_same (of_text commands (map of_record l.earlier)) kept.0 (in_text commands (of_record l.answer)) one ends in
-      let true_one = all_last (IsTrueRecord plan commands scope acts) l.earlier l.answer
-      (subst (λ (rs : List Record). AllByRecursion (IsTrueRecord plan commands scope acts) rs) l.last (answers_true plan commands scope acts runs)) in
+      let true_one = all_last (AnswerIsJustified plan commands scope acts) l.earlier l.answer
+      (subst (λ (rs : List Record). AllByRecursion (AnswerIsJustified plan commands scope acts) rs) l.last (answers_true plan commands scope acts runs)) in
       let listed = all_last (λ (r : Record). IsAsListed scope.reads commands r) l.earlier l.answer
       (subst (λ (rs : List Record). AllByRecursion (λ (r : Record). IsAsListed scope.reads commands r) rs) l.last (as_listed plan commands scope acts)) in
       let linked : IsLinked plan commands scope acts = record {
@@ -578,14 +483,14 @@ chain_whole plan commands scope acts runs is chained = of_may needs.4 where
       } in
       (linked, w.keeps, w.cycles)
 
-  -- the lemma above, where the next command may go out (`MayGo`): as it is chained, that is because the one before it was
+  -- the lemma above, if the next command may be sent (`MayGo`): as it is chained, that is because the one before it was
   -- answered well
-  of_may : MayGo s.progress (waiting_of s) → (l : IsLinked plan commands scope acts) × StaysBegun plan commands (stood plan commands scope l.before) (l.request ∷ l.between)
-      × PreparesNothing plan commands (stood plan commands scope l.before) (l.request ∷ l.between)
-  of_may (inl free) = absurd (clash s.progress.next_is_chained next_is_chained free)
+  of_may : MayGo s.progress (waiting_of s) → (l : IsLinked plan commands scope acts) × StaysBegun plan commands (state_after plan commands scope l.before) (l.request ∷ l.between)
+      × PreparesNothing plan commands (state_after plan commands scope l.before) (l.request ∷ l.between)
+  of_may (inl free) = absurd (not_both s.progress.next_is_chained next_is_chained free)
   of_may (inr it) = of_last it.0 it.2 (last_of s.records it.1) (h.chain_unbroken it.2)
 
--- a chained command goes out only after the answer of the one before it
+-- a chained command is sent only after the answer of the one before it
 pub chain_kept : (plan : Plan) (commands : List Task) (scope : Scope) (acts : List Act) → Runs plan commands (opening plan scope) acts
-    → action_at plan (stood plan commands scope acts) ≡ Send → IsChained plan commands (stood plan commands scope acts) → IsLinked plan commands scope acts
+    → action_at plan (state_after plan commands scope acts) ≡ Send → IsChained plan commands (state_after plan commands scope acts) → IsLinked plan commands scope acts
 chain_kept plan commands scope acts runs is chained = (chain_whole plan commands scope acts runs is chained).0

@@ -1,5 +1,5 @@
 -- A connection is closed, and a run stops, only for a cause; and the act that decided the end shows that cause. The end is
--- decided once the phase is `Closing` or `Over`, which name the cause. An act is one call of the link, with what came of it.
+-- decided once the phase is `Closing` or `Over`, which name the cause. An act is one call on the link, with its result.
 -- `Decides` says why an act decided the end, or that it left the phase as it was; `Decided` says why it did.
 use Rattle.std.proofs.Common.{◌≡◌, ℕ, ◌⊎◌, inl, inr, ◌&&◌, ◌||◌, Bool, true, false, not, List, [], ◌∷◌, ◌++◌, length, drop, Option, Some, None, if◌then◌else◌, nat_lt, nat_eq, refl, sym, ap, ◌∙◌, subst, arith}
 use Rattle.std.proofs.lemmas.Bool.Decides.{nat_tests}
@@ -21,11 +21,11 @@ use Rattle.gc_station.specs.declared.progress.Waiting.{Waiting}
 use Rattle.gc_links.specs.Acts.{Act, Untold, Cut, Ended, Broke, Closed}
 use Rattle.gc_station.specs.Deciding.{has_begun, is_up, is_past, action_in}
 use Rattle.gc_station.specs.Marks.{commands_in}
-use Rattle.gc_station.specs.Progressing.{turned, told, failing, quieted, time_passed, is_finished, is_idle, cleared, closed, is_spared}
-use Rattle.gc_station.specs.Closing.{IsAlone, IsReasoned, Shows, ClosesForACause, EndsDone, EndsBehind, EndsGone, Ends, StopsForACause}
+use Rattle.gc_station.specs.Progressing.{turned, moment_noted, failing, quieted, time_passed, is_finished, is_idle, cleared, closed, is_spared}
+use Rattle.gc_station.specs.Closing.{IsAlone, IsReasoned, Shows, ClosesForACause, EndsDone, EndsAfter, EndsDisconnected, Ends, StopsForACause}
 use Rattle.gc_station.specs.Reasons.{IsFor, IsAtItsEnd}
-use Rattle.gc_station.specs.Runs.{stood}
-use Rattle.gc_station.specs.Model.{Model, requests_out, request_text, null_text, first_text, waiting_of, opening, action_at, place_next, with_progress, with_moment, is_heard, lines_behind, came, Performs, moved, after, after_all, Runs, text_or_null}
+use Rattle.gc_station.specs.Runs.{state_after}
+use Rattle.gc_station.specs.Model.{Model, requests_out, request_text, null_text, first_text, waiting_of, opening, action_at, place_next, with_progress, with_moment, is_heard, lines_completed, after_piece, Performs, moved, after, after_all, Runs, text_or_null}
 use Rattle.gc_station.proofs.Counts.{ended_progress}
 use Rattle.gc_station.proofs.EachRun.{fine_stood}
 use Rattle.gc_station.proofs.Facts.{action_for}
@@ -41,8 +41,8 @@ end_of (Closing why) = Some why
 end_of (Over why) = Some why
 end_of _ = None
 
--- an act shows that a call failed for this cause. The two phases are those before and after it: where there is no connection
--- after it, there was none before
+-- an act shows that a call failed for this cause. The two phases are those before and after it: if there is no connection after
+-- it, there was none before
 abbrev pub Failed : Phase → Phase → Cause → Act → Type 0
 Failed before behind why act = (is_up behind ≡ false → is_up before ≡ false) × Shows why act
 
@@ -51,15 +51,15 @@ Failed before behind why act = (is_up behind ≡ false → is_up before ≡ fals
 abbrev Decides : Type 0 → Phase → Phase → Cause → Act → Type 0
 Decides Other before behind why act = Failed before behind why act ⊎ (Other ⊎ (behind ≡ before))
 
--- a failure for `why`, which the act shows, sets the phase to closing where there is a connection (`up`) and to over where
--- there is none. If that decides the end for the cause c, the act decides it: c is `why`
+-- a failure for `why`, which the act shows, sets the phase to closing if there is a connection (`up`) and to over if there is
+-- none. If that decides the end for the cause c, the act decides it: c is `why`
 fail_decides : {Other : Type 0} (before at : Phase) (up : Bool) (why c : Cause) (act : Act) → is_up at ≡ up → Shows why act
     → (is_up at ≡ false → is_up before ≡ false) → end_of (if up then Closing why else Over why) ≡ Some c
     → Decides Other before (if up then Closing why else Over why) c act
 fail_decides before at true why c act is shows down e = let same : why ≡ c = cc in inl (λ d. cc, subst (λ (x : Cause). Shows x act) same shows)
 fail_decides before at false why c act is shows down e = let same : why ≡ c = cc in inl (λ d. down is, subst (λ (x : Cause). Shows x act) same shows)
 
--- where a failure is noted that the act shows, and the end is decided then, the act decides it
+-- if a failure is noted that the act shows, and the end is decided then, the act decides it
 failed : {Other : Type 0} (s : Model) (why c : Cause) (act : Act) → Shows why act → end_of (with_progress (failing why) s).progress.phase ≡ Some c
     → Decides Other s.progress.phase (with_progress (failing why) s).progress.phase c act
 failed s why c act shows e = fail_decides s.progress.phase s.progress.phase (is_up s.progress.phase) why c act refl shows (λ d. d) e
@@ -76,10 +76,10 @@ quiet_same plan phase p c =
     (λ e. paused_same p.phase (is_past p.pause p && not (is_idle plan p)) c e) (λ e. cc) (λ e. refl)
 
 -- no line changes the phase
-pub came_phase : (heard : Bool) (word piece : List ℕ) (s : Model) → (came heard word piece s).progress.phase ≡ s.progress.phase
+pub came_phase : (heard : Bool) (word piece : List ℕ) (s : Model) → (after_piece heard word piece s).progress.phase ≡ s.progress.phase
 came_phase heard word piece s =
     came_along (λ (t : Model). t.progress.phase ≡ s.progress.phase) (λ t line e. e) heard word piece s refl
-    (asked_along (λ (q : Progress). q.phase ≡ s.progress.phase) (λ q line e. e) s.progress (lines_behind s.rest piece) refl) refl
+    (asked_along (λ (q : Progress). q.phase ≡ s.progress.phase) (λ q line e. e) s.progress (lines_completed s.rest piece) refl) refl
 
 -- if each of three numbers is 0 by its test, each is 0
 none_left : (a b n : ℕ) → nat_eq a 0 && nat_eq b 0 && nat_eq n 0 ≡ true → (a ≡ 0) × (b ≡ 0) × (n ≡ 0)
@@ -90,25 +90,26 @@ no_try : (spared : Bool) (tries : ℕ) → spared || nat_lt 0 tries ≡ false �
 no_try true tries e = cc
 no_try false tries e = (refl, grind (arith, nat_tests, e))
 
--- how a run ends whose connection is gone for the cause `other`, while n commands wait. It ends for the cause c (the last
--- argument): as done, where nothing is left to be sent and none waits; else for `other`, where a try is needed and none is left
+-- how a run ends whose connection is gone for the cause `other`, while n commands are outstanding. It ends for the cause c (the
+-- last argument): as done, if nothing is left to be sent and none is outstanding; otherwise for `other`, if a try is needed and
+-- none is left
 abbrev EndsAgain : Plan → Progress → ℕ → Cause → Cause → Type 0
 EndsAgain plan p n other c = EndsDone p n c ⊎ ((c ≡ other) × (is_finished n p ≡ false) × (is_spared plan other p ≡ false) × (p.tries ≡ 0))
 
--- where the phase after a lost connection or a failed attempt ends the run, the cause is as `EndsAgain` says
+-- if the phase after a lost connection or a failed attempt ends the run, the cause is as `EndsAgain` says
 again_ends : (plan : Plan) (other c : Cause) (n : ℕ) (p : Progress) (done some : Bool) → is_finished n p ≡ done → (is_spared plan other p || nat_lt 0 p.tries) ≡ some
     → end_of (if done then Over cause.Done else if some then Pausing else Over other) ≡ Some c → EndsAgain plan p n other c
 again_ends plan other c n p true some finished tries e = let none = none_left p.left p.unsent n finished in inl (cc, none.0, none.1, none.2)
 again_ends plan other c n p false true finished tries e = cc
 again_ends plan other c n p false false finished tries e = let none = no_try (is_spared plan other p) p.tries tries in inr (cc, finished, none.0, none.1)
 
--- no command is left to be sent, and none waits
+-- no command is left to be sent, and none is outstanding
 abbrev NoneLeft : Progress → ℕ → Type 0
 NoneLeft p n = (p.left ≡ 0) × (p.unsent ≡ 0) × (n ≡ 0)
 
--- where a close ends the run, the cause is as `EndsBehind` says
+-- if a close ends the run, the cause is as `EndsAfter` says
 closed_ends : (plan : Plan) (w : Waiting) (other c : Cause) (p : Progress) → (other ≡ cause.Done → NoneLeft p w.commands)
-    → end_of (closed plan w other (turned p)).phase ≡ Some c → EndsBehind plan p w.commands other c
+    → end_of (closed plan w other (turned p)).phase ≡ Some c → EndsAfter plan p w.commands other c
 closed_ends plan w cause.Done c p done e = let none = done refl in (cc, none.0, none.1, none.2)
 closed_ends plan w cause.Clock c p done e = cc
 closed_ends plan w cause.Turns c p done e = cc
@@ -120,19 +121,19 @@ closed_ends plan w other c p done e = again_ends plan other c w.commands p (is_f
 -- in the phase after the act, which is given, there is no connection: the act closed it or could make none, and no other is
 -- made, for this cause
 abbrev pub Gone : Plan → Model → Action → Phase → Cause → Act → Type 0
-Gone plan s next behind c act = (is_up behind ≡ false) × EndsGone plan s.progress (waiting_of s) next c act
+Gone plan s next behind c act = (is_up behind ≡ false) × EndsDisconnected plan s.progress (waiting_of s) next c act
 
 -- if the end is decided after an act of this action, the act decided it, by a call that failed or a connection that is gone; or
 -- the phase is as before
 abbrev DecidesSo : Plan → Model → Action → Cause → Act → Model → Type 0
 DecidesSo plan s next c act t = end_of t.progress.phase ≡ Some c → Decides (Gone plan s next t.progress.phase c act) s.progress.phase t.progress.phase c act
 
--- a line feed that went out decides no end
+-- a line feed that was sent decides no end
 cleared_none : (begun : Bool) (c : Cause) → end_of (if begun then Draining else Ready) ≡ Some c → ⊥
 cleared_none true c e = cc
 cleared_none false c e = cc
 
--- after a line feed that went out there is a connection
+-- after a line feed that was sent there is a connection
 cleared_up : (begun : Bool) → is_up (if begun then Draining else Ready) ≡ false → ⊥
 cleared_up true e = cc
 cleared_up false e = cc
@@ -178,7 +179,7 @@ moved_decides plan commands action.Flush s act c o done e =
 moved_decides plan commands (action.Read until) s act c o done e =
     let t = with_progress turned s in
     walk plan commands (DecidesSo plan s (action.Read until) c) (action.Read until) t act o (
-      λ bytes m g. inr (inr (came_phase (is_heard s.progress.phase) s.progress.word bytes (with_moment m (with_progress (told m) t)))),
+      λ bytes m g. inr (inr (came_phase (is_heard s.progress.phase) s.progress.word bytes (with_moment m (with_progress (moment_noted m) t)))),
       λ m g. inr (inr (quiet_same plan s.progress.phase (time_passed until m t.progress) c g)),
       λ g. failed t cause.End c Ended refl g,
       λ g. failed t cause.Read c Broke refl g,
@@ -190,7 +191,7 @@ moved_decides plan commands (action.Stop why) s act c o done e = absurd o
 moved_decides plan commands next s act c o done e =
     walk plan commands (DecidesSo plan s next c) next (with_progress turned s) act o (λ m g. inr (inr refl), λ n g. failed (with_progress turned s) cause.Clock c Untold refl g) e
 
--- where the end is decided, no act leaves the phase as it is: the connection is closed, and without a connection no act is made
+-- if the end is decided, no act leaves the phase as it is: the connection is closed, and without a connection no act is made
 not_twice : (plan : Plan) (commands : List Task) (s : Model) (act : Act) (c : Cause) (phase : Phase) → s.progress.phase ≡ phase → end_of phase ≡ Some c
     → Performs commands s (action_in phase plan s.progress (waiting_of s)) act
     → (moved plan commands (action_in phase plan s.progress (waiting_of s)) (with_progress turned s) act).progress.phase ≡ phase → ⊥
@@ -203,7 +204,7 @@ not_twice plan commands s act c phase is e o same = cc
 abbrev pub Decided : Plan → Model → Phase → Cause → Act → Type 0
 Decided plan s behind c act = Failed s.progress.phase behind c act ⊎ Gone plan s (action_at plan s) behind c act
 
--- where the end is decided after an act, before what waits is lost, the act decided it
+-- if the end is decided after an act, before what is outstanding is lost, the act decided it
 moved_decided : (plan : Plan) (commands : List Task) (s : Model) (act : Act) (c : Cause) → Performs commands s (action_at plan s) act
     → (action_at plan s ≡ action.Close cause.Done → NoneLeft s.progress (commands_in s.marks))
     → end_of (moved plan commands (action_at plan s) (with_progress turned s) act).progress.phase ≡ Some c
@@ -217,7 +218,7 @@ moved_decided plan commands s act c o done e = pick (moved_decides plan commands
   pick (inr (inl gone)) = inr gone
   pick (inr (inr same)) = absurd (not_twice plan commands s act c s.progress.phase refl (ap end_of (sym same) ∙ e) o same)
 
--- where the end is decided after a whole act, the act decided it
+-- if the end is decided after a whole act, the act decided it
 pub after_decided : (plan : Plan) (commands : List Task) (s : Model) (act : Act) (c : Cause) → Performs commands s (action_at plan s) act
     → (action_at plan s ≡ action.Close cause.Done → NoneLeft s.progress (commands_in s.marks))
     → end_of (after plan commands s act).progress.phase ≡ Some c → Decided plan s (after plan commands s act).progress.phase c act
@@ -232,16 +233,16 @@ pub runs_split : (plan : Plan) (commands : List Task) (s : Model) (earlier later
 runs_split plan commands s [] later act runs = (tt, runs.0)
 runs_split plan commands s (x ∷ xs) later act runs = let r = runs_split plan commands (after plan commands s x) xs later act runs.1 in ((runs.0, r.0), r.1)
 
--- where a null procedure of a beginning is next, nothing waits and the client is new
+-- if a null procedure of a synchronization is next, nothing is outstanding and the client is new
 goes_alone : (plan : Plan) (commands : List Task) (s : Model) (next : Action) → Invariant plan commands s → IsFor plan s.progress (waiting_of s) next → IsAlone next s
 goes_alone plan commands s action.Ask fine needs = let new = fine.begins needs.1 in (new, nil_from_length s.marks (fine.paired ∙ ap (λ (c : ById Asked). length c.waiting) new))
 goes_alone plan commands s next fine needs = tt
 
 -- each act of a run is `IsReasoned`: it performs the action that is next, whose conditions hold
 pub act_reasoned : (plan : Plan) (commands : List Task) (scope : Scope) (earlier later : List Act) (act : Act)
-    → Runs plan commands (opening plan scope) (earlier ++ act ∷ later) → IsReasoned plan commands (stood plan commands scope earlier) act
+    → Runs plan commands (opening plan scope) (earlier ++ act ∷ later) → IsReasoned plan commands (state_after plan commands scope earlier) act
 act_reasoned plan commands scope earlier later act runs =
-    let s = stood plan commands scope earlier in
+    let s = state_after plan commands scope earlier in
     let needs = action_for plan s.progress (waiting_of s) in
     record {
       obeys = (runs_split plan commands (opening plan scope) earlier later act runs).1;
@@ -253,7 +254,7 @@ act_reasoned plan commands scope earlier later act runs =
 last_of : (acts : List Act) → (acts ≡ []) ⊎ ((earlier : List Act) × (last : Act) × (acts ≡ earlier ++ last ∷ []))
 last_of [] = inl refl
 last_of (x ∷ xs) = on (last_of xs) where
-  -- the lemma above for one act more in front
+  -- the lemma above for one act more before it
   on : ((xs ≡ []) ⊎ ((earlier : List Act) × (last : Act) × (xs ≡ earlier ++ last ∷ []))) → (x ∷ xs ≡ []) ⊎ ((earlier : List Act) × (last : Act) × (x ∷ xs ≡ earlier ++ last ∷ []))
   on (inl none) = inr ([], x, ap (λ ys. x ∷ ys) none)
   on (inr some) = inr (x ∷ some.0, some.1, ap (λ ys. x ∷ ys) some.2)
@@ -267,34 +268,35 @@ closes_only commands s next o = absurd o
 pub needs_of : (plan : Plan) (s : Model) (next : Action) → action_at plan s ≡ next → IsFor plan s.progress (waiting_of s) next
 needs_of plan s next is = subst (λ (o : Action). IsFor plan s.progress (waiting_of s) o) is (action_for plan s.progress (waiting_of s))
 
--- a connection is closed for being done only where no command is left to be sent, and none waits
-pub done_sent : (plan : Plan) (commands : List Task) (scope : Scope) (acts : List Act) → action_at plan (stood plan commands scope acts) ≡ action.Close cause.Done
-    → NoneLeft (stood plan commands scope acts).progress (commands_in (stood plan commands scope acts).marks)
-done_sent plan commands scope acts is = by_needs (needs_of plan (stood plan commands scope acts) (action.Close cause.Done) is).1 where
+-- a connection is closed for being done only if no command is left to be sent, and none is outstanding
+pub done_sent : (plan : Plan) (commands : List Task) (scope : Scope) (acts : List Act) → action_at plan (state_after plan commands scope acts) ≡ action.Close cause.Done
+    → NoneLeft (state_after plan commands scope acts).progress (commands_in (state_after plan commands scope acts).marks)
+done_sent plan commands scope acts is = by_needs (needs_of plan (state_after plan commands scope acts) (action.Close cause.Done) is).1 where
   -- the lemma above, by the condition of that close: the phase says so, or nothing is left
-  by_needs : (((stood plan commands scope acts).progress.phase ≡ Closing cause.Done)
-      ⊎ IsAtItsEnd plan (stood plan commands scope acts).progress (waiting_of (stood plan commands scope acts)) cause.Done)
-      → NoneLeft (stood plan commands scope acts).progress (commands_in (stood plan commands scope acts).marks)
+  by_needs : (((state_after plan commands scope acts).progress.phase ≡ Closing cause.Done)
+      ⊎ IsAtItsEnd plan (state_after plan commands scope acts).progress (waiting_of (state_after plan commands scope acts)) cause.Done)
+      → NoneLeft (state_after plan commands scope acts).progress (commands_in (state_after plan commands scope acts).marks)
   by_needs (inl phase) = (fine_stood plan commands scope acts).finished (ap says_done phase)
   by_needs (inr end) = end
 
 -- in a run whose end is decided, the last act decided it
 decided_last : (plan : Plan) (commands : List Task) (scope : Scope) (acts : List Act) (c : Cause) → Runs plan commands (opening plan scope) acts
-    → end_of (stood plan commands scope acts).progress.phase ≡ Some c
-    → (earlier : List Act) × (last : Act) × (acts ≡ earlier ++ last ∷ []) × Decided plan (stood plan commands scope earlier) (stood plan commands scope acts).progress.phase c last
+    → end_of (state_after plan commands scope acts).progress.phase ≡ Some c
+    → (earlier : List Act) × (last : Act) × (acts ≡ earlier ++ last ∷ []) × Decided plan (state_after plan commands scope earlier) (state_after plan commands scope acts).progress.phase c last
 decided_last plan commands scope acts c runs e = by_last (last_of acts) where
-  -- the lemma above, where there is a last act; at the start of a run no end is decided
+  -- the lemma above, if there is a last act; at the start of a run no end is decided
   by_last : ((acts ≡ []) ⊎ ((earlier : List Act) × (last : Act) × (acts ≡ earlier ++ last ∷ [])))
       → (earlier : List Act) × (last : Act) × (acts ≡ earlier ++ last ∷ [])
-      × Decided plan (stood plan commands scope earlier) (stood plan commands scope acts).progress.phase c last
-  by_last (inl none) = let down : None ≡ Some c = sym (ap (λ (xs : List Act). end_of (stood plan commands scope xs).progress.phase) none) ∙ e in cc
+      × Decided plan (state_after plan commands scope earlier) (state_after plan commands scope acts).progress.phase c last
+  by_last (inl none) = let down : None ≡ Some c = sym (ap (λ (xs : List Act). end_of (state_after plan commands scope xs).progress.phase) none) ∙ e in cc
   by_last (inr some) =
       let earlier = some.0 in
       let last = some.1 in
-      let s = stood plan commands scope earlier in
+      let s = state_after plan commands scope earlier in
       let split = runs_split plan commands (opening plan scope) earlier [] last (subst (λ (xs : List Act). Runs plan commands (opening plan scope) xs) some.2 runs) in
-      let behind : (stood plan commands scope acts).progress.phase ≡ (after plan commands s last).progress.phase =
-      ap (λ (xs : List Act). (stood plan commands scope xs).progress.phase) some.2 ∙ ap (λ (x : Model). x.progress.phase) (after_all-append plan commands (opening plan scope) earlier (last ∷ [])) in (
+      let behind : (state_after plan commands scope acts).progress.phase ≡ (after plan commands s last).progress.phase =
+      ap (λ (xs : List Act). (state_after plan commands scope xs).progress.phase) some.2 ∙ ap (λ (x : Model). x.progress.phase)
+      (after_all-append plan commands (opening plan scope) earlier (last ∷ [])) in (
         earlier,
         last,
         some.2,
@@ -302,23 +304,23 @@ decided_last plan commands scope acts c runs e = by_last (last_of acts) where
             (after_decided plan commands s last c split.1 (done_sent plan commands scope earlier) (ap end_of (sym behind) ∙ e)),
       )
 
--- where the phase is that the connection is to be closed for `why`, the last act shows the call that failed
+-- if the phase is that the connection is to be closed for `why`, the last act shows the call that failed
 pub closing_shown : (plan : Plan) (commands : List Task) (scope : Scope) (acts : List Act) (why : Cause) → Runs plan commands (opening plan scope) acts
-    → (stood plan commands scope acts).progress.phase ≡ Closing why
+    → (state_after plan commands scope acts).progress.phase ≡ Closing why
     → (earlier : List Act) × (last : Act) × (acts ≡ earlier ++ last ∷ []) × Shows why last
 closing_shown plan commands scope acts why runs phase =
-    let d = decided_last plan commands scope acts why runs (ap end_of phase) in (d.0, d.1, d.2, shows (stood plan commands scope d.0) d.1 d.3) where
+    let d = decided_last plan commands scope acts why runs (ap end_of phase) in (d.0, d.1, d.2, shows (state_after plan commands scope d.0) d.1 d.3) where
       -- as the connection isn't closed yet, the end wasn't decided by a connection that is gone
-      shows : (before : Model) (last : Act) → Decided plan before (stood plan commands scope acts).progress.phase why last → Shows why last
+      shows : (before : Model) (last : Act) → Decided plan before (state_after plan commands scope acts).progress.phase why last → Shows why last
       shows before last (inl failed) = failed.1
       shows before last (inr gone) = let up : true ≡ false = sym (ap is_up phase) ∙ gone.0 in cc
 
--- where a connection is closed, it is closed for a cause
+-- if a connection is closed, it is closed for a cause
 pub closed_for : (plan : Plan) (commands : List Task) (scope : Scope) (acts : List Act) → Runs plan commands (opening plan scope) acts
-    → Performs commands (stood plan commands scope acts) (action_at plan (stood plan commands scope acts)) Closed
+    → Performs commands (state_after plan commands scope acts) (action_at plan (state_after plan commands scope acts)) Closed
     → ClosesForACause plan commands scope acts
 closed_for plan commands scope acts runs o =
-    let s = stood plan commands scope acts in
+    let s = state_after plan commands scope acts in
     let it = closes_only commands s (action_at plan s) o in
     record {
       why = it.0;
@@ -326,31 +328,31 @@ closed_for plan commands scope acts runs o =
       shown = by_needs it.0 (needs_of plan s (action.Close it.0) it.1).1;
     } where
       -- the lemma above, by the condition of that close: the phase says so, or the run is at its end
-      by_needs : (why : Cause) → (((stood plan commands scope acts).progress.phase ≡ Closing why)
-          ⊎ IsAtItsEnd plan (stood plan commands scope acts).progress (waiting_of (stood plan commands scope acts)) why)
-          → IsAtItsEnd plan (stood plan commands scope acts).progress (waiting_of (stood plan commands scope acts)) why
+      by_needs : (why : Cause) → (((state_after plan commands scope acts).progress.phase ≡ Closing why)
+          ⊎ IsAtItsEnd plan (state_after plan commands scope acts).progress (waiting_of (state_after plan commands scope acts)) why)
+          → IsAtItsEnd plan (state_after plan commands scope acts).progress (waiting_of (state_after plan commands scope acts)) why
           ⊎ ((earlier : List Act) × (last : Act) × (acts ≡ earlier ++ last ∷ []) × Shows why last)
       by_needs why (inl phase) = inr (closing_shown plan commands scope acts why runs phase)
       by_needs why (inr end) = inl end
 
--- where a run stops, it stops for a cause
+-- if a run stops, it stops for a cause
 pub stopped_for : (plan : Plan) (commands : List Task) (scope : Scope) (acts : List Act) (why : Cause) → Runs plan commands (opening plan scope) acts
-    → action_at plan (stood plan commands scope acts) ≡ action.Stop why → StopsForACause plan commands scope acts why
+    → action_at plan (state_after plan commands scope acts) ≡ action.Stop why → StopsForACause plan commands scope acts why
 stopped_for plan commands scope acts why runs stop =
-    let needs = needs_of plan (stood plan commands scope acts) (action.Stop why) stop in
+    let needs = needs_of plan (state_after plan commands scope acts) (action.Stop why) stop in
     record {
       down = needs.0;
       shown = by_needs needs.1;
     } where
-      -- where the run is over, what decided the end ends the run
-      ends : (before : Model) (last : Act) → (stood plan commands scope acts).progress.phase ≡ Over why
-          → Decided plan before (stood plan commands scope acts).progress.phase why last → Ends plan before why last
+      -- if the run is over, what decided the end ends the run
+      ends : (before : Model) (last : Act) → (state_after plan commands scope acts).progress.phase ≡ Over why
+          → Decided plan before (state_after plan commands scope acts).progress.phase why last → Ends plan before why last
       ends before last phase (inl failed) = inl (failed.0 (ap is_up phase), failed.1)
       ends before last phase (inr gone) = inr gone.1
 
       -- the lemma above, by the condition of stopping: the phase says so, or all turns are used up
-      by_needs : (((stood plan commands scope acts).progress.phase ≡ Over why) ⊎ ((why ≡ cause.Turns) × ((stood plan commands scope acts).progress.turns ≡ 0)))
-          → ((why ≡ cause.Turns) × ((stood plan commands scope acts).progress.turns ≡ 0))
-          ⊎ ((earlier : List Act) × (last : Act) × (acts ≡ earlier ++ last ∷ []) × Ends plan (stood plan commands scope earlier) why last)
-      by_needs (inl phase) = let d = decided_last plan commands scope acts why runs (ap end_of phase) in inr (d.0, d.1, d.2, ends (stood plan commands scope d.0) d.1 phase d.3)
+      by_needs : (((state_after plan commands scope acts).progress.phase ≡ Over why) ⊎ ((why ≡ cause.Turns) × ((state_after plan commands scope acts).progress.turns ≡ 0)))
+          → ((why ≡ cause.Turns) × ((state_after plan commands scope acts).progress.turns ≡ 0))
+          ⊎ ((earlier : List Act) × (last : Act) × (acts ≡ earlier ++ last ∷ []) × Ends plan (state_after plan commands scope earlier) why last)
+      by_needs (inl phase) = let d = decided_last plan commands scope acts why runs (ap end_of phase) in inr (d.0, d.1, d.2, ends (state_after plan commands scope d.0) d.1 phase d.3)
       by_needs (inr none) = inl none

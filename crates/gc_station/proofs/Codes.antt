@@ -1,6 +1,6 @@
 -- A command is answered well where both codes of its reply are 0 and the values read, or where its return code is accepted,
--- unless it was measured elsewhere than where its target stands. `line` is the reply line of a command with this call, and `r`
--- its fields; `reads` gives what each line says for a call (`AreReadings`), and `expected` what the command expects: the return
+-- unless it was measured elsewhere than where its target is. `line` is the reply line of a command with this call, and `r` its
+-- fields; `reads` gives what each line says for a call (`AreReadings`), and `expected` what the command expects: the return
 -- codes that it accepts, and the place of its target.
 use Rattle.std.proofs.Common.{◌≡◌, ◌==◌, ◌&&◌, ◌||◌, ◌⊎◌, inl, inr, ℕ, zero, suc, replicate, Bool, true, false, not, List, refl, sym, ap, ◌∙◌}
 use Rattle.std.specs.List.{list_any}
@@ -26,6 +26,7 @@ use Rattle.gc_station.specs.Codes.{WellIsAnAcceptedCode}
 use Rattle.gc_station.specs.Qualities.{GoodIsAnAnswer}
 use Rattle.gc_station.specs.Marks.{value_as, warned_as, refused_as, answer_as, end_of, is_well}
 use Rattle.gc_station.specs.Scopes.{AreReadings}
+use Rattle.gc_station.proofs.Ticking.{not_both}
 
 -- a reply with a communication code other than 0 says that fault, whatever was asked
 pub com_fault_is : (asked : Asked) (r : ReplyFields) → (r.rc_com ≡ 0 → ⊥) → IsAskedReading asked r (reading.ComFault r.rc_com)
@@ -36,10 +37,6 @@ com_fault_is (Raw raw) r other = (other, refl)
 pub refused_is : (asked : Asked) (r : ReplyFields) → r.rc_com ≡ 0 → (r.rc ≡ 0 → ⊥) → IsAskedReading asked r (reading.Refused r.rc)
 refused_is (Table call) r none other = (none, other, refl)
 refused_is (Raw raw) r none other = (none, other, refl)
-
--- a test isn't true and false
-apart : (b : Bool) → b ≡ true → b ≡ false → ⊥
-apart b e f = let both : true ≡ false = sym e ∙ f in cc
 
 -- a command whose reply is an answer of a good quality is answered well exactly if it wasn't measured elsewhere
 value_well : (q : Quality) → is_good q ≡ true → (said : Answer) (line : List ℕ) (away : Bool) → is_well (value_as q away said line) ≡ not away
@@ -62,11 +59,11 @@ none_accepted code e = elim (eqb_tells code 0) as (λ _. ⊥) [
 ]
 
 module _ (reads : Asked → List ℕ → Reading) (expected : Expected) (call : Asked) (line : List ℕ) (r : ReplyFields) (are : AreReadings reads) (is : IsReply line r) where
-  -- where a reply's fields r mean `said` for the call (`IsAskedReading`), `reads` reads its line as `said`
+  -- if a reply's fields r mean `said` for the call (`IsAskedReading`), `reads` reads its line as `said`
   says : (said : Reading) → IsAskedReading call r said → reads call line ≡ said
   says said reading = are call line said (record { reply = r; is_reply = is; is_reading = reading })
 
-  -- where the same fields with return code 0 mean `said`, `reads` reads the line with return code 0 (`as_zero`) as `said`
+  -- if the same fields with return code 0 mean `said`, `reads` reads the line with return code 0 (`as_zero`) as `said`
   says_zeroed : (said : Reading) → IsAskedReading call (record r { rc = 0 }) said → reads call (as_zero line) ≡ said
   says_zeroed said reading = are call (as_zero line) said (zero_reads call line r said is reading)
 
@@ -87,14 +84,14 @@ module _ (reads : Asked → List ℕ → Reading) (expected : Expected) (call : 
   com_zero : is_well (end_of reads expected call (Answered line)) ≡ true → r.rc_com ≡ 0
   com_zero well = elim (eqb_tells r.rc_com 0) as (λ _. r.rc_com ≡ 0) [
     | inl same ↦ same.1
-    | inr other ↦ absurd (apart _ well (ap is_well (ended (reading.ComFault r.rc_com) (says (reading.ComFault r.rc_com) (com_fault_is call r other.1)))))
+    | inr other ↦ absurd (not_both _ well (ap is_well (ended (reading.ComFault r.rc_com) (says (reading.ComFault r.rc_com) (com_fault_is call r other.1)))))
   ]
 
   -- a command that is refused, and is answered well nevertheless, was refused with an accepted code
   accepted_one : (b : Bool) → are_accepted expected.accepted r.rc ≡ b → reads call line ≡ reading.Refused r.rc → is_well (end_of reads expected call (Answered line)) ≡ true
       → are_accepted expected.accepted r.rc ≡ true
   accepted_one true e said well = e
-  accepted_one false e said well = absurd (apart _ well (refused_unwell r.rc said e))
+  accepted_one false e said well = absurd (not_both _ well (refused_unwell r.rc said e))
 
   -- a command is answered well only if the return code of its reply is 0 or an accepted one
   rc_zero : r.rc_com ≡ 0 → is_well (end_of reads expected call (Answered line)) ≡ true → (r.rc ≡ 0) ⊎ (are_accepted expected.accepted r.rc ≡ true)
@@ -103,7 +100,7 @@ module _ (reads : Asked → List ℕ → Reading) (expected : Expected) (call : 
     | inr other ↦ inr (accepted_one (are_accepted expected.accepted r.rc) refl (says (reading.Refused r.rc) (refused_is call r none other.1)) well)
   ]
 
-  -- where no code is accepted, the return code is 0
+  -- if no code is accepted, the return code is 0
   without_codes : expected.accepted ≡ no_codes → (r.rc ≡ 0) ⊎ (are_accepted expected.accepted r.rc ≡ true) → r.rc ≡ 0
   without_codes none (inl same) = same
   without_codes none (inr some) = absurd (none_accepted r.rc (ap (λ (cs : Codes). are_accepted cs r.rc) (sym none) ∙ some))
@@ -129,7 +126,7 @@ module _ (reads : Asked → List ℕ → Reading) (expected : Expected) (call : 
   warned_ends said none some accepted read =
       ended_refused r.rc true (says (reading.Refused r.rc) (refused_is call r none some)) accepted ∙ ap (λ x. warned_as expected.near x line) (says_zeroed said read)
 
--- where no code is accepted, an answer of a good quality has both codes 0
+-- if no code is accepted, an answer of a good quality has both codes 0
 pub without_accept : GoodIsAnAnswer
 without_accept reads call quality.Fine said line is good = is
 without_accept reads call quality.Warning said line (code, refusal, listed, has) good = absurd (none_accepted code listed)

@@ -1,6 +1,6 @@
--- Facts F of a progress and the acts so far that concern a connection in use alone: they hold trivially where there is no
--- connection, and where it is to be closed. So a call that fails keeps them, and so does a close. What each other act has to
--- keep is `OnLine`. An act is one call of the link, with what came of it.
+-- Facts F of a progress and the acts so far that concern a connection in use alone: they hold trivially if there is no
+-- connection, and if it is to be closed. So a call that fails keeps them, and so does a close. What each other act has to keep
+-- is `OnLine`. An act is one call on the link, with its result.
 use Rattle.std.proofs.Common.{◌≡◌, ℕ, ◌&&◌, Bool, true, false, not, List, [], ◌∷◌, ◌++◌, drop, if◌then◌else◌, refl, ap}
 use Rattle.gc_catalogue.specs.declared.asked.Asked.TheVariants.{Table}
 use Rattle.gc_catalogue.specs.declared.call.Call.TheVariants.{NullProc}
@@ -18,8 +18,8 @@ use Rattle.gc_station.specs.declared.progress.Until.{Until}
 use Rattle.gc_links.specs.Acts.{Act, Told, Put, Gave, Silent, Opened}
 use Rattle.gc_station.specs.Deciding.{is_up, is_past, is_quiet}
 use Rattle.gc_station.specs.Marks.{commands_in}
-use Rattle.gc_station.specs.Progressing.{turned, told, begun, skipped, passed, opened, cleared, asking, null_sent, renewed, sent, reckoned_early, time_passed, quieted, is_idle, drained, setup_sent}
-use Rattle.gc_station.specs.Model.{Model, requests_out, request_text, null_text, first_text, place_next, is_chained_behind_next, others_behind_next, is_chained_behind, others_behind, waiting_of, piece_at, with_progress, Performs, moved, cycle_length, text_or_null}
+use Rattle.gc_station.specs.Progressing.{turned, moment_noted, cycle_begun, skipped, attempts_left_out, opened, cleared, asking, null_sent, renewed, sent, reckoned_early, time_passed, quieted, is_idle, drained, setup_sent}
+use Rattle.gc_station.specs.Model.{Model, requests_out, request_text, null_text, first_text, place_next, is_chained_after_next, others_after_next, is_chained_after, others_after, waiting_of, piece_at, with_progress, Performs, moved, cycle_length, text_or_null}
 use Rattle.gc_station.proofs.Turns.{again_down, closed_down}
 use Rattle.gc_station.proofs.Walk.{walk}
 
@@ -47,11 +47,11 @@ paused_unused : (b : Bool) (at : Phase) → at ≡ phase.Pausing → is_in_use (
 paused_unused true at is = refl
 paused_unused false at is = ap is_in_use is
 
--- What has to hold after an act of an action where no call fails. After a read that gave nothing it is shown for a drain that
--- goes on, and for one that was long enough and ends. All rows take a moment, though not each action reads the clock.
+-- What has to hold after an act of an action if no call fails. After a read that gave nothing it is shown for a drain that goes
+-- on, and for one that was long enough and ends. All rows take a moment, though not each action reads the clock.
 
--- the fact F holds after these acts and a read that gave nothing at this moment: of the progress at that moment and, where a
--- drain was long enough, of the progress once the drain ended
+-- the fact F holds after these acts and a read that gave nothing at this moment: of the progress at that moment and, if a drain
+-- was long enough, of the progress once the drain ended
 abbrev pub Silenced : Plan → (Progress → List Act → Type 0) → Until → Moment → Progress → List Act → Type 0
 Silenced plan F until m p acts =
     F (time_passed until m p) (acts ++ Silent m ∷ [])
@@ -60,19 +60,21 @@ Silenced plan F until m p acts =
 -- the fact F holds after these acts and one more, of this action: of what the act makes of the model's progress, for each
 -- outcome that leaves a connection in use
 abbrev pub OnLine : Plan → List Task → (Progress → List Act → Type 0) → Action → Model → List Act → Type 0
-OnLine plan commands F actions.ReadClock s acts = (m : Moment) → F (reckoned_early plan (commands_in s.marks) (told m s.progress)) (acts ++ Told m ∷ [])
+OnLine plan commands F actions.ReadClock s acts = (m : Moment) → F (reckoned_early plan (commands_in s.marks) (moment_noted m s.progress)) (acts ++ Told m ∷ [])
 OnLine plan commands F actions.Renew s acts = (m : Moment) → F (reckoned_early plan 0 (renewed plan m s.progress)) (acts ++ Told m ∷ [])
-OnLine plan commands F actions.Begin s acts = (m : Moment) → F (begun plan (cycle_length plan commands) m s.progress) (acts ++ Told m ∷ [])
+OnLine plan commands F actions.Begin s acts = (m : Moment) → F (cycle_begun plan (cycle_length plan commands) m s.progress) (acts ++ Told m ∷ [])
 OnLine plan commands F actions.Open s acts = (m : Moment) → F (opened s.progress) (acts ++ Opened ∷ [])
 OnLine plan commands F actions.Clear s acts = (m : Moment) → F (cleared s.progress) (acts ++ Put (10 ∷ []) ∷ [])
 OnLine plan commands F actions.Ask s acts = (m : Moment) → F (null_sent plan s.progress) (acts ++ Put (null_text s.progress.word) ∷ [])
 OnLine plan commands F actions.Prepare s acts = (m : Moment) → F (setup_sent plan s.progress) (acts ++ Put (text_or_null s.progress.moment.utc s.client (drop s.progress.prepared commands)) ∷ [])
-OnLine plan commands F actions.Send s acts = (m : Moment) → F (sent (is_chained_behind_next commands s.progress) (others_behind_next commands s.progress) s.progress)
+OnLine plan commands F actions.Send s acts = (m : Moment) → F (sent (is_chained_after_next commands s.progress) (others_after_next commands s.progress) s.progress)
     (acts ++ Put (first_text s.progress.moment.utc s.client (drop (place_next commands s.progress) commands)) ∷ [])
-OnLine plan commands F actions.Skip s acts = (m : Moment) → F (reckoned_early plan (commands_in s.marks) (skipped (is_chained_behind_next commands s.progress) (others_behind_next commands s.progress) m s.progress)) (acts ++ Told m ∷ [])
+OnLine plan commands F actions.Skip s acts = (m : Moment)
+    → F (reckoned_early plan (commands_in s.marks) (skipped (is_chained_after_next commands s.progress) (others_after_next commands s.progress) m s.progress))
+    (acts ++ Told m ∷ [])
 OnLine plan commands F actions.Pass s acts =
     (m : Moment) → F (reckoned_early plan (commands_in s.marks)
-    (passed (is_chained_behind s.progress.next_others commands s.progress) (others_behind s.progress.next_others commands s.progress) m s.progress)) (acts ++ Told m ∷ [])
+    (attempts_left_out (is_chained_after s.progress.next_others commands s.progress) (others_after s.progress.next_others commands s.progress) m s.progress)) (acts ++ Told m ∷ [])
 OnLine plan commands F actions.Flush s acts = (m : Moment) → F (asking s.progress) (acts ++ Put (request_text s.client (Table NullProc)) ∷ [])
 OnLine plan commands F (actions.Read until) s acts =
     ((bytes : List ℕ) (m : Moment) → F (piece_at plan until bytes m s).progress (acts ++ Gave bytes m ∷ []))
@@ -96,7 +98,7 @@ module _ (plan : Plan) (commands : List Task) (F : Progress → List Act → Typ
     by_test false past = h.0
   silent_on until m p at acts is h = h.0
 
-  -- `OnLine` of an action gives the fact after an act of it: where the act leaves no connection in use, the fact holds anyway
+  -- `OnLine` of an action gives the fact after an act of it: if the act leaves no connection in use, the fact holds anyway
   -- (`unused`)
   pub on_line : (next : Action) (s : Model) (act : Act) (acts : List Act) → Performs commands s next act → OnLine plan commands F next (with_progress turned s) acts
       → F (moved plan commands next (with_progress turned s) act).progress (acts ++ act ∷ [])

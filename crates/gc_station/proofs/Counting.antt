@@ -1,4 +1,4 @@
--- A tally counts the records of the last attempts. `count` is one of its counts, and `so` tells which endings it counts; no count
+-- A tally counts the records of the last attempts. `count` is one of its counts, and `so` says which endings it counts; no count
 -- exceeds 2^64 - 1 (`at_most`).
 use Rattle.std.proofs.Common.{◌||◌, ◌&&◌, not, nat_eq, nat_lt, ◌≡◌, ℕ, suc, ◌+◌, Bool, true, false, List, [], ◌∷◌, if◌then◌else◌, refl, sym, ap, ◌∙◌, arith}
 use Rattle.gc_texts.specs.Endings.{End, Answered, Unreadable, Elsewhere, Late, Lost, Skipped, Missed}
@@ -9,8 +9,8 @@ use Rattle.gc_station.specs.Deciding.{later}
 use Rattle.gc_station.specs.declared.tally.Counts.{Counts}
 use Rattle.gc_station.specs.declared.tally.Tally.{Tally}
 
--- where an attempt is followed (q), its commands aren't counted, and neither is the next one of it; else one with this ending (e) counts
--- as one
+-- if an attempt is followed (q), its commands aren't counted, and neither is the next one of it; otherwise one with this ending
+-- (e) counts as one
 grown : (q e : Bool) (s a h : ℕ) → at_most (s + ((if q then 0 else (if e then one_more a else a)) + h)) ≡ at_most (s + ((if q then 0 else a) + (if q then h else (if e then suc h else h))))
 grown true e s a h = refl
 grown false true s a h = omega arith
@@ -32,7 +32,7 @@ settled_then q s a k = started_again q (later s a) k ∙ omega arith
 -- a count that grows by one for each command with this ending (`so`), stays for any other, adds up, and doesn't hang on `again`
 module _ (count : Tally → ℕ) (so : End → Bool) (step : (end : End) (t : Tally) → count (counted end t) ≡ (if so end then one_more (count t) else count t))
     (adds : (a b : Tally) → count (sum a b) ≡ later (count a) (count b)) (none : count none_yet ≡ 0) (stays : (t : Tally) (n : ℕ) → count (record t { again = n }) ≡ count t) where
-  -- how many of these records have this ending, with one in front that counts where its attempt isn't followed (q)
+  -- how many of these records have this ending, with one before it that counts where its attempt isn't followed (q)
   in_front : (q : Bool) (r : Record) (rs : List Record) → how_many so (if q then rs else r ∷ rs) ≡ (if q then how_many so rs else (if so r.end then suc (how_many so rs) else how_many so rs))
   in_front true r rs = refl
   in_front false r rs = refl
@@ -44,7 +44,7 @@ module _ (count : Tally → ℕ) (so : End → Bool) (step : (end : End) (t : Ta
       is ∙ ap (λ n. at_most (s + ((if q then 0 else n) + how_many so rs))) (step r.end t) ∙ grown q (so r.end) s (count t) (how_many so rs)
       ∙ ap (λ n. at_most (s + ((if q then 0 else count t) + n))) (sym (in_front q r rs))
 
-  -- a count after records is that of the chains before, that of the attempt before where no further one follows, and the number of
+  -- a count after records is that of the chains before, that of the attempt before if no further one follows, and the number of
   -- records of last attempts with its ending, up to its greatest number
   counts : (c : Counts) (rs : List Record) → count (total (tallied c rs)) ≡ at_most (count c.settled + ((if is_followed rs then 0 else count c.attempt) + how_many so (last_attempts rs)))
   counts c [] = adds c.settled c.attempt ∙ omega arith
@@ -53,7 +53,8 @@ module _ (count : Tally → ℕ) (so : End → Bool) (step : (end : End) (t : Ta
     begun : Bool → Counts
     begun f = if f then record { settled = record c.settled { again = one_more c.settled.again }; attempt = none_yet } else record { settled = sum c.settled c.attempt; attempt = none_yet }
 
-    -- the lemma above, whether the record is of the set-up (z), whether an attempt begins with it (l), and whether that is a further one (f)
+    -- the lemma above, whether the record is of the setup (z), whether an attempt begins with it (l), and whether that is a
+    -- further one (f)
     by_tests : ((d : Counts) → count (total (tallied d rs)) ≡ at_most (count d.settled + ((if is_followed rs then 0 else count d.attempt) + how_many so (last_attempts rs)))) → (z l f : Bool)
         → count (total (tallied (if z then c else (let d = (if l then begun f else c) in record d { attempt = counted r.end d.attempt })) rs))
         ≡ at_most (count c.settled + ((if (if z || not l then is_followed rs else f) then 0 else count c.attempt) + how_many so (if z || is_followed rs then last_attempts rs else r ∷ last_attempts rs)))
@@ -62,7 +63,8 @@ module _ (count : Tally → ℕ) (so : End → Bool) (step : (end : End) (t : Ta
     by_tests ih false true true =
         counts_next _ (count (record c.settled { again = one_more c.settled.again })) 0 none_yet r (last_attempts rs) (is_followed rs)
         (ih (record { settled = record c.settled { again = one_more c.settled.again }; attempt = counted r.end none_yet }))
-        ∙ ap (λ n. at_most (n + ((if is_followed rs then 0 else count none_yet) + how_many so (if is_followed rs then last_attempts rs else r ∷ last_attempts rs)))) (stays c.settled (one_more c.settled.again))
+        ∙ ap (λ n. at_most (n + ((if is_followed rs then 0 else count none_yet) + how_many so (if is_followed rs then last_attempts rs else r ∷ last_attempts rs))))
+        (stays c.settled (one_more c.settled.again))
         ∙ ap (λ n. at_most (count c.settled + ((if is_followed rs then 0 else n) + how_many so (if is_followed rs then last_attempts rs else r ∷ last_attempts rs)))) none
         ∙ started_again (is_followed rs) (count c.settled) _
     by_tests ih false true false =
@@ -77,7 +79,7 @@ module _ (count : Tally → ℕ) (so : End → Bool) (step : (end : End) (t : Ta
       counts nothing_yet records ∙ ap (λ n. at_most (n + ((if is_followed records then 0 else n) + how_many so (last_attempts records)))) none
       ∙ started_again (is_followed records) 0 (how_many so (last_attempts records)) ∙ omega arith
 
--- a command that is counted leaves how many chains went out again
+-- a command that is counted leaves how many chains were sent again
 same_again : (end : End) (t : Tally) → (counted end t).again ≡ t.again
 same_again (Answered quality answer line) t = refl
 same_again (Unreadable line fault) t = refl
@@ -87,7 +89,7 @@ same_again Lost t = refl
 same_again Skipped t = refl
 same_again Missed t = refl
 
--- how many chains went out again after records is that before, and the number of further attempts among them
+-- how many chains were sent again after records is that before, and the number of further attempts among them
 agains : (c : Counts) (rs : List Record) → c.attempt.again ≡ 0 → (total (tallied c rs)).again ≡ at_most (c.settled.again + further_attempts rs)
 agains c [] none = omega (arith, none)
 agains c (r ∷ rs) none = by_tests (λ d n. agains d rs n) (nat_eq r.cycle 0) (nat_eq r.turn.link 0) (nat_lt 1 r.turn.attempt) where

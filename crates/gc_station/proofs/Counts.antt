@@ -1,5 +1,5 @@
 -- What each act leaves of the counts: the turns, the cycles that haven't begun, and the commands of the cycle that weren't
--- sent. An act is one call of the link, with what came of it.
+-- sent. An act is one call on the link, with its result.
 use Rattle.std.proofs.Common.{◌≡◌, ℕ, ◌-◌, ◌≤◌, ◌⊎◌, inl, inr, Bool, true, false, List, refl, ap, subst, arith}
 use Rattle.gc_texts.specs.declared.tasks.Task.{Task}
 use Rattle.gc_station.specs.declared.plan.Plan.{Plan}
@@ -30,12 +30,12 @@ counted_begun count p = record p { left = p.left - 1; unsent = count }
 abbrev pub counted_sent : Progress → Progress
 counted_sent p = record p { unsent = p.unsent - 1 }
 
--- the progress with as many commands less unsent as the next command's attempt and those behind it have
+-- the progress with as many commands less unsent as the next command's attempt and those after it have
 abbrev pub counted_passed : Progress → Progress
 counted_passed p = record p { unsent = p.unsent - p.next_others }
 
 -- what an act of an action does to these counts, from p to q: nothing, or what begins a cycle, or what sends or skips a
--- command, or passes over some. The first argument is how many commands a cycle has
+-- command, or leaves out some. The first argument is how many commands a cycle has
 abbrev pub Counts : ℕ → Action → Progress → Progress → Type 0
 Counts count Begin p q = Kept p q ⊎ Kept (counted_begun count p) q
 Counts count Send p q = Kept (counted_sent p) q
@@ -67,7 +67,7 @@ losing_progress false s = refl
 pub ended_progress : (s : Model) → (ended s).progress ≡ s.progress
 ended_progress s = losing_progress (loses_all s.progress) s
 
--- where requests are lost, nothing is passed over
+-- where requests are lost, nothing is left out
 losing_passes : (b : Bool) (s : Model) → (losing b s).passes ≡ s.passes
 losing_passes true s = refl
 losing_passes false s = refl

@@ -1,6 +1,6 @@
--- Cycles begin on a grid of due moments, and nothing of a missed cycle goes out, where the clock doesn't go back (`Rises`). An
--- act is one call of the link, with what came of it. A cycle is missed where it began so late that the next one was due. The
--- chain's fields of a progress are `next_is_chained`, whether the next command waits for the answer of the one before it, and
+-- Cycles begin on a grid of due moments, and nothing of a missed cycle is sent, if the clock doesn't go back (`ClockRises`). An act
+-- is one call on the link, with its result. A cycle is missed if it began so late that the next one was due. The chain's fields
+-- of a progress are `next_is_chained`, whether the next command waits for the answer of the one before it, and
 -- `chain_unbroken`. `Cycling` says which cycle the station is in, and when it began; `Begun` says that it is in one, or that
 -- none has begun yet.
 use Rattle.std.proofs.Common.{◌≡◌, ◌⊎◌, inl, inr, ℕ, suc, ◌+◌, ◌-◌, ◌<◌, ◌≤◌, ◌||◌, Bool, true, false, List, [], ◌∷◌, ◌++◌, length, drop, min, nat_lt, nat_le, nat_eq, refl, sym, ap, ◌∙◌, subst, arith, append_assoc}
@@ -8,13 +8,13 @@ use Rattle.std.proofs.lemmas.Bool.{lt-ltb, ne_eqb, eq-eqb}
 use Rattle.gc_texts.specs.declared.tasks.Task.{Task}
 use Rattle.gc_links.specs.Acts.{Act, Told, Untold, Gave, Silent, Ended, Broke, Closed, Opened, Unopened}
 use Rattle.gc_links.specs.declared.link.Moment.{Moment}
-use Rattle.gc_station.specs.Cycles.{Rises, due_behind, BeginsAt, BeginsLate, LastBegan, CyclesBeginWhenDue, SentOnlyInTime}
+use Rattle.gc_station.specs.Cycles.{ClockRises, due_after, BeginsAt, BeginsLate, LastBegan, CyclesBeginWhenDue, SentOnlyInTime}
 use Rattle.gc_station.specs.Deciding.{is_due}
-use Rattle.gc_station.specs.Progressing.{turned, told, begun, beginning, failing, time_passed, quieted, closed}
+use Rattle.gc_station.specs.Progressing.{turned, moment_noted, cycle_begun, beginning, failing, time_passed, quieted, closed}
 use Rattle.gc_station.specs.Reasons.{IsFor, MayGo}
-use Rattle.gc_station.specs.Runs.{stood}
+use Rattle.gc_station.specs.Runs.{state_after}
 use Rattle.gc_station.specs.Scopes.{Scope}
-use Rattle.gc_station.specs.Model.{Model, opening, action_at, waiting_of, cycles_begun, place_next, is_chained, is_chained_behind_next, is_chained_behind, is_heard, with_progress, with_moment, lines_behind, piece_at, moved, Performs, Runs, cycle_length}
+use Rattle.gc_station.specs.Model.{Model, opening, action_at, waiting_of, cycles_begun, place_next, is_chained, is_chained_after_next, is_chained_after, is_heard, with_progress, with_moment, lines_completed, piece_at, moved, Performs, Runs, cycle_length}
 use Rattle.gc_station.specs.declared.cause.Cause.{Cause}
 use Rattle.gc_station.specs.declared.cause.Cause.TheVariants as cause
 use Rattle.gc_station.specs.declared.plan.Plan.{Plan}
@@ -31,7 +31,7 @@ use Rattle.gc_station.proofs.EachRun.{fine_stood}
 use Rattle.gc_station.proofs.Facts.{action_for}
 use Rattle.gc_station.proofs.Invariant.{Invariant}
 use Rattle.gc_station.proofs.Walk.{asked_along, came_along, quieted_along, closed_along, moved_changed, walk}
-use Rattle.gc_station.proofs.Ticking.{le_of, lt_of, due_since, picks, picks_other, or_none, or_some, or_second, and_second, clash, Ticks, ticked, rises_front, last_of, rises_last, last_more, last_ticks}
+use Rattle.gc_station.proofs.Ticking.{le_of, lt_of, due_since, picks, picks_other, or_none, or_some, or_second, and_second, not_both, Ticks, ticked, rises_front, last_of, rises_last, last_more, last_ticks}
 use Rattle.gc_station.proofs.Due.{begin_due}
 
 -- What every run keeps of its cycles.
@@ -90,14 +90,13 @@ module _ (plan : Plan) (commands : List Task) (scope : Scope) (some : 0 < plan.e
   stays p q left unsent missed due next_is_chained chain_unbroken = record
       { left = left; unsent = unsent; missed = missed; due = due; next_is_chained = next_is_chained; chain_unbroken = chain_unbroken }
 
-  -- a chain that was broken still is, where it is as it was or broken
+  -- a chain that was broken still is, if it is as it was or broken
   pub broken : (a b : Bool) → (b ≡ a) ⊎ (b ≡ false) → a ≡ false → b ≡ false
   broken a b (inl same) e = same ∙ e
   broken a b (inr none) e = none
 
-  -- `Begun` lasts over an act that stays in its cycle (`Stays`) and tells moments as `Ticks` says, where the clock doesn't go
-  -- back
-  pub begun_stays : (acts : List Act) (act : Act) (p q : Progress) → Stays p q → Ticks p act q → Rises p.moment.elapsed (act ∷ []) → Begun acts p → Begun (acts ++ act ∷ []) q
+  -- `Begun` is preserved by an act that stays in its cycle (`Stays`) and reads moments as `Ticks` says, if the clock doesn't go back
+  pub begun_stays : (acts : List Act) (act : Act) (p q : Progress) → Stays p q → Ticks p act q → ClockRises p.moment.elapsed (act ∷ []) → Begun acts p → Begun (acts ++ act ∷ []) q
   begun_stays acts act p q k t rises (inl none) = inl (k.left ∙ none.0, k.unsent ∙ none.1)
   begun_stays acts act p q k t rises (inr c) =
       let tick = ticked p q act t rises c.past in
@@ -120,18 +119,19 @@ module _ (plan : Plan) (commands : List Task) (scope : Scope) (some : 0 < plan.e
         held = λ e. let h = c.held (sym k.missed ∙ e) in (k.next_is_chained ∙ h.0, broken p.chain_unbroken q.chain_unbroken k.chain_unbroken h.1);
         chained = λ e. by_chain (c.chained (sym k.next_is_chained ∙ e)) place_is k.missed;
       }) where
-        -- what makes the next command wait still does: its cycle is missed, or the text chains it
+        -- what makes the next command wait, still does: its cycle is missed, or the text chains it
         by_chain : ((p.missed ≡ true) ⊎ ((plan.setup < place_next commands p) × (is_chained (drop (place_next commands p) commands) ≡ true)))
             → place_next commands q ≡ place_next commands p → q.missed ≡ p.missed
             → (q.missed ≡ true) ⊎ ((plan.setup < place_next commands q) × (is_chained (drop (place_next commands q) commands) ≡ true))
         by_chain (inl missed) at same = inl (same ∙ missed)
         by_chain (inr (above, is)) at same = inr (subst (λ (x : ℕ). plan.setup < x) (sym at) above, ap (λ (x : ℕ). is_chained (drop x commands)) at ∙ is)
 
-  -- `Begun` lasts over an act that sends or passes over the next command, if the command behind that waits for its answer as
-  -- `is_chained_behind_next` says
+  -- `Begun` is preserved by an act that sends or leaves out the next command, if the command after that waits for its answer as
+  -- `is_chained_after_next` says
   pub begun_next : (acts : List Act) (act : Act) (p q : Progress) → q.left ≡ p.left → q.unsent ≡ p.unsent - 1 → q.missed ≡ p.missed → q.due ≡ p.due
-      → q.next_is_chained ≡ is_chained_behind_next commands p
-      → (p.missed ≡ true → q.chain_unbroken ≡ false) → Ticks p act q → Rises p.moment.elapsed (act ∷ []) → 0 < p.unsent → p.unsent ≤ cycle_length plan commands → Begun acts p → Begun (acts ++ act ∷ []) q
+      → q.next_is_chained ≡ is_chained_after_next commands p
+      → (p.missed ≡ true → q.chain_unbroken ≡ false) → Ticks p act q → ClockRises p.moment.elapsed (act ∷ []) → 0 < p.unsent → p.unsent ≤ cycle_length plan commands → Begun acts p
+      → Begun (acts ++ act ∷ []) q
   begun_next acts act p q left unsent missed due next_is_chained chain_unbroken t rises here within (inl none) = let nothing = none.1 in absurd (omega (arith, nothing, here))
   begun_next acts act p q left unsent missed due next_is_chained chain_unbroken t rises here within (inr c) =
       let tick = ticked p q act t rises c.past in
@@ -154,16 +154,17 @@ module _ (plan : Plan) (commands : List Task) (scope : Scope) (some : 0 < plan.e
         chained = λ e. by_missed p.missed refl (sym next_is_chained ∙ e) at (omega (arith, here, within));
       }) where
         -- what makes the new next command wait: its cycle is missed (`true`), or the text chains it
-        by_missed : (b : Bool) → p.missed ≡ b → is_chained_behind_next commands p ≡ true → place_next commands q ≡ place_next commands p + 1 → plan.setup ≤ place_next commands p
+        by_missed : (b : Bool) → p.missed ≡ b → is_chained_after_next commands p ≡ true → place_next commands q ≡ place_next commands p + 1 → plan.setup ≤ place_next commands p
             → (q.missed ≡ true) ⊎ ((plan.setup < place_next commands q) × (is_chained (drop (place_next commands q) commands) ≡ true))
         by_missed true is e at low = inl (missed ∙ is)
         by_missed false is e at low =
             inr (omega (arith, at, low), ap (λ (x : ℕ). is_chained (drop x commands)) at ∙ or_second p.missed (is_chained (drop (place_next commands p + 1) commands)) e is)
 
-  -- `Begun` lasts over an act that passes over the further attempts of a chain
+  -- `Begun` is preserved by an act that leaves out the further attempts of a chain
   pub begun_past : (acts : List Act) (act : Act) (p q : Progress) → q.left ≡ p.left → q.unsent ≡ p.unsent - p.next_others → q.missed ≡ p.missed → q.due ≡ p.due
-      → q.next_is_chained ≡ is_chained_behind p.next_others commands p
-      → 0 < p.next_others → (p.missed ≡ true → q.chain_unbroken ≡ false) → Ticks p act q → Rises p.moment.elapsed (act ∷ []) → 0 < p.unsent → p.unsent ≤ length commands - plan.setup → Begun acts p → Begun (acts ++ act ∷ []) q
+      → q.next_is_chained ≡ is_chained_after p.next_others commands p
+      → 0 < p.next_others → (p.missed ≡ true → q.chain_unbroken ≡ false) → Ticks p act q → ClockRises p.moment.elapsed (act ∷ []) → 0 < p.unsent
+      → p.unsent ≤ length commands - plan.setup → Begun acts p → Begun (acts ++ act ∷ []) q
   begun_past acts act p q left unsent missed due next_is_chained more chain_unbroken t rises here within (inl none) = let nothing = none.1 in absurd (omega (arith, nothing, here))
   begun_past acts act p q left unsent missed due next_is_chained more chain_unbroken t rises here within (inr c) =
       let tick = ticked p q act t rises c.past in
@@ -188,7 +189,8 @@ module _ (plan : Plan) (commands : List Task) (scope : Scope) (some : 0 < plan.e
         chained = λ e. by_missed p.missed refl (sym next_is_chained ∙ e) above at;
       }) where
         -- what makes the new next command wait: its cycle is missed (`true`), or the text chains it
-        by_missed : (b : Bool) → p.missed ≡ b → is_chained_behind p.next_others commands p ≡ true → plan.setup < place_next commands q → drop (place_next commands p + p.next_others) commands ≡ drop (place_next commands q) commands
+        by_missed : (b : Bool) → p.missed ≡ b → is_chained_after p.next_others commands p ≡ true → plan.setup < place_next commands q
+            → drop (place_next commands p + p.next_others) commands ≡ drop (place_next commands q) commands
             → (q.missed ≡ true) ⊎ ((plan.setup < place_next commands q) × (is_chained (drop (place_next commands q) commands) ≡ true))
         by_missed true is e above at = inl (missed ∙ is)
         by_missed false is e above at =
@@ -196,7 +198,7 @@ module _ (plan : Plan) (commands : List Task) (scope : Scope) (some : 0 < plan.e
 
   -- `Cycling` holds after the act that begins a cycle at the moment m, if the cycle counts as begun at b and b is its due moment
   pub begins_cycle : (acts : List Act) (m : Moment) (p : Progress) (n : ℕ) (b : ℕ) → beginning plan m p ≡ b → b ≤ m.elapsed → cycles_begun plan p ≡ n → 0 < p.left → p.left ≤ plan.cycles
-      → BeginsLate plan commands scope (acts ++ Told m ∷ []) n m (m.elapsed - b) → Cycling (acts ++ Told m ∷ []) (begun plan (cycle_length plan commands) m p)
+      → BeginsLate plan commands scope (acts ++ Told m ∷ []) n m (m.elapsed - b) → Cycling (acts ++ Told m ∷ []) (cycle_begun plan (cycle_length plan commands) m p)
   begins_cycle acts m p n b is past number left within late = record {
     n = n;
     m = m;
@@ -213,11 +215,11 @@ module _ (plan : Plan) (commands : List Task) (scope : Scope) (some : 0 < plan.e
   }
 
   -- the act that begins a cycle is among the acts up to it
-  pub begins_here : (acts : List Act) (m : Moment) (n : ℕ) → action_at plan (stood plan commands scope acts) ≡ actions.Begin
-      → cycles_begun plan (stood plan commands scope acts).progress ≡ n → BeginsAt plan commands scope (acts ++ Told m ∷ []) n m
+  pub begins_here : (acts : List Act) (m : Moment) (n : ℕ) → action_at plan (state_after plan commands scope acts) ≡ actions.Begin
+      → cycles_begun plan (state_after plan commands scope acts).progress ≡ n → BeginsAt plan commands scope (acts ++ Told m ∷ []) n m
   begins_here acts m n is number = record { before = acts; behind = []; order = refl; begins = is; number = number }
 
-  -- what is known of a cycle that is begun at the moment m: the moment b that counts as its beginning, which is its due moment
+  -- what is known of a cycle that is begun at the moment m: the moment b that counts as its start, which is its due moment
   pub record Start (acts : List Act) (m : Moment) (p : Progress) : Type 0 where
     pub n : ℕ
     pub b : ℕ
@@ -227,8 +229,8 @@ module _ (plan : Plan) (commands : List Task) (scope : Scope) (some : 0 < plan.e
     pub late : BeginsLate plan commands scope (acts ++ Told m ∷ []) n m (m.elapsed - b)
 
   -- the first cycle has a `Start`: it is due at the moment at which it begins
-  pub start_first : (acts : List Act) (m : Moment) (p : Progress) → action_at plan (stood plan commands scope acts) ≡ actions.Begin
-      → cycles_begun plan (stood plan commands scope acts).progress ≡ cycles_begun plan p
+  pub start_first : (acts : List Act) (m : Moment) (p : Progress) → action_at plan (state_after plan commands scope acts) ≡ actions.Begin
+      → cycles_begun plan (state_after plan commands scope acts).progress ≡ cycles_begun plan p
       → p.left ≡ plan.cycles → Start acts m p
   start_first acts m p is same all =
       let none : cycles_begun plan p ≡ 0 = omega (arith, all) in
@@ -243,9 +245,9 @@ module _ (plan : Plan) (commands : List Task) (scope : Scope) (some : 0 < plan.e
       }
 
   -- a later cycle has a `Start`: it is due `every` milliseconds after the one before it was due, and begins then or later
-  pub start_more : (acts : List Act) (m : Moment) (p : Progress) → action_at plan (stood plan commands scope acts) ≡ actions.Begin
-      → cycles_begun plan (stood plan commands scope acts).progress ≡ cycles_begun plan p
-      → is_due plan p ≡ true → Rises p.moment.elapsed (Told m ∷ []) → Cycling acts p → Start acts m p
+  pub start_more : (acts : List Act) (m : Moment) (p : Progress) → action_at plan (state_after plan commands scope acts) ≡ actions.Begin
+      → cycles_begun plan (state_after plan commands scope acts).progress ≡ cycles_begun plan p
+      → is_due plan p ≡ true → ClockRises p.moment.elapsed (Told m ∷ []) → Cycling acts p → Start acts m p
   start_more acts m p is same due rises c =
       let few = c.fewer in
       let past = c.past in
@@ -258,7 +260,7 @@ module _ (plan : Plan) (commands : List Task) (scope : Scope) (some : 0 < plan.e
       let now = rises.0 in
       let most = rises.1 in
       let here = begins_here acts m (suc c.n) is (same ∙ c.count) in
-      let last : due_behind c.begins.first.elapsed plan.every c.n ≡ p.began = omega (arith, grid, before) in
+      let last : due_after c.begins.first.elapsed plan.every c.n ≡ p.began = omega (arith, grid, before) in
       record {
         n = suc c.n;
         b = p.began + plan.every;
@@ -269,32 +271,33 @@ module _ (plan : Plan) (commands : List Task) (scope : Scope) (some : 0 < plan.e
       }
 
   -- a cycle that begins, the first or a further one, has a `Start`
-  pub starts : (acts : List Act) (m : Moment) (p : Progress) → action_at plan (stood plan commands scope acts) ≡ actions.Begin
-      → cycles_begun plan (stood plan commands scope acts).progress ≡ cycles_begun plan p
-      → is_due plan p ≡ true → Rises p.moment.elapsed (Told m ∷ []) → Begun acts p → Start acts m p
+  pub starts : (acts : List Act) (m : Moment) (p : Progress) → action_at plan (state_after plan commands scope acts) ≡ actions.Begin
+      → cycles_begun plan (state_after plan commands scope acts).progress ≡ cycles_begun plan p
+      → is_due plan p ≡ true → ClockRises p.moment.elapsed (Told m ∷ []) → Begun acts p → Start acts m p
   starts acts m p is same due rises (inl none) = start_first acts m p is same none.0
   starts acts m p is same due rises (inr c) = start_more acts m p is same due rises c
 
   -- `Begun` holds after the act that begins a cycle
-  pub begun_begins : (acts : List Act) (m : Moment) (p : Progress) → action_at plan (stood plan commands scope acts) ≡ actions.Begin
-      → cycles_begun plan (stood plan commands scope acts).progress ≡ cycles_begun plan p
-      → is_due plan p ≡ true → 0 < p.left → p.left ≤ plan.cycles → Rises p.moment.elapsed (Told m ∷ []) → Begun acts p → Cycling (acts ++ Told m ∷ []) (begun plan (cycle_length plan commands) m p)
+  pub begun_begins : (acts : List Act) (m : Moment) (p : Progress) → action_at plan (state_after plan commands scope acts) ≡ actions.Begin
+      → cycles_begun plan (state_after plan commands scope acts).progress ≡ cycles_begun plan p
+      → is_due plan p ≡ true → 0 < p.left → p.left ≤ plan.cycles → ClockRises p.moment.elapsed (Told m ∷ []) → Begun acts p
+      → Cycling (acts ++ Told m ∷ []) (cycle_begun plan (cycle_length plan commands) m p)
   begun_begins acts m p is same due left within rises h =
       let x = starts acts m p is same due rises h in
       begins_cycle acts m p x.n x.b x.is x.past x.number left within x.late
 
   -- Acts.
 
-  -- from p to q, over an act after these acts: the moment told last is the act's if it tells one, else p's; and `Begun` holds
+  -- from p to q, over an act after these acts: the moment read last is the act's if it reads one, else p's; and `Begun` holds
   -- of q if the clock doesn't go back at the act
   abbrev pub OnTo : List Act → Progress → Act → Progress → Type 0
-  OnTo acts p act q = (q.moment.elapsed ≡ last_of p.moment.elapsed (act ∷ [])) × (Rises p.moment.elapsed (act ∷ []) → Begun (acts ++ act ∷ []) q)
+  OnTo acts p act q = (q.moment.elapsed ≡ last_of p.moment.elapsed (act ∷ [])) × (ClockRises p.moment.elapsed (act ∷ []) → Begun (acts ++ act ∷ []) q)
 
   -- `OnTo`, from a progress to that of a model
   abbrev pub On : List Act → Progress → Act → Model → Type 0
   On acts p act t = OnTo acts p act t.progress
 
-  -- from p to q an act stays in the cycle, and tells moments as `Ticks` says
+  -- from p to q an act stays in the cycle, and reads moments as `Ticks` says
   abbrev pub Same : Progress → Act → Progress → Type 0
   Same p act q = Stays p q × Ticks p act q
 
@@ -308,7 +311,7 @@ module _ (plan : Plan) (commands : List Task) (scope : Scope) (some : 0 < plan.e
     last_ticks s.progress (failing why s.progress) act (ticks_failing act t),
     λ rises. begun_stays acts act s.progress (failing why s.progress) (stays s.progress (failing why s.progress) refl refl refl refl refl (inl refl)) (ticks_failing act t) rises h,
   ) where
-    -- a failure tells no other moment
+    -- a failure reads no other moment
     ticks_failing : (a : Act) → Ticks s.progress a s.progress → Ticks s.progress a (failing why s.progress)
     ticks_failing (Told m) e = e
     ticks_failing (Gave bytes m) e = e
@@ -318,13 +321,13 @@ module _ (plan : Plan) (commands : List Task) (scope : Scope) (some : 0 < plan.e
   -- a read that gave bytes stays in its cycle
   pub gave_same : (until : Until) (s : Model) (bytes : List ℕ) (m : Moment) → Same s.progress (Gave bytes m) (piece_at plan until bytes m s).progress
   gave_same until s bytes m =
-      let mid = with_moment m (with_progress (told m) s) in
+      let mid = with_moment m (with_progress (moment_noted m) s) in
       let heard_there = is_heard s.progress.phase in
       let is = moved_changed plan commands (actions.Read until) s (Gave bytes m) in (
         stays s.progress _ (ap (λ (x : Model). x.progress.left) is) (ap (λ (x : Model). x.progress.unsent) is) (ap (λ (x : Model). x.progress.missed) is) (ap (λ (x : Model). x.progress.due) is)
             (ap (λ (x : Model). x.progress.next_is_chained) is) (inl (ap (λ (x : Model). x.progress.chain_unbroken) is)),
         came_along (λ (x : Model). (x.progress.moment ≡ m) × (x.progress.began ≡ min s.progress.began m.elapsed)) (λ x line e. e) heard_there s.progress.word bytes mid (refl, refl)
-            (asked_along (λ (q : Progress). (q.moment ≡ m) × (q.began ≡ min s.progress.began m.elapsed)) (λ q line e. e) mid.progress (lines_behind s.rest bytes) (refl, refl)) (refl, refl),
+            (asked_along (λ (q : Progress). (q.moment ≡ m) × (q.began ≡ min s.progress.began m.elapsed)) (λ q line e. e) mid.progress (lines_completed s.rest bytes) (refl, refl)) (refl, refl),
       )
 
   -- a read that gave nothing stays in its cycle
@@ -339,69 +342,69 @@ module _ (plan : Plan) (commands : List Task) (scope : Scope) (some : 0 < plan.e
       closed_along (λ (q : Progress). Same s.progress Closed q) plan (waiting_of s) why s.progress
       (stays s.progress _ refl refl refl refl refl (inr refl), (refl, refl)) (stays s.progress _ refl refl refl refl refl (inr refl), (refl, refl))
 
-  -- where a command may go out, its cycle isn't missed
+  -- if a command may be sent, its cycle isn't missed
   pub not_missed : (acts : List Act) (p : Progress) (w : Waiting) → 0 < p.unsent → MayGo p w → Begun acts p → p.missed ≡ false
   not_missed acts p w here may (inl none) = let nothing = none.1 in absurd (omega (arith, nothing, here))
   not_missed acts p w here may (inr c) = by_test p.missed refl may where
     -- the lemma above, whether the cycle is missed (`true`) or not
     by_test : (b : Bool) → p.missed ≡ b → MayGo p w → p.missed ≡ false
     by_test false e m = e
-    by_test true e (inl free) = absurd (clash p.next_is_chained (c.held e).0 free)
-    by_test true e (inr going) = absurd (clash p.chain_unbroken going.2 (c.held e).1)
+    by_test true e (inl free) = absurd (not_both p.next_is_chained (c.held e).0 free)
+    by_test true e (inr going) = absurd (not_both p.chain_unbroken going.2 (c.held e).1)
 
-  -- an act of each action does to the moment told last, and to `Begun`, what `On` says
-  pub on_moved : (acts : List Act) (next : Action) (act : Act) → action_at plan (stood plan commands scope acts) ≡ next
-      → Performs commands (stood plan commands scope acts) next act → Invariant plan commands (stood plan commands scope acts)
-      → IsFor plan (stood plan commands scope acts).progress (waiting_of (stood plan commands scope acts)) next → Begun acts (turned (stood plan commands scope acts).progress)
-      → On acts (turned (stood plan commands scope acts).progress) act (moved plan commands next (with_progress turned (stood plan commands scope acts)) act)
+  -- an act of each action does to the moment read last, and to `Begun`, what `On` says
+  pub on_moved : (acts : List Act) (next : Action) (act : Act) → action_at plan (state_after plan commands scope acts) ≡ next
+      → Performs commands (state_after plan commands scope acts) next act → Invariant plan commands (state_after plan commands scope acts)
+      → IsFor plan (state_after plan commands scope acts).progress (waiting_of (state_after plan commands scope acts)) next → Begun acts (turned (state_after plan commands scope acts).progress)
+      → On acts (turned (state_after plan commands scope acts).progress) act (moved plan commands next (with_progress turned (state_after plan commands scope acts)) act)
   on_moved acts actions.ReadClock act is o fine needs h =
-      let s = with_progress turned (stood plan commands scope acts) in
+      let s = with_progress turned (state_after plan commands scope acts) in
       walk plan commands (On acts s.progress) actions.ReadClock s act o
       (λ m. on_same acts s.progress (Told m) _ h (stays s.progress _ refl refl refl refl refl (inl refl), (refl, refl)), λ n. fails acts s Untold cause.Clock h (refl, refl))
   on_moved acts actions.Renew act is o fine needs h =
-      let s = with_progress turned (stood plan commands scope acts) in
+      let s = with_progress turned (state_after plan commands scope acts) in
       walk plan commands (On acts s.progress) actions.Renew s act o
       (λ m. on_same acts s.progress (Told m) _ h (stays s.progress _ refl refl refl refl refl (inr refl), (refl, refl)), λ n. fails acts s Untold cause.Clock h (refl, refl))
   on_moved acts actions.Begin act is o fine needs h =
-      let s = with_progress turned (stood plan commands scope acts) in
+      let s = with_progress turned (state_after plan commands scope acts) in
       walk plan commands (On acts s.progress) actions.Begin s act o (
         λ m. (
           refl,
           λ rises. inr (begun_begins acts m s.progress is refl
-              (begin_due plan (stood plan commands scope acts).progress (waiting_of (stood plan commands scope acts)) is) needs.4 fine.left rises h),
+              (begin_due plan (state_after plan commands scope acts).progress (waiting_of (state_after plan commands scope acts)) is) needs.4 fine.left rises h),
         ),
         λ n. fails acts s Untold cause.Clock h (refl, refl),
       )
   on_moved acts actions.Open act is o fine needs h =
-      let s = with_progress turned (stood plan commands scope acts) in
+      let s = with_progress turned (state_after plan commands scope acts) in
       walk plan commands (On acts s.progress) actions.Open s act o (
         λ m. on_same acts s.progress Opened _ h (stays s.progress _ refl refl refl refl refl (inl refl), (refl, refl)),
         λ n. on_same acts s.progress Unopened _
             h (stays s.progress _ refl refl refl refl refl (inr refl), (refl, refl)),
       )
   on_moved acts actions.Send act is o fine needs h =
-      let s = with_progress turned (stood plan commands scope acts) in
-      let free = not_missed acts s.progress (waiting_of (stood plan commands scope acts)) needs.2 needs.4 h in
+      let s = with_progress turned (state_after plan commands scope acts) in
+      let free = not_missed acts s.progress (waiting_of (state_after plan commands scope acts)) needs.2 needs.4 h in
       walk plan commands (On acts s.progress) actions.Send s act o (
-        λ m. (refl, λ rises. begun_next acts _ s.progress _ refl refl refl refl refl (λ e. absurd (clash s.progress.missed e free)) (refl, refl) rises needs.2 fine.unsent h),
-        λ n. (refl, λ rises. begun_next acts _ s.progress _ refl refl refl refl refl (λ e. absurd (clash s.progress.missed e free)) (refl, refl) rises needs.2 fine.unsent h),
+        λ m. (refl, λ rises. begun_next acts _ s.progress _ refl refl refl refl refl (λ e. absurd (not_both s.progress.missed e free)) (refl, refl) rises needs.2 fine.unsent h),
+        λ n. (refl, λ rises. begun_next acts _ s.progress _ refl refl refl refl refl (λ e. absurd (not_both s.progress.missed e free)) (refl, refl) rises needs.2 fine.unsent h),
       )
   on_moved acts actions.Prepare act is o fine needs h =
-      let s = with_progress turned (stood plan commands scope acts) in
+      let s = with_progress turned (state_after plan commands scope acts) in
       walk plan commands (On acts s.progress) actions.Prepare s act o (
         λ m. on_same acts s.progress _ _ h (stays s.progress _ refl refl refl refl refl (inr refl), (refl, refl)),
         λ n. on_same acts s.progress _ _ h (stays s.progress _ refl refl refl refl refl (inr refl), (refl, refl)),
       )
   on_moved acts actions.Skip act is o fine needs h =
-      let s = with_progress turned (stood plan commands scope acts) in
+      let s = with_progress turned (state_after plan commands scope acts) in
       walk plan commands (On acts s.progress) actions.Skip s act o
       (λ m. (refl, λ rises. begun_next acts (Told m) s.progress _ refl refl refl refl refl (λ e. refl) (refl, refl) rises needs.2 fine.unsent h), λ n. fails acts s Untold cause.Clock h (refl, refl))
   on_moved acts actions.Pass act is o fine needs h =
-      let s = with_progress turned (stood plan commands scope acts) in
+      let s = with_progress turned (state_after plan commands scope acts) in
       walk plan commands (On acts s.progress) actions.Pass s act o
       (λ m. (refl, λ rises. begun_past acts (Told m) s.progress _ refl refl refl refl refl needs.4 (λ e. refl) (refl, refl) rises needs.2 fine.unsent h), λ n. fails acts s Untold cause.Clock h (refl, refl))
   on_moved acts (actions.Read until) act is o fine needs h =
-      let s = with_progress turned (stood plan commands scope acts) in
+      let s = with_progress turned (state_after plan commands scope acts) in
       walk plan commands (On acts s.progress) (actions.Read until) s act o (
         λ bytes m. on_same acts s.progress (Gave bytes m) (piece_at plan until bytes m s).progress h (gave_same until s bytes m),
         λ m. on_same acts s.progress (Silent m) (moved plan commands (actions.Read until) s (Silent m)).progress h (silent_same s.progress.phase s.progress until m),
@@ -410,11 +413,11 @@ module _ (plan : Plan) (commands : List Task) (scope : Scope) (some : 0 < plan.e
         fails acts s Untold cause.Clock h (refl, refl),
       )
   on_moved acts (actions.Close why) act is o fine needs h =
-      let s = with_progress turned (stood plan commands scope acts) in
+      let s = with_progress turned (state_after plan commands scope acts) in
       walk plan commands (On acts s.progress) (actions.Close why) s act o (on_same acts s.progress Closed _ h (closed_same s why))
   on_moved acts (actions.Stop why) act is o fine needs h = absurd o
   on_moved acts next act is o fine needs h =
-      let s = with_progress turned (stood plan commands scope acts) in
+      let s = with_progress turned (state_after plan commands scope acts) in
       walk plan commands (On acts s.progress) next s act o (
         λ m. on_same acts s.progress _ _ h (stays s.progress _ refl refl refl refl refl (inl refl), (refl, refl)),
         λ n. on_same acts s.progress _ _ h
@@ -423,7 +426,7 @@ module _ (plan : Plan) (commands : List Task) (scope : Scope) (some : 0 < plan.e
 
   -- Whole runs.
 
-  -- a turn that is taken keeps `Begun`
+  -- a turn that is taken preserves `Begun`
   pub begun_turned : (acts : List Act) (p : Progress) → Begun acts p → Begun acts (turned p)
   begun_turned acts p (inl none) = inl none
   begun_turned acts p (inr c) = inr (record {
@@ -441,20 +444,20 @@ module _ (plan : Plan) (commands : List Task) (scope : Scope) (some : 0 < plan.e
     chained = c.chained;
   })
 
-  -- where the clock doesn't go back in these acts, the moment told last is the last that they tell, and `Begun` holds after them
+  -- if the clock doesn't go back in these acts, the moment read last is the last that they read, and `Begun` holds after them
   abbrev pub Kept : List Act → Type 0
-  Kept acts = Rises 0 acts → ((stood plan commands scope acts).progress.moment.elapsed ≡ last_of 0 acts) × Begun acts (stood plan commands scope acts).progress
+  Kept acts = ClockRises 0 acts → ((state_after plan commands scope acts).progress.moment.elapsed ≡ last_of 0 acts) × Begun acts (state_after plan commands scope acts).progress
 
-  -- where the clock doesn't go back in acts and one more, it doesn't at the last act, counted from the moment told before it
-  pub rises_here : (acts : List Act) (act : Act) → Rises 0 (acts ++ act ∷ []) → (stood plan commands scope acts).progress.moment.elapsed ≡ last_of 0 acts
-      → Rises (stood plan commands scope acts).progress.moment.elapsed (act ∷ [])
-  rises_here acts act rises at = subst (λ (n : ℕ). Rises n (act ∷ [])) (sym at) (rises_last 0 acts act rises)
+  -- if the clock doesn't go back in acts and one more, it doesn't at the last act, counted from the moment read before it
+  pub rises_here : (acts : List Act) (act : Act) → ClockRises 0 (acts ++ act ∷ []) → (state_after plan commands scope acts).progress.moment.elapsed ≡ last_of 0 acts
+      → ClockRises (state_after plan commands scope acts).progress.moment.elapsed (act ∷ [])
+  rises_here acts act rises at = subst (λ (n : ℕ). ClockRises n (act ∷ [])) (sym at) (rises_last 0 acts act rises)
 
-  -- `Kept` lasts over one act of a run more
+  -- `Kept` is preserved by one act of a run more
   pub kept_step : (done : List Act) (act : Act) → Runs plan commands (opening plan scope) done
-      → Performs commands (stood plan commands scope done) (action_at plan (stood plan commands scope done)) act → Kept done → Kept (done ++ act ∷ [])
+      → Performs commands (state_after plan commands scope done) (action_at plan (state_after plan commands scope done)) act → Kept done → Kept (done ++ act ∷ [])
   kept_step done act runs o h rises =
-      let s = stood plan commands scope done in
+      let s = state_after plan commands scope done in
       let old = h (rises_front 0 done act rises) in
       let on = on_moved done (action_at plan s) act refl o (fine_stood plan commands scope done) (action_for plan s.progress (waiting_of s)) (begun_turned done s.progress old.1) in
       let t = moved plan commands (action_at plan s) (with_progress turned s) act in
@@ -468,32 +471,32 @@ module _ (plan : Plan) (commands : List Task) (scope : Scope) (some : 0 < plan.e
   kept_stood acts runs = always plan commands (opening plan scope) (λ (xs : List Act) (t : Model). Kept xs) kept_step (λ rises. (refl, inl (refl, refl))) acts runs
 
   -- a cycle that isn't missed is the last that began, and began in time
-  pub last_began : (acts : List Act) (p : Progress) → p ≡ (stood plan commands scope acts).progress → (c : Cycling acts p) → p.missed ≡ false
+  pub last_began : (acts : List Act) (p : Progress) → p ≡ (state_after plan commands scope acts).progress → (c : Cycling acts p) → p.missed ≡ false
       → (last : LastBegan plan commands scope acts) × (last.late < plan.every)
   last_began acts p is c free =
       (record { n = c.n; moment = c.m; late = c.late; begins = c.begins; number = sym (ap (λ (q : Progress). cycles_begun plan q) is) ∙ c.count }, lt_of plan.every c.late (sym c.missed ∙ free))
 
-  -- where a command goes out, its cycle began before the next one was due
-  pub sent_in_time : (acts : List Act) → Runs plan commands (opening plan scope) acts → Rises 0 acts
-      → action_at plan (stood plan commands scope acts) ≡ actions.Send → (last : LastBegan plan commands scope acts) × (last.late < plan.every)
+  -- if a command is sent, its cycle began before the next one was due
+  pub sent_in_time : (acts : List Act) → Runs plan commands (opening plan scope) acts → ClockRises 0 acts
+      → action_at plan (state_after plan commands scope acts) ≡ actions.Send → (last : LastBegan plan commands scope acts) × (last.late < plan.every)
   sent_in_time acts runs rises is =
-      let s = stood plan commands scope acts in
+      let s = state_after plan commands scope acts in
       let needs = needs_of plan s actions.Send is in
-      let begun = (kept_stood acts runs rises).1 in
-      let free = not_missed acts s.progress (waiting_of s) needs.2 needs.4 begun in
-      by_begun needs.2 begun free where
+      let cycle_begun = (kept_stood acts runs rises).1 in
+      let free = not_missed acts s.progress (waiting_of s) needs.2 needs.4 cycle_begun in
+      by_begun needs.2 cycle_begun free where
         -- the lemma above, by whether a cycle has begun: one has, as a command is unsent
-        by_begun : 0 < (stood plan commands scope acts).progress.unsent → Begun acts (stood plan commands scope acts).progress
-            → (stood plan commands scope acts).progress.missed ≡ false → (last : LastBegan plan commands scope acts) × (last.late < plan.every)
+        by_begun : 0 < (state_after plan commands scope acts).progress.unsent → Begun acts (state_after plan commands scope acts).progress
+            → (state_after plan commands scope acts).progress.missed ≡ false → (last : LastBegan plan commands scope acts) × (last.late < plan.every)
         by_begun here (inl none) free = let nothing = none.1 in absurd (omega (arith, nothing, here))
-        by_begun here (inr c) free = last_began acts (stood plan commands scope acts).progress refl c free
+        by_begun here (inr c) free = last_began acts (state_after plan commands scope acts).progress refl c free
 
-  -- where the clock doesn't go back, a cycle that begins does so at its due moment, or `late` milliseconds after it
-  pub begins_due : (acts later : List Act) (m : Moment) → Runs plan commands (opening plan scope) (acts ++ Told m ∷ later) → Rises 0 (acts ++ Told m ∷ [])
-      → action_at plan (stood plan commands scope acts) ≡ actions.Begin
-      → (late : ℕ) × BeginsLate plan commands scope (acts ++ Told m ∷ []) (cycles_begun plan (stood plan commands scope acts).progress) m late
+  -- if the clock doesn't go back, a cycle that begins does so at its due moment, or `late` milliseconds after it
+  pub begins_due : (acts later : List Act) (m : Moment) → Runs plan commands (opening plan scope) (acts ++ Told m ∷ later) → ClockRises 0 (acts ++ Told m ∷ [])
+      → action_at plan (state_after plan commands scope acts) ≡ actions.Begin
+      → (late : ℕ) × BeginsLate plan commands scope (acts ++ Told m ∷ []) (cycles_begun plan (state_after plan commands scope acts).progress) m late
   begins_due acts later m runs rises is =
-      let s = stood plan commands scope acts in
+      let s = state_after plan commands scope acts in
       let split = runs_split plan commands (opening plan scope) acts later (Told m) runs in
       let old = kept_stood acts split.0 (rises_front 0 acts (Told m) rises) in
       let x = starts acts m s.progress is refl (begin_due plan s.progress (waiting_of s) is) (rises_here acts (Told m) rises old.0) old.1 in
@@ -503,6 +506,6 @@ module _ (plan : Plan) (commands : List Task) (scope : Scope) (some : 0 < plan.e
 pub begin_when_due : CyclesBeginWhenDue
 begin_when_due plan commands scope acts later m some runs rises is = begins_due plan commands scope some acts later m runs rises is
 
--- a command goes out only in a cycle that isn't missed
+-- a command is sent only in a cycle that isn't missed
 pub sent_only_in_time : SentOnlyInTime
 sent_only_in_time plan commands scope acts some runs rises is = sent_in_time plan commands scope some acts runs rises is

@@ -1,5 +1,5 @@
--- A cycle begins only where it is due. `p` is how far the station is, and `w` what waits; each `action_...` is the next action
--- under some conditions. `BeginsDue` says of an action: if it begins a cycle, the cycle is due.
+-- A cycle begins only if it is due. `p` is how far the station is, and `w` what is outstanding; each `action_...` is the next
+-- action under some conditions. `BeginsDue` says of an action: if it begins a cycle, the cycle is due.
 use Rattle.std.proofs.Common.{◌≡◌, ◌&&◌, Bool, true, false, nat_lt, nat_le, nat_eq, if◌then◌else◌, not}
 use Rattle.gc_client.specs.declared.window.TheConstants.{WINDOW}
 use Rattle.gc_station.specs.Deciding.{is_up, is_idle, is_finished, has_begun, is_dead, is_due, has_room, action_of, action_in, action_on, action_told, may_go, waits_for_all, action_again, action_ready, action_begun, action_beginning, action_sent, action_settled, action_done, action_next, action_room, action_waiting, action_up, is_stale, is_stopping, is_held_back, action_cycle, action_prepare, action_turn, action_preparing, is_preparing}
@@ -19,30 +19,30 @@ abbrev pub BeginsDue : Plan → Progress → Action → Type 0
 BeginsDue plan p next = next ≡ actions.Begin → is_due plan p ≡ true
 
 module _ (plan : Plan) (p : Progress) (w : Waiting) where
-  -- no cycle begins where a station waits
+  -- no cycle begins if a station waits
   pub waits_not : BeginsDue plan p (action_waiting plan p w)
   waits_not =
       either (BeginsDue plan p) (actions.Close cause.Dead) (if nat_eq w.current 0 then actions.Renew else actions.Read Limit) (is_dead plan p w) (λ d b. cc)
       (λ d. either (BeginsDue plan p) actions.Renew (actions.Read Limit) (nat_eq w.current 0) (λ e b. cc) (λ e b. cc))
 
-  -- `action_room` is the action `next` where there is room for a request, and another one where there is none. It begins a
-  -- cycle only when one is due, if `next` does
+  -- `action_room` is the action `next` if there is room for a request, and another one if there is none. It begins a cycle only
+  -- when one is due, if `next` does
   pub room_not : (next : Action) → BeginsDue plan p next → BeginsDue plan p (action_room plan p w next)
   room_not next not = either (BeginsDue plan p) next (action_waiting plan p w) (has_room plan w) (λ e. not) (λ e. waits_not)
 
-  -- no cycle begins where the next command may go out
+  -- no cycle begins if the next command may be sent
   pub next_not : BeginsDue plan p (action_next plan p w)
   next_not =
       either (BeginsDue plan p) (action_room plan p w actions.Send) _ (nat_lt p.behind WINDOW) (λ e. room_not actions.Send (λ b. cc))
       (λ e. either (BeginsDue plan p) (action_room plan p w actions.Flush) (action_waiting plan p w) (nat_eq w.current 0) (λ d. room_not actions.Flush (λ b. cc)) (λ d. waits_not))
 
-  -- where each command of the cycle is settled, the next cycle begins only when it is due
+  -- if each command of the cycle is settled, the next cycle begins only when it is due
   pub done_due : BeginsDue plan p (action_done plan p)
   done_due =
       either (BeginsDue plan p) (actions.Close cause.Done) (if is_due plan p then actions.Begin else actions.Read Due) (nat_eq p.left 0) (λ e b. cc)
       (λ e. either (BeginsDue plan p) actions.Begin (actions.Read Due) (is_due plan p) (λ d b. d) (λ d b. cc))
 
-  -- where each command that was sent is settled, the next cycle begins only when it is due
+  -- if each command that was sent is settled, the next cycle begins only when it is due
   pub settled_due : BeginsDue plan p (action_settled plan p w)
   settled_due =
       either (BeginsDue plan p) (action_done plan p) _ (nat_eq p.unsent 0) (λ e. done_due)
@@ -50,13 +50,13 @@ module _ (plan : Plan) (p : Progress) (w : Waiting) where
       (λ more. either (BeginsDue plan p) (action_next plan p w) actions.Pass (w.listed && not p.next_is_chained) (λ d. next_not) (λ d b. cc))
       (λ none. either (BeginsDue plan p) (action_next plan p w) actions.Skip (may_go p w) (λ d. next_not) (λ d b. cc)))
 
-  -- where no command may go out, the next cycle begins only when it is due
+  -- if no command may be sent, the next cycle begins only when it is due
   pub sent_due : BeginsDue plan p (action_sent plan p w)
   sent_due =
       either (BeginsDue plan p) (action_settled plan p w) (if nat_eq w.current 0 then action_room plan p w actions.Flush else action_waiting plan p w) (nat_eq w.commands 0) (λ e. settled_due)
       (λ e. either (BeginsDue plan p) (action_room plan p w actions.Flush) (action_waiting plan p w) (nat_eq w.current 0) (λ d. room_not actions.Flush (λ b. cc)) (λ d. waits_not))
 
-  -- no cycle begins where it is the turn of a command of the set-up
+  -- no cycle begins if it is the turn of a command of the setup
   pub turn_not : BeginsDue plan p (action_turn plan p w)
   turn_not =
       either (BeginsDue plan p) (action_prepare plan p w) (actions.Read Limit) (nat_lt p.prepared plan.setup)
@@ -64,7 +64,7 @@ module _ (plan : Plan) (p : Progress) (w : Waiting) where
       (λ e. either (BeginsDue plan p) (action_room plan p w actions.Flush) (action_waiting plan p w) (nat_eq w.current 0) (λ d. room_not actions.Flush (λ b. cc)) (λ d. waits_not)))
       (λ n b. cc)
 
-  -- no cycle begins while the set-up isn't done
+  -- no cycle begins while the setup isn't done
   pub preparing_not : BeginsDue plan p (action_preparing plan p w)
   preparing_not =
       let B = BeginsDue plan p in
@@ -74,22 +74,22 @@ module _ (plan : Plan) (p : Progress) (w : Waiting) where
       (λ f. either B _ _ (nat_eq w.commands 0) (λ g. either B _ (actions.Close cause.SetUp) w.well (λ h. turn_not) (λ h b. cc))
       (λ g. either B (action_room plan p w actions.Flush) (action_waiting plan p w) (nat_eq w.current 0) (λ h. room_not actions.Flush (λ b. cc)) (λ h. waits_not)))))
 
-  -- once the set-up is done, a cycle begins only when it is due
+  -- once the setup is done, a cycle begins only when it is due
   pub cycle_due : BeginsDue plan p (action_cycle plan p w)
   cycle_due =
       either (BeginsDue plan p) (action_next plan p w) (action_sent plan p w) (nat_lt 0 p.unsent && not (waits_for_all p)) (λ d. next_not) (λ d. sent_due)
 
-  -- once the station has begun, a cycle begins only when it is due
+  -- once the station has synchronized, a cycle begins only when it is due
   pub begun_due : BeginsDue plan p (action_begun plan p w)
   begun_due =
       either (BeginsDue plan p) (action_waiting plan p w) _ (is_held_back p w) (λ h. waits_not)
       (λ h. either (BeginsDue plan p) (action_preparing plan p w) (action_cycle plan p w) (is_preparing plan p w) (λ on. preparing_not) (λ done. cycle_due))
 
-  -- no cycle begins where a null procedure goes out or is waited for
+  -- no cycle begins if a null procedure is sent or is waited for
   pub asks_not : BeginsDue plan p (if nat_le p.again p.moment.elapsed then actions.Ask else actions.Read Limit)
   asks_not = either (BeginsDue plan p) actions.Ask (actions.Read Limit) (nat_le p.again p.moment.elapsed) (λ e b. cc) (λ e b. cc)
 
-  -- no cycle begins while the station begins
+  -- no cycle begins while the station synchronizes
   pub beginning_due : BeginsDue plan p (action_beginning plan p w)
   beginning_due =
       either (BeginsDue plan p) (actions.Close cause.Done) _ (is_finished w.commands p) (λ e b. cc)
@@ -100,7 +100,7 @@ module _ (plan : Plan) (p : Progress) (w : Waiting) where
   pub ready_due : BeginsDue plan p (action_ready plan p w)
   ready_due = either (BeginsDue plan p) (action_begun plan p w) (action_beginning plan p w) (has_begun p) (λ e. begun_due) (λ e. beginning_due)
 
-  -- in each phase a cycle begins only when it is due, where turns are left and the moment was told
+  -- in each phase a cycle begins only when it is due, where turns are left and the moment was read
   pub told_due : (at : Phase) → BeginsDue plan p (action_told plan at p w)
   told_due phase.Ready = ready_due
   told_due phase.Down = λ b. cc
@@ -110,12 +110,12 @@ module _ (plan : Plan) (p : Progress) (w : Waiting) where
   told_due (phase.Closing why) = λ b. cc
   told_due (phase.Over why) = λ b. cc
 
-  -- no cycle begins where all turns are used up
+  -- no cycle begins if all turns are used up
   pub up_due : (up : Bool) → BeginsDue plan p (action_up up)
   up_due true = λ b. cc
   up_due false = λ b. cc
 
-  -- a cycle begins only when it is due, where the end isn't decided yet
+  -- a cycle begins only when it is due, if the end isn't decided yet
   pub on_due : BeginsDue plan p (action_on plan p w)
   on_due =
       either (BeginsDue plan p) (action_up (is_up p.phase)) _ (nat_eq p.turns 0) (λ e. up_due (is_up p.phase))
@@ -133,6 +133,6 @@ module _ (plan : Plan) (p : Progress) (w : Waiting) where
   in_due phase.Draining = on_due
   in_due phase.Ready = on_due
 
--- where the beginning of a cycle is next, the cycle is due
+-- if the beginning of a cycle is next, the cycle is due
 pub begin_due : (plan : Plan) (p : Progress) (w : Waiting) → action_of plan p w ≡ actions.Begin → is_due plan p ≡ true
 begin_due plan p w = in_due plan p w p.phase

@@ -1,6 +1,6 @@
--- The records and the commands that wait are, in order, the commands that had their turn, whatever the link tells. (`sent`
--- stands for these commands, whether they went out or were passed over.) A mark says which command a waiting request is of, or
--- `None` of a null procedure.
+-- The records and the outstanding commands are, in order, the commands that had their turn, whatever the link does. (`sent`
+-- stands for these commands, whether they were sent or were left out.) A mark says which command an outstanding request is of,
+-- or `None` of a null procedure.
 use Rattle.std.proofs.Common.{◌≡◌, ℕ, zero, suc, ◌+◌, ◌-◌, ◌<◌, ◌≤◌, Bool, true, false, nat_eq, List, [], ◌∷◌, ◌++◌, length, take, drop, map, Option, Some, None, refl, sym, ap, ◌∙◌, arith, append_assoc, append-nil}
 use Rattle.std.proofs.lemmas.Bool.Decides.{nat_tests}
 use Rattle.std.proofs.lemmas.List.{length-map, length-drop, map-append}
@@ -19,7 +19,7 @@ use Rattle.gc_station.proofs.Timing.{asked_text, unsent_text}
 use Rattle.gc_station.specs.Marks.{commands_in, record_of, records_of}
 use Rattle.gc_station.specs.Records.{Record}
 
--- the requests of one cycle for two lists of commands are those of the first list, and behind them those of the second, from the
+-- the requests of one cycle for two lists of commands are those of the first list, and after them those of the second, from the
 -- next place on
 pub requests-append : (cycle place : ℕ) (xs ys : List (Wanted Asked)) → requests cycle place (xs ++ ys) ≡ requests cycle place xs ++ requests cycle (place + length xs) ys
 requests-append cycle place [] ys = ap (λ n. requests cycle n ys) (omega arith)
@@ -35,7 +35,7 @@ marked (m ∷ ms) [] = []
 marked (None ∷ ms) (a ∷ asks) = marked ms asks
 marked (Some mark ∷ ms) (a ∷ asks) = record { cycle = mark.cycle; place = mark.place; asked = a } ∷ marked ms asks
 
--- the commands that wait are the requests of their marks
+-- the outstanding commands are the requests of their marks
 pub waiting_marked : (ms : List (Option Mark)) (ws : List (Pending Asked)) → still_waiting ms ws ≡ marked ms (map of_pending ws)
 waiting_marked [] ws = refl
 waiting_marked (m ∷ ms) [] = refl
@@ -49,7 +49,7 @@ records_marked reads utc (m ∷ ms) [] = refl
 records_marked reads utc (None ∷ ms) (s ∷ ss) = records_marked reads utc ms ss
 records_marked reads utc (Some mark ∷ ms) (s ∷ ss) = ap (λ rs. of_record (record_of reads utc mark s) ∷ rs) (records_marked reads utc ms ss)
 
--- the requests for two lists of what is asked are those of the first list, and behind them those of the second with the marks
+-- the requests for two lists of what is asked are those of the first list, and after them those of the second with the marks
 -- that are left
 marked_append : (ms : List (Option Mark)) (xs ys : List (Wanted Asked)) → marked ms (xs ++ ys) ≡ marked ms xs ++ marked (drop (length xs) ms) ys
 marked_append [] [] ys = refl
@@ -58,7 +58,7 @@ marked_append (m ∷ ms) [] ys = refl
 marked_append (None ∷ ms) (x ∷ xs) ys = marked_append ms xs ys
 marked_append (Some mark ∷ ms) (x ∷ xs) ys = ap (λ rs. record { cycle = mark.cycle; place = mark.place; asked = x } ∷ rs) (marked_append ms xs ys)
 
--- one mark more, with what it asks, adds its request behind the others, if it is of a command
+-- one mark more, with what it asks, adds its request after the others, if it is of a command
 marked_more : (ms : List (Option Mark)) (asks : List (Wanted Asked)) (m : Option Mark) (a : Wanted Asked) → length ms ≡ length asks
     → marked (ms ++ m ∷ []) (asks ++ a ∷ []) ≡ marked ms asks ++ marked (m ∷ []) (a ∷ [])
 marked_more [] [] m a e = refl
@@ -67,23 +67,24 @@ marked_more (n ∷ ms) [] m a e = absurd (omega (arith, e))
 marked_more (None ∷ ms) (x ∷ xs) m a e = marked_more ms xs m a (omega (arith, e))
 marked_more (Some mark ∷ ms) (x ∷ xs) m a e = ap (λ rs. record { cycle = mark.cycle; place = mark.place; asked = x } ∷ rs) (marked_more ms xs m a (omega (arith, e)))
 
--- where no mark is of a command, there is no request of a command
+-- if no mark is of a command, there is no request of a command
 pub marked_none : (ms : List (Option Mark)) (asks : List (Wanted Asked)) → commands_in ms ≡ 0 → marked ms asks ≡ []
 marked_none [] asks e = refl
 marked_none (m ∷ ms) [] e = refl
 marked_none (None ∷ ms) (a ∷ asks) e = marked_none ms asks e
 marked_none (Some mark ∷ ms) (a ∷ asks) e = absurd (omega (arith, e))
 
--- those of two lists of requests that are of a cycle are those of the first list, and behind them those of the second
+-- those of two lists of requests that are of a cycle are those of the first list, and after them those of the second
 pub cycles_append : (xs ys : List Request) → of_cycles (xs ++ ys) ≡ of_cycles xs ++ of_cycles ys
 cycles_append [] ys = refl
 cycles_append (x ∷ xs) ys = by_cycle (nat_eq x.cycle 0) (cycles_append xs ys) where
-  -- the lemma above, whether the first request is of the set-up (`true`) or of a cycle
+  -- the lemma above, whether the first request is of the setup (`true`) or of a cycle
   by_cycle : (b : Bool) → of_cycles (xs ++ ys) ≡ of_cycles xs ++ of_cycles ys → cycle_with b x (of_cycles (xs ++ ys)) ≡ cycle_with b x (of_cycles xs) ++ of_cycles ys
   by_cycle true others = others
   by_cycle false others = ap (λ zs. x ∷ zs) others
 
--- those of two lists of requests that are of a cycle, as the text has them, are those of the first list, and behind them those of the second
+-- those of two lists of requests that are of a cycle, as the text has them, are those of the first list, and after them those
+-- of the second
 pub listed_append : (commands : List Task) (xs ys : List Request) → of_text commands (xs ++ ys) ≡ of_text commands xs ++ of_text commands ys
 listed_append commands xs ys = ap (map (in_text commands)) (cycles_append xs ys) ∙ map-append (in_text commands) (of_cycles xs) (of_cycles ys)
 
@@ -97,42 +98,42 @@ cycles_all cycle place (a ∷ others) some =
       not_none : (n : ℕ) → 0 < n → nat_eq n 0 ≡ false
       not_none n some = grind (arith, nat_tests, some)
 
--- the requests of the records, followed by those of the commands that wait (by the marks and the requests that wait), are, as far as they
--- are of a cycle, and as the text has them, the requests given last
+-- the requests of the records, followed by those of the outstanding commands (by the marks and the outstanding requests), are,
+-- as far as they are of a cycle, and as the text has them, the requests given last
 abbrev pub EachIs : List Task → List (Option Mark) → List (Pending Asked) → List Record → List Request → Type 0
 EachIs commands ms ws rs sent = of_text commands (map of_record rs ++ still_waiting ms ws) ≡ sent
 
--- the requests of the records, followed by those of the commands that wait
+-- the requests of the records, followed by those of the outstanding commands
 abbrev pub row : List (Option Mark) → List (Pending Asked) → List Record → List Request
 row ms ws rs = map of_record rs ++ still_waiting ms ws
 
--- a moment that gives requests up leaves the row
+-- a moment that times requests out leaves the row
 pub row_moment : (ms : List (Option Mark)) (ws : List (Pending Asked)) (rs : List Record) (m : ℕ) → row ms (map (expired m) ws) rs ≡ row ms ws rs
 row_moment ms ws rs m = ap (λ xs. map of_record rs ++ xs) (waiting_marked ms (map (expired m) ws) ∙ ap (marked ms) (expired_parts m ws) ∙ sym (waiting_marked ms ws))
 
--- a moment that gives requests up keeps `EachIs`
+-- a moment that times requests out preserves `EachIs`
 pub each_moment : (commands : List Task) (ms : List (Option Mark)) (ws : List (Pending Asked)) (rs : List Record) (sent : List Request) (m : ℕ)
     → EachIs commands ms ws rs sent → EachIs commands ms (map (expired m) ws) rs sent
 each_moment commands ms ws rs sent m h = ap (of_text commands) (row_moment ms ws rs m) ∙ h
 
--- where no command waits, the records alone are what was sent
+-- if no command is outstanding, the records alone are what was sent
 pub each_settled : (commands : List Task) (ms : List (Option Mark)) (ws : List (Pending Asked)) (rs : List Record) (sent : List Request)
     → commands_in ms ≡ 0 → EachIs commands ms ws rs sent → of_text commands (map of_record rs) ≡ sent
 each_settled commands ms ws rs sent none h =
     ap (of_text commands) (sym (append-nil (map of_record rs)) ∙ sym (ap (λ xs. map of_record rs ++ xs) (waiting_marked ms ws ∙ marked_none ms (map of_pending ws) none))) ∙ h
 
--- where no command waits, and the records are what was sent, `EachIs` holds
+-- if no command is outstanding, and the records are what was sent, `EachIs` holds
 pub each_nothing : (commands : List Task) (ms : List (Option Mark)) (ws : List (Pending Asked)) (rs : List Record) (sent : List Request)
     → commands_in ms ≡ 0 → of_text commands (map of_record rs) ≡ sent → EachIs commands ms ws rs sent
 each_nothing commands ms ws rs sent none h =
     ap (of_text commands) (ap (λ xs. map of_record rs ++ xs) (waiting_marked ms ws ∙ marked_none ms (map of_pending ws) none) ∙ append-nil (map of_record rs)) ∙ h
 
--- where nothing waits, the records alone are what was sent, whatever the marks
+-- if nothing is outstanding, the records alone are what was sent, whatever the marks
 pub each_empty : (commands : List Task) (ms : List (Option Mark)) (ws : List (Pending Asked)) (rs : List Record) (sent : List Request)
     → ws ≡ [] → EachIs commands ms ws rs sent → of_text commands (map of_record rs) ≡ sent
 each_empty commands ms ws rs sent none h =
     ap (of_text commands) (sym (append-nil (map of_record rs)) ∙ sym (ap (λ xs. map of_record rs ++ xs) (ap (still_waiting ms) none ∙ nothing ms))) ∙ h where
-      -- where no request waits, no command does
+      -- if no request is outstanding, no command does
       nothing : (ms : List (Option Mark)) → still_waiting ms [] ≡ []
       nothing [] = refl
       nothing (m ∷ ms) = refl
@@ -151,13 +152,13 @@ row_settles reads utc ms ws left ss rs parts =
     ∙ ap (λ xs. front ++ (marked ms ended ++ xs)) (waiting_marked (drop (length ss) ms) left ∙ ap (λ n. marked (drop n ms) waits) (sym count))
     ∙ ap (λ xs. front ++ xs) (sym (marked_append ms ended waits) ∙ ap (marked ms) parts ∙ sym (waiting_marked ms ws))
 
--- settlements of the oldest requests keep `EachIs`
+-- settlements of the oldest requests preserve `EachIs`
 pub each_settles : (reads : Asked → List ℕ → Reading) (commands : List Task) (utc : ℕ) (ms : List (Option Mark)) (ws left : List (Pending Asked)) (ss : List (Settlement Asked)) (rs : List Record)
     (sent : List Request) → map of_settled ss ++ map of_pending left ≡ map of_pending ws
     → EachIs commands ms ws rs sent → EachIs commands (drop (length ss) ms) left (rs ++ records_of reads utc ms ss) sent
 each_settles reads commands utc ms ws left ss rs sent parts h = ap (of_text commands) (row_settles reads utc ms ws left ss rs parts) ∙ h
 
--- where one more request waits behind the others, its command, if it has one, is added behind the commands that wait
+-- if one more request is outstanding after the others, its command, if it has one, is added after the outstanding commands
 pub more_waiting : (ms : List (Option Mark)) (ws : List (Pending Asked)) (m : Option Mark) (p : Pending Asked) → length ms ≡ length ws
     → still_waiting (ms ++ m ∷ []) (ws ++ p ∷ []) ≡ still_waiting ms ws ++ marked (m ∷ []) (of_pending p ∷ [])
 more_waiting ms ws m p paired =
@@ -166,12 +167,12 @@ more_waiting ms ws m p paired =
     waiting_marked (ms ++ m ∷ []) (ws ++ p ∷ []) ∙ ap (marked (ms ++ m ∷ [])) (map-append of_pending ws (p ∷ []))
     ∙ marked_more ms asked m (of_pending p) count ∙ ap (λ xs. xs ++ marked (m ∷ []) (of_pending p ∷ [])) (sym (waiting_marked ms ws))
 
--- a null procedure that is sent keeps `EachIs`
+-- a null procedure that is sent preserves `EachIs`
 pub each_null : (commands : List Task) (ms : List (Option Mark)) (ws : List (Pending Asked)) (p : Pending Asked) (rs : List Record) (sent : List Request) → length ms ≡ length ws
     → EachIs commands ms ws rs sent → EachIs commands (ms ++ None ∷ []) (ws ++ p ∷ []) rs sent
 each_null commands ms ws p rs sent paired h = ap (λ xs. of_text commands (map of_record rs ++ xs)) (more_waiting ms ws None p paired ∙ append-nil (still_waiting ms ws)) ∙ h
 
--- the commands in front of the next place are those in front of this place, and the one at it
+-- the commands before the next place are those before this place, and the one at it
 take_next : (commands : List Task) (place : ℕ) (task : Task) (others : List Task) → drop place commands ≡ task ∷ others → take (place + 1) commands ≡ take place commands ++ task ∷ []
 take_next [] zero task others e = cc
 take_next [] (suc n) task others e = cc
@@ -181,13 +182,13 @@ take_next (c ∷ cs) zero task others e = ap (λ x. x ∷ []) (head_is e) where
   head_is e = cc
 take_next (c ∷ cs) (suc n) task others e = let at : suc n + 1 ≡ suc (n + 1) = omega arith in rw at (ap (λ x. c ∷ x) (take_next cs n task others e))
 
--- in front of a place at which there is a command, there are as many commands as the place says
+-- before a place at which there is a command, there are as many commands as the place says
 take_place : (commands : List Task) (place : ℕ) (task : Task) (others : List Task) → drop place commands ≡ task ∷ others → length (take place commands) ≡ place
 take_place commands zero task others e = refl
 take_place [] (suc n) task others e = cc
 take_place (c ∷ cs) (suc n) task others e = ap suc (take_place cs n task others e)
 
--- a command of the set-up that is sent keeps `EachIs`
+-- a command of the setup that is sent preserves `EachIs`
 pub each_prepared : (commands : List Task) (mark : Mark) (ms : List (Option Mark)) (ws : List (Pending Asked)) (p : Pending Asked) (rs : List Record) (sent : List Request) → mark.cycle ≡ 0
     → length ms ≡ length ws → EachIs commands ms ws rs sent → EachIs commands (ms ++ Some mark ∷ []) (ws ++ p ∷ []) rs sent
 each_prepared commands mark ms ws p rs sent none paired h =
@@ -199,13 +200,13 @@ each_prepared commands mark ms ws p rs sent none paired h =
     ∙ ap (λ n. of_text commands (front ++ waits) ++ map (in_text commands) (cycle_with (nat_eq n 0) one [])) none
     ∙ append-nil (of_text commands (front ++ waits)) ∙ h
 
--- of two lists, the elements behind the first n, where the first list has as many, are those of the first list, and the second list
+-- of two lists, the elements after the first n, if the first list has as many, are those of the first list, and the second list
 pub drop_front : (n : ℕ) (xs ys : List Task) → n ≤ length xs → drop n (xs ++ ys) ≡ drop n xs ++ ys
 drop_front zero xs ys h = refl
 drop_front (suc n) [] ys h = absurd (omega (arith, h))
 drop_front (suc n) (x ∷ xs) ys h = drop_front n xs ys (omega (arith, h))
 
--- nothing is behind the first `setup` of the first `place` commands, where these are no more
+-- nothing is after the first `setup` of the first `place` commands, if these are no more
 none_taken : (setup place : ℕ) (commands : List Task) → place ≤ setup → drop setup (take place commands) ≡ []
 none_taken zero zero commands e = refl
 none_taken (suc s) zero commands e = refl
@@ -213,7 +214,7 @@ none_taken zero (suc p) commands e = absurd (omega (arith, e))
 none_taken (suc s) (suc p) [] e = refl
 none_taken (suc s) (suc p) (c ∷ cs) e = none_taken s p cs (omega (arith, e))
 
--- the commands that had their turn, with the next one behind them, are those that had their turn one place later
+-- the commands that had their turn, with the next one after them, are those that had their turn one place later
 pub sent_next : (setup : ℕ) (commands : List Task) (begun place : ℕ) (task : Task) (others : List Task) → drop place commands ≡ task ∷ others → setup ≤ place → 0 < begun
     → sent_by setup commands begun place ++ requests begun place (of_task task ∷ []) ≡ sent_by setup commands begun (place + 1)
 sent_next setup commands zero place task others at within some = absurd (omega (arith, some))
@@ -232,8 +233,9 @@ sent_next setup commands (suc n) place task others at within some =
     ∙ ap (λ xs. cycles ++ xs) (sym (requests-append (suc n) setup taken one))
     ∙ ap (λ xs. cycles ++ requests (suc n) setup xs) (sym (map-append of_task front (task ∷ [])) ∙ ap (map of_task) (sym more))
 
--- a command that is sent keeps `EachIs`
-pub each_sent : (commands : List Task) (begun place utc : ℕ) (expected : Expected) (ms : List (Option Mark)) (ws : List (Pending Asked)) (p : Pending Asked) (rs : List Record) (task : Task) (others : List Task)
+-- a command that is sent preserves `EachIs`
+pub each_sent : (commands : List Task) (begun place utc : ℕ) (expected : Expected) (ms : List (Option Mark)) (ws : List (Pending Asked)) (p : Pending Asked) (rs : List Record)
+    (task : Task) (others : List Task)
     → length ms ≡ length ws → drop place commands ≡ task ∷ others → of_pending p ≡ asked_at utc task → 0 < begun
     → (kept : List Request) → EachIs commands ms ws rs kept
     → EachIs commands (ms ++ Some (record { cycle = begun; place = place; sent = utc; expected = expected }) ∷ []) (ws ++ p ∷ []) rs (kept ++ requests begun place (of_task task ∷ []))
@@ -249,7 +251,7 @@ each_sent commands begun place utc expected ms ws p rs task others paired at is 
     ∙ ap (λ x. of_text commands (front ++ waits) ++ x ∷ []) (asked_text commands begun place utc task others at)
     ∙ ap (λ xs. xs ++ requests begun place (of_task task ∷ [])) h
 
--- a command that isn't sent keeps `EachIs`: its record is added behind the others, and no command waits then
+-- a command that isn't sent preserves `EachIs`: its record is added after the others, and no command is outstanding then
 pub each_skipped : (commands : List Task) (begun place : ℕ) (ms : List (Option Mark)) (ws : List (Pending Asked)) (rs : List Record) (r : Record) (task : Task) (others : List Task)
     → commands_in ms ≡ 0 → drop place commands ≡ task ∷ others → of_record r ∷ [] ≡ requests begun place (of_command task.command ∷ []) → 0 < begun
     → (kept : List Request) → EachIs commands ms ws rs kept → EachIs commands ms ws (rs ++ r ∷ []) (kept ++ requests begun place (of_task task ∷ []))

@@ -1,7 +1,7 @@
--- Each act, and so each run, keeps what every run keeps (`Invariant`). Most lemmas say that an action keeps the weaker record
--- `Mid` of `Midway`: the counts, the client, the marks and the records belong together, and the phase fits them, before what
--- waits is lost. An act is one call of the link, with what came of it. A mark says which command a waiting request is of, or
--- `None` of a null procedure.
+-- Each act, and so each run, preserves the invariant of every run (`Invariant`). Most lemmas say that an action preserves the
+-- weaker record `Mid` of `Midway`: the counts, the client, the marks and the records belong together, and the phase fits them,
+-- before what is outstanding is lost. An act is one call on the link, with its result. A mark says which command an outstanding
+-- request is of, or `None` of a null procedure.
 use Rattle.std.proofs.Common.{◌≡◌, ℕ, ◌++◌, ◌-◌, ◌<◌, ◌⊎◌, inl, inr, ◌||◌, ◌&&◌, Bool, true, false, not, List, [], ◌∷◌, length, drop, map, nat_eq, Option, refl, sym, ap, ◌∙◌, subst, arith, append-nil, if◌then◌else◌}
 use Rattle.std.proofs.lemmas.List.{length-drop}
 use Rattle.gc_catalogue.specs.declared.asked.Asked.TheVariants.{Table}
@@ -22,47 +22,48 @@ use Rattle.gc_links.specs.Acts.{Act, Told}
 use Rattle.gc_station.specs.Deciding.{later, has_begun, is_up}
 use Rattle.gc_station.specs.EachOnce.{EachOnce, Parted, Request, still_waiting, sent_by, of_record, all_cycles, of_text}
 use Rattle.gc_station.specs.Marks.{commands_in}
-use Rattle.gc_station.specs.Progressing.{turned, told, skipped_at, reckoned_early, begun, skipped, passed, cleared, asking, null_sent, renewed, sent, is_over, is_over_in, setup_sent}
+use Rattle.gc_station.specs.Progressing.{turned, moment_noted, skipped_at, reckoned_early, cycle_begun, skipped, attempts_left_out, cleared, asking, null_sent, renewed, sent, is_over, is_over_in, setup_sent}
 use Rattle.gc_station.specs.Reasons.{IsFor}
 use Rattle.gc_station.specs.Records.{Record}
-use Rattle.gc_station.specs.Runs.{stood}
+use Rattle.gc_station.specs.Runs.{state_after}
 use Rattle.gc_station.specs.Tasked.{CommandsAreTheirTasks}
 use Rattle.gc_texts.specs.Endings.{Skipped, Missed}
-use Rattle.gc_station.specs.Model.{Model, opening, action_at, waiting_of, place_next, expected_first, mark_next, with_progress, asks_null, asks_first, asks_next, is_chained_behind_next, others_behind_next, is_chained_behind, others_behind, passes_next, with_passes, with_listed, skip_listed, after_pass, with_records, skips, skips_first, after_clock, moved, after, after_all, cycle_length, mark_setup, asks_or_null, asks_setup}
+use Rattle.gc_station.specs.Model.{Model, opening, action_at, waiting_of, place_next, expected_first, mark_next, with_progress, asks_null, asks_first, asks_next, is_chained_after_next, others_after_next, is_chained_after, others_after, passes_next, with_passes, with_listed, skip_listed, after_pass, with_records, skips, skips_first, after_clock, moved, after, after_all, cycle_length, mark_setup, asks_or_null, asks_setup}
 use Rattle.gc_station.proofs.Acting.{mid_fail, mid_moment, mid_clock, mid_put, mid_open, mid_close, mid_read}
 use Rattle.gc_station.proofs.Each.{each_empty, sent_whole}
 use Rattle.gc_station.proofs.Facts.{action_for}
 use Rattle.gc_station.proofs.Invariant.{Invariant, is_bare, says_done}
-use Rattle.gc_station.proofs.Midway.{Placed, Mid, mid_of, clash, sound_null, sound_sent, sound_skipped, sound_passed, sound_begun, fine_ended, sound_prepared}
+use Rattle.gc_station.proofs.Midway.{Placed, Mid, mid_of, sound_null, sound_sent, sound_skipped, sound_passed, sound_begun, fine_ended, sound_prepared}
 use Rattle.gc_station.proofs.Tasked.{at_place, unsent_end}
 use Rattle.gc_station.specs.Scopes.{Scope}
+use Rattle.gc_station.proofs.Ticking.{not_both}
 
--- no records behind the others keep the weaker record
+-- no records after the others preserve the weaker record
 mid_nothing : (plan : Plan) (commands : List Task) (s : Model) → Mid plan commands s → Mid plan commands (with_records [] s)
 mid_nothing plan commands s mid = subst (λ (rs : List Record). Mid plan commands (record s { records = rs })) (sym (append-nil s.records)) mid
 
 -- the phase `Ready` is `Placed`: it says nothing of the counts, the kept bytes and the marks
 going_placed : (phase : Phase) (left unsent : ℕ) (rest : List ℕ) (marks : List (Option Mark)) → phase ≡ Ready → Placed phase left unsent rest marks
-going_placed phase left unsent rest marks is = record { empty = λ e. absurd (clash (is_bare phase) e (ap is_bare is)); finished = λ e. absurd (clash (says_done phase) e (ap says_done is)) }
+going_placed phase left unsent rest marks is = record { empty = λ e. absurd (not_both (is_bare phase) e (ap is_bare is)); finished = λ e. absurd (not_both (says_done phase) e (ap says_done is)) }
 
--- the beginning of a cycle keeps the weaker record
+-- the beginning of a cycle preserves the weaker record
 mid_begun : (plan : Plan) (commands : List Task) (s : Model) (m : Moment) → s.progress.phase ≡ Ready → s.progress.unsent ≡ 0 → commands_in s.marks ≡ 0 → 0 < s.progress.left → Mid plan commands s
-    → Mid plan commands (with_progress (begun plan (cycle_length plan commands) m) s)
+    → Mid plan commands (with_progress (cycle_begun plan (cycle_length plan commands) m) s)
 mid_begun plan commands s m is none settled some mid =
     let p = s.progress in (
       sound_begun plan commands p.left p.unsent s.client s.marks s.records s.passes none some mid.0,
       going_placed p.phase (p.left - 1) (cycle_length plan commands) s.rest s.marks is,
     )
 
--- a line feed that went out keeps the weaker record
+-- a line feed that was sent preserves the weaker record
 mid_cleared : (plan : Plan) (commands : List Task) (s : Model) → s.progress.phase ≡ Clearing → Mid plan commands s → Mid plan commands (with_progress cleared s)
 mid_cleared plan commands s is mid = (mid.0, by_word (has_begun s.progress)) where
-  -- the lemma above, whether the station has begun (`true`) or begins
-  by_word : (begun : Bool) → Placed (if begun then Draining else Ready) s.progress.left s.progress.unsent s.rest s.marks
+  -- the lemma above, whether the station has synchronized (`true`) or is synchronizing
+  by_word : (cycle_begun : Bool) → Placed (if cycle_begun then Draining else Ready) s.progress.left s.progress.unsent s.rest s.marks
   by_word true = record { empty = λ e. mid.1.empty (ap is_bare is); finished = λ e. cc }
   by_word false = record { empty = λ e. cc; finished = λ e. cc }
 
--- a null procedure that is sent after commands keeps the weaker record
+-- a null procedure that is sent after commands preserves the weaker record
 mid_flushed : (plan : Plan) (commands : List Task) (s : Model) → s.progress.phase ≡ Ready → length s.client.waiting < 7 → Mid plan commands s
     → Mid plan commands (with_progress asking (asks_null plan s))
 mid_flushed plan commands s is room mid =
@@ -71,7 +72,7 @@ mid_flushed plan commands s is room mid =
       going_placed p.phase p.left p.unsent s.rest (asks_null plan s).marks is,
     )
 
--- the first of these commands, where it is sent as the next one, keeps the weaker record
+-- the first of these commands, if it is sent as the next one, preserves the weaker record
 mid_first : (plan : Plan) (commands : List Task) (next_is_chained : Bool) (behind : ℕ) (s : Model) (left : List Task) → drop (place_next commands s.progress) commands ≡ left
     → s.progress.phase ≡ Ready → 0 < s.progress.unsent → length s.client.waiting < 7 → Mid plan commands s
     → Mid plan commands (with_progress (sent next_is_chained behind) (asks_first (mark_next plan commands s.progress) left s))
@@ -82,17 +83,19 @@ mid_first plan commands next_is_chained behind s [] at is some room mid =
 mid_first plan commands next_is_chained behind s (task ∷ others) at is some room mid =
     let p = s.progress in
     let t = asks_first (mark_next plan commands p) (task ∷ others) s in (
-      sound_sent plan commands p.left p.unsent s.client s.marks s.records s.passes p.moment.utc (later p.moment.elapsed task.deadline) (expected_first (drop (place_next commands p) commands)) task others room some at mid.0,
+      sound_sent plan commands p.left p.unsent s.client s.marks s.records s.passes p.moment.utc (later p.moment.elapsed task.deadline)
+          (expected_first (drop (place_next commands p) commands)) task others room some at mid.0,
       going_placed p.phase p.left (p.unsent - 1) s.rest t.marks is,
     )
 
--- the next command, where it is sent, keeps the weaker record
+-- the next command, if it is sent, preserves the weaker record
 mid_sent : (plan : Plan) (commands : List Task) (next_is_chained : Bool) (behind : ℕ) (s : Model) → s.progress.phase ≡ Ready → 0 < s.progress.unsent
     → length s.client.waiting < 7 → Mid plan commands s → Mid plan commands (with_progress (sent next_is_chained behind) (asks_next plan commands s))
 mid_sent plan commands next_is_chained behind s is some room mid = mid_first plan commands next_is_chained behind s (drop (place_next commands s.progress) commands) refl is some room mid
 
--- the first of these commands, where it is sent as the next one of the set-up, keeps the weaker record
-mid_prepares : (plan : Plan) (commands : List Task) (s : Model) (left : List Task) → drop s.progress.prepared commands ≡ left → s.progress.phase ≡ Ready → length s.client.waiting < 7 → Mid plan commands s
+-- the first of these commands, if it is sent as the next one of the setup, preserves the weaker record
+mid_prepares : (plan : Plan) (commands : List Task) (s : Model) (left : List Task) → drop s.progress.prepared commands ≡ left → s.progress.phase ≡ Ready
+    → length s.client.waiting < 7 → Mid plan commands s
     → Mid plan commands (with_progress (setup_sent plan) (asks_or_null plan (mark_setup commands s.progress) left s))
 mid_prepares plan commands s [] at is room mid =
     let p = s.progress in (
@@ -102,11 +105,12 @@ mid_prepares plan commands s [] at is room mid =
 mid_prepares plan commands s (task ∷ others) at is room mid =
     let p = s.progress in
     let t = asks_or_null plan (mark_setup commands p) (task ∷ others) s in (
-      sound_prepared plan commands p.left p.unsent s.client s.marks s.records s.passes (later p.moment.elapsed task.deadline) (mark_setup commands p) task room refl (at_place p.prepared commands task others at) mid.0,
+      sound_prepared plan commands p.left p.unsent s.client s.marks s.records s.passes (later p.moment.elapsed task.deadline) (mark_setup commands p) task room refl
+          (at_place p.prepared commands task others at) mid.0,
       going_placed p.phase p.left p.unsent s.rest t.marks is,
     )
 
--- the first of these commands, where it is passed over as the next one, keeps the weaker record
+-- the first of these commands, if it is left out as the next one, preserves the weaker record
 mid_skips : (plan : Plan) (commands : List Task) (next_is_chained : Bool) (behind : ℕ) (s : Model) (m : Moment) (left : List Task) → drop (place_next commands s.progress) commands ≡ left
     → s.progress.phase ≡ Ready → 0 < s.progress.unsent → commands_in s.marks ≡ 0 → Mid plan commands s
     → Mid plan commands (with_progress (λ p. reckoned_early plan (commands_in s.marks) (skipped next_is_chained behind m p))
@@ -117,48 +121,51 @@ mid_skips plan commands next_is_chained behind s m [] at is some none mid =
     absurd (omega (arith, n, some, sound.unsents))
 mid_skips plan commands next_is_chained behind s m (task ∷ others) at is some none mid =
     let p = s.progress in (
-      sound_skipped plan commands p.left p.unsent s.client s.marks s.records s.passes (skipped_at m p) (if p.missed then Missed else Skipped) (mark_next plan commands p).expected.turn task others none some at (unsent_end p.missed) mid.0,
+      sound_skipped plan commands p.left p.unsent s.client s.marks s.records s.passes (skipped_at m p) (if p.missed then Missed else Skipped)
+          (mark_next plan commands p).expected.turn task others none some at (unsent_end p.missed) mid.0,
       going_placed p.phase p.left (p.unsent - 1) s.rest s.marks is,
     )
 
--- the next command, where it isn't sent, keeps the weaker record
-mid_skip : (plan : Plan) (commands : List Task) (next_is_chained : Bool) (behind : ℕ) (s : Model) (act : Act) → s.progress.phase ≡ Ready → 0 < s.progress.unsent → commands_in s.marks ≡ 0 → Mid plan commands s
+-- the next command, if it isn't sent, preserves the weaker record
+mid_skip : (plan : Plan) (commands : List Task) (next_is_chained : Bool) (behind : ℕ) (s : Model) (act : Act) → s.progress.phase ≡ Ready → 0 < s.progress.unsent
+    → commands_in s.marks ≡ 0 → Mid plan commands s
     → Mid plan commands (after_clock (λ m p. reckoned_early plan (commands_in s.marks) (skipped next_is_chained behind m p)) (with_listed (skip_listed plan commands s act) (with_records (skips plan commands s.progress act) s)) act)
 mid_skip plan commands next_is_chained behind s (Told m) is some none mid =
     mid_moment plan commands (with_progress (λ p. reckoned_early plan (commands_in s.marks) (skipped next_is_chained behind m p)) (with_listed (skip_listed plan commands s (Told m)) (with_records (skips plan commands s.progress (Told m)) s))) m
     (mid_skips plan commands next_is_chained behind s m (drop (place_next commands s.progress) commands) refl is some none mid)
 mid_skip plan commands next_is_chained behind s act is some none mid = mid_fail plan commands (with_records [] s) cause.Clock refl (mid_nothing plan commands s mid)
 
--- the attempts of a chain that are passed over keep the weaker record
+-- the attempts of a chain that are left out preserve the weaker record
 mid_pass : (plan : Plan) (commands : List Task) (s : Model) (act : Act) → s.progress.phase ≡ Ready → 0 < s.progress.unsent → Mid plan commands s → Mid plan commands (after_pass plan commands s act)
 mid_pass plan commands s (Told m) is some mid =
     let p = s.progress in
     let n = p.next_others in
-    mid_moment plan commands (with_progress (λ q. reckoned_early plan (commands_in s.marks) (passed (is_chained_behind n commands p) (others_behind n commands p) m q))
+    mid_moment plan commands (with_progress (λ q. reckoned_early plan (commands_in s.marks) (attempts_left_out (is_chained_after n commands p) (others_after n commands p) m q))
     (with_passes (passes_next plan commands p) s)) m (
       sound_passed plan commands p.left p.unsent n s.client s.marks s.records s.passes some mid.0,
       going_placed p.phase p.left (p.unsent - n) s.rest s.marks is,
     )
 mid_pass plan commands s act is some mid = mid_fail plan commands s cause.Clock refl mid
 
--- where a connection is closed for being done, no cycle and no command is left
+-- if a connection is closed for being done, no cycle and no command is left
 close_done : (plan : Plan) (commands : List Task) (s : Model) (w : Waiting) (why : Cause) → Invariant plan commands s
     → IsFor plan s.progress w (action.Close why) → why ≡ cause.Done → (s.progress.left ≡ 0) × (s.progress.unsent ≡ 0)
 close_done plan commands s w cause.Done fine (up, inl phase) is = let it = fine.finished (ap says_done phase) in (it.0, it.1)
 close_done plan commands s w cause.Done fine (up, inr end) is = (end.0, end.1)
 close_done plan commands s w why fine for_it is = cc
 
--- each act keeps the weaker record, before what waits is lost
+-- each act preserves the weaker record, before what is outstanding is lost
 pub mid_moved : (plan : Plan) (commands : List Task) (s : Model) (action : Action) (act : Act) → Invariant plan commands s → IsFor plan s.progress (waiting_of s) action
     → Mid plan commands (moved plan commands action (with_progress turned s) act)
 mid_moved plan commands s action.ReadClock act fine is =
-    let t = with_progress turned s in mid_clock plan commands (λ m p. reckoned_early plan (commands_in t.marks) (told m p)) t act (mid_of plan commands s fine) (λ m. mid_of plan commands s fine)
+    let t = with_progress turned s in mid_clock plan commands (λ m p. reckoned_early plan (commands_in t.marks) (moment_noted m p)) t act (mid_of plan commands s fine)
+    (λ m. mid_of plan commands s fine)
 mid_moved plan commands s action.Renew act fine is =
     let t = with_progress turned s in mid_clock plan commands (λ m p. reckoned_early plan 0 (renewed plan m p)) t act (mid_of plan commands s fine) (λ m. mid_of plan commands s fine)
 mid_moved plan commands s action.Begin act fine is =
     let t = with_progress turned s in
     let mid = mid_of plan commands s fine in
-    mid_clock plan commands (begun plan (cycle_length plan commands)) t act mid (λ m. mid_begun plan commands t m is.0 is.2 is.3 is.4 mid)
+    mid_clock plan commands (cycle_begun plan (cycle_length plan commands)) t act mid (λ m. mid_begun plan commands t m is.0 is.2 is.3 is.4 mid)
 mid_moved plan commands s action.Open act fine is = mid_open plan commands (with_progress turned s) act is (mid_of plan commands s fine)
 mid_moved plan commands s action.Clear act fine is =
     let t = with_progress turned s in mid_put plan commands _ (with_progress cleared) t act (mid_cleared plan commands t is (mid_of plan commands s fine))
@@ -170,12 +177,12 @@ mid_moved plan commands s action.Prepare act fine is =
     (mid_prepares plan commands t (drop t.progress.prepared commands) refl is.0 is.3.1 (mid_of plan commands s fine))
 mid_moved plan commands s action.Send act fine is =
     let t = with_progress turned s in
-    mid_put plan commands _ (λ (x : Model). with_progress (sent (is_chained_behind_next commands x.progress) (others_behind_next commands x.progress)) (asks_next plan commands x)) t act
-    (mid_sent plan commands (is_chained_behind_next commands t.progress) (others_behind_next commands t.progress) t is.0 is.2 is.3.1 (mid_of plan commands s fine))
+    mid_put plan commands _ (λ (x : Model). with_progress (sent (is_chained_after_next commands x.progress) (others_after_next commands x.progress)) (asks_next plan commands x)) t act
+    (mid_sent plan commands (is_chained_after_next commands t.progress) (others_after_next commands t.progress) t is.0 is.2 is.3.1 (mid_of plan commands s fine))
 mid_moved plan commands s action.Skip act fine is =
     let t = with_progress turned s in
-    let next_is_chained = is_chained_behind_next commands t.progress in
-    mid_skip plan commands next_is_chained (others_behind_next commands t.progress) t act is.0 is.2 is.3 (mid_of plan commands s fine)
+    let next_is_chained = is_chained_after_next commands t.progress in
+    mid_skip plan commands next_is_chained (others_after_next commands t.progress) t act is.0 is.2 is.3 (mid_of plan commands s fine)
 mid_moved plan commands s action.Pass act fine is = mid_pass plan commands (with_progress turned s) act is.0 is.2 (mid_of plan commands s fine)
 mid_moved plan commands s action.Flush act fine is =
     let t = with_progress turned s in
@@ -184,12 +191,12 @@ mid_moved plan commands s (action.Read until) act fine is = mid_read plan comman
 mid_moved plan commands s (action.Close why) act fine is = mid_close plan commands (with_progress turned s) why (close_done plan commands s (waiting_of s) why fine is) (mid_of plan commands s fine)
 mid_moved plan commands s (action.Stop why) act fine is = mid_of plan commands s fine
 
--- each act keeps what every run keeps
+-- each act preserves the invariant of every run
 pub fine_after : (plan : Plan) (commands : List Task) (s : Model) (act : Act) → Invariant plan commands s → Invariant plan commands (after plan commands s act)
 fine_after plan commands s act fine =
     fine_ended plan commands (moved plan commands (action_at plan s) (with_progress turned s) act) (mid_moved plan commands s (action_at plan s) act fine (action_for plan s.progress (waiting_of s)))
 
--- acts keep what every run keeps
+-- acts preserve the invariant of every run
 pub fine_all : (plan : Plan) (commands : List Task) (s : Model) (acts : List Act) → Invariant plan commands s → Invariant plan commands (after_all plan commands s acts)
 fine_all plan commands s [] fine = fine
 fine_all plan commands s (act ∷ acts) fine = fine_all plan commands (after plan commands s act) acts (fine_after plan commands s act fine)
@@ -215,22 +222,22 @@ fine_opening plan commands scope =
     }
 
 -- what every run keeps holds after all acts
-pub fine_stood : (plan : Plan) (commands : List Task) (scope : Scope) (acts : List Act) → Invariant plan commands (stood plan commands scope acts)
+pub fine_stood : (plan : Plan) (commands : List Task) (scope : Scope) (acts : List Act) → Invariant plan commands (state_after plan commands scope acts)
 fine_stood plan commands scope acts = fine_all plan commands (opening plan scope) acts (fine_opening plan commands scope)
 
--- where a run stops no act follows
+-- if a run stops no act follows
 pub stop_over : (plan : Plan) (p : Progress) (w : Waiting) (why : Cause) → IsFor plan p w (action.Stop why) → is_over p ≡ true
 stop_over plan p w why (down, inl over) = ap (λ (phase : Phase). is_over_in phase || (not (is_up phase) && nat_eq p.turns 0)) over
 stop_over plan p w why (down, inr turns) = either_way (is_over_in p.phase) (is_up p.phase) (nat_eq p.turns 0) down (ap (λ (n : ℕ). nat_eq n 0) turns.1) where
-  -- the lemma above, where the phase says so (`o`), or there is no connection and no turn is left
+  -- the lemma above, if the phase says so (`o`), or there is no connection and no turn is left
   either_way : (o up none : Bool) → up ≡ false → none ≡ true → (o || (not up && none)) ≡ true
   either_way true up none d n = refl
   either_way false false true d n = refl
   either_way false false false d n = cc
   either_way false true none d n = cc
 
--- where a run stops nothing waits, and the records are of the commands that had their turn, in order; where it stops as done,
--- no cycle and no command is left
+-- if a run stops nothing is outstanding, and the records are of the commands that had their turn, in order; if it stops as
+-- done, no cycle and no command is left
 pub stopped : (plan : Plan) (commands : List Task) (s : Model) (why : Cause) → Invariant plan commands s → action_at plan s ≡ action.Stop why
     → (s.client.waiting ≡ []) × Parted (of_text commands (map of_record s.records)) s.passes (sent_by plan.setup commands (plan.cycles - s.progress.left) (place_next commands s.progress))
     × (why ≡ cause.Done → (s.progress.left ≡ 0) × (s.progress.unsent ≡ 0))
@@ -244,15 +251,15 @@ stopped plan commands s why fine stop =
           (sym (each_empty commands s.marks s.client.waiting s.records (of_text commands (map of_record s.records ++ still_waiting s.marks s.client.waiting)) nothing refl)) fine.each,
       by_reason is.1,
     ) where
-      -- where the run stops as done nothing is left: its phase says that it is done, as it isn't for its turns
+      -- if the run stops as done nothing is left: its phase says that it is done, as it isn't for its turns
       by_reason : ((s.progress.phase ≡ Over why) ⊎ ((why ≡ cause.Turns) × (s.progress.turns ≡ 0))) → why ≡ cause.Done → (s.progress.left ≡ 0) × (s.progress.unsent ≡ 0)
       by_reason (inl over) e = let it = fine.finished (ap says_done (over ∙ ap Over e)) in (it.0, it.1)
       by_reason (inr turns) e = let other : cause.Turns ≡ cause.Done = sym turns.0 ∙ e in cc
 
--- the records and the commands that wait are the commands that had their turn, after any acts
+-- the records and the outstanding commands are the commands that had their turn, after any acts
 pub each_once : (plan : Plan) (commands : List Task) (scope : Scope) (acts : List Act) → EachOnce plan commands scope acts
 each_once plan commands scope acts =
-    let s = stood plan commands scope acts in
+    let s = state_after plan commands scope acts in
     let fine = fine_stood plan commands scope acts in
     record {
       each = fine.each;
@@ -262,7 +269,8 @@ each_once plan commands scope acts =
           let none = it.2 refl in
           let cycles : plan.cycles - s.progress.left ≡ plan.cycles = omega (arith, none.0) in
           let place : place_next commands s.progress ≡ length commands = omega (arith, none.1) in
-          subst (λ (xs : List Request). Parted (of_text commands (map of_record s.records)) s.passes xs) (sent_whole plan.setup commands (plan.cycles - s.progress.left) (place_next commands s.progress) place ∙ ap (all_cycles plan.setup commands) cycles) it.1;
+          subst (λ (xs : List Request). Parted (of_text commands (map of_record s.records)) s.passes xs)
+          (sent_whole plan.setup commands (plan.cycles - s.progress.left) (place_next commands s.progress) place ∙ ap (all_cycles plan.setup commands) cycles) it.1;
     }
 
 -- each record after any acts is of its task

@@ -1,4 +1,4 @@
--- What holds where an action is next: its conditions (`IsFor`), whether the moment was told (`Timely`, `Wakes`), and that a
+-- What holds if an action is next: its conditions (`IsFor`), whether the moment was read (`Timely`, `Wakes`), and that a
 -- request has room. `Holds` has all of these, and is shown once for each function that decides.
 use Rattle.std.proofs.Common.{◌≡◌, ℕ, ◌<◌, ◌≤◌, ◌⊎◌, ◌&&◌, ◌||◌, Bool, true, false, not, if◌then◌else◌, nat_lt, nat_le, nat_eq, refl, sym, ap, ◌∙◌, inl, inr, arith}
 use Rattle.std.proofs.lemmas.Bool.{ltb-true, ltb-false, leb-true, eqb-true}
@@ -18,7 +18,7 @@ use Rattle.gc_station.specs.Reasons.{IsFor, IsHeld, HasRoom, MayGo, MayRetry, No
 use Rattle.gc_station.specs.Deciding.{width_of, has_begun, is_up, is_dead, is_due, is_idle, is_finished, has_room, action_of, action_in, action_on, action_told, may_go, waits_for_all, action_again, action_ready, action_begun, action_beginning, action_sent, action_settled, action_done, action_next, action_room, action_waiting, action_up, is_stale, is_between, is_resting, is_stopping, is_held_back, action_cycle, action_prepare, action_turn, action_preparing, is_preparing}
 use Rattle.gc_station.specs.Stations.{IsFitting}
 
--- what holds of x where a test holds, and of y where it doesn't, holds of the one that the test chooses
+-- what holds of x if a test holds, and of y if it doesn't, holds of the one that the test chooses
 pub either : {A : Type 0} (P : A → Type 0) (x y : A) (t : Bool) → (t ≡ true → P x) → (t ≡ false → P y) → P (if t then x else y)
 either P x y true p q = p refl
 either P x y false p q = q refl
@@ -29,7 +29,7 @@ both_true true true e = (refl, refl)
 both_true true false e = cc
 both_true false b e = cc
 
--- where one of two tests holds, and the second doesn't, the first does
+-- if one of two tests holds, and the second doesn't, the first does
 pub either_true : (a b : Bool) → (a || b) ≡ true → b ≡ false → a ≡ true
 either_true true b e none = refl
 either_true false b e none = cc
@@ -51,49 +51,49 @@ some_left n e = grind (arith, nat_tests, e)
 room_there : (plan : Plan) (w : Waiting) → has_room plan w ≡ true → HasRoom plan w
 room_there plan w e = let it = both_true (nat_lt w.current (width_of plan)) (nat_lt w.all WINDOW) e in (ltb-true w.current (width_of plan) it.0, ltb-true w.all WINDOW it.1)
 
--- where not both of two tests hold, one of them doesn't
+-- if not both of two tests hold, one of them doesn't
 one_false : (a b : Bool) → (a && b) ≡ false → (a ≡ false) ⊎ (b ≡ false)
 one_false true true e = cc
 one_false true false e = inr refl
 one_false false b e = inl refl
 
--- where the negation of a test doesn't hold, the test does
+-- if the negation of a test doesn't hold, the test does
 negated : (b : Bool) → not b ≡ false → b ≡ true
 negated true e = refl
 negated false e = cc
 
--- where the negation of a test holds, the test doesn't
+-- if the negation of a test holds, the test doesn't
 free_so : (b : Bool) → not b ≡ true → b ≡ false
 free_so true e = cc
 free_so false e = refl
 
--- where there is no room, no command may go out
+-- if there is no room, no command may be sent
 no_room : (plan : Plan) (p : Progress) (w : Waiting) → (nat_lt w.current (width_of plan) ≡ false) ⊎ (nat_lt w.all WINDOW ≡ false) → NothingMayGo plan p w
 no_room plan p w (inl e) = inr (inl (ltb-false w.current (width_of plan) e))
 no_room plan p w (inr e) = inr (inr (inl (ltb-false w.all WINDOW e)))
 
--- The moment is told again after each act that makes it out of date (`stale`); and nothing is read before a new connection was
+-- The moment is read again after each act that makes it out of date (`stale`); and nothing is read before a new connection was
 -- cleared.
 
--- a read may be made: the moment was told, and the connection isn't to be cleared
+-- a read may be made: the moment was read, and the connection isn't to be cleared
 abbrev pub Reads : Progress → Type 0
 Reads p = (p.stale ≡ false) × (p.phase ≡ Clearing → ⊥)
 
--- where this action reads the clock alone, the moment is out of date; where it connects or reads, it isn't
+-- if this action reads the clock alone, the moment is out of date; if it connects or reads, it isn't
 abbrev pub Timely : Progress → Action → Type 0
 Timely p action.ReadClock = p.stale ≡ true
 Timely p action.Open = p.stale ≡ false
 Timely p (action.Read until) = Reads p
 Timely p _ = Unit {0}
 
--- A request goes out, the station begins anew, and a connection is closed for a dead line, only in the phase `Ready`, after a
--- moment that was told.
+-- A request is sent, the station resynchronizes, and a connection is closed for a dead line, only in the phase `Ready`, after a
+-- moment that was read.
 
--- the phase is `Ready`, in which requests may go out, and the moment was told
+-- the phase is `Ready`, in which requests may be sent, and the moment was read
 abbrev pub Awake : Progress → Type 0
 Awake p = (p.stale ≡ false) × (p.phase ≡ Ready)
 
--- where this action sends a request, begins anew, or closes a dead line, `Awake` holds; or the phase has said already that the
+-- if this action sends a request, resynchronizes, or closes a dead line, `Awake` holds; or the phase has said already that the
 -- line is to be closed
 abbrev pub Wakes : Progress → Action → Type 0
 Wakes p action.Renew = Awake p
@@ -104,7 +104,7 @@ Wakes p action.Flush = Awake p
 Wakes p (action.Close cause.Dead) = (p.phase ≡ Closing cause.Dead) ⊎ Awake p
 Wakes p _ = Unit {0}
 
--- what holds where this action is next: its conditions (`IsFor`), and whether the moment was told before it (`Timely`, `Wakes`)
+-- what holds if this action is next: its conditions (`IsFor`), and whether the moment was read before it (`Timely`, `Wakes`)
 abbrev Holds : Plan → Progress → Waiting → Action → Type 0
 Holds plan p w next = IsFor plan p w next × Timely p next × Wakes p next
 
@@ -112,15 +112,15 @@ Holds plan p w next = IsFor plan p w next × Timely p next × Wakes p next
 awake_up : (p : Progress) → Awake p → is_up p.phase ≡ true
 awake_up p (now, is) = ap is_up is
 
--- in the phase `Ready`, where the moment was told, a read may be made
+-- in the phase `Ready`, if the moment was read, a read may be made
 awake_reads : (p : Progress) → Awake p → Reads p
 awake_reads p (now, is) = (now, λ c. let other : Ready ≡ Clearing = sym is ∙ c in cc)
 
--- if all requests that wait are given up, seven wait
+-- if all outstanding requests have timed out, seven are outstanding
 abbrev Full : Waiting → Type 0
 Full w = w.current ≡ 0 → WINDOW ≤ w.all
 
--- `Holds` is true where a station waits
+-- `Holds` is true if a station waits
 waits : (plan : Plan) (p : Progress) (w : Waiting) → Awake p → has_begun p ≡ true → NothingMayGo plan p w → Full w → Holds plan p w (action_waiting plan p w)
 waits plan p w awake begun nothing full =
     let P = Holds plan p w in
@@ -129,24 +129,25 @@ waits plan p w awake begun nothing full =
     (λ d. either P action.Renew (action.Read Limit) (nat_eq w.current 0)
     (λ e. let none = eqb-true w.current 0 e in ((awake.1, begun, none, full none), tt, awake)) (λ e. (tt, awake_reads p awake, tt)))
 
--- at least one request may be under way
+-- at least one request may be in flight
 some_wide : (plan : Plan) → 0 < width_of plan
 some_wide plan = omega arith
 
--- where there is no room, seven wait if all that wait are given up
+-- if there is no room, seven are outstanding if all outstanding requests have timed out
 no_room_full : (plan : Plan) (w : Waiting) → (nat_lt w.current (width_of plan) ≡ false) ⊎ (nat_lt w.all WINDOW ≡ false) → Full w
 no_room_full plan w (inl e) none = let few : width_of plan ≤ w.current = ltb-false w.current (width_of plan) e in absurd (omega (arith, none, few, some_wide plan))
 no_room_full plan w (inr e) none = ltb-false w.all WINDOW e
 
--- `action_room` is the action o where there is room for a request, and the action of a station that waits where there is none.
--- `Holds` is true of it, if it is true of o where there is room
+-- `action_room` is the action o if there is room for a request, and the action of a station that waits if there is none.
+-- `Holds` is true of it, if it is true of o if there is room
 room_for : (plan : Plan) (p : Progress) (w : Waiting) (o : Action) → Awake p → has_begun p ≡ true → (HasRoom plan w → Holds plan p w o) → Holds plan p w (action_room plan p w o)
 room_for plan p w o awake begun step =
     either (Holds plan p w) o _ (has_room plan w) (λ e. step (room_there plan w e))
     (λ e. let none = one_false (nat_lt w.current (width_of plan)) (nat_lt w.all WINDOW) e in waits plan p w awake begun (no_room plan p w none) (no_room_full plan w none))
 
--- `Holds` is true where the next command may go out
-next_for : (plan : Plan) (p : Progress) (w : Waiting) → Awake p → has_begun p ≡ true → 0 < p.unsent → MayGo p w → MayRetry p w → StaysInItsChain p → is_preparing plan p w ≡ false → Holds plan p w (action_next plan p w)
+-- `Holds` is true if the next command may be sent
+next_for : (plan : Plan) (p : Progress) (w : Waiting) → Awake p → has_begun p ≡ true → 0 < p.unsent → MayGo p w → MayRetry p w → StaysInItsChain p → is_preparing plan p w ≡ false
+    → Holds plan p w (action_next plan p w)
 next_for plan p w awake begun some may retry stays ready =
     let P = Holds plan p w in
     either P _ _ (nat_lt p.behind WINDOW)
@@ -156,23 +157,23 @@ next_for plan p w awake begun some may retry stays ready =
     (λ current. let under = some_left w.current current in
     waits plan p w awake begun (inr (inr (inr (inr (inl (many, under)))))) (λ none. absurd (omega (arith, none, under)))))
 
--- Where the end of the run was asked for.
+-- If the end of the run was asked for.
 
--- where the end of the run was asked for, a command is left, and it goes on with a chain that has begun, and no set-up comes first
+-- if the end of the run was asked for, a command is left, and it goes on with a chain that has begun, and no setup comes first
 abbrev GoesOnly : Progress → Type 0
 GoesOnly p = p.stops ≡ true → (0 < p.unsent) × (p.next_is_chained ≡ true) × (p.preparing ≡ false)
 
 -- what isn't true is false
-never_true : (b : Bool) → (b ≡ true → ⊥) → b ≡ false
+pub never_true : (b : Bool) → (b ≡ true → ⊥) → b ≡ false
 never_true true never = absurd (never refl)
 never_true false never = refl
 
--- where no command is left, the end of the run wasn't asked for
+-- if no command is left, the end of the run wasn't asked for
 none_asked : (p : Progress) → GoesOnly p → p.unsent ≡ 0 → p.stops ≡ false
 none_asked p only none = never_true p.stops (λ stops. let some = (only stops).0 in absurd (omega (arith, none, some)))
 
--- where there is a connection, the station has begun, the end of the run was asked for, and neither does the run end nor is a
--- further chain held back, the station isn't between two chains
+-- if there is a connection, the station has synchronized, the end of the run was asked for, and neither does the run end nor is
+-- a further chain held back, the station isn't between two chains
 not_between : (stops up begun none between some : Bool) → up ≡ true → begun ≡ true → (stops && ((not up || not begun) || (none && between))) ≡ false
     → ((stops && between) && some) ≡ false → (none ≡ false → some ≡ true) → stops ≡ true → between ≡ false
 not_between stops up begun none false some u b e f g is = refl
@@ -187,7 +188,7 @@ not_between false up begun none true some u b e f g is = cc
 above_none : (n : ℕ) → nat_eq n 0 ≡ false → nat_lt 0 n ≡ true
 above_none n e = grind (arith, nat_tests, e)
 
--- where the station isn't between two chains, a command is left, and it is chained, and no set-up comes first
+-- if the station isn't between two chains, a command is left, and it is chained, and no setup comes first
 midway : (n : ℕ) (chained prepares : Bool) → ((nat_eq n 0 || not chained) || prepares) ≡ false → (0 < n) × (chained ≡ true) × (prepares ≡ false)
 midway n chained prepares e = by_test (nat_eq n 0) chained prepares refl e where
   -- the lemma above, by whether a command is left
@@ -197,7 +198,7 @@ midway n chained prepares e = by_test (nat_eq n 0) chained prepares refl e where
   by_test false true true is f = cc
   by_test false false b is f = cc
 
--- where the run doesn't end, and no further chain is held back, `GoesOnly` holds
+-- if the run doesn't end, and no further chain is held back, `GoesOnly` holds
 goes_only : (p : Progress) (w : Waiting) → is_up p.phase ≡ true → has_begun p ≡ true → is_stopping p w ≡ false → is_held_back p w ≡ false → GoesOnly p
 goes_only p w up begun goes free stops =
     midway p.unsent p.next_is_chained p.preparing
@@ -213,7 +214,7 @@ between_so n chained prepares e = by_test (nat_eq n 0) chained prepares refl e w
   by_test false true true is f = inr (inr refl)
   by_test false false b is f = inr (inl refl)
 
--- where the test says that the run may end, it may
+-- if the test says that the run may end, it may
 resting_so : (p : Progress) (w : Waiting) → is_resting p w ≡ true → IsResting p w
 resting_so p w e = by_tests (is_up p.phase) (has_begun p) (nat_eq w.current 0) (is_between p) refl refl refl refl e where
   -- the lemma above, by each of its four tests
@@ -225,13 +226,13 @@ resting_so p w e = by_tests (is_up p.phase) (has_begun p) (nat_eq w.current 0) (
   by_tests true true true false u b n t f = cc
   by_tests true true false between u b n t f = cc
 
--- where there is a connection, there is one to be closed for any cause
+-- if there is a connection, there is one to be closed for any cause
 has_one : (why : Cause) (p : Progress) → is_up p.phase ≡ true → HasOneFor why p
 has_one cause.Stale p up = tt
 has_one cause.Stopped p up = tt
 has_one why p up = up
 
--- `Holds` is true where a further chain is held back
+-- `Holds` is true if a further chain is held back
 held_back_for : (plan : Plan) (p : Progress) (w : Waiting) → Awake p → has_begun p ≡ true → is_held_back p w ≡ true → Holds plan p w (action_waiting plan p w)
 held_back_for plan p w awake begun held =
     let it = both_true (p.stops && is_between p) (nat_lt 0 w.current) held in
@@ -239,34 +240,37 @@ held_back_for plan p w awake begun held =
     let under : 0 < w.current = ltb-true 0 w.current it.1 in
     waits plan p w awake begun (inr (inr (inr (inr (inr (asked.0, between_so p.unsent p.next_is_chained p.preparing asked.1, under)))))) (λ none. absurd (omega (arith, none, under)))
 
--- `Holds` is true where each command of the cycle is settled
-done_for : (plan : Plan) (p : Progress) (w : Waiting) → Awake p → has_begun p ≡ true → p.unsent ≡ 0 → w.commands ≡ 0 → p.stops ≡ false → is_preparing plan p w ≡ false → Holds plan p w (action_done plan p)
+-- `Holds` is true if each command of the cycle is settled
+done_for : (plan : Plan) (p : Progress) (w : Waiting) → Awake p → has_begun p ≡ true → p.unsent ≡ 0 → w.commands ≡ 0 → p.stops ≡ false → is_preparing plan p w ≡ false
+    → Holds plan p w (action_done plan p)
 done_for plan p w awake begun sent settled unasked ready =
     let P = Holds plan p w in
     either P (action.Close cause.Done) _ (nat_eq p.left 0) (λ e. ((awake_up p awake, inr (eqb-true p.left 0 e, sent, settled)), tt, tt))
     (λ e. either P action.Begin (action.Read Due) (is_due plan p) (λ d. ((awake.1, begun, sent, settled, some_left p.left e, unasked, ready), tt, tt)) (λ d. (tt, awake_reads p awake, tt)))
 
--- where no command may go out before those that wait are settled (`IsHeld`), one is unsent, and it begins no further attempt, that
--- one is chained
+-- if no command may be sent before those that are outstanding are settled (`IsHeld`), one is unsent, and it begins no further
+-- attempt, that one is chained
 chained : (p : Progress) → IsHeld p → nat_eq p.unsent 0 ≡ false → p.next_others ≡ 0 → p.next_is_chained ≡ true
 chained p (inl none) e first = let some : 0 < p.unsent = some_left p.unsent e in absurd (omega (arith, none, some))
 chained p (inr (inl next_is_chained)) e first = next_is_chained
 chained p (inr (inr more)) e first = absurd (omega (arith, more, first))
 
--- `Holds` is true where the next command begins a further attempt, and each command that was sent is settled
-again_for : (plan : Plan) (p : Progress) (w : Waiting) → Awake p → has_begun p ≡ true → 0 < p.unsent → w.commands ≡ 0 → 0 < p.next_others → StaysInItsChain p → is_preparing plan p w ≡ false → Holds plan p w (action_again plan p w)
+-- `Holds` is true if the next command begins a further attempt, and each command that was sent is settled
+again_for : (plan : Plan) (p : Progress) (w : Waiting) → Awake p → has_begun p ≡ true → 0 < p.unsent → w.commands ≡ 0 → 0 < p.next_others → StaysInItsChain p
+    → is_preparing plan p w ≡ false → Holds plan p w (action_again plan p w)
 again_for plan p w awake begun some settled more stays ready =
     either (Holds plan p w) _ action.Pass (w.listed && not p.next_is_chained)
     (λ e. let it = both_true w.listed (not p.next_is_chained) e in
     next_for plan p w awake begun some (inl (free_so p.next_is_chained it.1)) (inr (settled, it.0)) stays ready)
     (λ e. ((awake.1, begun, some, settled, more, by_test (one_false w.listed (not p.next_is_chained) e), ready), tt, tt)) where
-      -- why the attempt is passed over, by which of the two tests fails
+      -- why the attempt is left out, by which of the two tests fails
       by_test : ((w.listed ≡ false) ⊎ (not p.next_is_chained ≡ false)) → (w.listed ≡ false) ⊎ (p.next_is_chained ≡ true)
       by_test (inl none) = inl none
       by_test (inr bound) = inr (negated p.next_is_chained bound)
 
--- `Holds` is true where each command that was sent is settled
-settled_for : (plan : Plan) (p : Progress) (w : Waiting) → Awake p → has_begun p ≡ true → IsHeld p → w.commands ≡ 0 → GoesOnly p → is_preparing plan p w ≡ false → Holds plan p w (action_settled plan p w)
+-- `Holds` is true if each command that was sent is settled
+settled_for : (plan : Plan) (p : Progress) (w : Waiting) → Awake p → has_begun p ≡ true → IsHeld p → w.commands ≡ 0 → GoesOnly p → is_preparing plan p w ≡ false
+    → Holds plan p w (action_settled plan p w)
 settled_for plan p w awake begun held settled only ready =
     let P = Holds plan p w in
     either P _ _ (nat_eq p.unsent 0) (λ e. done_for plan p w awake begun (eqb-true p.unsent 0 e) settled (none_asked p only (eqb-true p.unsent 0 e)) ready)
@@ -275,7 +279,7 @@ settled_for plan p w awake begun held settled only ready =
     (λ well. let it = both_true w.well p.chain_unbroken well in next_for plan p w awake begun (some_left p.unsent e) (inr (settled, it.0, it.1)) (inl none) (λ stops. (only stops).1) ready)
     (λ broken. ((awake.1, begun, some_left p.unsent e, settled, chained p held e none, broken, ready), tt, tt))))
 
--- `Holds` is true where no command may go out before those that wait are settled
+-- `Holds` is true if no command may be sent before those that are outstanding are settled
 sent_for : (plan : Plan) (p : Progress) (w : Waiting) → Awake p → has_begun p ≡ true → IsHeld p → GoesOnly p → is_preparing plan p w ≡ false → Holds plan p w (action_sent plan p w)
 sent_for plan p w awake begun held only ready =
     let P = Holds plan p w in
@@ -284,10 +288,10 @@ sent_for plan p w awake begun held only ready =
     (λ given. room_for plan p w action.Flush awake begun (λ room. ((awake.1, begun, inl (inl held, some_left w.commands e), eqb-true w.current 0 given, room), tt, awake)))
     (λ some. let many = some_left w.current some in waits plan p w awake begun (inr (inr (inr (inl (inl held, some_left w.commands e, many))))) (λ none. absurd (omega (arith, none, many)))))
 
--- a command that may not go out at once waits for those before it (`IsHeld`)
+-- a command that may not be sent at once waits for those before it (`IsHeld`)
 held_so : (p : Progress) → (nat_lt 0 p.unsent && not (waits_for_all p)) ≡ false → IsHeld p
 held_so p e = by_half (one_false (nat_lt 0 p.unsent) (not (waits_for_all p)) e) where
-  -- the lemma above for a command that waits for all, by which of the two tests holds: that it is chained, or that it begins a
+  -- the lemma above for a command to wait for all, by which of the two tests holds: that it is chained, or that it begins a
   -- further attempt
   by_test : (b c : Bool) → p.next_is_chained ≡ b → nat_lt 0 p.next_others ≡ c → (b || c) ≡ true → IsHeld p
   by_test true c bound more e = inr (inl bound)
@@ -308,7 +312,7 @@ free_both p e = by_test p.next_is_chained (nat_lt 0 p.next_others) refl refl e w
   by_test false true bound more e = cc
   by_test false false bound more e = (bound, none_left p.next_others more)
 
--- `Holds` is true once the station has begun and its set-up is done
+-- `Holds` is true once the station has synchronized and its setup is done
 cycle_for : (plan : Plan) (p : Progress) (w : Waiting) → Awake p → has_begun p ≡ true → GoesOnly p → is_preparing plan p w ≡ false → Holds plan p w (action_cycle plan p w)
 cycle_for plan p w awake begun only ready =
     either (Holds plan p w) _ _ (nat_lt 0 p.unsent && not (waits_for_all p))
@@ -317,14 +321,14 @@ cycle_for plan p w awake begun only ready =
     next_for plan p w awake begun (ltb-true 0 p.unsent it.0) (inl free.0) (inl free.1) (λ stops. (only stops).1) ready)
     (λ none. sent_for plan p w awake begun (held_so p none) only ready)
 
--- what `is_finished` says: no cycle and no command is left, and none waits
+-- what `is_finished` says: no cycle and no command is left, and none is outstanding
 pub finished_so : (commands : ℕ) (p : Progress) → is_finished commands p ≡ true → (p.left ≡ 0) × (p.unsent ≡ 0) × (commands ≡ 0)
 finished_so commands p e =
     let it = both_true (nat_eq p.left 0 && nat_eq p.unsent 0) (nat_eq commands 0) e in
     let sent = both_true (nat_eq p.left 0) (nat_eq p.unsent 0) it.0 in
     (eqb-true p.left 0 sent.0, eqb-true p.unsent 0 sent.1, eqb-true commands 0 it.1)
 
--- `Holds` is true where the next command of the set-up may go out
+-- `Holds` is true if the next command of the setup may be sent
 prepare_for : (plan : Plan) (p : Progress) (w : Waiting) → Awake p → has_begun p ≡ true → p.stops ≡ false → MayPrepare plan p w → Holds plan p w (action_prepare plan p w)
 prepare_for plan p w awake begun unasked may =
     let P = Holds plan p w in
@@ -335,13 +339,14 @@ prepare_for plan p w awake begun unasked may =
     (λ current. let under = some_left w.current current in
     waits plan p w awake begun (inr (inr (inr (inr (inl (many, under)))))) (λ none. absurd (omega (arith, none, under)))))
 
--- `Holds` is true where it is the turn of the next command of the set-up
+-- `Holds` is true if it is the turn of the next command of the setup
 turn_for : (plan : Plan) (p : Progress) (w : Waiting) → Awake p → has_begun p ≡ true → p.stops ≡ false → is_preparing plan p w ≡ true → (p.prepared ≡ 0) ⊎ ((w.commands ≡ 0) × (w.well ≡ true))
     → Holds plan p w (action_turn plan p w)
 turn_for plan p w awake begun unasked on first =
-    either (Holds plan p w) _ (action.Read Limit) (nat_lt p.prepared plan.setup) (λ e. prepare_for plan p w awake begun unasked (on, ltb-true p.prepared plan.setup e, first)) (λ e. (tt, awake_reads p awake, tt))
+    either (Holds plan p w) _ (action.Read Limit) (nat_lt p.prepared plan.setup) (λ e. prepare_for plan p w awake begun unasked (on, ltb-true p.prepared plan.setup e, first))
+    (λ e. (tt, awake_reads p awake, tt))
 
--- `Holds` is true while the set-up isn't done
+-- `Holds` is true while the setup isn't done
 preparing_for : (plan : Plan) (p : Progress) (w : Waiting) → Awake p → has_begun p ≡ true → p.stops ≡ false → is_preparing plan p w ≡ true → Holds plan p w (action_preparing plan p w)
 preparing_for plan p w awake begun unasked on =
     let P = Holds plan p w in
@@ -356,17 +361,17 @@ preparing_for plan p w awake begun unasked on =
     (λ some. let many = some_left w.current some in
     waits plan p w awake begun (inr (inr (inr (inl (inr (on, some_left p.prepared sent), some_left w.commands waiting, many))))) (λ none. absurd (omega (arith, none, many))))))))
 
--- `Holds` is true once the station has begun
+-- `Holds` is true once the station has synchronized
 begun_for : (plan : Plan) (p : Progress) (w : Waiting) → Awake p → has_begun p ≡ true → is_stopping p w ≡ false → Holds plan p w (action_begun plan p w)
 begun_for plan p w awake begun goes =
     either (Holds plan p w) (action_waiting plan p w) _ (is_held_back p w) (λ held. held_back_for plan p w awake begun held)
     (λ free. let only = goes_only p w (awake_up p awake) begun goes free in either (Holds plan p w) _ _ (is_preparing plan p w)
     (λ on. preparing_for plan p w awake begun (unasked only (both_true p.preparing _ on).0) on) (λ done. cycle_for plan p w awake begun only done)) where
-      -- while the set-up isn't done, the end of the run wasn't asked for
+      -- while the setup isn't done, the end of the run wasn't asked for
       unasked : GoesOnly p → p.preparing ≡ true → p.stops ≡ false
       unasked only on = never_true p.stops (λ stops. let ready = (only stops).2 in let both : true ≡ false = sym on ∙ ready in cc)
 
--- `Holds` is true while the station begins
+-- `Holds` is true while the station synchronizes
 beginning_for : (plan : Plan) (p : Progress) (w : Waiting) → Awake p → has_begun p ≡ false → Holds plan p w (action_beginning plan p w)
 beginning_for plan p w awake begun =
     let P = Holds plan p w in
@@ -385,7 +390,7 @@ closing_wakes : (p : Progress) (why : Cause) → p.phase ≡ Closing why → Wak
 closing_wakes p cause.Dead is = inl is
 closing_wakes p why is = tt
 
--- `Holds` is true in each phase, where turns are left and the moment was told
+-- `Holds` is true in each phase, where turns are left and the moment was read
 told_for : (plan : Plan) (phase : Phase) (p : Progress) (w : Waiting) → p.phase ≡ phase → p.stale ≡ false → is_stopping p w ≡ false → Holds plan p w (action_told plan phase p w)
 told_for plan Down p w is now goes = (is, now, tt)
 told_for plan Pausing p w is now goes = (tt, (now, λ c. let other : Pausing ≡ Clearing = sym is ∙ c in cc), tt)
@@ -395,12 +400,12 @@ told_for plan Ready p w is now goes = ready plan p w (now, is) goes
 told_for plan (Closing why) p w is now goes = ((has_one why p (ap is_up is), inl is), tt, closing_wakes p why is)
 told_for plan (Over why) p w is now goes = ((ap is_up is, inl is), tt, tt)
 
--- `Holds` is true where all turns are used up
+-- `Holds` is true if all turns are used up
 up_for : (plan : Plan) (p : Progress) (w : Waiting) (up : Bool) → is_up p.phase ≡ up → p.turns ≡ 0 → Holds plan p w (action_up up)
 up_for plan p w true is none = ((is, inr none), tt, tt)
 up_for plan p w false is none = ((is, inr (refl, none)), tt, tt)
 
--- `Holds` is true where the end isn't decided yet
+-- `Holds` is true if the end isn't decided yet
 on_for : (plan : Plan) (p : Progress) (w : Waiting) → Holds plan p w (action_on plan p w)
 on_for plan p w =
     let P = Holds plan p w in
@@ -420,11 +425,11 @@ in_for plan phase p w is = on_for plan p w
 pub action_for : (plan : Plan) (p : Progress) (w : Waiting) → IsFor plan p w (action_of plan p w)
 action_for plan p w = (in_for plan p.phase p w refl).0
 
--- the action that is next is `Timely`: it reads the clock where the moment is out of date, and connects or reads where it isn't
+-- the action that is next is `Timely`: it reads the clock if the moment is out of date, and connects or reads if it isn't
 pub order_timely : (plan : Plan) (p : Progress) (w : Waiting) → Timely p (action_of plan p w)
 order_timely plan p w = (in_for plan p.phase p w refl).1
 
--- where a request, a new beginning or the close of a dead line is next, requests may go out, and the moment was told
+-- if a request, a new synchronization or the close of a dead line is next, requests may be sent, and the moment was read
 pub order_wakes : (plan : Plan) (p : Progress) (w : Waiting) → Wakes p (action_of plan p w)
 order_wakes plan p w = (in_for plan p.phase p w refl).2
 

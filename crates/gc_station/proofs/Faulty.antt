@@ -1,5 +1,5 @@
--- A run that stopped for a cause fails with the fault of that cause. An act is one call of the link, with what came of it.
--- `told` and `told'` are what the link had told before the run and after it, `taken` and `taken'` what the book had taken.
+-- A run that stopped for a cause fails with the fault of that cause. An act is one call on the link, with its result. `told`
+-- and `told'` are what the link had recorded before the run and after it, `taken` and `taken'` what the book had taken.
 use Rattle.std.proofs.Common.{◌≡◌, ℕ, List, Option, Some, Err, refl, subst}
 use Rattle.gc_links.specs.Acts.{Act}
 use Rattle.gc_texts.specs.declared.fault.RunFault.{RunFault}

@@ -1,7 +1,6 @@
--- A run, part by part (a part reaches from one beginning to the next): the records that the client's steps of each part write
--- down are those of the run. An act is one call of the link, with what came of it. Steps of the client are to send, to hear a
--- line, to be told a moment and to restart. `BooksInParts` says that these steps, part by part, write down the records of a
--- model.
+-- A run, part by part (a part reaches from one synchronization to the next): the records that the client's steps of each part
+-- record are those of the run. An act is one call on the link, with its result. Steps of the client are to send, to hear a
+-- line, to read the clock and to restart. `BooksInParts` says that these steps, part by part, write the records of a model.
 use Rattle.std.proofs.Common.{◌≡◌, ℕ, ◌&&◌, Bool, true, false, List, [], ◌∷◌, ◌++◌, length, map, drop, Option, refl, sym, ◌∙◌, ap, subst, append_assoc, append-nil}
 use Rattle.std.proofs.lemmas.List.{nil_from_length}
 use Rattle.gc_catalogue.specs.declared.answer.Reading.{Reading}
@@ -18,16 +17,17 @@ use Rattle.gc_station.specs.Parts.{Turn, Part, nothing, joined, acting, in_front
 use Rattle.gc_station.specs.Progressing.{turned, loses_all}
 use Rattle.gc_station.specs.Records.{Record}
 use Rattle.gc_station.specs.Model.{Model, action_at, waiting_of, with_progress, moved, losing, after, after_all, Runs}
-use Rattle.gc_station.proofs.Booking.{Books, books_both, books_nothing, books_restart, records_none, sent_records, restarting}
+use Rattle.gc_station.proofs.Booking.{Books, books_both, books_nothing, books_restart, sent_records, restarting}
 use Rattle.gc_station.proofs.Counts.{losing_progress}
 use Rattle.gc_station.proofs.EachRun.{fine_after, mid_moved}
 use Rattle.gc_station.proofs.Facts.{action_for}
 use Rattle.gc_station.proofs.Invariant.{Invariant}
 use Rattle.gc_station.proofs.Parting.{Leads, leads, keeps_action}
 use Rattle.gc_station.proofs.Readings.{moved_reads, ended_reads}
+use Rattle.gc_station.proofs.Records.{records-none}
 
--- the steps of these parts, from this client, these marks and these records on, lead to the model `end`: after each part but the
--- last the client restarts, and what waits is written down as lost
+-- the steps of these parts, from this client, these marks and these records on, lead to the model `end`: after each part but
+-- the last the client restarts, and what is outstanding is recorded as lost
 abbrev pub BooksInParts : (Asked → List ℕ → Reading) → List Task → ById Asked → List (Option Mark) → List Record → List Part → Model → Type 0
 BooksInParts reads commands c ms rs [] end = ⊥
 BooksInParts reads commands c ms rs (p ∷ []) end = Books reads commands c ms rs p end.client end.marks (sent_of end.records)
@@ -41,13 +41,13 @@ joined_assoc p q r =
     ∙ ap (λ (steps : List (Step Asked)). record { turns = p.turns ++ (q.turns ++ r.turns); steps = steps; marks = (p.marks ++ q.marks) ++ r.marks }) (append_assoc p.steps q.steps r.steps)
     ∙ ap (λ (marks : List (Option Mark)). record { turns = p.turns ++ (q.turns ++ r.turns); steps = p.steps ++ (q.steps ++ r.steps); marks = marks }) (append_assoc p.marks q.marks r.marks)
 
--- `BooksInParts` with one more part in front, after which the client restarts
+-- `BooksInParts` with one more part before it, after which the client restarts
 follows_cut : (reads : Asked → List ℕ → Reading) (commands : List Task) (c : ById Asked) (ms : List (Option Mark)) (rs mid : List Record) (p : Part) (ps : List Part) (end : Model)
     → Books reads commands c ms rs (joined p restarting) fresh [] mid → BooksInParts reads commands fresh [] mid ps end → BooksInParts reads commands c ms rs (p ∷ ps) end
 follows_cut reads commands c ms rs mid p [] end h g = absurd g
 follows_cut reads commands c ms rs mid p (q ∷ ps) end h g = (mid, h, g)
 
--- `BooksInParts` with a part in front that is joined to the first of them
+-- `BooksInParts` with a part before it that is joined to the first of them
 follows_on : (reads : Asked → List ℕ → Reading) (commands : List Task) (c c1 : ById Asked) (ms ms1 : List (Option Mark)) (rs rs1 : List Record) (p : Part) (ps : List Part) (end : Model)
     → Books reads commands c ms rs p c1 ms1 rs1 → BooksInParts reads commands c1 ms1 rs1 ps end → BooksInParts reads commands c ms rs (in_front p false ps) end
 follows_on reads commands c c1 ms ms1 rs rs1 p [] end h g = absurd g
@@ -58,7 +58,7 @@ follows_on reads commands c c1 ms ms1 rs rs1 p (q ∷ next ∷ ps) end h g =
 
 -- After an act.
 
--- where all that wait are lost, the client restarts
+-- if all outstanding requests are lost, the client restarts
 leads_lost : (commands : List Task) (t : Model) (b : Bool) → b ≡ true → length t.marks ≡ length t.client.waiting → Leads commands t restarting (losing b t)
 leads_lost commands t true is paired =
     subst (λ (rs : List Record). Books t.reads commands t.client t.marks (sent_of t.records) restarting fresh
@@ -66,30 +66,30 @@ leads_lost commands t true is paired =
     (books_restart t.reads commands t.client t.marks (sent_of t.records) t.progress.moment.utc paired)
 leads_lost commands t false is paired = cc
 
--- where all that wait are lost, the client is new
+-- if all outstanding requests are lost, the client is new
 lost_fresh : (t : Model) (b : Bool) → b ≡ true → (losing b t).client ≡ fresh
 lost_fresh t true is = refl
 lost_fresh t false is = cc
 
--- where nothing is lost, the model stays
+-- if nothing is lost, the model stays
 kept_same : (t : Model) (b : Bool) → b ≡ false → losing b t ≡ t
 kept_same t true is = cc
 kept_same t false is = refl
 
--- where the client is new nothing waits, so a restart writes nothing down
+-- if the client is new nothing is outstanding, so a restart records nothing
 leads_idle : (reads : Asked → List ℕ → Reading) (commands : List Task) (c : ById Asked) (ms : List (Option Mark)) (rs : List Record) (utc : ℕ) → c ≡ fresh
     → Books reads commands c ms (sent_of rs) nothing fresh (drop (length (map lost c.waiting)) ms) (sent_of (rs ++ records_of reads utc ms (map lost c.waiting)))
 leads_idle reads commands c ms rs utc is =
     subst (λ (d : ById Asked). Books reads commands d ms (sent_of rs) nothing fresh (drop (length (map lost d.waiting)) ms) (sent_of (rs ++ records_of reads utc ms (map lost d.waiting)))) (sym is)
     (subst (λ (l : List Record). Books reads commands fresh ms (sent_of rs) nothing fresh ms (sent_of l))
-    (sym (ap (λ l. rs ++ l) (records_none reads utc ms) ∙ append-nil rs)) (books_nothing reads commands fresh ms (sent_of rs)))
+    (sym (ap (λ l. rs ++ l) (records-none reads utc ms) ∙ append-nil rs)) (books_nothing reads commands fresh ms (sent_of rs)))
 
--- where the client is new, a loss of what waits leads on by the part in which nothing happens
+-- if the client is new, a loss of what is outstanding leads on by the part in which nothing happens
 idle_lost : (commands : List Task) (t : Model) (b : Bool) → t.client ≡ fresh → Leads commands t nothing (losing b t)
 idle_lost commands t true is = leads_idle t.reads commands t.client t.marks t.records t.progress.moment.utc is
 idle_lost commands t false is = books_nothing t.reads commands t.client t.marks (sent_of t.records)
 
--- a part with nothing behind it is that part
+-- a part with nothing after it is that part
 joined_nothing : (p : Part) → joined p nothing ≡ p
 joined_nothing p =
     ap (λ (turns : List Turn). record { turns = turns; steps = p.steps ++ []; marks = p.marks ++ [] }) (append-nil p.turns)
@@ -105,7 +105,7 @@ leads_by : (reads : Asked → List ℕ → Reading) (commands : List Task) (s : 
 leads_by reads commands s p t is h = subst (λ (r : Asked → List ℕ → Reading). LeadsBy r commands s p t) is h
 
 module _ (plan : Plan) (commands : List Task) (reads : Asked → List ℕ → Reading) where
-  -- where the client is new, as while the station begins, `LeadsBy` holds after the loss, too
+  -- if the client is new, as while the station synchronizes, `LeadsBy` holds after the loss, too
   leads_idly : (s : Model) (p : Part) (t : Model) → t.reads ≡ reads → t.client ≡ fresh → LeadsBy reads commands s p t → LeadsBy reads commands s p (losing (loses_all t.progress) t)
   leads_idly s p t same is h =
       let u = losing (loses_all t.progress) t in
@@ -114,8 +114,8 @@ module _ (plan : Plan) (commands : List Task) (reads : Asked → List ℕ → Re
       (leads_by reads commands t nothing u same (idle_lost commands t (loses_all t.progress) is)))
 
   -- an act leads from the model s to t by its part p, and the parts `ps` of later acts lead from the model after the act to
-  -- `end`: then p and `ps` lead from s to `end` (`BooksInParts`). p is a part of its own where the station had begun and all
-  -- that waits is lost, and else the front of the first part of `ps`
+  -- `end`: then p and `ps` lead from s to `end` (`BooksInParts`). p is a part of its own if the station had synchronized and
+  -- all that is outstanding is lost, and else the front of the first part of `ps`
   one_more : (s : Model) (p : Part) (t : Model) (ps : List Part) (end : Model) (begun lost_all : Bool) → t.reads ≡ reads → has_begun s.progress ≡ begun → loses_all t.progress ≡ lost_all
       → Invariant plan commands s → Invariant plan commands (losing (loses_all t.progress) t) → length t.marks ≡ length t.client.waiting
       → LeadsBy reads commands s p t → (has_begun s.progress ≡ false → LeadsBy reads commands s p (losing (loses_all t.progress) t))
@@ -140,7 +140,7 @@ module _ (plan : Plan) (commands : List Task) (reads : Asked → List ℕ → Re
       (subst (λ (ms : List (Option Mark)). BooksInParts reads commands fresh ms (sent_of u.records) ps end) none
       (subst (λ (c : ById Asked). BooksInParts reads commands c u.marks (sent_of u.records) ps end) new others))
 
-  -- the records of a run are those that its parts write down
+  -- the records of a run are those that its parts record
   pub follows : (s : Model) (acts : List Act) → s.reads ≡ reads → Invariant plan commands s → Runs plan commands s acts
       → BooksInParts reads commands s.client s.marks (sent_of s.records) (parts_of plan commands s acts) (after_all plan commands s acts)
   follows s [] is_so fine runs = books_nothing reads commands s.client s.marks (sent_of s.records)

@@ -1,5 +1,5 @@
--- A run never goes back: after a send the station is at a later place of the cycle, or in a later cycle. An act is one call of
--- the link, with what came of it. `NotBack p q`: the progress q isn't at an earlier cycle or place than p.
+-- A run never goes back: after a send the station is at a later place of the cycle, or in a later cycle. An act is one call on
+-- the link, with its result. `NotBack p q`: the progress q isn't at an earlier cycle or place than p.
 use Rattle.std.proofs.Common.{◌≡◌, ◌⊎◌, inl, inr, ℕ, ◌-◌, ◌<◌, ◌≤◌, List, [], ◌∷◌, ◌++◌, refl, sym, ap, ◌∙◌, subst, arith}
 use Rattle.gc_texts.specs.declared.tasks.Task.{Task}
 use Rattle.gc_station.specs.declared.plan.Plan.{Plan}
@@ -11,7 +11,7 @@ use Rattle.gc_links.specs.Acts.{Act}
 use Rattle.gc_station.specs.EachOnce.{IsFurther}
 use Rattle.gc_station.specs.Progressing.{turned}
 use Rattle.gc_station.specs.Reasons.{IsFor}
-use Rattle.gc_station.specs.Runs.{stood}
+use Rattle.gc_station.specs.Runs.{state_after}
 use Rattle.gc_station.specs.Model.{Model, cycle_length, opening, action_at, waiting_of, with_progress, moved, after, after_all}
 use Rattle.gc_station.proofs.Going.{after_all-append}
 use Rattle.gc_station.proofs.Counts.{Kept, Counts, moved_counts, ended_progress}
@@ -24,7 +24,7 @@ use Rattle.gc_station.specs.Scopes.{Scope}
 abbrev NotBack : Progress → Progress → Type 0
 NotBack p q = (q.left < p.left) ⊎ ((q.left ≡ p.left) × (q.unsent ≤ p.unsent))
 
--- where the counts are kept, the progress doesn't go back
+-- if the counts are kept, the progress doesn't go back
 kept_there : (p t q : Progress) → t.left ≡ p.left → t.unsent ≡ p.unsent → Kept t q → NotBack p q
 kept_there p t q left unsent k = inr (k.left ∙ left, omega (arith, k.unsent, unsent))
 
@@ -69,10 +69,10 @@ further plan commands s t q fine there some left unsent (inr same) =
     inr (ap (λ (n : ℕ). plan.cycles - n) (sym (same.0 ∙ left)), omega (arith, same.1, unsent, some, fine.unsent, there.unsent))
 
 -- after an act that sends a command, and any further acts, a station is at a later place of the cycle, or in a later cycle
-pub send_goes_on : (plan : Plan) (commands : List Task) (scope : Scope) (earlier later : List Act) (act : Act) → action_at plan (stood plan commands scope earlier) ≡ action.Send
-    → IsFurther plan commands (stood plan commands scope earlier) (stood plan commands scope (earlier ++ act ∷ later))
+pub send_goes_on : (plan : Plan) (commands : List Task) (scope : Scope) (earlier later : List Act) (act : Act) → action_at plan (state_after plan commands scope earlier) ≡ action.Send
+    → IsFurther plan commands (state_after plan commands scope earlier) (state_after plan commands scope (earlier ++ act ∷ later))
 send_goes_on plan commands scope earlier later act is =
-    let s = stood plan commands scope earlier in
+    let s = state_after plan commands scope earlier in
     let next = after plan commands s act in
     let w = waiting_of s in
     let needs = subst (λ (o : Action). IsFor plan s.progress w o) is (action_for plan s.progress w) in
@@ -82,6 +82,6 @@ send_goes_on plan commands scope earlier later act is =
     let k = moved_counts plan commands action.Send (with_progress turned s) act in
     let whole = after_all-append plan commands (opening plan scope) earlier (act ∷ later) in
     let on = subst (λ (t : Model). NotBack next.progress t.progress) (sym whole) (all_on plan commands next later) in
-    further plan commands s (stood plan commands scope (earlier ++ act ∷ later)) next.progress (fine_stood plan commands scope earlier)
+    further plan commands s (state_after plan commands scope (earlier ++ act ∷ later)) next.progress (fine_stood plan commands scope earlier)
     (fine_stood plan commands scope (earlier ++ act ∷ later)) needs.2
     (ap (λ (p : Progress). p.left) next_is ∙ k.left) (ap (λ (p : Progress). p.unsent) next_is ∙ k.unsent) on

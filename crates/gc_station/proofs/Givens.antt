@@ -1,5 +1,5 @@
--- The bytes of a line that a station keeps are those that came on this connection behind the last line feed (`rest_of`). An act
--- is one call of the link, with what came of it. A piece is the bytes that one read gave.
+-- The bytes of a line that a station keeps are those that came on this connection after the last line feed (`rest_of`). An act
+-- is one call on the link, with its result. A piece is the bytes that one read gave.
 use Rattle.std.proofs.Common.{◌≡◌, ℕ, Bool, true, false, List, [], ◌∷◌, if◌then◌else◌, refl, sym, ap, ◌∙◌}
 use Rattle.gc_lines.specs.Frames.{rest_behind, rest_of}
 use Rattle.gc_lines.proofs.Cutting.{rest-append}
@@ -8,10 +8,10 @@ use Rattle.gc_station.specs.declared.plan.Plan.{Plan}
 use Rattle.gc_station.specs.declared.progress.Action.{Action}
 use Rattle.gc_station.specs.declared.progress.Action.TheVariants as actions
 use Rattle.gc_links.specs.Acts.{Act, Gave, Closed}
-use Rattle.gc_station.specs.Given.{given_with, given_behind, given}
-use Rattle.gc_station.specs.Progressing.{turned, told, loses_all}
-use Rattle.gc_station.specs.Runs.{stood}
-use Rattle.gc_station.specs.Model.{Model, opening, action_at, with_progress, with_moment, with_rest, lines_behind, came, is_heard, Performs, moved, losing, after, after_all, Runs}
+use Rattle.gc_station.specs.Given.{bytes_heard_with, bytes_heard_from, bytes_heard}
+use Rattle.gc_station.specs.Progressing.{turned, moment_noted, loses_all}
+use Rattle.gc_station.specs.Runs.{state_after}
+use Rattle.gc_station.specs.Model.{Model, opening, action_at, with_progress, with_moment, with_rest, lines_completed, after_piece, is_heard, Performs, moved, losing, after, after_all, Runs}
 use Rattle.gc_station.proofs.Walk.{lines_along, walk}
 use Rattle.gc_station.specs.Scopes.{Scope}
 
@@ -23,8 +23,8 @@ rest_with heard Closed rest = []
 rest_with heard act rest = rest
 
 -- the bytes of a line that are kept after a piece
-came_rest : (heard : Bool) (word piece : List ℕ) (s : Model) → (came heard word piece s).rest ≡ (if heard then rest_behind s.rest piece else s.rest)
-came_rest true [] piece s = lines_along (λ (t : Model). t.rest ≡ rest_behind s.rest piece) (λ t line e. e) (with_rest (rest_behind s.rest piece) s) (lines_behind s.rest piece) refl
+came_rest : (heard : Bool) (word piece : List ℕ) (s : Model) → (after_piece heard word piece s).rest ≡ (if heard then rest_behind s.rest piece else s.rest)
+came_rest true [] piece s = lines_along (λ (t : Model). t.rest ≡ rest_behind s.rest piece) (λ t line e. e) (with_rest (rest_behind s.rest piece) s) (lines_completed s.rest piece) refl
 came_rest true (asked ∷ others) piece s = refl
 came_rest false word piece s = refl
 
@@ -36,12 +36,12 @@ LeavesSo s act t = t.rest ≡ rest_with (is_heard s.progress.phase) act s.rest
 moved_rest : (plan : Plan) (commands : List Task) (next : Action) (s : Model) (act : Act) → Performs commands s next act → LeavesSo s act (moved plan commands next (with_progress turned s) act)
 moved_rest plan commands (actions.Read until) s act o =
     walk plan commands (LeavesSo s) (actions.Read until) (with_progress turned s) act o
-    (λ bytes m. came_rest (is_heard s.progress.phase) s.progress.word bytes (with_moment m (with_progress (told m) (with_progress turned s))), λ m. refl, refl, refl, refl)
+    (λ bytes m. came_rest (is_heard s.progress.phase) s.progress.word bytes (with_moment m (with_progress (moment_noted m) (with_progress turned s))), λ m. refl, refl, refl, refl)
 moved_rest plan commands (actions.Close why) s act o = walk plan commands (LeavesSo s) (actions.Close why) (with_progress turned s) act o refl
 moved_rest plan commands (actions.Stop why) s act o = absurd o
 moved_rest plan commands next s act o = walk plan commands (LeavesSo s) next (with_progress turned s) act o (λ m. refl, λ n. refl)
 
--- the loss of what waits leaves the bytes of a line
+-- the loss of what is outstanding leaves the bytes of a line
 losing_rest : (all : Bool) (s : Model) → (losing all s).rest ≡ s.rest
 losing_rest true s = refl
 losing_rest false s = refl
@@ -53,21 +53,21 @@ after_rest plan commands s act o = let t = moved plan commands (action_at plan s
     losing_rest (loses_all t.progress) t ∙ moved_rest plan commands (action_at plan s) s act o
 
 -- the bytes kept of all that came, after one act more, are what the act makes of the bytes kept before it
-joined : (heard : Bool) (act : Act) (bytes : List ℕ) → rest_with heard act (rest_of bytes) ≡ rest_of (given_with heard act bytes)
+joined : (heard : Bool) (act : Act) (bytes : List ℕ) → rest_with heard act (rest_of bytes) ≡ rest_of (bytes_heard_with heard act bytes)
 joined true (Gave piece m) bytes = sym (rest-append [] bytes piece)
 joined false (Gave piece m) bytes = refl
 joined heard act bytes = refl
 
--- if the bytes that are kept are the rest of `bytes`, after any acts they are the rest of what `given_behind` makes of `bytes`
+-- if the bytes that are kept are the rest of `bytes`, after any acts they are the rest of what `bytes_heard_from` makes of `bytes`
 along_given : (plan : Plan) (commands : List Task) (s : Model) (bytes : List ℕ) (acts : List Act) → s.rest ≡ rest_of bytes → Runs plan commands s acts
-    → (after_all plan commands s acts).rest ≡ rest_of (given_behind plan commands s bytes acts)
+    → (after_all plan commands s acts).rest ≡ rest_of (bytes_heard_from plan commands s bytes acts)
 along_given plan commands s bytes [] same runs = same
 along_given plan commands s bytes (act ∷ acts) same runs =
     let heard = is_heard s.progress.phase in
-    along_given plan commands (after plan commands s act) (given_with heard act bytes) acts
+    along_given plan commands (after plan commands s act) (bytes_heard_with heard act bytes) acts
     (after_rest plan commands s act runs.0 ∙ ap (λ r. rest_with heard act r) same ∙ joined heard act bytes) runs.1
 
 -- the bytes of a line that a station keeps are the rest of what came on its connection
 pub rest_given : (plan : Plan) (commands : List Task) (scope : Scope) (acts : List Act) → Runs plan commands (opening plan scope) acts
-    → (stood plan commands scope acts).rest ≡ rest_of (given plan commands scope acts)
+    → (state_after plan commands scope acts).rest ≡ rest_of (bytes_heard plan commands scope acts)
 rest_given plan commands scope acts runs = along_given plan commands (opening plan scope) [] acts refl runs

@@ -1,7 +1,7 @@
--- Each command goes out behind a call of the table. What an act does to how many requests are behind the last such call that a
--- reply ended is what the client's steps of its part do (`counted`); so it is that of the course since the beginning, and a command
--- goes out only where it is below seven. A course is what a client has sent and settled so far, and the client after that; a part
--- reaches from one beginning to the next. An act is one call of the link, with what came of it.
+-- Each command is sent after a call of the table. What an act does to how many requests are after the last such call that a
+-- reply ended is what the client's steps of its part do (`counted`); so it is that of the course since the synchronization, and
+-- a command is sent only if it is below seven. A course is what a client has sent and settled so far, and the client after
+-- that; a part reaches from one synchronization to the next. An act is one call on the link, with its result.
 use Rattle.std.proofs.Common.{◌≡◌, ◌⊎◌, inl, inr, ℕ, zero, suc, ◌+◌, ◌-◌, ◌<◌, ◌&&◌, ◌||◌, Bool, true, false, List, [], ◌∷◌, ◌++◌, length, map, drop, Option, Some, None, refl, sym, ap, ◌∙◌, subst, arith, append_assoc, append-nil, if◌then◌else◌, length-drop}
 use Rattle.std.specs.Prelude.{slice_get, not}
 use Rattle.std.specs.List.{AllByRecursion}
@@ -20,18 +20,18 @@ use Rattle.gc_station.specs.declared.progress.Progress.{Progress}
 use Rattle.gc_station.specs.Behind.{IsNearTheTable, CommandsGoOutBehindTheTable}
 use Rattle.gc_station.specs.Deciding.{has_begun, is_none_left}
 use Rattle.gc_station.specs.Parts.{Part, joined, putting, asking_first, hearing, doing, beginning, acting, in_front, parts_of, asking_or_null}
-use Rattle.gc_station.specs.Progressing.{one_more, turned, told, time_passed, loses_all}
+use Rattle.gc_station.specs.Progressing.{one_more, turned, moment_noted, time_passed, loses_all}
 use Rattle.gc_station.specs.Reasons.{IsFor}
-use Rattle.gc_station.specs.Model.{Model, opening, action_at, waiting_of, place_next, mark_next, is_heard, with_progress, with_moment, with_rest, line_came, lines_came, lines_behind, came, moved, losing, after, Performs, Runs, mark_setup}
+use Rattle.gc_station.specs.Model.{Model, opening, action_at, waiting_of, place_next, mark_next, is_heard, with_progress, with_moment, with_rest, line_came, lines_came, lines_completed, after_piece, moved, losing, after, Performs, Runs, mark_setup}
 use Rattle.gc_station.proofs.Behind.{behind_by, Counts, counts_steps, near_so, reached, get_behind, course_append}
 use Rattle.gc_station.proofs.Booking.{client_after, sent_by, course_sent, course_client, sent_append, of_length}
 use Rattle.gc_station.proofs.Counts.{losing_progress}
 use Rattle.gc_station.proofs.EachRun.{fine_after, fine_opening}
 use Rattle.gc_station.proofs.Facts.{action_for}
 use Rattle.gc_station.proofs.Invariant.{Invariant}
-use Rattle.gc_station.proofs.Midway.{clash}
 use Rattle.gc_station.proofs.Parting.{Leads, leads, keeps_action}
 use Rattle.gc_station.proofs.Walk.{quieted_along, closed_along, walk}
+use Rattle.gc_station.proofs.Ticking.{not_both}
 
 -- What an act does.
 
@@ -41,9 +41,9 @@ lines_counted s [] = refl
 lines_counted s (line ∷ others) = lines_counted (line_came s line) others
 
 -- a piece does what the steps do that hear its lines
-came_counted : (h : Bool) (word piece : List ℕ) (s : Model) → is_none_left word ≡ true → (came h word piece s).progress.behind ≡ behind_by s.client s.progress.behind (hearing h s.rest piece)
+came_counted : (h : Bool) (word piece : List ℕ) (s : Model) → is_none_left word ≡ true → (after_piece h word piece s).progress.behind ≡ behind_by s.client s.progress.behind (hearing h s.rest piece)
 came_counted true (asked ∷ others) piece s begun = cc
-came_counted true [] piece s begun = lines_counted (with_rest (rest_behind s.rest piece) s) (lines_behind s.rest piece)
+came_counted true [] piece s begun = lines_counted (with_rest (rest_behind s.rest piece) s) (lines_completed s.rest piece)
 came_counted false word piece s begun = refl
 
 -- the first of some commands is one request more
@@ -51,7 +51,7 @@ first_counted : (c : ById Asked) (b now : ℕ) (mark : Mark) (left : List Task) 
 first_counted c b now mark [] some = absurd (omega (arith, some))
 first_counted c b now mark (task ∷ others) some = refl
 
--- the first of some commands of the set-up is one request more
+-- the first of some commands of the setup is one request more
 setup_counted : (plan : Plan) (c : ById Asked) (b now : ℕ) (mark : Mark) (left : List Task) → one_more b ≡ behind_by c b (asking_or_null plan now mark left).steps
 setup_counted plan c b now mark [] = refl
 setup_counted plan c b now mark (task ∷ others) = refl
@@ -61,13 +61,13 @@ module _ (plan : Plan) (commands : List Task) where
   abbrev IsCounted : Action → Model → Act → Model → Type 0
   IsCounted o s act t = t.progress.behind ≡ behind_by s.client s.progress.behind (doing plan commands s o act).steps
 
-  -- once the station has begun, each act does what the steps of its part do, unless the station begins anew
+  -- once the station has synchronized, each act does what the steps of its part do, unless the station resynchronizes
   pub counted : (s : Model) (o : Action) (act : Act) → Invariant plan commands s → IsFor plan s.progress (waiting_of s) o → Performs commands s o act → has_begun s.progress ≡ true
       → has_begun (moved plan commands o (with_progress turned s) act).progress ≡ true → IsCounted o s act (moved plan commands o (with_progress turned s) act)
   counted s action.Renew (Told m) fine is obeys begun still = cc
   counted s action.Renew Untold fine is obeys begun still = refl
   counted s action.Renew act fine is obeys begun still = absurd obeys
-  counted s action.Ask act fine is obeys begun still = absurd (clash (has_begun s.progress) begun is.1)
+  counted s action.Ask act fine is obeys begun still = absurd (not_both (has_begun s.progress) begun is.1)
   counted s action.Prepare act fine is obeys begun still =
       let one = setup_counted plan s.client s.progress.behind s.progress.moment.elapsed (mark_setup commands s.progress) (drop s.progress.prepared commands) in
       walk plan commands (IsCounted action.Prepare s) action.Prepare (with_progress turned s) act obeys (λ m. one, λ n. one)
@@ -78,7 +78,7 @@ module _ (plan : Plan) (commands : List Task) where
       walk plan commands (IsCounted action.Send s) action.Send (with_progress turned s) act obeys (λ m. one, λ n. one)
   counted s (action.Read until) act fine is obeys begun still =
       walk plan commands (IsCounted (action.Read until) s) (action.Read until) (with_progress turned s) act obeys (
-        λ bytes m. came_counted (is_heard s.progress.phase) s.progress.word bytes (with_moment m (with_progress (told m) (with_progress turned s))) begun,
+        λ bytes m. came_counted (is_heard s.progress.phase) s.progress.word bytes (with_moment m (with_progress (moment_noted m) (with_progress turned s))) begun,
         λ m. quieted_along (λ (q : Progress). q.behind ≡ s.progress.behind) plan s.progress.phase (time_passed until m (turned s.progress)) refl refl refl,
         refl,
         refl,
@@ -109,33 +109,33 @@ hears_nothing : (lines : List (List ℕ)) → AllByRecursion SendsNothing (map H
 hears_nothing [] = tt
 hears_nothing (line ∷ others) = (tt, hears_nothing others)
 
--- a piece that is heard, or dropped, sends nothing
+-- a piece that is heard, or discarded, sends nothing
 hearing_nothing : (h : Bool) (rest piece : List ℕ) → AllByRecursion SendsNothing (hearing h rest piece)
-hearing_nothing true rest piece = hears_nothing (lines_behind rest piece)
+hearing_nothing true rest piece = hears_nothing (lines_completed rest piece)
 hearing_nothing false rest piece = tt
 
--- in front of the only step there is none
+-- a list of one step has nothing before that step
 one_step : (x : Step Asked) (front later : List (Step Asked)) (target : ℕ) (call : Asked) (deadline : ℕ) → x ∷ [] ≡ front ++ Send target call deadline ∷ later → front ≡ []
 one_step x [] later target call deadline e = refl
 one_step x (f ∷ []) later target call deadline e = cc
 one_step x (f ∷ g ∷ front) later target call deadline e = cc
 
 module _ (plan : Plan) (commands : List Task) (s : Model) (k : ById Asked) (more : List (Option Mark)) (front later : List (Step Asked)) (target : ℕ) (call : Asked) (deadline : ℕ) (mark : Mark) where
-  -- in this part a command goes out behind the steps `front`
+  -- in this part a command is sent after the steps `front`
   abbrev GoesOut : Part → Type 0
   GoesOut p = (p.steps ≡ front ++ Send target call deadline ∷ later) × (slice_get (p.marks ++ more) (length (sent_by k front)) ≡ Some (Some mark))
 
-  -- where one of some commands goes out, it is the first
+  -- if one of some commands is sent, it is the first
   first_so : (now : ℕ) (its : Mark) (left : List Task) → GoesOut (asking_first now its left) → front ≡ []
   first_so now its [] h = absurd (no_send [] front later target call deadline tt h.0)
   first_so now its (task ∷ others) h = one_step _ front later target call deadline h.0
 
-  -- where one of some commands of the set-up goes out, or a null procedure for it, it is the first
+  -- if one of some commands of the setup is sent, or a null procedure for it, it is the first
   setup_so : (now : ℕ) (its : Mark) (left : List Task) → GoesOut (asking_or_null plan now its left) → front ≡ []
   setup_so now its [] h = one_step _ front later target call deadline h.0
   setup_so now its (task ∷ others) h = one_step _ front later target call deadline h.0
 
-  -- this action sends a command: of a cycle, or of the set-up
+  -- this action sends a command: of a cycle, or of the setup
   abbrev Sends : Action → Type 0
   Sends o = (o ≡ action.Send) ⊎ (o ≡ action.Prepare)
 
@@ -150,7 +150,7 @@ module _ (plan : Plan) (commands : List Task) (s : Model) (k : ById Asked) (more
   put_so action.Prepare h = (setup_so s.progress.moment.elapsed (mark_setup commands s.progress) (drop s.progress.prepared commands) h, inr refl)
   put_so o h = absurd (no_send [] front later target call deadline tt h.0)
 
-  -- an act at which a command goes out, once the station has begun, sends the next command
+  -- an act at which a command is sent, once the station has synchronized, sends the next command
   do_so : (o : Action) (act : Act) → GoesOut (doing plan commands s o act) → (front ≡ []) × Sends o
   do_so o (Told m) h = absurd (no_send (Expire m.elapsed ∷ []) front later target call deadline (tt, tt) h.0)
   do_so o (Silent m) h = absurd (no_send (Expire m.elapsed ∷ []) front later target call deadline (tt, tt) h.0)
@@ -160,7 +160,7 @@ module _ (plan : Plan) (commands : List Task) (s : Model) (k : ById Asked) (more
   do_so o (Cut bytes count) h = put_so o h
   do_so o act h = absurd (no_send [] front later target call deadline tt h.0)
 
-  -- no command goes out while the station begins
+  -- no command is sent while the station synchronizes
   begin_not : (o : Action) (act : Act) → GoesOut (beginning s o act) → ⊥
   begin_not action.Ask (Put bytes) h = no_send [] front later target call deadline tt h.0
   begin_not action.Ask (Cut bytes count) h = no_send [] front later target call deadline tt h.0
@@ -169,7 +169,7 @@ module _ (plan : Plan) (commands : List Task) (s : Model) (k : ById Asked) (more
   begin_not (action.Read until) act h = no_send [] front later target call deadline tt h.0
   begin_not o act h = no_send [] front later target call deadline tt h.0
 
-  -- an act at which a command goes out sends the next command
+  -- an act at which a command is sent sends the next command
   act_so : (o : Action) (act : Act) (b : Bool) → GoesOut (if b then doing plan commands s o act else beginning s o act) → (front ≡ []) × Sends o
   act_so o act true h = do_so o act h
   act_so o act false h = absurd (begin_not o act h)
@@ -188,7 +188,7 @@ split (x ∷ xs) ys (f ∷ front) a later e =
     let head : x ≡ f = cc in
     let tails : xs ++ ys ≡ front ++ a ∷ later = cc in
     more (split xs ys front a later tails) head where
-      -- the lemma for one element more in front
+      -- the lemma above, for lists with one element more before both
       more : Splits xs ys front a later → x ≡ f → Splits (x ∷ xs) ys (f ∷ front) a later
       more (inl (mid, is)) head = inl (mid, ap (λ y. y ∷ xs) head ∙ ap (λ l. f ∷ l) is)
       more (inr (rest, is, others)) head = inr (rest, ap (λ l. f ∷ l) is ∙ ap (λ y. y ∷ (xs ++ rest)) (sym head), others)
@@ -201,18 +201,18 @@ all_at P (y ∷ xs) (suc i) x all e = all_at P xs i x all.1 e
 
 -- Runs.
 
--- wherever a command goes out in a part, behind the steps `done` of the same part, a call of the table is near that a reply ended
+-- wherever a command is sent in a part, after the steps `done` of the same part, a call of the table is near that a reply ended
 abbrev IsNear : List (Step Asked) → Part → Type 0
 IsNear done p =
     (front later : List (Step Asked)) (target : ℕ) (call : Asked) (deadline : ℕ) (mark : Mark) → p.steps ≡ front ++ Send target call deadline ∷ later
     → slice_get p.marks (length (sent_by (reached done).client front)) ≡ Some (Some mark) → IsNearTheTable (reached (done ++ front))
 
--- the same in each of these parts, where the steps `done` are in front of the first
+-- `IsNear` holds of each of these parts; the steps `done` come before those of the first
 abbrev AreNear : List (Step Asked) → List Part → Type 0
 AreNear done [] = Unit {0}
 AreNear done (p ∷ ps) = IsNear done p × AllByRecursion (IsNear []) ps
 
--- parts with nothing done before
+-- if `AreNear` holds of parts with nothing done before, `IsNear` holds of each
 near_all : (ps : List Part) → AreNear [] ps → AllByRecursion (IsNear []) ps
 near_all [] h = tt
 near_all (p ∷ ps) h = h
@@ -220,15 +220,15 @@ near_all (p ∷ ps) h = h
 module _ (plan : Plan) (commands : List Task) (s : Model) (o : Action) (act : Act) (done : List (Step Asked)) (fine : Invariant plan commands s)
     (is : IsFor plan s.progress (waiting_of s) o) (obeys : Performs commands s o act) (client : s.client ≡ (reached done).client)
     (counts : Counts (reached done) s.progress.behind) where
-  -- the part of the act
+  -- the client's part of the act
   abbrev p : Part
   p = acting plan commands s o act
 
-  -- what the act leads to
+  -- the act leads from its model to the next by its part
   led : Leads commands s p (moved plan commands o (with_progress turned s) act)
   led = leads plan commands s o act fine is obeys
 
-  -- a command goes out at the act, or behind it, only near a call of the table
+  -- a command is sent at the act, or after it, only near a call of the table
   sends_near : (more : List (Option Mark)) (front later : List (Step Asked)) (target : ℕ) (call : Asked) (deadline : ℕ) (mark : Mark) → p.steps ≡ front ++ Send target call deadline ∷ later
       → slice_get (p.marks ++ more) (length (sent_by (reached done).client front)) ≡ Some (Some mark) → IsNearTheTable (reached (done ++ front))
   sends_near more front later target call deadline mark e at =
@@ -236,7 +236,7 @@ module _ (plan : Plan) (commands : List Task) (s : Model) (o : Action) (act : Ac
       let near = by_action so.1 in
       subst (λ (l : List (Step Asked)). IsNearTheTable (reached l)) (sym (ap (λ l. done ++ l) so.0 ∙ append-nil done))
       (near_so (reached done) s.progress.behind counts near) where
-        -- fewer than seven are behind, where a command goes out
+        -- fewer than seven are after, if a command is sent
         by_action : (o ≡ action.Send) ⊎ (o ≡ action.Prepare) → s.progress.behind < 7
         by_action (inl sends) = (subst (λ (x : Action). IsFor plan s.progress (waiting_of s) x) sends is).5
         by_action (inr prepares) = (subst (λ (x : Action). IsFor plan s.progress (waiting_of s) x) prepares is).4
@@ -248,7 +248,7 @@ module _ (plan : Plan) (commands : List Task) (s : Model) (o : Action) (act : Ac
   -- the steps of the act, and then those of more
   joined_near : (q : Part) → IsNear (done ++ p.steps) q → IsNear done (joined p q)
   joined_near q h front later target call deadline mark e at = by_case (split p.steps q.steps front (Send target call deadline) later e) where
-    -- the lemma above, whether the command goes out at the act or behind it
+    -- the lemma above, whether the command is sent at the act or after it
     by_case : Splits p.steps q.steps front (Send target call deadline) later → IsNearTheTable (reached (done ++ front))
     by_case (inl (mid, here)) = sends_near q.marks front mid target call deadline mark here at
     by_case (inr (rest, is_front, there)) =
@@ -263,25 +263,25 @@ module _ (plan : Plan) (commands : List Task) (s : Model) (o : Action) (act : Ac
         subst (λ (l : List (Step Asked)). IsNearTheTable (reached l)) (append_assoc done p.steps rest ∙ ap (λ l. done ++ l) (sym is_front))
         (h rest later target call deadline mark there (ap (λ (k : ById Asked). slice_get q.marks (length (sent_by k rest))) after ∙ at_q))
 
-  -- the steps of the act alone
+  -- `IsNear` holds of the part of the act alone
   alone_near : IsNear done p
   alone_near front later target call deadline mark e at =
       sends_near [] front later target call deadline mark e (ap (λ l. slice_get l (length (sent_by (reached done).client front))) (append-nil p.marks) ∙ at)
 
-  -- the part of the act in front of others
+  -- `AreNear` holds with the part of the act joined to the first of the others
   front_near : (ps : List Part) → AreNear (done ++ p.steps) ps → AreNear done (in_front p false ps)
   front_near [] h = (alone_near, tt)
   front_near (q ∷ ps) h = (joined_near q h.0, h.1)
 
--- where nothing is lost, the station has begun
+-- if nothing is lost, the station has synchronized
 not_lost : (p : Progress) → loses_all p ≡ false → has_begun p ≡ true
 not_lost p e = by_test (has_begun p) _ e where
-  -- the lemma above, by whether it has begun
+  -- the lemma above, by whether it has synchronized
   by_test : (b over : Bool) → (not b || over) ≡ false → b ≡ true
   by_test true over e = refl
   by_test false over e = cc
 
--- while the station begins, the client takes no step
+-- while the station synchronizes, the client takes no step
 no_steps : (s : Model) (o : Action) (act : Act) → (beginning s o act).steps ≡ []
 no_steps s action.Ask (Put bytes) = refl
 no_steps s action.Ask (Cut bytes count) = refl
@@ -290,55 +290,55 @@ no_steps s (action.Read until) (Gave piece m) = refl
 no_steps s (action.Read until) act = refl
 no_steps s o act = refl
 
--- a new client has sent nothing, so that none of its requests is behind
+-- a new client has sent nothing, so that none of its requests is after
 none_sent : (b : ℕ) → Counts (reached []) b
 none_sent b low = inl (omega arith)
 
--- a new client is new, whether what waits is lost or not
+-- a new client is new, whether what is outstanding is lost or not
 new_client : (t : Model) (b : Bool) → t.client ≡ fresh → (losing b t).client ≡ fresh
 new_client t true e = refl
 new_client t false e = e
 
--- one act, and those behind it, of which `next` is known
+-- one act, and those after it, of which `next` is known
 module _ (plan : Plan) (commands : List Task) (s : Model) (act : Act) (done : List (Step Asked)) (fine : Invariant plan commands s)
     (obeys : Performs commands s (action_at plan s) act) (client : s.client ≡ (reached done).client) (new : has_begun s.progress ≡ false → done ≡ [])
     (counts : Counts (reached done) s.progress.behind) (ps : List Part) where
-  -- the act's action
+  -- the action that the act performs
   abbrev o : Action
   o = action_at plan s
 
-  -- its conditions
+  -- the conditions of that action hold
   its : IsFor plan s.progress (waiting_of s) o
   its = action_for plan s.progress (waiting_of s)
 
-  -- its part
+  -- the client's part of the act
   abbrev part : Part
   part = acting plan commands s o act
 
-  -- the model behind it, before what waits is lost
+  -- the model after it, before what is outstanding is lost
   abbrev t : Model
   t = moved plan commands o (with_progress turned s) act
 
-  -- the model behind it
+  -- the model after the act
   abbrev u : Model
   u = losing (loses_all t.progress) t
 
-  -- the steps of the act's part, once the station has begun
+  -- the steps of the act's part, once the station has synchronized
   part_is : (b : Bool) → has_begun s.progress ≡ b → part.steps ≡ (if b then doing plan commands s o act else beginning s o act).steps
   part_is b w = ap (λ (x : Bool). (if x then doing plan commands s o act else beginning s o act).steps) w
 
-  -- what the act does to how many are behind, by its part
+  -- what the act does to how many are after, by its part
   part_counted : has_begun s.progress ≡ true → has_begun t.progress ≡ true → t.progress.behind ≡ behind_by (reached done).client s.progress.behind part.steps
   part_counted w still =
       counted plan commands s o act fine its obeys w still ∙ ap (behind_by s.client s.progress.behind) (sym (part_is true w)) ∙ ap (λ (c : ById Asked). behind_by c s.progress.behind part.steps) client
 
-  -- the client behind the act is that of the course behind its steps
+  -- the client after the act is that of the course after its steps
   part_client : (reached (done ++ part.steps)).client ≡ t.client
   part_client =
       ap (λ y. y.client) (course_append begun done part.steps) ∙ course_client part.steps (reached done) ∙ ap (λ (c : ById Asked). client_after c part.steps) (sym client)
       ∙ (led plan commands s o act done fine its obeys client counts).client
 
-  -- where what is known of the parts behind the act holds, all parts are near
+  -- where what is known of the parts after the act holds, all parts are near
   by_case : (started all : Bool) → has_begun s.progress ≡ started → loses_all t.progress ≡ all
       → ((later : List (Step Asked)) → u.client ≡ (reached later).client → (has_begun u.progress ≡ false → later ≡ []) → Counts (reached later) u.progress.behind → AreNear later ps)
       → AreNear done (in_front part (started && all) ps)
@@ -349,7 +349,7 @@ module _ (plan : Plan) (commands : List Task) (s : Model) (act : Act) (done : Li
       let still = not_lost t.progress l in
       front_near plan commands s o act done fine its obeys client counts ps
       (next (done ++ part.steps) (ap (λ (x : Model). x.client) same ∙ sym part_client)
-      (λ e. absurd (clash (has_begun t.progress) still (ap (λ (x : Model). has_begun x.progress) (sym same) ∙ e)))
+      (λ e. absurd (not_both (has_begun t.progress) still (ap (λ (x : Model). has_begun x.progress) (sym same) ∙ e)))
       (subst (λ (x : Model). Counts (reached (done ++ part.steps)) x.progress.behind) (sym same)
       (subst (λ (n : ℕ). Counts (reached (done ++ part.steps)) n) (sym (part_counted w still)) (counts_steps done part.steps s.progress.behind counts))))
   by_case false all w l next =
@@ -361,7 +361,7 @@ module _ (plan : Plan) (commands : List Task) (s : Model) (act : Act) (done : Li
       (next [] (new_client t (loses_all t.progress) kept.0) (λ e. refl) (none_sent u.progress.behind)))
 
 module _ (plan : Plan) (commands : List Task) where
-  -- wherever a command goes out, a call of the table is near that a reply ended
+  -- wherever a command is sent, a call of the table is near that a reply ended
   near_from : (s : Model) (acts : List Act) (done : List (Step Asked)) → Invariant plan commands s → Runs plan commands s acts → s.client ≡ (reached done).client
       → (has_begun s.progress ≡ false → done ≡ []) → Counts (reached done) s.progress.behind → AreNear done (parts_of plan commands s acts)
   near_from s [] done fine runs client new counts = ((λ front later target call deadline mark e at. absurd (no_send [] front later target call deadline tt e)), tt)
@@ -372,7 +372,7 @@ module _ (plan : Plan) (commands : List Task) where
       (by_case plan commands s act done fine runs.0 client new counts ps (has_begun s.progress) (loses_all t.progress) refl refl
       (λ later. near_from (after plan commands s act) acts later (fine_after plan commands s act fine) runs.1))
 
--- the law: each command goes out behind a call of the table that a reply ended, or behind the beginning
+-- the law: each command is sent after a call of the table that a reply ended, or after the synchronization
 pub behind_the_table : CommandsGoOutBehindTheTable
 behind_the_table plan commands scope acts runs i part at front later target call deadline mark e its =
     let all = near_all (parts_of plan commands (opening plan scope) acts)

@@ -1,6 +1,6 @@
--- A run on the way: what was done so far (`Went`), and one act more. An act is one call of the link, with what came of it. At
--- the start the link had told `told` and the book had taken `taken`, by now `told'` and `taken'`, and later those with more
--- primes; each is `None` where it isn't known. `text` is how a record is written.
+-- A run on the way: what was done so far (`Went`), and one act more. An act is one call on the link, with its result. At the
+-- start the link had recorded `told` and the book had taken `taken`, by now `told'` and `taken'`, and later those with more
+-- primes; each is `None` if it isn't known. `text` is how a record is written.
 use Rattle.std.proofs.Common.{◌≡◌, ℕ, ◌<◌, ◌≤◌, List, [], ◌∷◌, ◌++◌, length, Option, Some, None, Result, Ok, Err, refl, sym, ap, ◌∙◌, subst, append-nil, ◌-◌}
 use Rattle.std.specs.Io.KnownBytes.{Appends, Keeps}
 use Rattle.std.proofs.KnownBytes.{Appends-kept, Keeps-refl}
@@ -15,7 +15,7 @@ use Rattle.gc_station.specs.declared.station.Station.{Station}
 use Rattle.gc_links.specs.Acts.{Act, Closed, Tells}
 use Rattle.gc_station.specs.Progressing.{turned, loses_all}
 use Rattle.gc_station.specs.Records.{Record, texts_of}
-use Rattle.gc_station.specs.Runs.{stood, BrokeAt, LeftAt}
+use Rattle.gc_station.specs.Runs.{state_after, BrokeAt, LeftAt}
 use Rattle.gc_station.specs.Model.{Model, opening, action_at, Performs, after, after_all, moved, ended, Runs, with_progress}
 use Rattle.gc_station.specs.Stations.{waiting_in, Refines, Took, Makes, Breaks, Made, ComesTo, stepped, OnCall, seen}
 use Rattle.gc_station.specs.Deciding.{action_of}
@@ -59,8 +59,9 @@ stands_turned station p s e stands = record {
   fresh = stands.fresh;
 }
 
--- a turn is an act and then, where the station has to, the loss of what waits. Where the act was made (`Makes`), and the loss
--- wrote its records or the book failed at one of them (`ComesTo`), the whole turn was made, or the book failed in it (`Made`)
+-- a turn is an act and then, if the station has to, the loss of what is outstanding. If the act was made (`Makes`), and the
+-- loss wrote its records or the book failed at one of them (`ComesTo`), the whole turn was made, or the book failed in it
+-- (`Made`)
 pub makes_step : {X E : Type 0} (plan : Plan) (commands : List Task) (action : Action) (text : Record → List ℕ) (told told' : Option (List Act))
     (taken taken' taken'' : Option (List ℕ)) (station mid new : Station) (p : Progress) (result : Result X E)
     → p ≡ turned station.progress → Makes commands action (moved plan commands action) (seen told text taken (record station { progress = p })) (seen told' text taken' mid)
@@ -87,7 +88,7 @@ makes_step plan commands action text told told' taken taken' taken'' station mid
       );
 }
 
--- where the book failed at a record of an act, apart from its turn and from what is lost at its end, it failed at a record of the
+-- if the book failed at a record of an act, apart from its turn and from what is lost at its end, it failed at a record of the
 -- whole turn
 pub breaks_step : (plan : Plan) (commands : List Task) (action : Action) (text : Record → List ℕ) (told told' : Option (List Act)) (taken taken' : Option (List ℕ)) (station : Station) (p : Progress)
     → p ≡ turned station.progress → Breaks commands action (moved plan commands action) (seen told text taken (record station { progress = p })) told' taken'
@@ -113,21 +114,21 @@ stepped_reads plan commands action s act =
 
 -- Many turns.
 
--- what was done so far: the acts of a run that the link told, the records that the book took, and a station that is as the
+-- what was done so far: the acts of a run that the link recorded, the records that the book took, and a station that is as the
 -- model after these acts
 pub record Went (plan : Plan) (commands : List Task) (scope : Scope) (text : Record → List ℕ) (told told' : Option (List Act)) (taken taken' : Option (List ℕ)) (station : Station) : Type 0 where
   pub acts : List Act
   pub tells : Tells told told' acts
   pub runs : Runs plan commands (opening plan scope) acts
-  pub stands : Refines station (stood plan commands scope acts)
-  pub took : Appends taken taken' (texts_of text (stood plan commands scope acts).records)
+  pub stands : Refines station (state_after plan commands scope acts)
+  pub took : Appends taken taken' (texts_of text (state_after plan commands scope acts).records)
 
--- a link that told nothing more told no acts
+-- a link that recorded nothing more recorded no acts
 pub tells_none : (a : Option (List Act)) → Tells a a []
 tells_none None = tt
 tells_none (Some a) = sym (append-nil a)
 
--- `Went` holds where nothing was done
+-- `Went` holds if nothing was done
 abbrev pub went_nothing : (plan : Plan) (commands : List Task) (scope : Scope) (text : Record → List ℕ) (told : Option (List Act)) (taken : Option (List ℕ)) (station : Station)
     → Refines station (opening plan scope) → Went plan commands scope text told told taken taken station
 went_nothing plan commands scope text told taken station stands = record {
@@ -138,7 +139,7 @@ went_nothing plan commands scope text told taken station stands = record {
   took = Appends-nil taken;
 }
 
--- `Went` lasts where a book took nothing more, as `Keeps` says: if what it took was known, it is known still, and the same
+-- `Went` is preserved if a book took nothing more, as `Keeps` says: if what it took was known, it is known still, and the same
 abbrev pub went_kept : (plan : Plan) (commands : List Task) (scope : Scope) (text : Record → List ℕ) (told told' : Option (List Act))
     (taken taken' taken'' : Option (List ℕ)) (station : Station) → Keeps taken' taken''
     → Went plan commands scope text told told' taken taken' station → Went plan commands scope text told told' taken taken'' station
@@ -147,17 +148,17 @@ went_kept plan commands scope text told told' taken taken' taken'' station keeps
   tells = w.tells;
   runs = w.runs;
   stands = w.stands;
-  took = Appends-kept taken taken' taken'' (texts_of text (stood plan commands scope w.acts).records) w.took keeps;
+  took = Appends-kept taken taken' taken'' (texts_of text (state_after plan commands scope w.acts).records) w.took keeps;
 }
 
--- `Went` lasts where a book took nothing more
+-- `Went` is preserved if a book took nothing more
 abbrev pub went_same : (plan : Plan) (commands : List Task) (scope : Scope) (text : Record → List ℕ) (told told' : Option (List Act))
     (taken taken' taken'' : Option (List ℕ)) (station : Station) → taken'' ≡ taken'
     → Went plan commands scope text told told' taken taken' station → Went plan commands scope text told told' taken taken'' station
 went_same plan commands scope text told told' taken taken' taken'' station same w =
     went_kept plan commands scope text told told' taken taken' taken'' station (subst (λ (t : Option (List ℕ)). Keeps taken' t) (sym same) (Keeps-refl taken')) w
 
--- where the records couldn't be made to last, and the connection was closed, the run ended as `LeftAt` says
+-- if the records couldn't be made to last, and the connection was closed, the run ended as `LeftAt` says
 pub went_left : (plan : Plan) (commands : List Task) (scope : Scope) (text : Record → List ℕ) (told told' told'' : Option (List Act)) (taken taken' : Option (List ℕ)) (station : Station)
     → Went plan commands scope text told told' taken taken' station → Tells told' told'' (Closed ∷ []) → LeftAt plan commands scope text told told'' taken taken'
 went_left plan commands scope text told told' told'' taken taken' station w closed = record {
@@ -182,15 +183,15 @@ pub runs-append : (plan : Plan) (commands : List Task) (s : Model) (xs ys : List
 runs-append plan commands s [] ys p q = q
 runs-append plan commands s (x ∷ xs) ys p q = (p.0, runs-append plan commands (after plan commands s x) xs ys p.1 q)
 
--- `Went` lasts over one act more
+-- `Went` is preserved by one act more
 abbrev pub went_on : (plan : Plan) (commands : List Task) (scope : Scope) (text : Record → List ℕ) (told told' told'' : Option (List Act))
     (taken taken' taken'' : Option (List ℕ)) (station new : Station) (action : Action)
     → (w : Went plan commands scope text told told' taken taken' station)
-    → action ≡ action_at plan (stood plan commands scope w.acts)
+    → action ≡ action_at plan (state_after plan commands scope w.acts)
     → Makes commands action (stepped plan commands action) (seen told' text taken' station) (seen told'' text taken'' new)
     → AreReadings scope.reads → Went plan commands scope text told told'' taken taken'' new
 went_on plan commands scope text told told' told'' taken taken' taken'' station new action w is makes are =
-    let s = stood plan commands scope w.acts in
+    let s = state_after plan commands scope w.acts in
     let one = makes.goes s taken w.stands (λ ok. w.took) in
     let same = stepped_reads plan commands action s makes.act ∙ stood_reads plan commands scope w.acts in
     let took = one.2 (are_same (stepped plan commands action s makes.act).reads scope.reads same are) in
@@ -204,16 +205,16 @@ went_on plan commands scope text told told' told'' taken taken' taken'' station 
       took = rw (whole, ← is) took;
     }
 
--- where the book failed at a record of the last act, and the connection was closed, the run ended as `BrokeAt` says
+-- if the book failed at a record of the last act, and the connection was closed, the run ended as `BrokeAt` says
 pub went_wrong : (plan : Plan) (commands : List Task) (scope : Scope) (text : Record → List ℕ) (told told' told'' told''' : Option (List Act))
     (taken taken' taken'' : Option (List ℕ)) (station : Station) (action : Action)
     → (w : Went plan commands scope text told told' taken taken' station)
-    → action ≡ action_at plan (stood plan commands scope w.acts)
+    → action ≡ action_at plan (state_after plan commands scope w.acts)
     → Breaks commands action (stepped plan commands action) (seen told' text taken' station) told'' taken''
     → Tells told'' told''' (Closed ∷ [])
     → AreReadings scope.reads → BrokeAt plan commands scope text told told''' taken taken''
 went_wrong plan commands scope text told told' told'' told''' taken taken' taken'' station action w is breaks closed are =
-    let s = stood plan commands scope w.acts in
+    let s = state_after plan commands scope w.acts in
     let one = breaks.goes s taken w.stands (λ ok. w.took) in
     let same = stepped_reads plan commands action s breaks.act ∙ stood_reads plan commands scope w.acts in
     let took = one.1 (are_same (stepped plan commands action s breaks.act).reads scope.reads same are) in

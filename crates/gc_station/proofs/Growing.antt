@@ -1,5 +1,5 @@
--- The records of a model only grow: what comes is written down behind them (`Grew`), and none goes. An act is one call of the
--- link, with what came of it. A piece is the bytes that one read gave.
+-- The records of a model only grow: what comes is recorded after them (`Grew`), and none goes. An act is one call on the link,
+-- with its result. A piece is the bytes that one read gave.
 use Rattle.std.proofs.Common.{ℕ, Bool, true, false, List, [], ◌∷◌, ◌++◌, map, refl, sym, ◌∙◌, subst, append_assoc}
 use Rattle.gc_lines.specs.Frames.{rest_behind}
 use Rattle.gc_client.specs.Rule.{heard, hears, lost}
@@ -9,8 +9,8 @@ use Rattle.gc_station.specs.declared.progress.Action.{Action}
 use Rattle.gc_station.specs.declared.progress.Action.TheVariants as actions
 use Rattle.gc_links.specs.Acts.{Act, Told, Gave}
 use Rattle.gc_station.specs.Marks.{records_of}
-use Rattle.gc_station.specs.Progressing.{told}
-use Rattle.gc_station.specs.Model.{Model, is_heard, with_progress, with_moment, with_rest, line_came, lines_came, lines_behind, came, skips, moved, losing}
+use Rattle.gc_station.specs.Progressing.{moment_noted}
+use Rattle.gc_station.specs.Model.{Model, is_heard, with_progress, with_moment, with_rest, line_came, lines_came, lines_completed, after_piece, skips, moved, losing}
 use Rattle.gc_station.proofs.Records.{Grew, grew_none}
 use Rattle.gc_station.proofs.Walk.{moved_changed}
 
@@ -22,14 +22,14 @@ lines_records s (line ∷ others) =
     let added = records_of s.reads s.progress.moment.utc s.marks (hears s.client line (heard line)).settlements in
     (added ++ more.0, more.1 ∙ append_assoc s.records added more.0)
 
--- the loss of what waits only adds records
+-- the loss of what is outstanding only adds records
 pub losing_records : (b : Bool) (s : Model) → Grew s.records (losing b s).records
 losing_records true s = (records_of s.reads s.progress.moment.utc s.marks (map lost s.client.waiting), refl)
 losing_records false s = grew_none s.records
 
 -- a piece only adds records
-came_grew : (heard : Bool) (word piece : List ℕ) (s : Model) → Grew s.records (came heard word piece s).records
-came_grew true [] piece s = lines_records (with_rest (rest_behind s.rest piece) s) (lines_behind s.rest piece)
+came_grew : (heard : Bool) (word piece : List ℕ) (s : Model) → Grew s.records (after_piece heard word piece s).records
+came_grew true [] piece s = lines_records (with_rest (rest_behind s.rest piece) s) (lines_completed s.rest piece)
 came_grew true (asked ∷ others) piece s = grew_none s.records
 came_grew false word piece s = grew_none s.records
 
@@ -37,6 +37,6 @@ came_grew false word piece s = grew_none s.records
 pub moved_grew : (plan : Plan) (commands : List Task) (action : Action) (s : Model) (act : Act) → Grew s.records (moved plan commands action s act).records
 moved_grew plan commands actions.Skip s (Told m) = (skips plan commands s.progress (Told m), refl)
 moved_grew plan commands actions.Skip s act = ([], refl)
-moved_grew plan commands (actions.Read until) s (Gave bytes m) = came_grew (is_heard s.progress.phase) s.progress.word bytes (with_moment m (with_progress (told m) s))
+moved_grew plan commands (actions.Read until) s (Gave bytes m) = came_grew (is_heard s.progress.phase) s.progress.word bytes (with_moment m (with_progress (moment_noted m) s))
 moved_grew plan commands (actions.Read until) s act = grew_none s.records
 moved_grew plan commands action s act = subst (λ (t : Model). Grew s.records t.records) (sym (moved_changed plan commands action s act)) (grew_none s.records)

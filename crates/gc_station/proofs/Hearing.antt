@@ -1,9 +1,9 @@
 -- Hearing a piece frame by frame: to hear what is left of it comes to the same as to hear the whole piece. And what a station
--- writes down of the settlements of a line. An act is one call of the link, with what came of it. A book had taken `start`
--- before the records of the model, and has taken `taken` (and later `taken'`) with them; `text` is how a record is written.
--- `left` is what is not heard yet of the piece, `rest` the bytes since the last line feed. A piece is the bytes that one read
--- gave, and a frame what a line feed ends. `Refines station s`: the station stands for the model s. `Hearing` and `Asking` say
--- how far a piece was heard, once the station has begun and while it begins.
+-- records of the settlements of a line. An act is one call on the link, with its result. A book had taken `start` before the
+-- records of the model, and has taken `taken` (and later `taken'`) with them; `text` is how a record is written. `left` is what
+-- is not heard yet of the piece, `rest` the bytes since the last line feed. A piece is the bytes that one read gave, and a
+-- frame what a line feed ends. `Refines station s`: the station stands for the model s. `Hearing` and `Asking` say how far a
+-- piece was heard, once the station has synchronized and while it synchronizes.
 use Rattle.std.proofs.Common.{◌≡◌, ℕ, zero, suc, ◌+◌, ◌-◌, min, List, [], ◌∷◌, ◌++◌, Bool, true, false, length, drop, map, Option, Some, None, Result, Ok, Err, OnOk, refl, sym, ap, ◌∙◌, subst, append_assoc, length-drop, arith}
 use Rattle.std.specs.List.{filter_map}
 use Rattle.std.specs.Option.{option_to_list}
@@ -33,11 +33,11 @@ use Rattle.gc_station.specs.declared.progress.Until.{Until}
 use Rattle.gc_station.specs.declared.progress.Waiting.{Waiting}
 use Rattle.gc_station.specs.declared.station.Station.{Station}
 use Rattle.gc_station.specs.Attempts.{listed_by}
-use Rattle.gc_station.specs.Marks.{commands_in, records_of, last_well, fresh_behind}
+use Rattle.gc_station.specs.Marks.{commands_in, records_of, last_well, fresh_after}
 use Rattle.gc_station.specs.Deciding.{is_none_left}
-use Rattle.gc_station.specs.Progressing.{caught_up, noted, gave, reckoned_early, again, closed, lines_asked, line_asked}
+use Rattle.gc_station.specs.Progressing.{caught_up, line_noted, bytes_noted, reckoned_early, after_failure, closed, lines_asked, line_asked}
 use Rattle.gc_station.specs.Records.{Record, texts_of, WritesPart, WritesAll}
-use Rattle.gc_station.specs.Model.{Model, line_came, lines_came, lines_behind, with_rest, with_progress, with_moment, waiting_of, settles, piece_came, piece_asked, came}
+use Rattle.gc_station.specs.Model.{Model, line_came, lines_came, lines_completed, with_rest, with_progress, with_moment, waiting_of, settles, piece_came, piece_asked, after_piece}
 use Rattle.gc_station.specs.Stations.{waiting_in, Refines, Took, TookPart, ComesTo}
 use Rattle.gc_station.specs.Scopes.{AreReadings}
 use Rattle.gc_station.specs.Tallies.{nothing_yet, tallied}
@@ -45,7 +45,7 @@ use Rattle.gc_station.proofs.Growing.{lines_records}
 use Rattle.gc_station.proofs.Readings.{lines_reads, are_same}
 use Rattle.gc_station.proofs.Records.{Grew, grew_then, part_grew, part_grows, tallied-append, last-append}
 
--- the lines of a frame and of the frames behind it: first its line, if it has one
+-- the lines of a frame and of the frames after it: first its line, if it has one
 pub lines_split : (frame : Frame) (later : List Frame) → filter_map line_in (completed frame ++ later) ≡ option_to_list (line_in frame) ++ filter_map line_in later
 lines_split More later = refl
 lines_split (Line line) later = refl
@@ -84,18 +84,18 @@ pub frame_first : (s : Model) (left later rest : List ℕ) (frame : Frame)
     → piece_came left s ≡ piece_came later (lines_came (with_rest rest s) (option_to_list (line_in frame)))
 frame_first s left later rest frame seen rests =
     let line = option_to_list (line_in frame) in
-    let lines : lines_behind s.rest left ≡ line ++ lines_behind rest later = ap (filter_map line_in) seen ∙ lines_split frame (frames_behind rest later) in
+    let lines : lines_completed s.rest left ≡ line ++ lines_completed rest later = ap (filter_map line_in) seen ∙ lines_split frame (frames_behind rest later) in
     let end = rest_behind rest later in
     ap (λ xs. lines_came (with_rest (rest_behind s.rest left) s) xs) lines
-    ∙ ap (λ r. lines_came (with_rest r s) (line ++ lines_behind rest later)) rests
-    ∙ lines_came-append (with_rest end s) line (lines_behind rest later)
-    ∙ ap (λ x. lines_came x (lines_behind rest later)) (lines_rest (with_rest rest s) end line)
-    ∙ sym (ap (λ r. lines_came (with_rest (rest_behind r later) (lines_came (with_rest rest s) line)) (lines_behind r later)) (rest_kept rest line)) where
+    ∙ ap (λ r. lines_came (with_rest r s) (line ++ lines_completed rest later)) rests
+    ∙ lines_came-append (with_rest end s) line (lines_completed rest later)
+    ∙ ap (λ x. lines_came x (lines_completed rest later)) (lines_rest (with_rest rest s) end line)
+    ∙ sym (ap (λ r. lines_came (with_rest (rest_behind r later) (lines_came (with_rest rest s) line)) (lines_completed r later)) (rest_kept rest line)) where
       -- lines that are heard leave the bytes since the last line feed
       rest_kept : (rest : List ℕ) (line : List (List ℕ)) → (lines_came (with_rest rest s) line).rest ≡ rest
       rest_kept rest line = ap (λ (x : Model). x.rest) (lines_rest s rest line)
 
--- `Hearing` lasts over one frame more
+-- `Hearing` is preserved by one frame more
 pub hearing_on : (text : Record → List ℕ) (start taken taken' : Option (List ℕ)) (station station' : Station) (s : Model) (piece left : List ℕ) (used : ℕ) (frame : Frame) (kept : Kept)
     → (h : Hearing text start taken station s piece left) → (t : Takes h.now.rest left used frame kept)
     → (Refines station' (lines_came (with_rest t.now h.now) (option_to_list (line_in frame))) × Took text start taken' (lines_came (with_rest t.now h.now) (option_to_list (line_in frame))))
@@ -108,7 +108,7 @@ hearing_on text start taken taken' station station' s piece left used frame kept
   goes = sym (frame_first h.now left (drop used left) t.now frame t.seen t.rests) ∙ h.goes;
 }
 
--- where the book failed at a frame's line, it failed at a record of the whole piece
+-- if the book failed at a frame's line, it failed at a record of the whole piece
 pub hearing_part : (text : Record → List ℕ) (start taken taken' : Option (List ℕ)) (station : Station) (s : Model) (piece left : List ℕ) (used : ℕ) (frame : Frame) (kept : Kept)
     → (h : Hearing text start taken station s piece left) → (t : Takes h.now.rest left used frame kept)
     → TookPart text h.now.records start taken' (lines_came (with_rest t.now h.now) (option_to_list (line_in frame)))
@@ -117,13 +117,13 @@ hearing_part text start taken taken' station s piece left used frame kept h t pa
     let mid = lines_came (with_rest t.now h.now) (option_to_list (line_in frame)) in
     let later = drop used left in
     let whole : piece_came later mid ≡ piece_came piece s = sym (frame_first h.now left later t.now frame t.seen t.rests) ∙ h.goes in
-    let more = lines_records (with_rest (rest_behind mid.rest later) mid) (lines_behind mid.rest later) in
-    let same : mid.reads ≡ (piece_came piece s).reads = sym (lines_reads (with_rest (rest_behind mid.rest later) mid) (lines_behind mid.rest later)) ∙ ap (λ (x : Model). x.reads) whole in
+    let more = lines_records (with_rest (rest_behind mid.rest later) mid) (lines_completed mid.rest later) in
+    let same : mid.reads ≡ (piece_came piece s).reads = sym (lines_reads (with_rest (rest_behind mid.rest later) mid) (lines_completed mid.rest later)) ∙ ap (λ (x : Model). x.reads) whole in
     let all = part_grows text h.now.records mid.records (piece_came later mid).records start taken' more (part (are_same mid.reads (piece_came piece s).reads same are)) in
     part_grew text s.records h.now.records (piece_came piece s).records start taken' h.grown
     (subst (λ (x : Model). WritesPart text h.now.records x.records start taken') whole all)
 
--- where nothing is left of the piece, the station is as the model after the whole piece
+-- if nothing is left of the piece, the station is as the model after the whole piece
 pub hearing_end : (text : Record → List ℕ) (start taken : Option (List ℕ)) (station : Station) (s : Model) (piece : List ℕ)
     → Hearing text start taken station s piece []
     → Refines station (piece_came piece s) × Took text start taken (piece_came piece s)
@@ -149,7 +149,7 @@ with_kept station kept rest s stands is = record {
 
 -- As many marks are taken out as requests are settled.
 
--- where a reply is of the request at place k, it settles k + 1 requests
+-- if a reply is of the request at place k, it settles k + 1 requests
 settle_less : (k : ℕ) (line : List ℕ) (ps : List (Pending Asked)) → length ps - length (settle k line ps) ≡ length ps - (k + 1)
 settle_less k line [] = omega arith
 settle_less zero line (p ∷ ps) = omega arith
@@ -214,12 +214,12 @@ Minds mid new xs = (reads : Asked → List ℕ → Reading) → AreReadings read
 abbrev pub Lists : Station → Station → List (Settlement Asked) → Type 0
 Lists mid new xs = (reads : Asked → List ℕ → Reading) → AreReadings reads → new.listed ≡ listed_by reads mid.listed mid.marks.items xs
 
--- between these two stations `fresh` becomes the moment told last, if a command of these settlements was answered well
+-- between these two stations `fresh` becomes the moment read last, if a command of these settlements was answered well
 abbrev pub Freshens : Station → Station → List (Settlement Asked) → Type 0
 Freshens mid new xs = (reads : Asked → List ℕ → Reading) → AreReadings reads
-    → new.fresh ≡ fresh_behind mid.progress.moment.elapsed mid.fresh (records_of reads mid.progress.moment.utc mid.marks.items xs)
+    → new.fresh ≡ fresh_after mid.progress.moment.elapsed mid.fresh (records_of reads mid.progress.moment.utc mid.marks.items xs)
 
--- where the records of settlements were written, the station is as the model after them
+-- if the records of settlements were written, the station is as the model after them
 pub settles_ok : (text : Record → List ℕ) (old mid new : Station) (s : Model) (x : Settled Asked (ById Asked)) (xs : List (Settlement Asked)) (n : ℕ) (start taken' : Option (List ℕ))
     → Refines old s → Between old mid x.client → xs ≡ x.settlements → n ≡ length x.settlements → StayPaired s.marks x
     → (AreReadings s.reads → Appends start taken' (texts_of text (s.records ++ records_of s.reads mid.progress.moment.utc mid.marks.items xs)))
@@ -242,14 +242,14 @@ settles_ok text old mid new s x xs n start taken' stands between e many paired w
             ∙ sym (last-append false s.records added) ∙ ap (λ rs. last_well false (s.records ++ rs)) records;
         listed = λ are. lists s.reads are ∙ ap (λ b. listed_by s.reads b mid.marks.items xs) (between.listed ∙ stands.listed are)
             ∙ ap (λ (ms : List (Option Mark)). listed_by s.reads s.listed ms xs) (ap (λ ms. ms.items) between.marks ∙ stands.marks) ∙ ap (listed_by s.reads s.listed s.marks) e;
-        fresh = λ are. freshens s.reads are ∙ ap (λ f. fresh_behind mid.progress.moment.elapsed f added) (between.fresh ∙ stands.fresh are)
-            ∙ ap (λ (p : Progress). fresh_behind p.moment.elapsed s.fresh added) (between.progress ∙ stands.progress)
-            ∙ ap (fresh_behind s.progress.moment.elapsed s.fresh) records;
+        fresh = λ are. freshens s.reads are ∙ ap (λ f. fresh_after mid.progress.moment.elapsed f added) (between.fresh ∙ stands.fresh are)
+            ∙ ap (λ (p : Progress). fresh_after p.moment.elapsed s.fresh added) (between.progress ∙ stands.progress)
+            ∙ ap (fresh_after s.progress.moment.elapsed s.fresh) records;
       },
       λ are. subst (λ (rs : List Record). Appends start taken' (texts_of text (s.records ++ rs))) records (wrote are),
     )
 
--- where the book failed at a record of settlements, it took the model's earlier records and a part of the others
+-- if the book failed at a record of settlements, it took the model's earlier records and a part of the others
 pub settles_part : (text : Record → List ℕ) (old mid : Station) (s : Model) (x : Settled Asked (ById Asked)) (xs : List (Settlement Asked)) (start taken' : Option (List ℕ))
     → Refines old s → Between old mid x.client → xs ≡ x.settlements
     → (AreReadings s.reads → WritesPart text s.records (s.records ++ records_of s.reads mid.progress.moment.utc mid.marks.items xs) start taken')
@@ -257,7 +257,7 @@ pub settles_part : (text : Record → List ℕ) (old mid : Station) (s : Model) 
 settles_part text old mid s x xs start taken' stands between e wrote are =
     subst (λ (rs : List Record). WritesPart text s.records (s.records ++ rs) start taken') (records_same old mid s x.client xs x.settlements stands between e) (wrote are)
 
--- where the records of settlements were written the station is as the model after them; or the book failed at one of them
+-- if the records of settlements were written the station is as the model after them; or the book failed at one of them
 pub settles_either : {X E : Type 0} (text : Record → List ℕ) (old mid new : Station) (s : Model) (x : Settled Asked (ById Asked)) (xs : List (Settlement Asked)) (n : ℕ)
     (start taken' : Option (List ℕ)) (result : Result X E)
     → Refines old s → Between old mid x.client → xs ≡ x.settlements → n ≡ length x.settlements → StayPaired s.marks x
@@ -269,7 +269,7 @@ settles_either text old mid new s x xs n start taken' (Ok r) stands between e ma
     settles_ok text old mid new s x xs n start taken' stands between e many paired wrote is counts minds lists freshens
 settles_either text old mid new s x xs n start taken' (Err r) stands between e many paired wrote is counts minds lists freshens = settles_part text old mid s x xs start taken' stands between e wrote
 
--- a link that told the acts `xs` and then the acts `ys` told `xs ++ ys`
+-- a link that recorded the acts `xs` and then the acts `ys` recorded `xs ++ ys`
 pub tells_more : (a b c : Option (List Act)) (xs ys : List Act) → Tells a b xs → Tells b c ys → Tells a c (xs ++ ys)
 tells_more None b c xs ys p q = tt
 tells_more (Some a) None c xs ys p q = absurd p
@@ -277,9 +277,10 @@ tells_more (Some a) (Some b) None xs ys p q = absurd q
 tells_more (Some a) (Some b) (Some c) xs ys p q = q ∙ ap (λ zs. zs ++ ys) p ∙ append_assoc a xs ys
 
 -- a station that noted whether a line was a reply is as the model that noted it
-pub with_noted : (mid : Station) (p : Progress) (b b' : Bool) (s : Model) → Refines mid s → b ≡ b' → p ≡ noted b mid.progress → Refines (record mid { progress = p }) (with_progress (noted b') s)
+pub with_noted : (mid : Station) (p : Progress) (b b' : Bool) (s : Model) → Refines mid s → b ≡ b' → p ≡ line_noted b mid.progress
+    → Refines (record mid { progress = p }) (with_progress (line_noted b') s)
 with_noted mid p b b' s stands e is = record {
-  progress = is ∙ ap (λ t. noted t mid.progress) e ∙ ap (noted b') stands.progress;
+  progress = is ∙ ap (λ t. line_noted t mid.progress) e ∙ ap (line_noted b') stands.progress;
   ids = stands.ids;
   width = stands.width;
   marks = stands.marks;
@@ -325,25 +326,25 @@ stands_expired station p q client fresh m s stands e is less = record {
   fresh = λ are. less ∙ ap (λ f. min f m.elapsed) (stands.fresh are);
 }
 
--- as many requests wait at a station as in its model
+-- as many requests are outstanding at a station as in its model
 pub all_same : (station : Station) (s : Model) → Refines station s → (waiting_in station).all ≡ (waiting_of s).all
 all_same station s stands = ap (λ (c : ById Asked). length c.waiting) stands.ids
 
--- as many commands wait at a station as in its model
+-- as many commands are outstanding at a station as in its model
 pub commands_same : (station : Station) (s : Model) → Refines station s → (waiting_in station).commands ≡ (waiting_of s).commands
 commands_same station s stands = ap commands_in stands.marks
 
--- what a piece settled is counted alike from equal progresses, where as many requests and commands wait
+-- what a piece settled is counted alike from equal progresses, where as many requests and commands are outstanding
 pub reckoned_same : (plan : Plan) (until : Until) (b b' : ℕ) (w w' : Waiting) (p p' : Progress) → b ≡ b' → w.all ≡ w'.all → w.commands ≡ w'.commands → p ≡ p'
-    → reckoned_early plan w.commands (gave plan until b w p) ≡ reckoned_early plan w'.commands (gave plan until b' w' p')
+    → reckoned_early plan w.commands (bytes_noted plan until b w p) ≡ reckoned_early plan w'.commands (bytes_noted plan until b' w' p')
 reckoned_same plan until b b' w w' p p' eb ea ec ep =
     ap (λ x. early x w.all w.commands p) eb ∙ ap (λ x. early b' x w.commands p) ea ∙ ap (λ x. early b' w'.all x p) ec ∙ ap (λ x. early b' w'.all w'.commands x) ep where
-      -- the progress once what a piece settled was counted, by how many commands waited before the piece, and how many requests
-      -- and commands wait after it
+      -- the progress once what a piece settled was counted, by how many commands were outstanding before the piece, and how
+      -- many requests and commands are outstanding after it
       early : ℕ → ℕ → ℕ → Progress → Progress
-      early before all commands p = reckoned_early plan commands (gave plan until before (record { all = all; current = 0; commands = commands; well = false; listed = false; fresh = 0 }) p)
+      early before all commands p = reckoned_early plan commands (bytes_noted plan until before (record { all = all; current = 0; commands = commands; well = false; listed = false; fresh = 0 }) p)
 
--- a close makes equal progresses of equal ones, where as many commands wait
+-- a close makes equal progresses of equal ones, where as many commands are outstanding
 pub closed_same : (plan : Plan) (w w' : Waiting) (why : Cause) (p p' : Progress) → w.commands ≡ w'.commands → p ≡ p' → closed plan w why p ≡ closed plan w' why p'
 closed_same plan w w' why p p' ec ep = kept why ∙ ap (closed plan w' why) ep where
   -- the lemma above, for one progress
@@ -353,37 +354,37 @@ closed_same plan w w' why p p' ec ep = kept why ∙ ap (closed plan w' why) ep w
   kept cause.Turns = refl
   kept cause.Stale = refl
   kept cause.Stopped = refl
-  kept why = ap (λ n. again plan n why p) ec
+  kept why = ap (λ n. after_failure plan n why p) ec
 
--- While the station begins.
+-- While the station synchronizes.
 
 -- the progress after two lists of lines is the one after the second, from the one after the first on
 pub lines_asked-append : (p : Progress) (xs ys : List (List ℕ)) → lines_asked p (xs ++ ys) ≡ lines_asked (lines_asked p xs) ys
 lines_asked-append p [] ys = refl
 lines_asked-append p (x ∷ xs) ys = lines_asked-append (line_asked p x) xs ys
 
--- a station that has heard a piece but for `left` while it begins, and is as the model `now`: hearing what is left comes to what
--- hearing the whole piece from the model s comes to
+-- a station that has heard a piece but for `left` while it synchronizes, and is as the model `now`: hearing what is left comes
+-- to what hearing the whole piece from the model s comes to
 pub record Asking (station : Station) (s : Model) (piece left : List ℕ) : Type 0 where
   pub now : Model
   pub stands : Refines station now
   pub goes : piece_asked left now ≡ piece_asked piece s
 
--- hearing what is left of a piece while the station begins is hearing its first frame's line, and then the rest
+-- hearing what is left of a piece while the station synchronizes is hearing its first frame's line, and then the rest
 pub asked_first : (s : Model) (left later rest : List ℕ) (frame : Frame)
     → frames_behind s.rest left ≡ completed frame ++ frames_behind rest later → rest_behind s.rest left ≡ rest_behind rest later
     → piece_asked left s ≡ piece_asked later (with_progress (λ p. lines_asked p (option_to_list (line_in frame))) (with_rest rest s))
 asked_first s left later rest frame seen rests =
     let line = option_to_list (line_in frame) in
-    let lines : lines_behind s.rest left ≡ line ++ lines_behind rest later = ap (filter_map line_in) seen ∙ lines_split frame (frames_behind rest later) in
-    ap (λ r. shown r (lines_asked s.progress (lines_behind s.rest left))) rests
+    let lines : lines_completed s.rest left ≡ line ++ lines_completed rest later = ap (filter_map line_in) seen ∙ lines_split frame (frames_behind rest later) in
+    ap (λ r. shown r (lines_asked s.progress (lines_completed s.rest left))) rests
     ∙ ap (λ xs. shown (rest_behind rest later) (lines_asked s.progress xs)) lines
-    ∙ ap (shown (rest_behind rest later)) (lines_asked-append s.progress line (lines_behind rest later)) where
+    ∙ ap (shown (rest_behind rest later)) (lines_asked-append s.progress line (lines_completed rest later)) where
       -- the model s with these bytes kept of a line, and this progress
       shown : List ℕ → Progress → Model
       shown r p = record s { rest = r; progress = p }
 
--- `Asking` lasts over one frame more
+-- `Asking` is preserved by one frame more
 pub asking_on : (station station' : Station) (s : Model) (piece left : List ℕ) (used : ℕ) (frame : Frame) (kept : Kept)
     → (h : Asking station s piece left) → (t : Takes h.now.rest left used frame kept)
     → station' ≡ record station { assembler = kept; progress = lines_asked station.progress (option_to_list (line_in frame)) }
@@ -410,12 +411,12 @@ asking_on station station' s piece left used frame kept h t is =
       goes = sym (asked_first h.now left (drop used left) t.now frame t.seen t.rests) ∙ h.goes;
     }
 
--- where null procedures of the beginning are left unanswered, the beginning hears a piece that is heard
-pub came_asked : (word piece : List ℕ) (s : Model) → is_none_left word ≡ false → came true word piece s ≡ piece_asked piece s
+-- where null procedures of the synchronization are left unanswered, the synchronization hears a piece that is heard
+pub came_asked : (word piece : List ℕ) (s : Model) → is_none_left word ≡ false → after_piece true word piece s ≡ piece_asked piece s
 came_asked [] piece s e = cc
 came_asked (asked ∷ others) piece s e = refl
 
--- where none is left unanswered, the client hears a piece that is heard
-pub came_begun : (word piece : List ℕ) (s : Model) → is_none_left word ≡ true → came true word piece s ≡ piece_came piece s
+-- if none is left unanswered, the client hears a piece that is heard
+pub came_begun : (word piece : List ℕ) (s : Model) → is_none_left word ≡ true → after_piece true word piece s ≡ piece_came piece s
 came_begun [] piece s e = refl
 came_begun (asked ∷ others) piece s e = cc

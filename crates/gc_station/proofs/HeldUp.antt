@@ -1,6 +1,6 @@
--- A text without procedures of one's own is never held up: where each command is a call of the table, as many requests are behind
--- the last call of the table that a reply ended as wait. An act is one call of the link, with what came of it; steps of the client
--- are to send, to hear a line, to be told a moment and to restart.
+-- A text without procedures of one's own is never held up: if each command is a call of the table, as many requests are after
+-- the last call of the table that a reply ended as wait. An act is one call on the link, with its result; steps of the client
+-- are to send, to hear a line, to read the clock and to restart.
 use Rattle.std.proofs.Common.{◌≡◌, ℕ, zero, suc, ◌+◌, ◌-◌, ◌<◌, ◌≤◌, ◌&&◌, ◌||◌, Bool, true, false, List, [], ◌∷◌, ◌++◌, length, map, drop, Option, Some, None, refl, sym, ap, ◌∙◌, subst, arith, if◌then◌else◌, nat_lt, nat_eq, length-drop}
 use Rattle.std.specs.Prelude.{slice_get, not}
 use Rattle.std.specs.List.{AllByRecursion}
@@ -29,10 +29,10 @@ use Rattle.gc_station.specs.declared.progress.Waiting.{Waiting}
 use Rattle.gc_station.specs.Behind.{AreOfTable, TheTableIsNeverHeldUp}
 use Rattle.gc_station.specs.Deciding.{has_begun, is_none_left, action_room, action_waiting, width_of}
 use Rattle.gc_station.specs.Parts.{putting, asking_first, hearing, doing, beginning, acting, asking_or_null}
-use Rattle.gc_station.specs.Progressing.{one_more, turned, told, time_passed, is_over, loses_all}
+use Rattle.gc_station.specs.Progressing.{one_more, turned, moment_noted, time_passed, is_over, loses_all}
 use Rattle.gc_station.specs.Reasons.{IsFor}
-use Rattle.gc_station.specs.Runs.{stood}
-use Rattle.gc_station.specs.Model.{Model, opening, action_at, waiting_of, place_next, mark_next, is_tables, ends_with_table, is_heard, with_progress, with_moment, with_rest, lines_behind, came, moved, losing, after, Performs, mark_setup}
+use Rattle.gc_station.specs.Runs.{state_after}
+use Rattle.gc_station.specs.Model.{Model, opening, action_at, waiting_of, place_next, mark_next, is_tables, ends_with_table, is_heard, with_progress, with_moment, with_rest, lines_completed, after_piece, moved, losing, after, Performs, mark_setup}
 use Rattle.gc_station.proofs.Always.{always}
 use Rattle.gc_station.proofs.Behind.{behind_by, behind_step}
 use Rattle.gc_station.proofs.Booking.{stepped, client_after}
@@ -42,15 +42,15 @@ use Rattle.gc_station.proofs.Facts.{action_for}
 use Rattle.gc_station.proofs.GoesBehind.{counted}
 use Rattle.gc_station.proofs.Invariant.{Invariant}
 use Rattle.gc_station.proofs.Meets.{settle_length}
-use Rattle.gc_station.proofs.Midway.{clash}
 use Rattle.gc_station.proofs.Parting.{leads, keeps_action}
 use Rattle.gc_station.proofs.Turns.{over_stays}
 use Rattle.gc_station.proofs.Walk.{asked_along, quieted_along, closed_along, walk}
 use Rattle.gc_station.proofs.Words.{renews_only}
+use Rattle.gc_station.proofs.Ticking.{not_both}
 
 -- Lists.
 
--- what holds of each element of a list holds of each behind the first n
+-- what holds of each element of a list holds of each after the first n
 all_drop : {A : Type 0} (P : A → Type 0) (n : ℕ) (xs : List A) → AllByRecursion P xs → AllByRecursion P (drop n xs)
 all_drop P zero xs all = all
 all_drop P (suc n) [] all = tt
@@ -63,7 +63,7 @@ all_more P (y ∷ xs) x all here = (all.0, all_more P xs x all.1 here)
 
 -- Steps of the client.
 
--- a request that waits is a call of the table
+-- an outstanding request is a call of the table
 abbrev IsTables : Pending Asked → Type 0
 IsTables p = is_of_table p.call ≡ true
 
@@ -80,12 +80,12 @@ record Level (c : ById Asked) (b : ℕ) : Type 0 where
   few : length c.waiting ≤ 7
   same : b ≡ length c.waiting
 
--- a request that is given up is for what it was for before
+-- a request that has timed out is for what it was for before
 expired_tables : (now : ℕ) (ps : List (Pending Asked)) → AllByRecursion IsTables ps → AllByRecursion IsTables (map (expired now) ps)
 expired_tables now [] all = tt
 expired_tables now (p ∷ ps) all = (all.0, expired_tables now ps all.1)
 
--- the last request that a reply settles is a call of the table, where all are
+-- the last request that a reply settles is a call of the table, if all are
 settle_tables : (k : ℕ) (line : List ℕ) (ps : List (Pending Asked)) → k < length ps → AllByRecursion IsTables ps → is_tables (slice_get (settle k line ps) k) ≡ true
 settle_tables k line [] low all = absurd (omega (arith, low))
 settle_tables zero line (p ∷ ps) low all = all.0
@@ -94,12 +94,12 @@ settle_tables (suc k) line (p ∷ ps) low all = settle_tables k line ps (omega (
 -- one more than fewer than seven is one more
 more_is : (n : ℕ) → n < 7 → one_more n ≡ n + 1
 more_is n low = by_test (nat_lt n WINDOW) refl where
-  -- the lemma above, by the test
+  -- the lemma above, by whether n is below the window
   by_test : (b : Bool) → nat_lt n WINDOW ≡ b → (if b then n + 1 else n) ≡ n + 1
   by_test true e = refl
   by_test false e = let high : 7 ≤ n = ltb-false n WINDOW e in absurd (omega (arith, low, high))
 
--- a send to a window that isn't full keeps `Level`; one to a full window changes nothing
+-- a send to a window that isn't full preserves `Level`; one to a full window changes nothing
 level_sent : (c : ById Asked) (b target : ℕ) (call : Asked) (deadline : ℕ) → is_of_table call ≡ true → Level c b → (full : Bool) → nat_eq (length c.waiting) 7 ≡ full
     → Level (sent_on (record { sent = []; settlements = []; client = c }) target call (id_send c target call deadline full)).client (one_more b)
 level_sent c b target call deadline table h true e =
@@ -118,12 +118,12 @@ level_sent c b target call deadline table h false e =
       less : (n : ℕ) → n ≤ 7 → nat_eq n 7 ≡ false → n < 7
       less n few other = grind (arith, nat_tests, few, other)
 
--- a line keeps `Level`
+-- a line preserves `Level`
 level_heard : (c : ById Asked) (b : ℕ) (line : List ℕ) (o : Option ℕ) → Level c b
     → Level (hears c line o).client (if ends_with_table (hears c line o).settlements then length (hears c line o).client.waiting else b)
 level_heard c b line None h = h
 level_heard c b line (Some id) h = by_test _ _ refl where
-  -- the lemma above, by whether the id is of a request that waits (`true`)
+  -- the lemma above, by whether the id is of an outstanding request (`true`)
   by_test : (k : ℕ) (fits : Bool) → nat_lt k (length c.waiting) ≡ fits
       → Level (id_settled c line k fits).client (if ends_with_table (id_settled c line k fits).settlements then length (id_settled c line k fits).client.waiting else b)
   by_test k false e = h
@@ -140,7 +140,7 @@ level_heard c b line (Some id) h = by_test _ _ refl where
         same = ap (λ (t : Bool). if t then length (drop (k + 1) c.waiting) else b) ends;
       }
 
--- a step that sends calls of the table alone keeps `Level`
+-- a step that sends calls of the table alone preserves `Level`
 level_step : (c : ById Asked) (b : ℕ) (step : Step Asked) → SendsTables step → Level c b → Level (stepped c step) (behind_step c b step)
 level_step c b (Send target call deadline) table h = level_sent c b target call deadline table h (nat_eq (length c.waiting) 7) refl
 level_step c b (Hear line) table h = level_heard c b line (heard line) h
@@ -149,7 +149,7 @@ level_step c b (Expire now) table h =
     record { tables = expired_tables now c.waiting h.tables; few = subst (λ n. n ≤ 7) (sym many) h.few; same = h.same ∙ sym many }
 level_step c b Restart table h = absurd table
 
--- steps that send calls of the table alone keep `Level`
+-- steps that send calls of the table alone preserve `Level`
 level_steps : (c : ById Asked) (b : ℕ) (steps : List (Step Asked)) → AllByRecursion SendsTables steps → Level c b → Level (client_after c steps) (behind_by c b steps)
 level_steps c b [] all h = h
 level_steps c b (step ∷ steps) all h = level_steps (stepped c step) (behind_step c b step) steps all.1 (level_step c b step all.0 h)
@@ -161,12 +161,12 @@ hears_tables : (lines : List (List ℕ)) → AllByRecursion SendsTables (map Hea
 hears_tables [] = tt
 hears_tables (line ∷ others) = (tt, hears_tables others)
 
--- a piece that is heard, or dropped, sends nothing
+-- a piece that is heard, or discarded, sends nothing
 hearing_tables : (h : Bool) (rest piece : List ℕ) → AllByRecursion SendsTables (hearing h rest piece)
-hearing_tables true rest piece = hears_tables (lines_behind rest piece)
+hearing_tables true rest piece = hears_tables (lines_completed rest piece)
 hearing_tables false rest piece = tt
 
--- where a task asks for a call of the table, it does so at any moment
+-- if a task asks for a call of the table, it does so at any moment
 table_at : (task : Task) (utc : ℕ) → is_of_table task.command.call ≡ true → is_of_table (call_at task utc) ≡ true
 table_at task utc is = by_clock task.now where
   -- the lemma above, whether the task sets the clock (`true`)
@@ -179,7 +179,7 @@ first_tables : (now : ℕ) (mark : Mark) (left : List Task) → AreOfTable left 
 first_tables now mark [] all = tt
 first_tables now mark (task ∷ others) all = (table_at task mark.sent all.0, tt)
 
--- the first of some calls of the table, as a command of the set-up, is one, and so is the null procedure in its place
+-- the first of some calls of the table, as a command of the setup, is one, and so is the null procedure in its place
 setup_tables : (plan : Plan) (now : ℕ) (mark : Mark) (left : List Task) → AreOfTable left → AllByRecursion SendsTables (asking_or_null plan now mark left).steps
 setup_tables plan now mark [] all = (refl, tt)
 setup_tables plan now mark (task ∷ others) all = (table_at task mark.sent all.0, tt)
@@ -205,35 +205,35 @@ module _ (plan : Plan) (commands : List Task) (all : AreOfTable commands) where
   do_tables s o (Cut bytes count) = put_tables s o
   do_tables s o act = tt
 
-  -- what every run of calls of the table keeps: while it begins nothing is behind; and once it has begun, and isn't over, as many
-  -- are behind as wait
+  -- what every run of calls of the table keeps: while it synchronizes nothing is after; and once it has begun, and isn't over,
+  -- as many are after as wait
   record Free (s : Model) : Type 0 where
     begins : has_begun s.progress ≡ false → s.progress.behind ≡ 0
     level : has_begun s.progress ≡ true → is_over s.progress ≡ false → Level s.client s.progress.behind
 
-  -- while the station begins, nothing is behind after an act
+  -- while the station synchronizes, nothing is after after an act
   abbrev NoneBehind : Act → Model → Type 0
   NoneBehind act t = t.progress.behind ≡ 0
 
-  -- a piece that is heard while the station begins, or dropped, leaves nothing behind
-  came_none : (h : Bool) (word piece : List ℕ) (s : Model) → is_none_left word ≡ false → s.progress.behind ≡ 0 → (came h word piece s).progress.behind ≡ 0
+  -- a piece that is heard while the station synchronizes, or discarded, leaves nothing after
+  came_none : (h : Bool) (word piece : List ℕ) (s : Model) → is_none_left word ≡ false → s.progress.behind ≡ 0 → (after_piece h word piece s).progress.behind ≡ 0
   came_none true [] piece s begins e = cc
-  came_none true (asked ∷ others) piece s begins e = asked_along (λ (q : Progress). q.behind ≡ 0) (λ q line e. e) s.progress (lines_behind s.rest piece) e
+  came_none true (asked ∷ others) piece s begins e = asked_along (λ (q : Progress). q.behind ≡ 0) (λ q line e. e) s.progress (lines_completed s.rest piece) e
   came_none false word piece s begins e = e
 
-  -- while the station begins, an act leaves nothing behind
+  -- while the station synchronizes, an act leaves nothing after
   none_behind : (s : Model) (o : Action) (act : Act) → IsFor plan s.progress (waiting_of s) o → Performs commands s o act → has_begun s.progress ≡ false → s.progress.behind ≡ 0
       → NoneBehind act (moved plan commands o (with_progress turned s) act)
-  none_behind s action.Renew act is obeys begins e = absurd (clash (has_begun s.progress) is.1 begins)
-  none_behind s action.Begin act is obeys begins e = absurd (clash (has_begun s.progress) is.1 begins)
-  none_behind s action.Prepare act is obeys begins e = absurd (clash (has_begun s.progress) is.1 begins)
-  none_behind s action.Send act is obeys begins e = absurd (clash (has_begun s.progress) is.1 begins)
-  none_behind s action.Skip act is obeys begins e = absurd (clash (has_begun s.progress) is.1 begins)
-  none_behind s action.Flush act is obeys begins e = absurd (clash (has_begun s.progress) is.1 begins)
+  none_behind s action.Renew act is obeys begins e = absurd (not_both (has_begun s.progress) is.1 begins)
+  none_behind s action.Begin act is obeys begins e = absurd (not_both (has_begun s.progress) is.1 begins)
+  none_behind s action.Prepare act is obeys begins e = absurd (not_both (has_begun s.progress) is.1 begins)
+  none_behind s action.Send act is obeys begins e = absurd (not_both (has_begun s.progress) is.1 begins)
+  none_behind s action.Skip act is obeys begins e = absurd (not_both (has_begun s.progress) is.1 begins)
+  none_behind s action.Flush act is obeys begins e = absurd (not_both (has_begun s.progress) is.1 begins)
   none_behind s action.Ask act is obeys begins e = walk plan commands NoneBehind action.Ask (with_progress turned s) act obeys (λ m. refl, λ n. refl)
   none_behind s (action.Read until) act is obeys begins e =
       walk plan commands NoneBehind (action.Read until) (with_progress turned s) act obeys (
-        λ bytes m. came_none (is_heard s.progress.phase) s.progress.word bytes (with_moment m (with_progress (told m) (with_progress turned s))) begins e,
+        λ bytes m. came_none (is_heard s.progress.phase) s.progress.word bytes (with_moment m (with_progress (moment_noted m) (with_progress turned s))) begins e,
         λ m. quieted_along (λ (q : Progress). q.behind ≡ 0) plan s.progress.phase (time_passed until m (turned s.progress)) e e e,
         e,
         e,
@@ -245,42 +245,42 @@ module _ (plan : Plan) (commands : List Task) (all : AreOfTable commands) where
   none_behind s (action.Stop why) act is obeys begins e = absurd obeys
   none_behind s o act is obeys begins e = walk plan commands NoneBehind o (with_progress turned s) act obeys (λ m. e, λ n. e)
 
-  -- where the station begins anew, nothing is behind
+  -- if the station resynchronizes, nothing is after
   renewed_none : (s : Model) (o : Action) (act : Act) (m : Moment) → o ≡ action.Renew → act ≡ Told m → (moved plan commands o (with_progress turned s) act).progress.behind ≡ 0
-  renewed_none s o act m is told =
+  renewed_none s o act m is moment_noted =
       ap (λ (x : Action). (moved plan commands x (with_progress turned s) act).progress.behind) is
-      ∙ ap (λ (x : Act). (moved plan commands action.Renew (with_progress turned s) x).progress.behind) told
+      ∙ ap (λ (x : Act). (moved plan commands action.Renew (with_progress turned s) x).progress.behind) moment_noted
 
-  -- where what waits isn't lost, the client is as before
+  -- where what is outstanding isn't lost, the client is as before
   kept_client : (t : Model) → has_begun t.progress ≡ true → is_over t.progress ≡ false → (losing (loses_all t.progress) t).client ≡ t.client
   kept_client t begun going = ap (λ (b : Bool). (losing b t).client) (neither (has_begun t.progress) (is_over t.progress) begun going) where
-    -- where the station has begun and the run isn't over, nothing is lost
+    -- if the station has synchronized and the run isn't over, nothing is lost
     neither : (b over : Bool) → b ≡ true → over ≡ false → (not b || over) ≡ false
     neither true over e f = f
     neither false over e f = cc
 
   module _ (s : Model) (act : Act) (fine : Invariant plan commands s) (obeys : Performs commands s (action_at plan s) act) (h : Free s) where
-    -- the act's action
+    -- the action that the act performs
     abbrev o : Action
     o = action_at plan s
 
-    -- its conditions
+    -- the conditions of that action hold
     its : IsFor plan s.progress (waiting_of s) o
     its = action_for plan s.progress (waiting_of s)
 
-    -- the model behind the act, before what waits is lost
+    -- the model after the act, before what is outstanding is lost
     abbrev t : Model
     t = moved plan commands o (with_progress turned s) act
 
-    -- the model behind the act
+    -- the model after the act
     abbrev u : Model
     u = losing (loses_all t.progress) t
 
-    -- the loss of what waits changes no progress
+    -- the loss of what is outstanding changes no progress
     far : u.progress ≡ t.progress
     far = losing_progress (loses_all t.progress) t
 
-    -- the act so far, at a station that has begun
+    -- the act so far, at a synchronized station
     moves : has_begun s.progress ≡ true → has_begun t.progress ≡ true → is_over s.progress ≡ false → Level t.client t.progress.behind
     moves begun still going =
         let steps = (doing plan commands s o act).steps in
@@ -296,7 +296,7 @@ module _ (plan : Plan) (commands : List Task) (all : AreOfTable commands) where
     wasnt_over true e = absurd (over_stays plan commands s act e obeys)
     wasnt_over false e = e
 
-    -- `Free` holds behind the act, by whether the station had begun before
+    -- `Free` holds after the act, by whether the station had synchronized before
     free_so : (b : Bool) → has_begun s.progress ≡ b → Free u
     free_so true begun = record {
       begins = λ anew.
@@ -321,30 +321,30 @@ module _ (plan : Plan) (commands : List Task) (all : AreOfTable commands) where
               (subst (λ (n : ℕ). Level fresh n) (sym (ap (λ (p : Progress). p.behind) far ∙ none)) (record { tables = tt; few = omega arith; same = refl }));
         }
 
-  -- each act keeps `Free`
+  -- each act preserves `Free`
   free_after : (s : Model) (act : Act) → Invariant plan commands s → Performs commands s (action_at plan s) act → Free s → Free (after plan commands s act)
   free_after s act fine obeys h = free_so s act fine obeys h (has_begun s.progress) refl
 
--- where the window is full, no request goes out
+-- if the window is full, no request is sent
 full_waits : (plan : Plan) (p : Progress) (w : Waiting) (o : Action) → nat_lt w.all WINDOW ≡ false → action_room plan p w o ≡ action_waiting plan p w
 full_waits plan p w o full = ap (λ (b : Bool). if b then o else action_waiting plan p w) (both_false (nat_lt w.current (width_of plan)) (nat_lt w.all WINDOW) full) where
-  -- where one of two tests fails, not both hold
+  -- if one of two tests fails, not both hold
   both_false : (a b : Bool) → b ≡ false → (a && b) ≡ false
   both_false true b e = e
   both_false false b e = refl
 
--- where as many are behind as wait, a command goes out as soon as there is room
+-- where as many are after as wait, a command is sent as soon as there is room
 sends_on : (plan : Plan) (p : Progress) (w : Waiting) (o : Action) → p.behind ≡ w.all
     → (if nat_lt p.behind WINDOW then action_room plan p w o else (if nat_eq w.current 0 then action_room plan p w action.Flush else action_waiting plan p w)) ≡ action_room plan p w o
 sends_on plan p w o e = by_test (nat_lt p.behind WINDOW) refl where
-  -- the lemma above, by whether fewer than seven are behind
+  -- the lemma above, by whether fewer than seven are after
   by_test : (b : Bool) → nat_lt p.behind WINDOW ≡ b
       → (if b then action_room plan p w o else (if nat_eq w.current 0 then action_room plan p w action.Flush else action_waiting plan p w)) ≡ action_room plan p w o
   by_test true is = refl
   by_test false is =
       let full : nat_lt w.all WINDOW ≡ false = ap (λ n. nat_lt n WINDOW) (sym e) ∙ is in
       either_way (nat_eq w.current 0) (full_waits plan p w action.Flush full) ∙ sym (full_waits plan p w o full) where
-        -- a null procedure doesn't go out either
+        -- the station doesn't send a null procedure in place of the command either
         either_way : (b : Bool) → action_room plan p w action.Flush ≡ action_waiting plan p w → (if b then action_room plan p w action.Flush else action_waiting plan p w) ≡ action_waiting plan p w
         either_way true f = f
         either_way false f = refl
@@ -352,9 +352,9 @@ sends_on plan p w o e = by_test (nat_lt p.behind WINDOW) refl where
 -- the law: a text without procedures of one's own is never held up
 pub never_held_up : TheTableIsNeverHeldUp
 never_held_up plan commands scope acts runs all begun going =
-    let s = stood plan commands scope acts in
+    let s = state_after plan commands scope acts in
     let free : Free plan commands all s = always plan commands (opening plan scope) (λ (done : List Act) (t : Model). Free plan commands all t)
-    (λ done act before obeys h. free_after plan commands all (stood plan commands scope done) act (fine_stood plan commands scope done) obeys h)
+    (λ done act before obeys h. free_after plan commands all (state_after plan commands scope done) act (fine_stood plan commands scope done) obeys h)
     (record { begins = λ e. refl; level = λ e f. cc }) acts runs in
     let level = free.level begun going in
     (level.same, sends_on plan s.progress (waiting_of s) action.Send level.same, sends_on plan s.progress (waiting_of s) action.Prepare level.same)

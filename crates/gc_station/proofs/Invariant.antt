@@ -1,4 +1,4 @@
--- What every run keeps, after each of its acts, whatever the link tells.
+-- What every run keeps, after each of its acts, whatever the link does.
 use Rattle.std.proofs.Common.{◌≡◌, ◌<◌, ◌≤◌, Bool, true, false, List, [], length, map, ◌-◌}
 use Rattle.std.specs.List.{AllByRecursion}
 use Rattle.gc_client.specs.OneForOne.{of_pending}
@@ -17,7 +17,7 @@ use Rattle.gc_station.specs.Model.{Model}
 use Rattle.gc_station.specs.Parts.{AreOf}
 use Rattle.gc_station.specs.Tasked.{IsOfItsTask}
 
--- whether a phase is without a connection, or before requests go out: no byte of a line is kept in it
+-- whether a phase is without a connection, or before requests are sent: no byte of a line is kept in it
 abbrev pub is_bare : Phase → Bool
 is_bare Down = true
 is_bare Pausing = true
@@ -38,9 +38,9 @@ says_done (Closing why) = is_done why
 says_done (Over why) = is_done why
 says_done _ = false
 
--- what every run keeps: the counts lie within the plan and the commands; each request that waits has a mark, at most seven
--- wait, and the next id is below 8; no bytes of a line are kept in a phase that `is_bare`; where the run is over nothing waits,
--- and where it is done nothing is left; and each command had its turn once, in order
+-- what every run keeps: the counts lie within the plan and the commands; each outstanding request has a mark, at most seven are
+-- outstanding, and the next id is below 8; no bytes of a line are kept in a phase that `is_bare`; if the run is over nothing is
+-- outstanding, and if it is done nothing is left; and each command had its turn once, in order
 pub record Invariant (plan : Plan) (commands : List Task) (s : Model) : Type 0 where
   pub unsent : s.progress.unsent ≤ length commands - plan.setup
   pub left : s.progress.left ≤ plan.cycles
@@ -48,12 +48,12 @@ pub record Invariant (plan : Plan) (commands : List Task) (s : Model) : Type 0 w
   pub paired : length s.marks ≡ length s.client.waiting
   pub window : length s.client.waiting ≤ 7
   pub digit : s.client.next < 8
-  -- while it begins nothing waits, and the client is new
+  -- while it synchronizes nothing is outstanding, and the client is new
   pub begins : has_begun s.progress ≡ false → s.client ≡ fresh
   pub rest : is_bare s.progress.phase ≡ true → s.rest ≡ []
   pub over : is_over s.progress ≡ true → s.client.waiting ≡ []
   pub finished : says_done s.progress.phase ≡ true → (s.progress.left ≡ 0) × (s.progress.unsent ≡ 0) × (commands_in s.marks ≡ 0)
   pub each : IsEachOnce plan commands s
-  -- each request that waits asks what its mark says, and each record is of its task
+  -- each outstanding request asks what its mark says, and each record is of its task
   pub own : AreOf commands s.marks (map of_pending s.client.waiting)
   pub told : AllByRecursion (IsOfItsTask commands) s.records

@@ -3,6 +3,7 @@ mod Always
 pub mod Answers
 mod Beginnings
 pub mod Booking
+mod ChainSteps
 mod Chaining
 mod Closings
 mod Connected
@@ -26,6 +27,7 @@ mod Making
 pub mod Meant
 pub mod Meets
 pub mod Midway
+mod ReplyLines
 mod Mute
 mod Noting
 mod Opens
@@ -39,15 +41,19 @@ mod Setups
 mod Prepared
 mod Silences
 mod Since
+mod TriesTaken
 mod Tries
 pub mod Turns
 mod Used
 mod Waiting
 mod Walk
+mod Listed
 mod Retrying
 pub mod Words
 pub mod Asked
 pub mod SentAt
+pub mod OnePart
+pub mod PartFronts
 pub mod Linking
 mod Codes
 mod Counting

@@ -1,101 +1,39 @@
--- Chains by the parts of a run (a part reaches from one beginning to the next): of two commands that go out, the later one has
--- a later place or cycle; and the commands of a chain are requests of one part. An act is one call of the link, with what came
--- of it. A mark says which command a request is of, or `None` of a null procedure. Places, parts and requests count from 0.
--- `Back` says of an earlier command that it went out, was answered well, and is of the part that still goes on.
-use Rattle.std.proofs.Common.{◌≡◌, ◌⊎◌, inl, inr, ℕ, zero, suc, ◌+◌, ◌-◌, ◌<◌, ◌≤◌, ◌&&◌, ◌||◌, Bool, true, false, not, List, [], ◌∷◌, ◌++◌, length, drop, Option, Some, nat_eq, if◌then◌else◌, refl, sym, ◌∙◌, ap, subst, arith, append_assoc}
+-- Chains by the parts of a run (a part reaches from one synchronization to the next): of two commands that are sent, the later
+-- one has a later place or cycle; and the commands of a chain are requests of one part. An act is one call on the link, with
+-- its result. A mark says which command a request is of, or `None` of a null procedure. Places, parts and requests count from
+-- 0. `Back` says of an earlier command that it was sent, was answered well, and is of the part that still goes on.
+use Rattle.std.proofs.Common.{◌≡◌, ◌⊎◌, inl, inr, ℕ, zero, suc, ◌+◌, ◌-◌, ◌<◌, ◌≤◌, Bool, true, false, List, [], ◌∷◌, ◌++◌, length, drop, Option, Some, if◌then◌else◌, refl, sym, ◌∙◌, ap, subst, arith, append_assoc}
 use Rattle.std.specs.Prelude.{slice_get, unwrap_or}
-use Rattle.std.proofs.lemmas.List.{length-append, length-drop}
+use Rattle.std.proofs.lemmas.List.{length-drop}
 use Rattle.gc_texts.specs.declared.tasks.Task.{Task}
 use Rattle.gc_station.specs.declared.mark.Mark.{Mark}
 use Rattle.gc_station.specs.declared.plan.Plan.{Plan}
 use Rattle.gc_station.specs.declared.progress.Action.{Action}
 use Rattle.gc_station.specs.declared.progress.Action.TheVariants.{Prepare, Send}
-use Rattle.gc_station.specs.declared.progress.Phase.TheVariants as phase
-use Rattle.gc_station.specs.declared.progress.Progress.{Progress}
 use Rattle.gc_links.specs.Acts.{Act, Put, Cut}
 use Rattle.gc_station.specs.Chains.{IsLinked}
-use Rattle.gc_station.specs.Deciding.{has_begun, is_up}
+use Rattle.gc_station.specs.Deciding.{has_begun}
 use Rattle.gc_station.specs.EachOnce.{IsFurther}
-use Rattle.gc_station.specs.Links.{AreChained, IsBefore, IsAnsweredBack, ChainsStay, MarksGoOn, parts}
-use Rattle.gc_station.specs.Parts.{Part, nothing, joined, asking_first, doing, beginning, acting, ends_part, in_front, parts_of, mark_of}
-use Rattle.gc_station.specs.Progressing.{begun, is_over, is_over_in}
-use Rattle.gc_station.specs.Reasons.{IsFor}
+use Rattle.gc_station.specs.Links.{AreChained, IsBefore, IsAnsweredEarlier, ChainsStay, MarksGoOn, parts}
+use Rattle.gc_station.specs.Parts.{Part, joined, asking_first, doing, beginning, acting, ends_part, in_front, parts_of, mark_of}
+use Rattle.gc_station.specs.Progressing.{cycle_begun}
 use Rattle.gc_station.specs.Records.{Record}
-use Rattle.gc_station.specs.Runs.{stood}
+use Rattle.gc_station.specs.Runs.{state_after}
 use Rattle.gc_station.specs.Scopes.{Scope}
 use Rattle.gc_station.specs.Qualities.{IsOfQuality, accepted_at}
-use Rattle.gc_station.specs.Model.{Model, Performs, Puts, Runs, opening, action_at, waiting_of, place_next, cycles_begun, cycle_out, expected_first, mark_next, first_text, after, after_all}
+use Rattle.gc_station.specs.Model.{Model, Puts, Runs, opening, action_at, place_next, cycles_begun, cycle_out, expected_first, mark_next, after, after_all}
 use Rattle.gc_texts.specs.Endings.{Answered}
 use Rattle.gc_texts.specs.Qualities.{is_good}
 use Rattle.gc_texts.specs.declared.quality.Quality.{Quality}
 use Rattle.gc_catalogue.specs.declared.answer.Answer.{Answer}
 use Rattle.gc_station.proofs.Chaining.{StaysBegun, PreparesNothing, prepares_none, chain_whole}
 use Rattle.gc_station.proofs.EachRun.{fine_stood}
-use Rattle.gc_station.proofs.Facts.{action_for}
 use Rattle.gc_station.proofs.Outs.{of_a_cycle, send_cycle, send_place, sends_of_cycle}
 use Rattle.gc_station.proofs.Further.{send_goes_on}
 use Rattle.gc_station.proofs.Going.{after_all-append, runs_behind}
-use Rattle.gc_station.proofs.Turns.{over_stays}
-use Rattle.gc_station.proofs.SentAt.{some_is, none_is_not, get_behind, fronts, records_stay, SentAt, joined_length, sent_at, act_head, act_tail}
-
--- The parts of a front of acts.
-
--- the first parts are the front of the second ones: as many or fewer, and the last of them has no more requests than its
--- counterpart, in which it may go on
-abbrev IsFront : List Part → List Part → Type 0
-IsFront [] qs = ⊥
-IsFront (p ∷ ps) [] = ⊥
-IsFront (p ∷ []) (q ∷ qs) = length p.marks ≤ length q.marks
-IsFront (p ∷ next ∷ ps) (q ∷ qs) = IsFront (next ∷ ps) qs
-
--- with one act more in front of both, parts that are a front of others still are
-front_more : (p : Part) (b : Bool) (ps qs : List Part) → IsFront ps qs → IsFront (in_front p b ps) (in_front p b qs)
-front_more p b [] qs h = absurd h
-front_more p true (x ∷ ps) [] h = absurd h
-front_more p false (x ∷ ps) [] h = absurd h
-front_more p true (x ∷ ps) (y ∷ qs) h = h
-front_more p false (x ∷ []) (y ∷ qs) h =
-    let a : length (p.marks ++ x.marks) ≡ length p.marks + length x.marks = length-append p.marks x.marks in
-    let b : length (p.marks ++ y.marks) ≡ length p.marks + length y.marks = length-append p.marks y.marks in
-    omega (arith, a, b, h)
-front_more p false (x ∷ next ∷ ps) (y ∷ qs) h = h
-
--- the part in which nothing happens is a front of any parts to which an act was added
-front_none : (p : Part) (b : Bool) (ps : List Part) → IsFront (nothing ∷ []) (in_front p b ps)
-front_none p true ps = omega arith
-front_none p false [] = omega arith
-front_none p false (q ∷ ps) = omega arith
-
--- the parts of the first acts are a front of the parts of all
-front_parts : (plan : Plan) (commands : List Task) (s : Model) (xs ys : List Act) → IsFront (parts_of plan commands s xs) (parts_of plan commands s (xs ++ ys))
-front_parts plan commands s [] [] = omega arith
-front_parts plan commands s [] (act ∷ ys) = front_none (acting plan commands s (action_at plan s) act) (ends_part plan commands s act) (parts_of plan commands (after plan commands s act) ys)
-front_parts plan commands s (act ∷ xs) ys =
-    front_more (acting plan commands s (action_at plan s) act) (ends_part plan commands s act) (parts_of plan commands (after plan commands s act) xs)
-    (parts_of plan commands (after plan commands s act) (xs ++ ys))
-    (front_parts plan commands (after plan commands s act) xs ys)
-
--- the last part of a front, at place j, comes before the last part of the whole, at place i; or it is the same one, with no more
--- requests
-front_last : (ps qs : List Part) (j i : ℕ) (p q : Part) → IsFront ps qs → length ps ≡ suc j → length qs ≡ suc i → slice_get ps j ≡ Some p
-    → slice_get qs i ≡ Some q → (j < i) ⊎ ((j ≡ i) × (length p.marks ≤ length q.marks))
-front_last [] qs j i p q h a b e f = absurd h
-front_last (x ∷ ps) [] j i p q h a b e f = absurd h
-front_last (x ∷ []) (y ∷ qs) zero zero p q h a b e f = inr (
-  refl,
-  subst
-      (λ (z : Part). length z.marks ≤ length q.marks) (some_is x p e) (subst (λ (z : Part). length x.marks ≤ length z.marks) (some_is y q f) h),
-)
-front_last (x ∷ []) (y ∷ qs) zero (suc i) p q h a b e f = inl (omega arith)
-front_last (x ∷ []) (y ∷ qs) (suc j) i p q h a b e f = absurd (omega (arith, a))
-front_last (x ∷ next ∷ ps) (y ∷ qs) zero i p q h a b e f = absurd (omega (arith, a))
-front_last (x ∷ next ∷ ps) (y ∷ []) (suc j) i p q h a b e f = absurd h
-front_last (x ∷ next ∷ ps) (y ∷ z ∷ qs) (suc j) zero p q h a b e f = absurd (omega (arith, b))
-front_last (x ∷ next ∷ ps) (y ∷ z ∷ qs) (suc j) (suc i) p q h a b e f =
-    elim (front_last (next ∷ ps) (z ∷ qs) j i p q h (omega (arith, a)) (omega (arith, b)) e f) [
-      | inl l ↦ inl (omega (arith, l))
-      | inr r ↦ inr (ap suc r.0, r.1)
-    ]
+use Rattle.gc_station.proofs.SentAt.{some_is, none_is_not, get_behind, fronts, records_stay, SentAt, sent_at, act_head, act_tail}
+use Rattle.gc_station.proofs.OnePart.{runs_front, needs_send, puts_text, same_part}
+use Rattle.gc_station.proofs.PartFronts.{IsFront, front_parts, front_last}
 
 -- The commands go on.
 
@@ -108,13 +46,14 @@ apart i j m n (inr l) (inr k) = let less : m < n = l.1 in let le : n ≤ m = k.1
 
 module _ (plan : Plan) (commands : List Task) (scope : Scope) where
   -- after a send, and at least one act, the station is further than before it
-  further_on : (xs ys more : List Act) → action_at plan (stood plan commands scope xs) ≡ Send → ys ≡ xs ++ more → (more ≡ [] → ⊥)
-      → IsFurther plan commands (stood plan commands scope xs) (stood plan commands scope ys)
+  further_on : (xs ys more : List Act) → action_at plan (state_after plan commands scope xs) ≡ Send → ys ≡ xs ++ more → (more ≡ [] → ⊥)
+      → IsFurther plan commands (state_after plan commands scope xs) (state_after plan commands scope ys)
   further_on xs ys [] sends e some = absurd (some refl)
   further_on xs ys (act ∷ more) sends e some =
-      subst (λ l. IsFurther plan commands (stood plan commands scope xs) (stood plan commands scope l)) (sym e) (send_goes_on plan commands scope xs more act sends)
+      subst (λ l. IsFurther plan commands (state_after plan commands scope xs) (state_after plan commands scope l)) (sym e) (send_goes_on plan commands scope xs more act sends)
 
-  -- of two commands that went out (x before y, in the order of parts and requests), the second one did so at least one act later
+  -- of two commands that were sent (x before y, in the order of parts and requests), the second one did so at least one act
+  -- later
   goes_before : (acts : List Act) (i j m n : ℕ) (a b : Mark) → IsBefore i m j n → (x : SentAt plan commands (opening plan scope) acts i m a)
       → (y : SentAt plan commands (opening plan scope) acts j n b) → (more : List Act) × (y.before ≡ x.before ++ more) × (more ≡ [] → ⊥)
   goes_before acts i j m n a b l x y =
@@ -128,7 +67,7 @@ module _ (plan : Plan) (commands : List Task) (scope : Scope) where
       nil [] = refl
       nil (z ∷ xs) = ap (λ ys. z ∷ ys) (nil xs)
 
-      -- the first command doesn't go out after the second one
+      -- the first command isn't sent after the second one
       behind : (more : List Act) → x.before ≡ y.before ++ more → ⊥
       behind more e =
           let front = subst (λ l. IsFront (parts_of plan commands (opening plan scope) y.before) (parts_of plan commands (opening plan scope) l)) (sym e)
@@ -142,96 +81,22 @@ module _ (plan : Plan) (commands : List Task) (scope : Scope) where
             | inr k ↦ (let le : length y.first.marks ≤ length x.first.marks = k.1 in inr (k.0, omega (arith, le, counts_x, counts_y)))
           ])
 
-  -- of two commands that went out, as above, the second one is of a later place or cycle
+  -- of two commands that were sent, as above, the second one is of a later place or cycle
   further_than : (acts : List Act) (i j m n : ℕ) (a b : Mark) → IsBefore i m j n → (x : SentAt plan commands (opening plan scope) acts i m a)
-      → action_at plan (stood plan commands scope x.before) ≡ Send → (y : SentAt plan commands (opening plan scope) acts j n b)
-      → IsFurther plan commands (stood plan commands scope x.before) (stood plan commands scope y.before)
+      → action_at plan (state_after plan commands scope x.before) ≡ Send → (y : SentAt plan commands (opening plan scope) acts j n b)
+      → IsFurther plan commands (state_after plan commands scope x.before) (state_after plan commands scope y.before)
   further_than acts i j m n a b l x sends y = let h = goes_before acts i j m n a b l x y in further_on x.before y.before h.0 sends h.1 h.2
 
--- the law: of two commands of cycles that go out, the later one is of a later place in its cycle, or of a later cycle
+-- the law: of two commands of cycles that are sent, the later one is of a later place in its cycle, or of a later cycle
 pub marks_go_on : MarksGoOn
 marks_go_on plan commands scope acts runs i j m n p q a b e f g h l above below =
     let x = sent_at plan commands (opening plan scope) acts i m p a e g in
     let y = sent_at plan commands (opening plan scope) acts j n q b f h in
-    let at_x = mark_next plan commands (stood plan commands scope x.before).progress in
-    let x_is = of_a_cycle plan commands (stood plan commands scope x.before) (action_at plan (stood plan commands scope x.before)) a x.its above in
-    let y_is = of_a_cycle plan commands (stood plan commands scope y.before) (action_at plan (stood plan commands scope y.before)) b y.its below in
+    let at_x = mark_next plan commands (state_after plan commands scope x.before).progress in
+    let x_is = of_a_cycle plan commands (state_after plan commands scope x.before) (action_at plan (state_after plan commands scope x.before)) a x.its above in
+    let y_is = of_a_cycle plan commands (state_after plan commands scope y.before) (action_at plan (state_after plan commands scope y.before)) b y.its below in
     subst (λ (u : Mark). IsBefore u.cycle u.place b.cycle b.place) (sym x_is.1)
     (subst (λ (u : Mark). IsBefore at_x.cycle at_x.place u.cycle u.place) (sym y_is.1) (further_than plan commands scope acts i j m n a b l x x_is.0 y))
-
--- While a station doesn't begin anew, all its acts are of one part.
-
--- the first acts of a run are a run
-runs_front : (plan : Plan) (commands : List Task) (s : Model) (xs ys : List Act) → Runs plan commands s (xs ++ ys) → Runs plan commands s xs
-runs_front plan commands s [] ys h = tt
-runs_front plan commands s (act ∷ xs) ys h = (h.0, runs_front plan commands (after plan commands s act) xs ys h.1)
-
--- where a run isn't over after acts, it isn't before them, as no act follows a run that is over
-goes_on : (plan : Plan) (commands : List Task) (u : Model) (acts : List Act) (b : Bool) → is_over u.progress ≡ b → Runs plan commands u acts
-    → is_over (after_all plan commands u acts).progress ≡ false → is_over u.progress ≡ false
-goes_on plan commands u acts false e runs end = e
-goes_on plan commands u [] true e runs end = end
-goes_on plan commands u (act ∷ acts) true e runs end = absurd (over_stays plan commands u act e runs.0)
-
--- where the station has begun after an act, and the run isn't over, the act ends no part
-neither : (begun later over : Bool) → later ≡ true → over ≡ false → (begun && (not later || over)) ≡ false
-neither true true over a o = o
-neither true false over a o = cc
-neither false later over a o = refl
-
--- acts after each of which the station has begun are one part, if the run isn't over
-single : (plan : Plan) (commands : List Task) (s : Model) (acts : List Act) → Runs plan commands s acts → StaysBegun plan commands s acts
-    → is_over (after_all plan commands s acts).progress ≡ false → length (parts_of plan commands s acts) ≡ 1
-single plan commands s [] runs keeps end = refl
-single plan commands s (act ∷ acts) runs keeps end =
-    let u = after plan commands s act in
-    let p = acting plan commands s (action_at plan s) act in
-    let over = goes_on plan commands u acts (is_over u.progress) refl runs.1 end in
-    let ends : ends_part plan commands s act ≡ false = neither (has_begun s.progress) (has_begun u.progress) (is_over u.progress) keeps.0 over in
-    subst (λ b. length (in_front p b (parts_of plan commands u acts)) ≡ 1) (sym ends) (joined_length p (parts_of plan commands u acts) 0 (single plan commands u acts runs.1 keeps.1 end))
-
--- lists of as many parts stay so with one act more in front of both
-front_length : (p : Part) (b : Bool) (ps qs : List Part) → length ps ≡ length qs → length (in_front p b ps) ≡ length (in_front p b qs)
-front_length p true ps qs e = ap suc e
-front_length p false [] [] e = refl
-front_length p false [] (y ∷ qs) e = absurd (omega (arith, e))
-front_length p false (x ∷ ps) [] e = absurd (omega (arith, e))
-front_length p false (x ∷ ps) (y ∷ qs) e = e
-
--- acts that are one part add no part to those of the acts before them: they go on in the last one
-parts_more : (plan : Plan) (commands : List Task) (s : Model) (xs ys : List Act) → length (parts_of plan commands (after_all plan commands s xs) ys) ≡ 1
-    → length (parts_of plan commands s (xs ++ ys)) ≡ length (parts_of plan commands s xs)
-parts_more plan commands s [] ys one = one
-parts_more plan commands s (act ∷ xs) ys one =
-    front_length (acting plan commands s (action_at plan s) act) (ends_part plan commands s act)
-    (parts_of plan commands (after plan commands s act) (xs ++ ys)) (parts_of plan commands (after plan commands s act) xs)
-    (parts_more plan commands (after plan commands s act) xs ys one)
-
--- in the phase `Ready` the run isn't over
-over_ready : (p : Progress) → p.phase ≡ phase.Ready → is_over p ≡ false
-over_ready p is = ap (λ at. is_over_in at || (not (is_up at) && nat_eq p.turns 0)) is
-
--- where a command is next, the conditions of `Send` hold
-needs_send : (plan : Plan) (s : Model) → action_at plan s ≡ Send → IsFor plan s.progress (waiting_of s) Send
-needs_send plan s is = subst (λ (o : Action). IsFor plan s.progress (waiting_of s) o) is (action_for plan s.progress (waiting_of s))
-
--- an act that sends puts the line of the next command
-puts_text : (commands : List Task) (plan : Plan) (s : Model) (act : Act) → action_at plan s ≡ Send → Performs commands s (action_at plan s) act
-    → Puts (first_text s.progress.moment.utc s.client (drop (place_next commands s.progress) commands)) act
-puts_text commands plan s act is obeys = subst (λ (o : Action). Performs commands s o act) is obeys
-
--- a request and the acts after it, in which the station doesn't begin anew, are of one part
-same_part : (plan : Plan) (commands : List Task) (scope : Scope) (before between : List Act) (request : Act)
-    → Runs plan commands (opening plan scope) (before ++ request ∷ between) → action_at plan (stood plan commands scope before) ≡ Send
-    → StaysBegun plan commands (stood plan commands scope before) (request ∷ between)
-    → action_at plan (stood plan commands scope (before ++ request ∷ between)) ≡ Send
-    → length (parts plan commands scope (before ++ request ∷ between)) ≡ length (parts plan commands scope before)
-same_part plan commands scope before between request runs sends keeps next =
-    let s = stood plan commands scope before in
-    let on = runs_behind plan commands (opening plan scope) before (request ∷ between) runs in
-    let last = over_ready (stood plan commands scope (before ++ request ∷ between)).progress (needs_send plan (stood plan commands scope (before ++ request ∷ between)) next).0 in
-    let end = subst (λ (t : Model). is_over t.progress ≡ false) (after_all-append plan commands (opening plan scope) before (request ∷ between)) last in
-    parts_more plan commands (opening plan scope) before (request ∷ between) (single plan commands s (request ∷ between) on keeps end)
 
 -- The mark of a request.
 
@@ -240,11 +105,11 @@ asked_mark : (now : ℕ) (mark : Mark) (left : List Task) → 0 < length left �
 asked_mark now mark [] some = absurd (omega (arith, some))
 asked_mark now mark (task ∷ others) some = refl
 
--- the part of an act that puts bytes where a command is next has the mark of that command
+-- the part of an act that puts bytes if a command is next has the mark of that command
 put_asks : (plan : Plan) (commands : List Task) (s : Model) (act : Act) (bytes : List ℕ) → Puts bytes act → has_begun s.progress ≡ true → 0 < length (drop (place_next commands s.progress) commands)
     → slice_get (acting plan commands s Send act).marks 0 ≡ Some (Some (mark_next plan commands s.progress))
-put_asks plan commands s act bytes puts begun some = subst (λ (b : Bool). slice_get
-    (if b then doing plan commands s Send act else beginning s Send act).marks 0 ≡ Some (Some (mark_next plan commands s.progress))) (sym begun)
+put_asks plan commands s act bytes puts cycle_begun some = subst (λ (b : Bool). slice_get
+    (if b then doing plan commands s Send act else beginning s Send act).marks 0 ≡ Some (Some (mark_next plan commands s.progress))) (sym cycle_begun)
     (by_act act puts) where
       -- the lemma above, by how the act puts the bytes: whole or in part
       by_act : (a : Act) → Puts bytes a → slice_get (doing plan commands s Send a).marks 0 ≡ Some (Some (mark_next plan commands s.progress))
@@ -256,13 +121,13 @@ put_asks plan commands s act bytes puts begun some = subst (λ (b : Bool). slice
 abbrev Has : List Part → ℕ → Mark → Type 0
 Has ps i mark = (part : Part) × (slice_get ps i ≡ Some part) × (m : ℕ) × (slice_get part.marks m ≡ Some (Some mark))
 
--- what a list has at a place, it has there with others behind it
+-- what a list has at a place, it has there with others after it
 in_more : {A : Type 0} (xs ys : List A) (i : ℕ) (x : A) → slice_get xs i ≡ Some x → slice_get (xs ++ ys) i ≡ Some x
 in_more [] ys i x e = absurd (none_is_not x e)
 in_more (y ∷ xs) ys zero x e = e
 in_more (y ∷ xs) ys (suc i) x e = in_more xs ys i x e
 
--- where an act's part has a mark first, the first of the parts with the act in front has it
+-- if an act's part has a mark first, the first of the parts with the act before it has it
 first_has : (p : Part) (b : Bool) (ps : List Part) (mark : Mark) → slice_get p.marks 0 ≡ Some (Some mark) → Has (in_front p b ps) 0 mark
 first_has p true ps mark e = (p, refl, 0, e)
 first_has p false [] mark e = (p, refl, 0, e)
@@ -277,7 +142,7 @@ on_has p (y ∷ qs) zero mark h =
 on_has p (y ∷ qs) (suc i) mark h = h
 
 -- `ps` are the parts of some first acts, and `qs` those of all acts. If the part of `qs` at the place of the last part of `ps`
--- has a mark, it still has it with one act more, whose part is p, in front of both
+-- has a mark, it still has it with one act more, whose part is p, before both
 step_has : (p : Part) (b : Bool) (ps qs : List Part) (i k : ℕ) (mark : Mark) → length ps ≡ suc k → length (in_front p b ps) ≡ suc i
     → ((j : ℕ) → length ps ≡ suc j → Has qs j mark) → Has (in_front p b qs) i mark
 step_has p true ps qs zero k mark some size has = absurd (omega (arith, some, size))
@@ -285,7 +150,7 @@ step_has p true ps qs (suc i) k mark some size has = has i (omega (arith, size))
 step_has p false [] qs i k mark some size has = absurd (omega (arith, some))
 step_has p false (x ∷ ps) qs i k mark some size has = on_has p qs i mark (has i size)
 
--- with an act in front there is at least one part
+-- with an act before it there is at least one part
 front_some : (p : Part) (b : Bool) (ps : List Part) → (k : ℕ) × (length (in_front p b ps) ≡ suc k)
 front_some p true ps = (length ps, refl)
 front_some p false [] = (0, refl)
@@ -296,7 +161,7 @@ parts_some : (plan : Plan) (commands : List Task) (s : Model) (acts : List Act) 
 parts_some plan commands s [] = (0, refl)
 parts_some plan commands s (act ∷ acts) = front_some (acting plan commands s (action_at plan s) act) (ends_part plan commands s act) (parts_of plan commands (after plan commands s act) acts)
 
--- the mark of an act that sends stands in the last part of the acts, behind those of the acts before it
+-- the mark of an act that sends is in the last part of the acts, after those of the acts before it
 mark_there : (plan : Plan) (commands : List Task) (s : Model) (start : List Act) (act : Act) (rest : List Act) (i : ℕ) → length (parts_of plan commands s start) ≡ suc i
     → slice_get (acting plan commands (after_all plan commands s start) (action_at plan (after_all plan commands s start)) act).marks 0 ≡ Some
     (Some (mark_next plan commands (after_all plan commands s start).progress))
@@ -321,9 +186,9 @@ not_further c p d q (inr l) e f = let less : p < q = l.1 in omega (arith, less, 
 module _ (plan : Plan) (commands : List Task) (scope : Scope) where
   -- the model after these acts
   abbrev at : List Act → Model
-  at acts = stood plan commands scope acts
+  at acts = state_after plan commands scope acts
 
-  -- a command goes out once: two fronts of a run after which the same command is to go out are the same
+  -- a command is sent once: two fronts of a run after which the same command is to be sent are the same
   same_send : (acts xs us ys vs : List Act) → acts ≡ xs ++ us → acts ≡ ys ++ vs → action_at plan (at xs) ≡ Send → action_at plan (at ys) ≡ Send
       → cycles_begun plan (at xs).progress ≡ cycles_begun plan (at ys).progress → place_next commands (at xs).progress ≡ place_next commands (at ys).progress → xs ≡ ys
   same_send acts xs us ys vs e f go_x go_y cycle place =
@@ -337,7 +202,7 @@ module _ (plan : Plan) (commands : List Task) (scope : Scope) where
       nil [] = refl
       nil (z ∷ zs) = ap (λ l. z ∷ l) (nil zs)
 
-      -- no acts lie between two fronts after which the same command is to go out
+      -- no acts lie between two fronts after which the same command is to be sent
       none : (more zs ws : List Act) → ws ≡ zs ++ more → action_at plan (at zs) ≡ Send
           → cycles_begun plan (at zs).progress ≡ cycles_begun plan (at ws).progress
           → place_next commands (at zs).progress ≡ place_next commands (at ws).progress → ws ≡ zs
@@ -346,7 +211,7 @@ module _ (plan : Plan) (commands : List Task) (scope : Scope) where
           absurd (not_further (cycles_begun plan (at zs).progress) (place_next commands (at zs).progress) (cycles_begun plan (at ws).progress) (place_next commands (at ws).progress)
           (subst (λ l. IsFurther plan commands (at zs) (at l)) (sym is) (send_goes_on plan commands scope zs more act go)) c p)
 
-  -- the command at place a of this cycle went out among these acts, at `act`, and has a record that was answered well; and from
+  -- the command at place a of this cycle was sent among these acts, at `act`, and has a record that was answered well; and from
   -- then on all acts are of the same part
   record Back (before : List Act) (cycle a : ℕ) : Type 0 where
     k : ℕ
@@ -369,12 +234,12 @@ module _ (plan : Plan) (commands : List Task) (scope : Scope) where
     same : length (parts plan commands scope before) ≡ length (parts plan commands scope start)
     cycles : PreparesNothing plan commands (at start) (act ∷ rest)
 
-  -- the last element stands behind all others
+  -- the last element comes after all others
   get_last : (xs : List Record) (x : Record) → slice_get (xs ++ x ∷ []) (length xs) ≡ Some x
   get_last [] x = refl
   get_last (y ∷ xs) x = get_last xs x
 
-  -- the command before a chained one went out in the same part
+  -- the command before a chained one was sent in the same part
   same_link : (acts : List Act) → Runs plan commands (opening plan scope) acts → action_at plan (at acts) ≡ Send → (l : IsLinked plan commands scope acts)
       → StaysBegun plan commands (at l.before) (l.request ∷ l.between) → length (parts plan commands scope acts) ≡ length (parts plan commands scope l.before)
   same_link acts runs next l keeps =
@@ -382,7 +247,7 @@ module _ (plan : Plan) (commands : List Task) (scope : Scope) where
       (same_part plan commands scope l.before l.between l.request (subst
       (λ xs. Runs plan commands (opening plan scope) xs) l.order runs) l.sends keeps (subst (λ xs. action_at plan (at xs) ≡ Send) l.order next))
 
-  -- after acts where a chained command is to go out, `Back` holds of the command before it
+  -- after acts if a chained command is to be sent, `Back` holds of the command before it
   one_back : (acts : List Act) (a : ℕ) → Runs plan commands (opening plan scope) acts → action_at plan (at acts) ≡ Send
       → place_next commands (at acts).progress ≡ a + 1 → (l : IsLinked plan commands scope acts)
       → StaysBegun plan commands (at l.before) (l.request ∷ l.between) → PreparesNothing plan commands (at l.before) (l.request ∷ l.between)
@@ -390,10 +255,10 @@ module _ (plan : Plan) (commands : List Task) (scope : Scope) where
   one_back acts a runs next place l keeps cycles =
       let t = l.in_time in
       let b = at l.before in
-      let begun = (fine_stood plan commands scope l.before).begun (needs_send plan b l.sends).2 in
+      let cycle_begun = (fine_stood plan commands scope l.before).begun (needs_send plan b l.sends).2 in
       let own : l.answer.cycle ≡ cycles_begun plan b.progress = l.own_cycle in
       let its : l.answer.cycle ≡ cycle_out plan (at t.before) = t.cycle in
-      let sends = sends_of_cycle plan (at t.before) t.sends (omega (arith, own, its, begun)) in
+      let sends = sends_of_cycle plan (at t.before) t.sends (omega (arith, own, its, cycle_begun)) in
       let one : t.before ≡ l.before = same_send acts t.before _ l.before (l.request ∷ l.between) t.order l.order sends l.sends
       (sym (send_cycle plan (at t.before) sends) ∙ sym t.cycle ∙ l.own_cycle) (sym (send_place plan commands (at t.before) sends) ∙ sym t.place ∙ l.own_place) in
       let utc : l.answer.sent ≡ Some (at l.before).progress.moment.utc = t.sent ∙ ap (λ xs. Some (at xs).progress.moment.utc) one in
@@ -426,7 +291,7 @@ module _ (plan : Plan) (commands : List Task) (scope : Scope) where
       }
 
   -- `l` has the acts before the command that precedes the next one (`l.before`). If `Back` holds there of an earlier command of
-  -- the chain, it holds of it still where the next one is to go out
+  -- the chain, it holds of it still if the next one is to be sent
   more_back : (acts : List Act) (a : ℕ) → Runs plan commands (opening plan scope) acts → action_at plan (at acts) ≡ Send
       → (l : IsLinked plan commands scope acts) → StaysBegun plan commands (at l.before) (l.request ∷ l.between)
       → PreparesNothing plan commands (at l.before) (l.request ∷ l.between)
@@ -459,7 +324,7 @@ module _ (plan : Plan) (commands : List Task) (scope : Scope) where
             (subst (λ (x : Model). PreparesNothing plan commands x (l.request ∷ l.between)) (sym here) cycles);
       }
 
-  -- where a command is to go out, `Back` holds of each earlier command of its chain, which is d + 1 places before it
+  -- if a command is to be sent, `Back` holds of each earlier command of its chain, which is d + 1 places before it
   back_to : (d a : ℕ) (acts : List Act) → Runs plan commands (opening plan scope) acts → action_at plan (at acts) ≡ Send
       → place_next commands (at acts).progress ≡ a + suc d → plan.setup ≤ a → AreChained commands a (place_next commands (at acts).progress)
       → Back acts (cycles_begun plan (at acts).progress) a
@@ -475,7 +340,7 @@ module _ (plan : Plan) (commands : List Task) (scope : Scope) where
       (subst (λ xs. Runs plan commands (opening plan scope) xs) l.order runs)) l.sends (omega (arith, on, place)) low
       (λ p above upto. chained p above (omega (arith, on, upto))))
 
-  -- none of these acts sends a command of the set-up, so it isn't next after any of them
+  -- none of these acts sends a command of the setup, so it isn't next after any of them
   no_prepare : (s : Model) (xs ys zs : List Act) (act : Act) → PreparesNothing plan commands s xs → xs ≡ ys ++ act ∷ zs → action_at plan (after_all plan commands s ys) ≡ Prepare → ⊥
   no_prepare s [] [] zs act h e is = cc
   no_prepare s [] (y ∷ ys) zs act h e is = cc
@@ -484,13 +349,13 @@ module _ (plan : Plan) (commands : List Task) (scope : Scope) where
       no_prepare (after plan commands s x) xs ys zs act h.1 (act_tail x y xs (ys ++ act ∷ zs) e)
       (subst (λ (a : Act). action_at plan (after_all plan commands (after plan commands s a) ys) ≡ Prepare) (sym (act_head x y xs (ys ++ act ∷ zs) e)) is)
 
-  -- what stands behind the same front of equal lists is the same
+  -- what comes after the same front of equal lists is the same
   same_behind : (xs ys zs : List Act) → xs ++ ys ≡ xs ++ zs → ys ≡ zs
   same_behind [] ys zs e = e
   same_behind (x ∷ xs) ys zs e = same_behind xs ys zs (act_tail x x (xs ++ ys) (xs ++ zs) e)
 
-  -- of the part that still goes on, each command behind the one that `Back` speaks of, which is request m, is of a cycle: one of the set-up
-  -- would be sent by an act behind that one
+  -- of the part that still goes on, each command after the one that `Back` speaks of, which is request m, is of a cycle: one of
+  -- the setup would be sent by an act after that one
   cycles_behind : (acts : List Act) (i m cycle a : ℕ) (first : Part) → slice_get (parts plan commands scope acts) i ≡ Some first → (h : Back acts cycle a)
       → slice_get first.marks m ≡ Some (Some (mark_next plan commands (at h.start).progress)) → action_at plan (at h.start) ≡ Send → 0 < cycles_begun plan (at h.start).progress
       → (x : ℕ) (mark : Mark) → m < x → slice_get first.marks x ≡ Some (Some mark) → 0 < mark.cycle
@@ -515,10 +380,10 @@ module _ (plan : Plan) (commands : List Task) (scope : Scope) where
         | inr it ↦ absurd (no_prepare (at h.start) (h.act ∷ h.rest) more.0 q.rest q.act h.cycles rest (ap (action_at plan) (sym there) ∙ it.0))
       ]
 
-  -- where `Back` holds of a command, `IsAnsweredBack` does: its request is one of the last part
+  -- where `Back` holds of a command, `IsAnsweredEarlier` does: its request is one of the last part
   in_part : (acts : List Act) (i cycle a : ℕ) (first : Part) → Runs plan commands (opening plan scope) acts
       → slice_get (parts plan commands scope acts) i ≡ Some first → length (parts plan commands scope acts) ≡ suc i → Back acts cycle a
-      → IsAnsweredBack plan commands scope acts first cycle a
+      → IsAnsweredEarlier plan commands scope acts first cycle a
   in_part acts i cycle a first runs of_parts last h =
       let s = at h.start in
       let on = runs_behind plan commands (opening plan scope) h.start (h.act ∷ h.rest) (subst (λ xs. Runs plan commands (opening plan scope) xs) h.order runs) in
@@ -552,14 +417,14 @@ module _ (plan : Plan) (commands : List Task) (scope : Scope) where
             (let below = fine.begun unsent in omega (arith, below));
       }
 
--- the law: each command of a chain goes out after the answers of the earlier ones, as a request of the same part
+-- the law: each command of a chain is sent after the answers of the earlier ones, as a request of the same part
 pub chains_stay : ChainsStay
 chains_stay plan commands scope acts runs i n part mark e f above =
     let x = sent_at plan commands (opening plan scope) acts i n part mark e f in
     let runs_there = runs_front plan commands (opening plan scope) x.before (x.act ∷ x.rest) (subst (λ xs. Runs plan commands (opening plan scope) xs) x.order runs) in
-    let is = of_a_cycle plan commands (stood plan commands scope x.before) (action_at plan (stood plan commands scope x.before)) mark x.its above in
-    let cycle : mark.cycle ≡ cycles_begun plan (stood plan commands scope x.before).progress = ap (λ (k : Mark). k.cycle) is.1 in
-    let place : mark.place ≡ place_next commands (stood plan commands scope x.before).progress = ap (λ (k : Mark). k.place) is.1 in
+    let is = of_a_cycle plan commands (state_after plan commands scope x.before) (action_at plan (state_after plan commands scope x.before)) mark x.its above in
+    let cycle : mark.cycle ≡ cycles_begun plan (state_after plan commands scope x.before).progress = ap (λ (k : Mark). k.cycle) is.1 in
+    let place : mark.place ≡ place_next commands (state_after plan commands scope x.before).progress = ap (λ (k : Mark). k.place) is.1 in
     record {
       before = x.before;
       rest = x.act ∷ x.rest;
@@ -569,7 +434,7 @@ chains_stay plan commands scope acts runs i n part mark e f above =
       last = x.last;
       count = x.count;
       chain = λ a low less chained.
-          subst (λ c. IsAnsweredBack plan commands scope x.before x.first c a) (sym cycle)
-          (in_part plan commands scope x.before i (cycles_begun plan (stood plan commands scope x.before).progress) a x.first runs_there x.of_parts x.last
+          subst (λ c. IsAnsweredEarlier plan commands scope x.before x.first c a) (sym cycle)
+          (in_part plan commands scope x.before i (cycles_begun plan (state_after plan commands scope x.before).progress) a x.first runs_there x.of_parts x.last
           (back_to plan commands scope (mark.place - suc a) a x.before runs_there is.0 (omega (arith, place, less)) low (subst (λ p. AreChained commands a p) place chained)));
     }

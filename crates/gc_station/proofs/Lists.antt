@@ -3,17 +3,17 @@
 use Rattle.std.proofs.Common.{◌≡◌, ℕ, zero, suc, ◌+◌, ◌<◌, ◌≤◌, List, [], ◌∷◌, ◌++◌, length, drop, map, refl, sym, ap, ◌∙◌, subst, arith, append_assoc}
 use Rattle.std.specs.List.{AllByRecursion}
 
--- what holds of the elements of two lists holds of those of both, one behind the other
+-- what holds of the elements of two lists holds of those of both, one after the other
 pub all_append : {A : Type 0} (P : A → Type 0) (xs ys : List A) → AllByRecursion P xs → AllByRecursion P ys → AllByRecursion P (xs ++ ys)
 all_append P [] ys p q = q
 all_append P (x ∷ xs) ys p q = (p.0, all_append P xs ys p.1 q)
 
--- if one fact of an element follows from another, it holds of all elements where the other does
+-- if one fact of an element follows from another, it holds of all elements if the other does
 pub all_on : {A : Type 0} (P Q : A → Type 0) (xs : List A) → ((x : A) → P x → Q x) → AllByRecursion P xs → AllByRecursion Q xs
 all_on P Q [] step p = tt
 all_on P Q (x ∷ xs) step p = (step x p.0, all_on P Q xs step p.1)
 
--- if one fact follows from another for an element with what stands before and behind it, it holds of all elements where the other
+-- if one fact follows from another for an element with what comes before and after it, it holds of all elements if the other
 -- does
 pub all_split : {A : Type 0} (P Q : A → Type 0) (front xs all : List A) → front ++ xs ≡ all
     → ((earlier : List A) (x : A) (later : List A) → earlier ++ x ∷ later ≡ all → P x → Q x) → AllByRecursion P xs → AllByRecursion Q xs
@@ -117,7 +117,7 @@ rows_all P Q f low k (x ∷ xs) (y ∷ ys) step p = (step p.0 k x y p.2, rows_al
 
 -- Lists cut at an element.
 
--- of two cuts of a list, one behind `front` at x and one behind `longer` at y, the second lies behind the first: `between` stands
+-- of two cuts of a list, one after `front` at x and one after `longer` at y, the second lies after the first: `between` lies
 -- between x and y
 pub record CutsOn {A : Type 0} (front behind longer : List A) (x y : A) (tail : List A) : Type 0 where
   pub between : List A
@@ -153,11 +153,11 @@ cut_at (a ∷ xs) (b ∷ front) behind last x e = on (cut_at xs front behind las
   head : a ≡ b
   head = cc
 
-  -- equal lists are equal behind their first elements
+  -- equal lists are equal after their first elements
   others : xs ++ last ∷ [] ≡ front ++ x ∷ behind
   others = cc
 
-  -- the lemma above with one more element in front
+  -- the lemma above with one more element before it
   on : Cut xs last front behind x → Cut (a ∷ xs) last (b ∷ front) behind x
   on (AtEnd same) = AtEnd (ap (λ z. z ∷ xs) head ∙ ap (λ zs. b ∷ zs) same)
   on (Before between at tail) = Before between (ap (λ z. z ∷ xs) head ∙ ap (λ zs. b ∷ zs) at) tail

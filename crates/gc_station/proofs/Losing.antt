@@ -1,5 +1,5 @@
--- All that wait are lost only for a cause: after the act the station begins anew, or no act follows. An act is one call of the
--- link, with what came of it.
+-- All that wait are lost only for a cause: after the act the station resynchronizes, or no act follows. An act is one call on
+-- the link, with its result.
 use Rattle.std.proofs.Common.{◌≡◌, ◌⊎◌, inl, inr, ℕ, ◌&&◌, ◌||◌, Bool, true, false, not, List, [], ◌∷◌, ◌++◌, length, map, Option, Some, if◌then◌else◌, nat_eq, refl, sym, ap, ◌∙◌, subst, append_assoc}
 use Rattle.std.specs.List.{AllByRecursion}
 use Rattle.std.proofs.lemmas.List.{nil_from_length}
@@ -22,13 +22,13 @@ use Rattle.gc_station.specs.declared.progress.Progress.{Progress}
 use Rattle.gc_station.specs.declared.progress.Waiting.{Waiting}
 use Rattle.gc_links.specs.Acts.{Act, Cut}
 use Rattle.gc_station.specs.Deciding.{has_begun, is_up, action_of, action_in, action_up}
-use Rattle.gc_station.specs.Ends.{IsWrittenAt, BeginsAnew, IsLast, IsLostIn}
+use Rattle.gc_station.specs.Ends.{IsWrittenAt, Resynchronizes, IsLast, IsLostIn}
 use Rattle.gc_station.specs.Marks.{records_of}
 use Rattle.gc_station.specs.Progressing.{turned, sent, failing, is_over, is_over_in, loses_all, setup_sent}
 use Rattle.gc_station.specs.Reasons.{IsFor}
 use Rattle.gc_station.specs.Records.{Record}
-use Rattle.gc_station.specs.Runs.{stood}
-use Rattle.gc_station.specs.Model.{Model, opening, action_at, waiting_of, request_text, Puts, Performs, with_progress, asks_next, is_chained_behind_next, others_behind_next, after_put, moved, losing, ended, after, IsSending, asks_setup}
+use Rattle.gc_station.specs.Runs.{state_after}
+use Rattle.gc_station.specs.Model.{Model, opening, action_at, waiting_of, request_text, Puts, Performs, with_progress, asks_next, is_chained_after_next, others_after_next, after_put, moved, losing, ended, after, IsSending, asks_setup}
 use Rattle.gc_station.proofs.Counts.{ended_progress}
 use Rattle.gc_station.proofs.Facts.{action_for}
 use Rattle.gc_station.proofs.Invariant.{Invariant}
@@ -36,22 +36,22 @@ use Rattle.gc_station.proofs.Going.{after_all-append}
 use Rattle.gc_station.proofs.Growing.{moved_grew}
 use Rattle.gc_station.proofs.Lists.{all_append, all_split, Cut as CutOf, AtEnd, Before, cut_at, rows_all}
 use Rattle.gc_station.proofs.Meets.{IsRecordOf, records_all, was_answered, was_late}
-use Rattle.gc_station.proofs.Midway.{clash}
-use Rattle.gc_station.proofs.Waiting.{WasAsked, Stayed, Waits, IsTrue, IsHonest}
+use Rattle.gc_station.proofs.Waiting.{WasAsked, Stayed, Waits, IsJustified, IsHonest}
 use Rattle.gc_station.proofs.Parting.{keeps_action}
 use Rattle.gc_station.proofs.Walk.{is_sent, moved_changed, is_prepared}
 use Rattle.gc_station.proofs.Words.{renews_only, renews_needs}
 use Rattle.gc_station.specs.Scopes.{Scope}
+use Rattle.gc_station.proofs.Ticking.{not_both}
 
 -- none of these marks is a command's, so that no record is written
 abbrev Unwritten : List (Option Mark) → Type 0
 Unwritten marks = (reads : Asked → List ℕ → Reading) (utc : ℕ) (settlements : List (Settlement Asked)) → records_of reads utc marks settlements ≡ []
 
--- where there are no marks, no record is written
+-- if there are no marks, no record is written
 unwritten_none : (marks : List (Option Mark)) → marks ≡ [] → Unwritten marks
 unwritten_none marks is reads utc settlements = ap (λ (ms : List (Option Mark)). records_of reads utc ms settlements) is
 
--- where no act follows, the run stops for some cause
+-- if no act follows, the run stops for some cause
 over_stops : (plan : Plan) (p : Progress) (w : Waiting) → is_over p ≡ true → (why : Cause) × (action_of plan p w ≡ actions.Stop why)
 over_stops plan p w over = by_phase p.phase refl over where
   -- without a connection and a turn, a run stops because its turns are used up
@@ -66,31 +66,32 @@ over_stops plan p w over = by_phase p.phase refl over where
   by_phase (Over why) is e = (why, refl)
   by_phase phase is e = cc
 
--- where all that waits is lost though the run isn't over, the station hasn't begun (a is whether it has)
+-- if all that is outstanding is lost though the run isn't over, the station hasn't synchronized (a is whether it has)
 only_first : (a : Bool) → (not a || false) ≡ true → a ≡ false
 only_first true e = cc
 only_first false e = refl
 
--- where all that wait are lost at an act, the station begins anew there, or no act follows; or no command waits
-loses_why : (plan : Plan) (commands : List Task) (scope : Scope) (acts : List Act) (act : Act) → Invariant plan commands (stood plan commands scope acts)
-    → Performs commands (stood plan commands scope acts) (action_at plan (stood plan commands scope acts)) act
-    → loses_all (moved plan commands (action_at plan (stood plan commands scope acts)) (with_progress turned (stood plan commands scope acts)) act).progress ≡ true
-    → Unwritten (moved plan commands (action_at plan (stood plan commands scope acts)) (with_progress turned (stood plan commands scope acts)) act).marks
-    ⊎ (BeginsAnew plan commands scope acts act ⊎ IsLast plan commands scope acts act [])
+-- if all outstanding requests are lost at an act, the station resynchronizes there, or no act follows; or no command is
+-- outstanding
+loses_why : (plan : Plan) (commands : List Task) (scope : Scope) (acts : List Act) (act : Act) → Invariant plan commands (state_after plan commands scope acts)
+    → Performs commands (state_after plan commands scope acts) (action_at plan (state_after plan commands scope acts)) act
+    → loses_all (moved plan commands (action_at plan (state_after plan commands scope acts)) (with_progress turned (state_after plan commands scope acts)) act).progress ≡ true
+    → Unwritten (moved plan commands (action_at plan (state_after plan commands scope acts)) (with_progress turned (state_after plan commands scope acts)) act).marks
+    ⊎ (Resynchronizes plan commands scope acts act ⊎ IsLast plan commands scope acts act [])
 loses_why plan commands scope acts act fine obeys loses = by_test (is_over t.progress) refl loses where
   -- the model before the act
   s : Model
-  s = stood plan commands scope acts
+  s = state_after plan commands scope acts
 
-  -- the model after the act, before what waits is lost
+  -- the model after the act, before what is outstanding is lost
   t : Model
   t = moved plan commands (action_at plan s) (with_progress turned s) act
 
   -- the model after the whole act
-  next : stood plan commands scope (acts ++ act ∷ []) ≡ ended t
+  next : state_after plan commands scope (acts ++ act ∷ []) ≡ ended t
   next = after_all-append plan commands (opening plan scope) acts (act ∷ [])
 
-  -- while the station begins no request waits, so none is written down
+  -- while the station synchronizes no request is outstanding, so none is recorded
   none_waits : has_begun s.progress ≡ false → Unwritten t.marks
   none_waits begins =
       let new = fine.begins begins in
@@ -98,8 +99,8 @@ loses_why plan commands scope acts act fine obeys loses = by_test (is_over t.pro
       ((keeps_action plan commands s (action_at plan s) act (action_for plan s.progress (waiting_of s)) obeys begins new).1
       ∙ nil_from_length s.marks (fine.paired ∙ ap (λ (c : ById Asked). length c.waiting) new))
 
-  -- where the station hasn't begun after the act: it hadn't before it, or it begins anew at it
-  renews : (begun : Bool) → has_begun s.progress ≡ begun → has_begun t.progress ≡ false → Unwritten t.marks ⊎ (BeginsAnew plan commands scope acts act ⊎ IsLast plan commands scope acts act [])
+  -- if the station hasn't synchronized after the act: it hadn't before it, or it resynchronizes at it
+  renews : (begun : Bool) → has_begun s.progress ≡ begun → has_begun t.progress ≡ false → Unwritten t.marks ⊎ (Resynchronizes plan commands scope acts act ⊎ IsLast plan commands scope acts act [])
   renews false begun begins = inl (none_waits begun)
   renews true begun begins =
       let it = renews_only plan commands s (action_at plan s) act obeys begun begins in
@@ -107,40 +108,40 @@ loses_why plan commands scope acts act fine obeys loses = by_test (is_over t.pro
       inr (inl (record { renews = it.0; moment = it.1; told = it.2; seven = full.0; given_up = full.1 }))
 
   -- the lemma above, by whether the run is over after the act (`true`)
-  by_test : (b : Bool) → is_over t.progress ≡ b → (not (has_begun t.progress) || b) ≡ true → Unwritten t.marks ⊎ (BeginsAnew plan commands scope acts act ⊎ IsLast plan commands scope acts act [])
+  by_test : (b : Bool) → is_over t.progress ≡ b → (not (has_begun t.progress) || b) ≡ true → Unwritten t.marks ⊎ (Resynchronizes plan commands scope acts act ⊎ IsLast plan commands scope acts act [])
   by_test true over e =
       let stops = over_stops plan (ended t).progress (waiting_of (ended t)) (ap is_over (ended_progress t) ∙ over) in
       inr (inr (record { none = refl; why = stops.0; stops = ap (λ (x : Model). action_at plan x) next ∙ stops.1 }))
   by_test false on e = renews (has_begun s.progress) refl (only_first (has_begun t.progress) e)
 
--- where requests go out, the run isn't over
+-- where requests are sent, the run isn't over
 going_on : (p : Progress) → p.phase ≡ Ready → is_over p ≡ false
 going_on p is = ap (λ (phase : Phase). is_over_in phase || (not (is_up phase) && nat_eq p.turns 0)) is
 
--- where requests go out, the run isn't over after a failure
+-- where requests are sent, the run isn't over after a failure
 failing_goes : (why : Cause) (p : Progress) → p.phase ≡ Ready → is_over (failing why p) ≡ false
 failing_goes why p is = ap (λ (phase : Phase). is_over_in (if is_up phase then Closing why else Over why) || (not (is_up (if is_up phase then Closing why else Over why)) && nat_eq p.turns 0)) is
 
--- where requests go out, the run isn't over after a write
+-- where requests are sent, the run isn't over after a write
 put_goes : (requests : ℕ) (f : Model → Model) (s : Model) (act : Act) → (f s).progress.phase ≡ Ready → is_over (after_put requests f s act).progress ≡ false
 put_goes requests f s (Cut bytes n) is = failing_goes (cause.Write requests n) (f s).progress is
 put_goes requests f s act is = going_on (f s).progress is
 
--- where the station has begun (a), and the run isn't over (b), nothing is lost
+-- if the station has synchronized (a), and the run isn't over (b), nothing is lost
 neither : (a b : Bool) → a ≡ true → b ≡ false → (not a || b) ≡ false
 neither true b x y = y
 neither false b x y = cc
 
--- nothing is lost where a command goes out
+-- nothing is lost if a command is sent
 send_loses_none : (plan : Plan) (commands : List Task) (s : Model) (act : Act) → Invariant plan commands s → IsFor plan s.progress (waiting_of s) actions.Send
     → loses_all (moved plan commands actions.Send (with_progress turned s) act).progress ≡ false
 send_loses_none plan commands s act fine needs =
     let t = with_progress turned s in
-    let f = λ (x : Model). with_progress (sent (is_chained_behind_next commands x.progress) (others_behind_next commands x.progress)) (asks_next plan commands x) in
+    let f = λ (x : Model). with_progress (sent (is_chained_after_next commands x.progress) (others_after_next commands x.progress)) (asks_next plan commands x) in
     neither (has_begun (moved plan commands actions.Send t act).progress) _ (ap (λ (x : Model). has_begun x.progress) (moved_changed plan commands actions.Send t act) ∙ needs.1)
     (put_goes _ f t act (sym (ap (λ (x : Model). x.progress.phase) (is_sent plan commands t)) ∙ needs.0))
 
--- nothing is lost where a command of the set-up goes out
+-- nothing is lost if a command of the setup is sent
 prepare_loses_none : (plan : Plan) (commands : List Task) (s : Model) (act : Act) → Invariant plan commands s → IsFor plan s.progress (waiting_of s) actions.Prepare
     → loses_all (moved plan commands actions.Prepare (with_progress turned s) act).progress ≡ false
 prepare_loses_none plan commands s act fine needs =
@@ -149,7 +150,7 @@ prepare_loses_none plan commands s act fine needs =
     neither (has_begun (moved plan commands actions.Prepare t act).progress) _ (ap (λ (x : Model). has_begun x.progress) (moved_changed plan commands actions.Prepare t act) ∙ needs.1)
     (put_goes _ f t act (sym (ap (λ (x : Model). x.progress.phase) (is_prepared plan commands t)) ∙ needs.0))
 
--- nothing is lost where a command goes out, of a cycle or of the set-up
+-- nothing is lost if a command is sent, of a cycle or of the setup
 sending_loses_none : (plan : Plan) (commands : List Task) (s : Model) (act : Act) → Invariant plan commands s → IsSending plan s
     → loses_all (moved plan commands (action_at plan s) (with_progress turned s) act).progress ≡ false
 sending_loses_none plan commands s act fine (inl sends) =
@@ -175,14 +176,14 @@ abbrev IsLostRecord : Plan → List Task → Scope → List Act → Record → T
 IsLostRecord plan commands scope acts r = (mark : Mark) × (y : Settlement Asked) × (r.cycle ≡ mark.cycle) × (r.place ≡ mark.place) × (r.sent ≡ Some mark.sent)
     × IsRecordOf r y × LostOf plan commands scope acts y (Some mark)
 
--- where all that wait are lost because the station begins anew or no act follows, each record that the act writes of them is true
--- (`IsTrue`)
+-- if all outstanding requests are lost because the station resynchronizes or no act follows, each record that the act writes of
+-- them is true (`IsJustified`)
 lost_true : (plan : Plan) (commands : List Task) (scope : Scope) (acts : List Act) (act : Act) (r : Record) (news earlier later : List Record)
-    → Invariant plan commands (stood plan commands scope acts)
-    → loses_all (moved plan commands (action_at plan (stood plan commands scope acts)) (with_progress turned (stood plan commands scope acts)) act).progress ≡ true
-    → BeginsAnew plan commands scope acts act ⊎ IsLast plan commands scope acts act []
-    → (stood plan commands scope (acts ++ act ∷ [])).records ≡ ((stood plan commands scope acts).records ++ news) ++ (earlier ++ r ∷ later)
-    → IsLostRecord plan commands scope (acts ++ act ∷ []) r → IsTrue plan commands scope (acts ++ act ∷ []) r
+    → Invariant plan commands (state_after plan commands scope acts)
+    → loses_all (moved plan commands (action_at plan (state_after plan commands scope acts)) (with_progress turned (state_after plan commands scope acts)) act).progress ≡ true
+    → Resynchronizes plan commands scope acts act ⊎ IsLast plan commands scope acts act []
+    → (state_after plan commands scope (acts ++ act ∷ [])).records ≡ ((state_after plan commands scope acts).records ++ news) ++ (earlier ++ r ∷ later)
+    → IsLostRecord plan commands scope (acts ++ act ∷ []) r → IsJustified plan commands scope (acts ++ act ∷ []) r
 lost_true plan commands scope acts act r news earlier later fine loses why ends it = record {
   answered = λ line e. absurd (not_answered line (sym outcome ∙ was_answered r it.1 it.5 line e));
   late = λ e. absurd (not_late (sym outcome ∙ was_late r it.1 it.5 e));
@@ -213,15 +214,15 @@ lost_true plan commands scope acts act r news earlier later fine loses why ends 
   here = record {
     earlier = news ++ earlier;
     later = later;
-    written = let rs = (stood plan commands scope acts).records in ends ∙ append_assoc rs news (earlier ++ r ∷ later) ∙ ap (λ xs. rs ++ xs) (sym (append_assoc news earlier (r ∷ later)));
+    written = let rs = (state_after plan commands scope acts).records in ends ∙ append_assoc rs news (earlier ++ r ∷ later) ∙ ap (λ xs. rs ++ xs) (sym (append_assoc news earlier (r ∷ later)));
   }
 
   -- the request was put among the acts before this act, which sends none: so its record is lost for a cause, as `IsLostIn` says
   on : CutOf acts act a.before a.between a.request → IsLostIn plan commands scope (acts ++ act ∷ []) r
   on (AtEnd same) =
-      let s = stood plan commands scope acts in
-      let sends : IsSending plan s = subst (λ (xs : List Act). IsSending plan (stood plan commands scope xs)) (sym same) (a.its it.0 refl).sends in
-      absurd (clash _ loses (sending_loses_none plan commands s act fine sends))
+      let s = state_after plan commands scope acts in
+      let sends : IsSending plan s = subst (λ (xs : List Act). IsSending plan (state_after plan commands scope xs)) (sym same) (a.its it.0 refl).sends in
+      absurd (not_both _ loses (sending_loses_none plan commands s act fine sends))
   on (Before between at rest) =
       let its = a.its it.0 refl in
       record {
@@ -236,19 +237,19 @@ lost_true plan commands scope acts act r news earlier later fine loses why ends 
           cycle = it.2 ∙ its.cycle;
           place = it.3 ∙ its.place;
           sent = it.4 ∙ ap Some its.sent;
-          put = subst (λ (y : Asked). Puts (request_text (stood plan commands scope a.before).client y) a.request)
+          put = subst (λ (y : Asked). Puts (request_text (state_after plan commands scope a.before).client y) a.request)
               (sym (ap (λ (y : Wish). y.call) it.5.command ∙ ap (λ (y : Settlement Asked). y.call) x.is)) a.put;
         };
         written = subst (λ (xs : List Act). IsWrittenAt plan commands scope xs act r) at here;
-        shown = inr (subst (λ (xs : List Act). BeginsAnew plan commands scope xs act ⊎ IsLast plan commands scope xs act []) at why);
+        shown = inr (subst (λ (xs : List Act). Resynchronizes plan commands scope xs act ⊎ IsLast plan commands scope xs act []) at why);
       }
 
--- `IsHonest` holds after an act whether all that wait are lost or not, if it holds before that
-pub losing_honest : (plan : Plan) (commands : List Task) (scope : Scope) (acts : List Act) (act : Act) → Invariant plan commands (stood plan commands scope acts)
-    → Performs commands (stood plan commands scope acts) (action_at plan (stood plan commands scope acts)) act
+-- `IsHonest` holds after an act whether all outstanding requests are lost or not, if it holds before that
+pub losing_honest : (plan : Plan) (commands : List Task) (scope : Scope) (acts : List Act) (act : Act) → Invariant plan commands (state_after plan commands scope acts)
+    → Performs commands (state_after plan commands scope acts) (action_at plan (state_after plan commands scope acts)) act
     → IsHonest plan commands scope (acts ++ act ∷ []) (acts ++ act ∷ [])
-    (moved plan commands (action_at plan (stood plan commands scope acts)) (with_progress turned (stood plan commands scope acts)) act)
-    → IsHonest plan commands scope (acts ++ act ∷ []) (acts ++ act ∷ []) (after plan commands (stood plan commands scope acts) act)
+    (moved plan commands (action_at plan (state_after plan commands scope acts)) (with_progress turned (state_after plan commands scope acts)) act)
+    → IsHonest plan commands scope (acts ++ act ∷ []) (acts ++ act ∷ []) (after plan commands (state_after plan commands scope acts) act)
 losing_honest plan commands scope acts act fine obeys h = by_test (loses_all t.progress) refl where
   -- the acts up to this one
   all : List Act
@@ -256,18 +257,18 @@ losing_honest plan commands scope acts act fine obeys h = by_test (loses_all t.p
 
   -- the model before the act
   s : Model
-  s = stood plan commands scope acts
+  s = state_after plan commands scope acts
 
-  -- the model after the act, before what waits is lost
+  -- the model after the act, before what is outstanding is lost
   t : Model
   t = moved plan commands (action_at plan s) (with_progress turned s) act
 
-  -- the records of all that wait, as lost
+  -- the records of all that is outstanding, as lost
   written : List Record
   written = records_of t.reads t.progress.moment.utc t.marks (map lost t.client.waiting)
 
-  -- where all are lost, these records stand last after the whole act
-  ends : loses_all t.progress ≡ true → (more : List Record) → t.records ≡ s.records ++ more → (stood plan commands scope all).records ≡ (s.records ++ more) ++ written
+  -- if all are lost, these records come last after the whole act
+  ends : loses_all t.progress ≡ true → (more : List Record) → t.records ≡ s.records ++ more → (state_after plan commands scope all).records ≡ (s.records ++ more) ++ written
   ends loses more grew =
       ap (λ (x : Model). x.records) (after_all-append plan commands (opening plan scope) acts (act ∷ [])) ∙ ap (λ (b : Bool). (losing b t).records) loses ∙ ap (λ xs. xs ++ written) grew
 
@@ -279,21 +280,21 @@ losing_honest plan commands scope acts act fine obeys h = by_test (loses_all t.p
       (rows_all (Waits plan commands scope all t.client.next (length t.client.waiting)) (λ (k : ℕ). LostOf plan commands scope all) lost 0 0 t.client.waiting t.marks
       (λ n j p mark w. record { number = n; at = j; id = id_at t.client.next (length t.client.waiting) j; pending = p; is = refl; asked = w }) h.waiting)
 
-  -- each of these records is true, where all are lost for a cause
-  all_lost : loses_all t.progress ≡ true → Unwritten t.marks ⊎ (BeginsAnew plan commands scope acts act ⊎ IsLast plan commands scope acts act [])
-      → AllByRecursion (IsTrue plan commands scope all) written
-  all_lost loses (inl none) = subst (λ (rs : List Record). AllByRecursion (IsTrue plan commands scope all) rs) (sym (none t.reads t.progress.moment.utc (map lost t.client.waiting))) tt
+  -- each of these records is true, if all are lost for a cause
+  all_lost : loses_all t.progress ≡ true → Unwritten t.marks ⊎ (Resynchronizes plan commands scope acts act ⊎ IsLast plan commands scope acts act [])
+      → AllByRecursion (IsJustified plan commands scope all) written
+  all_lost loses (inl none) = subst (λ (rs : List Record). AllByRecursion (IsJustified plan commands scope all) rs) (sym (none t.reads t.progress.moment.utc (map lost t.client.waiting))) tt
   all_lost loses (inr why) =
       let grew = moved_grew plan commands (action_at plan s) (with_progress turned s) act in
-      all_split (IsLostRecord plan commands scope all) (IsTrue plan commands scope all) [] written written refl
+      all_split (IsLostRecord plan commands scope all) (IsJustified plan commands scope all) [] written written refl
       (λ (earlier : List Record) (r : Record) (later : List Record) at is.
       lost_true plan commands scope acts act r grew.0 earlier later fine loses why (ends loses grew.0 grew.1 ∙ ap (λ xs. (s.records ++ grew.0) ++ xs) (sym at)) is) of_lost
 
-  -- the lemma above, by whether all that wait are lost (`true`)
+  -- the lemma above, by whether all outstanding requests are lost (`true`)
   by_test : (b : Bool) → loses_all t.progress ≡ b → IsHonest plan commands scope all all (losing b t)
   by_test true loses = record {
     waiting = tt;
-    written = all_append (IsTrue plan commands scope all) t.records written h.written
+    written = all_append (IsJustified plan commands scope all) t.records written h.written
         (all_lost loses (loses_why plan commands scope acts act fine obeys loses));
   }
   by_test false loses = h

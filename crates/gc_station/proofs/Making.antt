@@ -1,5 +1,5 @@
 -- What each call of a station makes: after it, the station is as its model (`Refines`) after one act more. An act is one call
--- of the link, with what came of it. `told` and `told'` are what the link had told before the call and has told after it,
+-- on the link, with its result. `told` and `told'` are what the link had recorded before the call and has recorded after it,
 -- `start`, `taken` and `taken'` what the book had taken at first, before the call and after it; `text` is how a record is
 -- written.
 use Rattle.std.proofs.Common.{◌≡◌, ℕ, zero, suc, ◌+◌, ◌<◌, Bool, true, false, List, [], ◌∷◌, ◌++◌, length, drop, get_or, if◌then◌else◌, nat_eq, Option, Some, None, Result, Ok, Err, refl, sym, ap, ◌∙◌, subst, append-nil, arith}
@@ -50,7 +50,7 @@ stands_with station p f s stands is = record {
 
 -- Bytes are put.
 
--- a link that told a write of these bytes told an act that puts them
+-- a link that recorded a write of these bytes recorded an act that puts them
 pub put_puts : (put : Result (Unit {0}) ℕ) (bytes want : List ℕ) → bytes ≡ want → IsPart put bytes → Puts want (put_as put bytes)
 put_puts (Ok r) bytes want is part = is
 put_puts (Err n) bytes want is part = (is, subst (λ (xs : List ℕ). n < length xs) is part)
@@ -135,7 +135,8 @@ pub first_took : (text : Record → List ℕ) (start taken : Option (List ℕ)) 
 first_took text start taken s mark [] so = so
 first_took text start taken s mark (task ∷ others) so = so
 
--- the model that sent what `setup_asked` says is that which sent the first of these commands of the set-up, or a null procedure where there is none
+-- the model that sent what `setup_asked` says is that which sent the first of these commands of the setup, or a null procedure
+-- if there is none
 pub setup_stands : (plan : Plan) (station : Station) (s : Model) (asking : Asking) (mark : Mark) (list : List Task) → asking ≡ setup_asked plan mark list
     → Refines station (asks asking.wait asking.command.target asking.command.call asking.mark s) → Refines station (asks_or_null plan mark list s)
 setup_stands plan station s asking mark list is stands =
@@ -147,12 +148,13 @@ setup_stands plan station s asking mark list is stands =
       by_list [] = refl
       by_list (task ∷ others) = refl
 
--- its bytes are those of the first of these commands of the set-up, or of a null procedure where there is none
+-- its bytes are those of the first of these commands of the setup, or of a null procedure if there is none
 pub setup_text : (plan : Plan) (client : ById Asked) (mark : Mark) (list : List Task) → request_text client (setup_asked plan mark list).command.call ≡ text_or_null mark.sent client list
 setup_text plan client mark [] = refl
 setup_text plan client mark (task ∷ others) = refl
 
--- a book that has a model's records has those of the model that sent the first of these commands of the set-up, as that adds none
+-- a book that has a model's records has those of the model that sent the first of these commands of the setup, as that adds
+-- none
 pub setup_took : (plan : Plan) (text : Record → List ℕ) (start taken : Option (List ℕ)) (s : Model) (mark : Mark) (list : List Task) → Took text start taken s
     → Took text start taken (asks_or_null plan mark list s)
 setup_took plan text start taken s mark [] so = so

@@ -1,5 +1,5 @@
 -- What each act of a run puts: a line feed, or a request's line, by the part (`Parts`) that the act has; and which bytes of a
--- line are kept after it. An act is one call of the link, with what came of it.
+-- line are kept after it. An act is one call on the link, with its result.
 use Rattle.std.proofs.Common.{◌≡◌, ◌⊎◌, inl, inr, ℕ, ◌-◌, ◌<◌, Bool, true, false, List, [], ◌∷◌, length, drop, Option, Some, None, refl, ◌∙◌, arith, length-drop}
 use Rattle.gc_lines.specs.Frames.{rest_behind}
 use Rattle.gc_catalogue.specs.declared.asked.Asked.{Asked}
@@ -18,10 +18,10 @@ use Rattle.gc_station.specs.Reasons.{IsFor}
 use Rattle.gc_station.specs.Model.{Model, action_at, waiting_of, place_next, mark_next, request_text, null_text, first_text, Puts, ReadsClock, IsOpening, IsReading, Performs, is_heard, after, mark_setup, text_or_null}
 use Rattle.gc_station.proofs.Facts.{action_for}
 use Rattle.gc_station.proofs.Invariant.{Invariant}
-use Rattle.gc_station.proofs.Midway.{clash}
 use Rattle.gc_station.proofs.Givens.{rest_with, after_rest}
+use Rattle.gc_station.proofs.Ticking.{not_both}
 
--- the part p is that of a request that goes out, and these bytes are its line
+-- the part p is that of a request that is sent, and these bytes are its line
 pub record IsSent (s : Model) (bytes : List ℕ) (p : Part) : Type 0 where
   pub target : ℕ
   pub call : Asked
@@ -80,7 +80,7 @@ module _ (plan : Plan) (commands : List Task) where
       → IsSent s bytes (asking 0 (Table NullProc) (later s.progress.moment.elapsed plan.deadline) None)
   null_put s bytes room e = record { target = 0; call = Table NullProc; deadline = later s.progress.moment.elapsed plan.deadline; mark = None; part = refl; text = e; room = room }
 
-  -- the bytes of the next command of the set-up are the line of the request of its part
+  -- the bytes of the next command of the setup are the line of the request of its part
   setup_put : (s : Model) (left : List Task) (bytes : List ℕ) → length s.client.waiting < 7 → bytes ≡ text_or_null s.progress.moment.utc s.client left
       → IsSent s bytes (asking_or_null plan s.progress.moment.elapsed (mark_setup commands s.progress) left)
   setup_put s [] bytes room e = null_put s bytes room e
@@ -94,11 +94,11 @@ module _ (plan : Plan) (commands : List Task) where
     room = room;
   }
 
-  -- once the station has begun, the bytes that an act of this action puts are as `IsPut` says of the action's part
+  -- once the station has synchronized, the bytes that an act of this action puts are as `IsPut` says of the action's part
   put_order : (s : Model) (o : Action) (act : Act) (bytes : List ℕ) → Invariant plan commands s → IsFor plan s.progress (waiting_of s) o
       → Performs commands s o act → put_by act ≡ Some bytes → has_begun s.progress ≡ true → IsPut s bytes (putting plan commands s o)
   put_order s action.Clear act bytes fine is obeys e begun = inl (puts_same (10 ∷ []) bytes act e obeys, refl)
-  put_order s action.Ask act bytes fine is obeys e begun = absurd (clash (has_begun s.progress) begun is.1)
+  put_order s action.Ask act bytes fine is obeys e begun = absurd (not_both (has_begun s.progress) begun is.1)
   put_order s action.Renew act bytes fine is obeys e begun = absurd (never_puts act bytes e (inl obeys))
   put_order s action.Flush act bytes fine is obeys e begun = inr (null_put s bytes is.4.1 (puts_same (request_text s.client (Table NullProc)) bytes act e obeys))
   put_order s action.Prepare act bytes fine is obeys e begun =
@@ -116,13 +116,13 @@ module _ (plan : Plan) (commands : List Task) where
   put_order s (action.Close why) act bytes fine is obeys e begun = absurd (never_puts act bytes e (inr (inr (inr obeys))))
   put_order s (action.Stop why) act bytes fine is obeys e begun = absurd obeys
 
-  -- once the station has begun, the bytes that an act of a run puts are as `IsPut` says of its part
+  -- once the station has synchronized, the bytes that an act of a run puts are as `IsPut` says of its part
   pub put_is : (s : Model) (act : Act) (bytes : List ℕ) → Invariant plan commands s → Performs commands s (action_at plan s) act → put_by act ≡ Some bytes
       → has_begun s.progress ≡ true → IsPut s bytes (putting plan commands s (action_at plan s))
   put_is s act bytes fine obeys e begun = put_order s (action_at plan s) act bytes fine (action_for plan s.progress (waiting_of s)) obeys e begun
 
-  -- while the station begins: these bytes are a line feed, which is no part; or the null procedure of the first id that isn't
-  -- answered, whose part p is one turn
+  -- while the station synchronizes: these bytes are a line feed, which is no part; or the null procedure of the first id that
+  -- isn't answered, whose part p is one turn
   abbrev pub IsAsked : Model → List ℕ → Part → Type 0
   IsAsked s bytes p = ((bytes ≡ 10 ∷ []) × (p ≡ nothing)) ⊎ ((bytes ≡ null_text s.progress.word) × (p ≡ only_turns (Asks ∷ [])))
 
@@ -132,15 +132,15 @@ module _ (plan : Plan) (commands : List Task) where
   asked_turn s (Cut out count) bytes e = refl
   asked_turn s act bytes e = cc
 
-  -- while the station begins, bytes that an act of this action puts are a line feed or the null procedure of the first id that
-  -- isn't answered
+  -- while the station synchronizes, bytes that an act of this action puts are a line feed or the null procedure of the first id
+  -- that isn't answered
   asked_order : (s : Model) (o : Action) (act : Act) (bytes : List ℕ) → IsFor plan s.progress (waiting_of s) o → Performs commands s o act
       → put_by act ≡ Some bytes → has_begun s.progress ≡ false → IsAsked s bytes (beginning s o act)
   asked_order s action.Clear act bytes is obeys e begins = inl (puts_same (10 ∷ []) bytes act e obeys, refl)
   asked_order s action.Ask act bytes is obeys e begins = inr (puts_same (null_text s.progress.word) bytes act e obeys, asked_turn s act bytes e)
-  asked_order s action.Flush act bytes is obeys e begins = absurd (clash (has_begun s.progress) is.1 begins)
-  asked_order s action.Prepare act bytes is obeys e begins = absurd (clash (has_begun s.progress) is.1 begins)
-  asked_order s action.Send act bytes is obeys e begins = absurd (clash (has_begun s.progress) is.1 begins)
+  asked_order s action.Flush act bytes is obeys e begins = absurd (not_both (has_begun s.progress) is.1 begins)
+  asked_order s action.Prepare act bytes is obeys e begins = absurd (not_both (has_begun s.progress) is.1 begins)
+  asked_order s action.Send act bytes is obeys e begins = absurd (not_both (has_begun s.progress) is.1 begins)
   asked_order s action.Renew act bytes is obeys e begins = absurd (never_puts act bytes e (inl obeys))
   asked_order s action.ReadClock act bytes is obeys e begins = absurd (never_puts act bytes e (inl obeys))
   asked_order s action.Skip act bytes is obeys e begins = absurd (never_puts act bytes e (inl obeys))
@@ -151,8 +151,8 @@ module _ (plan : Plan) (commands : List Task) where
   asked_order s (action.Close why) act bytes is obeys e begins = absurd (never_puts act bytes e (inr (inr (inr obeys))))
   asked_order s (action.Stop why) act bytes is obeys e begins = absurd obeys
 
-  -- while the station begins, bytes that an act of a run puts are a line feed or the null procedure of the first id that isn't
-  -- answered
+  -- while the station synchronizes, bytes that an act of a run puts are a line feed or the null procedure of the first id that
+  -- isn't answered
   pub asked_is : (s : Model) (act : Act) (bytes : List ℕ) → Performs commands s (action_at plan s) act → put_by act ≡ Some bytes
       → has_begun s.progress ≡ false → IsAsked s bytes (beginning s (action_at plan s) act)
   asked_is s act bytes obeys e begins = asked_order s (action_at plan s) act bytes (action_for plan s.progress (waiting_of s)) obeys e begins

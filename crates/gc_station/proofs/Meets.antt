@@ -1,6 +1,6 @@
--- What a line settles, and which requests it leaves waiting. P is what is known of a request that waits, by its number (how
--- many acts came before the one that put it), its place among those that wait, the request itself and its mark. An act is one
--- call of the link, with what came of it. `EndedBy` says how a request that a line settles has ended, and by which id.
+-- What a line settles, and which requests it leaves waiting. P is what is known of an outstanding request, by its number (how
+-- many acts came before the one that put it), its place among those that are outstanding, the request itself and its mark. An
+-- act is one call on the link, with its result. `EndedBy` says how a request that a line settles has ended, and by which id.
 use Rattle.std.proofs.Common.{◌≡◌, ℕ, zero, suc, ◌+◌, ◌-◌, ◌<◌, ◌≤◌, Bool, true, false, List, [], ◌∷◌, length, drop, Option, Some, None, if◌then◌else◌, nat_lt, refl, sym, ap, ◌∙◌, subst, arith}
 use Rattle.std.specs.List.{AllByRecursion}
 use Rattle.std.proofs.lemmas.Bool.{ltb-true}
@@ -34,22 +34,22 @@ use Rattle.gc_station.proofs.Lists.{AllAt, Rows, RowAt, rows_on, rows_drop, row_
 use Rattle.gc_station.proofs.Waiting.{StayedAt, WaitsAt, asked_as}
 use Rattle.gc_station.specs.Scopes.{Scope}
 
--- the id that was heard is that of the request that waits at this place
+-- the id that was heard is that of the outstanding request at this place
 pub record HasPlace (c : ById Asked) (o : Option ℕ) (at : ℕ) : Type 0 where
   pub id : ℕ
   pub has : o ≡ Some id
   pub is : at ≡ place_in c id
 
--- behind the request with this number and at this place, another one waits, whose id was heard
+-- after the request with this number and at this place, another one is outstanding, whose id was heard
 pub record Overtakes (P : ℕ → ℕ → Pending Asked → Option Mark → Type 0) (c : ById Asked) (o : Option ℕ) (number at : ℕ) : Type 0 where
   pub place : ℕ
   pub above : at < place
   pub found : RowAt P (suc number) place
   pub heard : HasPlace c o place
 
--- this settlement is of the request that waits at the place `at`, with this mark. If it is an answer, it is this line, and the
--- request isn't given up; if it is late, the request is given up; in both cases the id that was heard is the request's. If it is
--- lost, that id is of a request behind it
+-- this settlement is of the outstanding request at the place `at`, with this mark. If it is an answer, it is this line, and the
+-- request hasn't timed out; if it is late, the request has timed out; in both cases the id that was heard is the request's. If
+-- it is lost, that id is of a request after it
 pub record EndedBy (P : ℕ → ℕ → Pending Asked → Option Mark → Type 0) (c : ById Asked) (o : Option ℕ) (line : List ℕ) (at : ℕ) (x : Settlement Asked) (mark : Option Mark) : Type 0 where
   pub number : ℕ
   pub pending : Pending Asked
@@ -59,12 +59,12 @@ pub record EndedBy (P : ℕ → ℕ → Pending Asked → Option Mark → Type 0
   pub late : x.outcome ≡ Late → (pending.given_up ≡ true) × HasPlace c o at
   pub lost : x.outcome ≡ Lost → Overtakes P c o number at
 
--- a request whose own reply comes, and that is answered by it, isn't given up
+-- a request whose own reply comes, and that is answered by it, hasn't timed out
 met_answered : (b : Bool) (line l : List ℕ) → (if b then Late else Answered line) ≡ Answered l → (l ≡ line) × (b ≡ false)
 met_answered true line l e = cc
 met_answered false line l e = let same : l ≡ line = cc in (same, refl)
 
--- a request whose own reply comes, and that is late, is given up
+-- a request whose own reply comes, and that is late, has timed out
 met_late : (b : Bool) (line : List ℕ) → (if b then Late else Answered line) ≡ Late → b ≡ true
 met_late true line e = refl
 met_late false line e = cc
@@ -134,17 +134,17 @@ pub record Left (c : ById Asked) (x : Settled Asked (ById Asked)) : Type 0 where
   pub waiting : x.client.waiting ≡ drop count c.waiting
   pub settled : length x.settlements ≡ count
 
--- where a reply is of the request at place k, it settles k + 1 requests
+-- if a reply is of the request at place k, it settles k + 1 requests
 pub settle_length : (k : ℕ) (line : List ℕ) (ps : List (Pending Asked)) → k < length ps → length (settle k line ps) ≡ k + 1
 settle_length k line [] low = absurd (omega (arith, low))
 settle_length zero line (p ∷ ps) low = refl
 settle_length (suc k) line (p ∷ ps) low = let more = settle_length k line ps (omega (arith, low)) in omega (arith, more)
 
--- after a line the requests that wait are those that `Left` says: all but the oldest, as many as it settled
+-- after a line the outstanding requests are those that `Left` says: all but the oldest, as many as it settled
 pub heard_left : (c : ById Asked) (line : List ℕ) (o : Option ℕ) → Left c (hears c line o)
 heard_left c line None = record { count = 0; enough = omega arith; next = refl; waiting = refl; settled = refl }
 heard_left c line (Some id) = by_test (place_in c id) (nat_lt (place_in c id) (length c.waiting)) refl where
-  -- the lemma above, by whether the id is of a request that waits (`true`)
+  -- the lemma above, by whether the id is of an outstanding request (`true`)
   by_test : (k : ℕ) (b : Bool) → nat_lt k (length c.waiting) ≡ b → Left c (id_settled c line k b)
   by_test k true fits = let low = ltb-true k (length c.waiting) fits in record { count = k + 1; enough = omega (arith, low); next = refl; waiting = refl; settled = settle_length k line c.waiting low }
   by_test k false fits = record { count = 0; enough = omega arith; next = refl; waiting = refl; settled = refl }
@@ -158,7 +158,8 @@ pub left_window : (c : ById Asked) (x : Settled Asked (ById Asked)) → Left c x
 left_window c x l w = let many = left_count c x l in record { digit = subst (λ (n : ℕ). n < 8) (sym l.next) w.digit; few = omega (arith, many, w.few) }
 
 -- the requests that a line leaves waiting are as they were (`WaitsAt`), with the same numbers and at lower places
-pub left_waits : (plan : Plan) (commands : List Task) (scope : Scope) (acts : List Act) (first : ById Asked) (now : ℕ) (c : ById Asked) (x : Settled Asked (ById Asked)) (marks : List (Option Mark)) → Left c x → IsWindow c
+pub left_waits : (plan : Plan) (commands : List Task) (scope : Scope) (acts : List Act) (first : ById Asked) (now : ℕ) (c : ById Asked) (x : Settled Asked (ById Asked))
+    (marks : List (Option Mark)) → Left c x → IsWindow c
     → Rows (WaitsAt plan commands scope acts first now c.next (length c.waiting)) 0 0 c.waiting marks
     → Rows (WaitsAt plan commands scope acts first now x.client.next (length x.client.waiting)) 0 0 x.client.waiting (drop (length x.settlements) marks)
 left_waits plan commands scope acts first now c x marks l w all =
@@ -202,7 +203,7 @@ refused_line true near x line = warned_line near x line
 refused_line false near x line = refl
 
 -- the ending by a reply in time has the reply's line, whatever it says
-answer_line : (expected : Expected) (x y : Reading) (line : List ℕ) → answer_of (answer_as expected x y line) ≡ Some line
+pub answer_line : (expected : Expected) (x y : Reading) (line : List ℕ) → answer_of (answer_as expected x y line) ≡ Some line
 answer_line expected (reading.Value answer) y line = value_line quality.Fine (is_elsewhere expected.near answer) answer line
 answer_line expected (reading.Refused code) y line = refused_line (are_accepted expected.accepted code) expected.near y line
 answer_line expected (reading.ComFault code) y line = refl

@@ -1,5 +1,5 @@
--- What holds in the midst of an act, before what waits is lost: `Mid`, the weaker record, which has the counts and the records,
--- and what the phase says. At the end of an act it gives what every run keeps (`Invariant`).
+-- What holds in the midst of an act, before what is outstanding is lost: `Mid`, the weaker record, which has the counts and the
+-- records, and what the phase says. At the end of an act it gives the invariant of every run (`Invariant`).
 use Rattle.std.proofs.Common.{◌≡◌, ℕ, nat_lt, ltb-true, ltb-false, take, ◌+◌, ◌-◌, ◌%◌, ◌<◌, ◌≤◌, ◌⊎◌, inl, inr, ◌&&◌, ◌||◌, Bool, true, false, not, List, [], ◌∷◌, ◌++◌, length, drop, map, nat_eq, Option, Some, None, refl, sym, ap, ◌∙◌, subst, arith, length-append}
 use Rattle.std.specs.Prelude.{slice_get}
 use Rattle.std.specs.List.{AllByRecursion}
@@ -35,9 +35,10 @@ use Rattle.gc_station.proofs.Each.{each_moment, each_settles, each_null, each_se
 use Rattle.gc_station.proofs.Invariant.{Invariant, is_bare, says_done}
 use Rattle.gc_station.proofs.Lists.{all_append}
 use Rattle.gc_station.proofs.Tasked.{at_place, own_more, own_settled, settled_told, unsent_told}
+use Rattle.gc_station.proofs.Ticking.{not_both}
 
 -- where `left` cycles haven't begun, and `unsent` commands of the present one haven't had their turn: the records, and after
--- them the commands that wait, are the commands that had their turn, sent or not, in order. Each request that waits has its
+-- them the outstanding commands, are the commands that had their turn, sent or not, in order. Each request that waits has its
 -- mark, at most 7 wait, and the next id is below 8. Each asks what its mark says, and each record is of its task
 pub record Sound (plan : Plan) (commands : List Task) (left unsent : ℕ) (client : ById Asked) (marks : List (Option Mark)) (records : List Record) (passes : List Request) : Type 0 where
   pub unsents : unsent ≤ length commands - plan.setup
@@ -87,17 +88,13 @@ mid_of plan commands s fine = (
   },
 )
 
--- a test isn't true and false
-pub clash : (b : Bool) → b ≡ true → b ≡ false → ⊥
-clash b e g = cc
-
 -- What holds of the counts and the records.
 
 -- what had its turn is parted alike where what was kept is the same
 as_kept : (xs xs' ys zs : List Request) → xs' ≡ xs → Parted xs ys zs → Parted xs' ys zs
 as_kept xs xs' ys zs e h = subst (λ (l : List Request). Parted l ys zs) (sym e) h
 
--- a moment that gives requests up keeps `Sound`
+-- a moment that times requests out preserves `Sound`
 pub sound_moment : (plan : Plan) (commands : List Task) (left unsent : ℕ) (client : ById Asked) (marks : List (Option Mark)) (records : List Record) (passes : List Request) (m : ℕ)
     → Sound plan commands left unsent client marks records passes
     → Sound plan commands left unsent (expires client m) marks records passes
@@ -115,7 +112,7 @@ sound_moment plan commands left unsent client marks records passes m sound =
       told = sound.told;
     }
 
--- settlements of the oldest requests keep `Sound`
+-- settlements of the oldest requests preserve `Sound`
 pub sound_settles : (reads : Asked → List ℕ → Reading) (plan : Plan) (commands : List Task) (left unsent : ℕ) (client next : ById Asked) (marks : List (Option Mark))
     (records : List Record) (passes : List Request) (utc : ℕ) (ss : List (Settlement Asked))
     → map of_settled ss ++ map of_pending next.waiting ≡ map of_pending client.waiting → next.next < 8 → Sound plan commands left unsent client marks records passes
@@ -140,7 +137,7 @@ sound_settles reads plan commands left unsent client next marks records passes u
       told = all_append (IsOfItsTask commands) records _ sound.told (settled_told reads commands utc marks ss waits all);
     }
 
--- where there is room, the client after a send has the next id, and one request more that waits
+-- if there is room, the client after a send has the next id, and one request more that waits
 pub client_behind : (client : ById Asked) (target : ℕ) (call : Asked) (deadline : ℕ) → length client.waiting < 7
     → client_sent client (sends WINDOW client target call deadline) ≡ record { next = (client.next + 1) % IDS; waiting = client.waiting ++ pending_of target call deadline ∷ [] }
 client_behind client target call deadline room =
@@ -153,8 +150,9 @@ client_behind client target call deadline room =
 one_more : (marks : List (Option Mark)) (ws : List (Pending Asked)) (m : Option Mark) (p : Pending Asked) → length marks ≡ length ws → length (marks ++ m ∷ []) ≡ length (ws ++ p ∷ [])
 one_more marks ws m p paired = length-append marks (m ∷ []) ∙ ap (λ n. n + 1) paired ∙ sym (length-append ws (p ∷ []))
 
--- a null procedure that is sent keeps `Sound`
-pub sound_null : (plan : Plan) (commands : List Task) (left unsent : ℕ) (client : ById Asked) (marks : List (Option Mark)) (records : List Record) (passes : List Request) (target : ℕ) (call : Asked) (deadline : ℕ)
+-- a null procedure that is sent preserves `Sound`
+pub sound_null : (plan : Plan) (commands : List Task) (left unsent : ℕ) (client : ById Asked) (marks : List (Option Mark)) (records : List Record) (passes : List Request)
+    (target : ℕ) (call : Asked) (deadline : ℕ)
     → length client.waiting < 7 → IsOf commands None (record { target = target; call = call }) → Sound plan commands left unsent client marks records passes
     → Sound plan commands left unsent (client_sent client (sends WINDOW client target call deadline)) (marks ++ None ∷ []) records passes
 sound_null plan commands left unsent client marks records passes target call deadline room is sound =
@@ -172,8 +170,9 @@ sound_null plan commands left unsent client marks records passes target call dea
       told = sound.told;
     })
 
--- a command that is sent keeps `Sound`, with one command less unsent
-pub sound_sent : (plan : Plan) (commands : List Task) (left unsent : ℕ) (client : ById Asked) (marks : List (Option Mark)) (records : List Record) (passes : List Request) (utc deadline : ℕ) (expected : Expected) (task : Task) (others : List Task)
+-- a command that is sent preserves `Sound`, with one command less unsent
+pub sound_sent : (plan : Plan) (commands : List Task) (left unsent : ℕ) (client : ById Asked) (marks : List (Option Mark)) (records : List Record) (passes : List Request)
+    (utc deadline : ℕ) (expected : Expected) (task : Task) (others : List Task)
     → length client.waiting < 7 → 0 < unsent → drop (length commands - unsent) commands ≡ task ∷ others → Sound plan commands left unsent client marks records passes
     → Sound plan commands left (unsent - 1) (client_sent client (sends WINDOW client task.command.target (call_at task utc) deadline))
     (marks ++ Some (record { cycle = plan.cycles - left; place = length commands - unsent; sent = utc; expected = expected }) ∷ []) records passes
@@ -190,9 +189,11 @@ sound_sent plan commands left unsent client marks records passes utc deadline ex
     let within : plan.setup ≤ place = omega (arith, some, sound.unsents) in
     let one = requests begun place (of_task task ∷ []) in
     let each : Parted (of_text commands (map of_record records ++ still_waiting (marks ++ Some mark ∷ []) (client.waiting ++ p ∷ []))) passes (sent_by plan.setup commands begun (place + 1)) =
-    subst (λ (xs : List Request). Parted (of_text commands (map of_record records ++ still_waiting (marks ++ Some mark ∷ []) (client.waiting ++ p ∷ []))) passes xs) (sent_next plan.setup commands begun place task others at within many)
+    subst (λ (xs : List Request). Parted (of_text commands (map of_record records ++ still_waiting (marks ++ Some mark ∷ []) (client.waiting ++ p ∷ []))) passes xs)
+    (sent_next plan.setup commands begun place task others at within many)
     (as_kept _ _ _ _ (each_sent commands begun place utc expected marks client.waiting p records task others sound.paired at refl many kept refl) (parted_more kept passes (sent_by plan.setup commands begun place) one sound.each)) in
-    subst (λ (c : ById Asked). Sound plan commands left (unsent - 1) c (marks ++ Some mark ∷ []) records passes) (sym (client_behind client task.command.target (call_at task utc) deadline room)) (record {
+    subst (λ (c : ById Asked). Sound plan commands left (unsent - 1) c (marks ++ Some mark ∷ []) records passes)
+    (sym (client_behind client task.command.target (call_at task utc) deadline room)) (record {
       unsents = omega (arith, sound.unsents);
       lefts = sound.lefts;
       begun = λ e. below;
@@ -204,14 +205,16 @@ sound_sent plan commands left unsent client marks records passes utc deadline ex
       told = sound.told;
     })
 
--- a command of the set-up that is sent keeps `Sound`
-pub sound_prepared : (plan : Plan) (commands : List Task) (left unsent : ℕ) (client : ById Asked) (marks : List (Option Mark)) (records : List Record) (passes : List Request) (deadline : ℕ) (mark : Mark) (task : Task)
+-- a command of the setup that is sent preserves `Sound`
+pub sound_prepared : (plan : Plan) (commands : List Task) (left unsent : ℕ) (client : ById Asked) (marks : List (Option Mark)) (records : List Record) (passes : List Request)
+    (deadline : ℕ) (mark : Mark) (task : Task)
     → length client.waiting < 7 → mark.cycle ≡ 0 → slice_get commands mark.place ≡ Some task → Sound plan commands left unsent client marks records passes
     → Sound plan commands left unsent (client_sent client (sends WINDOW client task.command.target (call_at task mark.sent) deadline)) (marks ++ Some mark ∷ []) records passes
 sound_prepared plan commands left unsent client marks records passes deadline mark task room none at sound =
     let p = pending_of task.command.target (call_at task mark.sent) deadline in
     let more : length (client.waiting ++ p ∷ []) ≡ length client.waiting + 1 = length-append client.waiting (p ∷ []) in
-    subst (λ (c : ById Asked). Sound plan commands left unsent c (marks ++ Some mark ∷ []) records passes) (sym (client_behind client task.command.target (call_at task mark.sent) deadline room)) (record {
+    subst (λ (c : ById Asked). Sound plan commands left unsent c (marks ++ Some mark ∷ []) records passes)
+    (sym (client_behind client task.command.target (call_at task mark.sent) deadline room)) (record {
       unsents = sound.unsents;
       lefts = sound.lefts;
       begun = sound.begun;
@@ -223,8 +226,9 @@ sound_prepared plan commands left unsent client marks records passes deadline ma
       told = sound.told;
     })
 
--- a command that isn't sent keeps `Sound`, with one command less unsent
-pub sound_skipped : (plan : Plan) (commands : List Task) (left unsent : ℕ) (client : ById Asked) (marks : List (Option Mark)) (records : List Record) (passes : List Request) (utc : ℕ) (end : End) (turn : Turn) (task : Task) (others : List Task)
+-- a command that isn't sent preserves `Sound`, with one command less unsent
+pub sound_skipped : (plan : Plan) (commands : List Task) (left unsent : ℕ) (client : ById Asked) (marks : List (Option Mark)) (records : List Record) (passes : List Request)
+    (utc : ℕ) (end : End) (turn : Turn) (task : Task) (others : List Task)
     → commands_in marks ≡ 0 → 0 < unsent → drop (length commands - unsent) commands ≡ task ∷ others → went_out end ≡ false → Sound plan commands left unsent client marks records passes
     → Sound plan commands left (unsent - 1) client marks (records ++ record
     { sent = None; utc = utc; cycle = plan.cycles - left; place = length commands - unsent; turn = turn; command = task.command; end = end } ∷ []) passes
@@ -252,7 +256,7 @@ sound_skipped plan commands left unsent client marks records passes utc end turn
       told = all_append (IsOfItsTask commands) records _ sound.told (unsent_told commands utc begun place turn end task (at_place place commands task others at) out, tt);
     }
 
--- the attempts of a chain that are passed over keep `Sound`, with so many commands less unsent
+-- the attempts of a chain that are left out preserve `Sound`, with so many commands less unsent
 pub sound_passed : (plan : Plan) (commands : List Task) (left unsent count : ℕ) (client : ById Asked) (marks : List (Option Mark)) (records : List Record) (passes : List Request)
     → 0 < unsent → Sound plan commands left unsent client marks records passes
     → Sound plan commands left (unsent - count) client marks records
@@ -271,18 +275,19 @@ sound_passed plan commands left unsent count client marks records passes some so
       paired = sound.paired;
       window = sound.window;
       digit = sound.digit;
-      each = subst (λ (xs : List Request). Parted kept (passes ++ past) xs) (sent_past plan.setup commands begun place count (length commands - (unsent - count)) (omega (arith, some, sound.unsents)) (omega (arith, sound.unsents)) many
+      each = subst (λ (xs : List Request). Parted kept (passes ++ past) xs)
+          (sent_past plan.setup commands begun place count (length commands - (unsent - count)) (omega (arith, some, sound.unsents)) (omega (arith, sound.unsents)) many
           (by_count (nat_lt unsent count) refl)) (parted_past kept passes (sent_by plan.setup commands begun place) past sound.each);
       own = sound.own;
       told = sound.told;
     } where
-      -- the new place is so many places behind, or at the end, where fewer are unsent
+      -- the new place is so many places after, or at the end, where fewer are unsent
       by_count : (b : Bool) → nat_lt unsent count ≡ b → (length commands - (unsent - count) ≡ (length commands - unsent) + count)
           ⊎ ((length commands - (unsent - count) ≡ length commands) × (length commands ≤ (length commands - unsent) + count))
       by_count true e = let more = ltb-true unsent count e in inr (omega (arith, more), omega (arith, more, sound.unsents))
       by_count false e = let few = ltb-false unsent count e in inl (omega (arith, few, sound.unsents))
 
--- the beginning of a cycle keeps `Sound`
+-- the beginning of a cycle preserves `Sound`
 pub sound_begun : (plan : Plan) (commands : List Task) (left unsent : ℕ) (client : ById Asked) (marks : List (Option Mark)) (records : List Record) (passes : List Request)
     → unsent ≡ 0 → 0 < left → Sound plan commands left unsent client marks records passes → Sound plan commands (left - 1) (length commands - plan.setup) client marks records passes
 sound_begun plan commands left unsent client marks records passes none some sound =
@@ -301,25 +306,26 @@ sound_begun plan commands left unsent client marks records passes none some soun
       told = sound.told;
     }
 
--- The end of what waits.
+-- The end of what is outstanding.
 
--- where nothing is lost, the station has begun (a), and the run isn't over (o)
+-- if nothing is lost, the station has synchronized (a), and the run isn't over (o)
 kept_for : (a o : Bool) → (not a || o) ≡ false → (a ≡ true) × (o ≡ false)
 kept_for true o e = (refl, e)
 kept_for false o e = cc
 
--- where the counts are those of a run that is done, as `Placed` has them, and the run isn't over, no command waits
+-- if the counts are those of a run that is done, as `Placed` has them, and the run isn't over, no command is outstanding
 still_finished : (p : Progress) (marks : List (Option Mark)) → is_over p ≡ false
     → (p.left ≡ 0) × (p.unsent ≡ 0) × ((is_over_in p.phase ≡ true) ⊎ (commands_in marks ≡ 0)) → (p.left ≡ 0) × (p.unsent ≡ 0) × (commands_in marks ≡ 0)
-still_finished p marks not_over (left, unsent, inl over) = absurd (clash (is_over p) (ap (λ b. b || (not (is_up p.phase) && nat_eq p.turns 0)) over) not_over)
+still_finished p marks not_over (left, unsent, inl over) = absurd (not_both (is_over p) (ap (λ b. b || (not (is_up p.phase) && nat_eq p.turns 0)) over) not_over)
 still_finished p marks not_over (left, unsent, inr none) = (left, unsent, none)
 
--- once all that waits is lost where `loses_all` says so, the weaker record gives what every run keeps
+-- once all that is outstanding is lost where `loses_all` says so, the weaker record gives the invariant of every run
 fine_losing : (plan : Plan) (commands : List Task) (s : Model) (b : Bool) → loses_all s.progress ≡ b → Mid plan commands s → Invariant plan commands (losing b s)
 fine_losing plan commands s true is (sound, placed) =
     let p = s.progress in
     let ss = map lost s.client.waiting in
-    let x = sound_settles s.reads plan commands p.left p.unsent s.client fresh s.marks s.records s.passes p.moment.utc ss (append_none (map of_settled ss) ∙ lost_parts s.client.waiting) (omega arith) sound in
+    let x = sound_settles s.reads plan commands p.left p.unsent s.client fresh s.marks s.records s.passes p.moment.utc ss
+    (append_none (map of_settled ss) ∙ lost_parts s.client.waiting) (omega arith) sound in
     let nothing : drop (length ss) s.marks ≡ [] = nil_from_length (drop (length ss) s.marks) x.paired in
     record {
       unsent = x.unsents;
@@ -336,7 +342,7 @@ fine_losing plan commands s true is (sound, placed) =
       own = x.own;
       told = x.told;
     } where
-      -- an empty list behind a list adds nothing
+      -- an empty list after a list adds nothing
       append_none : {A : Type 0} (xs : List A) → xs ++ [] ≡ xs
       append_none [] = refl
       append_none (x ∷ xs) = ap (λ ys. x ∷ ys) (append_none xs)
@@ -350,15 +356,15 @@ fine_losing plan commands s false is (sound, placed) =
       paired = sound.paired;
       window = sound.window;
       digit = sound.digit;
-      begins = λ e. absurd (clash (has_begun p) kept.0 e);
+      begins = λ e. absurd (not_both (has_begun p) kept.0 e);
       rest = placed.empty;
-      over = λ e. absurd (clash (is_over p) e kept.1);
+      over = λ e. absurd (not_both (is_over p) e kept.1);
       finished = λ e. still_finished p s.marks kept.1 (placed.finished e);
       each = sound.each;
       own = sound.own;
       told = sound.told;
     }
 
--- the weaker record gives what every run keeps after the whole act
+-- the weaker record gives the invariant of every run after the whole act
 pub fine_ended : (plan : Plan) (commands : List Task) (s : Model) → Mid plan commands s → Invariant plan commands (ended s)
 fine_ended plan commands s mid = fine_losing plan commands s (loses_all s.progress) refl mid

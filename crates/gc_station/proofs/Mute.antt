@@ -1,18 +1,15 @@
--- A connection is closed for a dead line only where no reply line came for long enough. A silence begins with an act that tells
--- a moment, after which no reply line comes. An act is one call of the link, with what came of it. `alive` is the moment since
--- which no reply line came, `now` the moment told last, `asked` whether a request went out after the last reply line; `before`
--- and `behind` are the acts before and after the act `start`, with which a silence begins. Moments are in milliseconds.
-use Rattle.std.proofs.Common.{◌≡◌, ℕ, ◌-◌, ◌<◌, ◌≤◌, ◌⊎◌, inl, inr, ◌&&◌, ◌||◌, Bool, true, false, List, [], ◌∷◌, ◌++◌, length, drop, Option, None, Result, Ok, Err, if◌then◌else◌, nat_lt, nat_le, min, refl, sym, ap, ◌∙◌, subst, arith, append_assoc}
+-- A connection is closed for a dead line only if no reply line came for long enough. A silence begins with an act that reads a
+-- moment, after which no reply line comes. An act is one call on the link, with its result. `alive` is the moment since which
+-- no reply line came, `now` the moment read last, `asked` whether a request was sent after the last reply line; `before` and
+-- `behind` are the acts before and after the act `start`, with which a silence begins. Moments are in milliseconds.
+use Rattle.std.proofs.Common.{◌≡◌, ℕ, ◌-◌, ◌<◌, ◌≤◌, ◌⊎◌, inl, inr, ◌&&◌, ◌||◌, Bool, true, false, List, [], ◌∷◌, ◌++◌, length, drop, if◌then◌else◌, nat_lt, nat_le, min, refl, sym, ap, ◌∙◌, subst, arith, append_assoc}
 use Rattle.std.specs.List.{AllByRecursion}
 use Rattle.std.proofs.Math.Nat.{min-eq_left, min-eq_right}
 use Rattle.std.proofs.lemmas.Bool.{leb-true, leb-false, ltb-true}
 use Rattle.gc_lines.specs.Frames.{rest_behind}
-use Rattle.gc_lines.specs.declared.fault.LineFault.{LineFault}
-use Rattle.gc_lines.specs.Replies.{ReplyFields}
-use Rattle.gc_lines.specs.Readers.{reply_at}
 use Rattle.gc_catalogue.specs.declared.asked.Asked.{Asked}
-use Rattle.gc_client.specs.Beginning.{the_word, is_answered, left_by}
-use Rattle.gc_client.specs.Rule.{ById, heard, id_in}
+use Rattle.gc_client.specs.Beginning.{the_word}
+use Rattle.gc_client.specs.Rule.{ById}
 use Rattle.gc_catalogue.specs.declared.asked.Asked.TheVariants.{Table}
 use Rattle.gc_catalogue.specs.declared.call.Call.TheVariants.{NullProc}
 use Rattle.gc_texts.specs.declared.tasks.Task.{Task}
@@ -26,15 +23,14 @@ use Rattle.gc_station.specs.declared.progress.Action.TheVariants as actions
 use Rattle.gc_station.specs.declared.progress.Progress.{Progress}
 use Rattle.gc_links.specs.Acts.{Act, Told, Put, Gave, Silent}
 use Rattle.gc_station.specs.Deciding.{has_begun, is_none_left, goes_on, later, patience_of}
-use Rattle.gc_station.specs.Progressing.{turned, told, line_asked, lines_asked}
+use Rattle.gc_station.specs.Progressing.{turned, moment_noted, lines_asked}
 use Rattle.gc_station.specs.Quiet.{TellsMoment, IsListening, StaysConnected}
 use Rattle.gc_station.specs.Reasons.{IsFor}
-use Rattle.gc_station.specs.Runs.{stood}
+use Rattle.gc_station.specs.Runs.{state_after}
 use Rattle.gc_station.specs.Silences.{latest, IsNoReply, BringsNoReply, IsMute, WentBack, IsMuteFor}
-use Rattle.gc_station.specs.Model.{Model, request_text, null_text, first_text, opening, action_at, waiting_of, with_progress, with_moment, with_rest, line_came, lines_came, lines_behind, came, is_heard, is_ok, is_reply, place_next, Performs, moved, after, after_all, Runs, text_or_null}
+use Rattle.gc_station.specs.Model.{Model, request_text, null_text, first_text, opening, action_at, waiting_of, with_progress, with_moment, with_rest, lines_came, lines_completed, after_piece, is_heard, place_next, Performs, moved, after, after_all, Runs, text_or_null}
 use Rattle.gc_station.proofs.Always.{always_far}
 use Rattle.gc_station.proofs.Connected.{is_in_use, OnLine, on_line}
-use Rattle.gc_station.proofs.Midway.{clash}
 use Rattle.gc_station.proofs.Since.{Since, since_now, since_on, cut_on}
 use Rattle.gc_station.proofs.EachRun.{fine_stood}
 use Rattle.gc_station.proofs.Facts.{both_true, either_true, or_true, action_for, order_wakes, Awake, Wakes}
@@ -42,116 +38,41 @@ use Rattle.gc_station.proofs.Going.{after_all-append}
 use Rattle.gc_station.proofs.Lists.{all_append}
 use Rattle.gc_station.proofs.Silences.{LastTells, latest_more, awake_last, not_closing, end_here, awake_here}
 use Rattle.gc_station.proofs.Invariant.{Invariant}
-use Rattle.gc_station.proofs.Walk.{lines_along, asked_along, came_along}
+use Rattle.gc_station.proofs.Walk.{asked_along, came_along}
 use Rattle.gc_station.specs.Scopes.{Scope}
+use Rattle.gc_station.proofs.ReplyLines.{lines_moment, Alive, lines_alive, AliveAsked, asked_alive}
+use Rattle.gc_station.proofs.Ticking.{not_both}
 
--- The lines of a piece: none reads as a reply, or the line was alive at the moment of the piece.
-
--- lines that are heard leave the moment told last
-lines_moment : (s : Model) (lines : List (List ℕ)) → (lines_came s lines).progress.moment ≡ s.progress.moment
-lines_moment s lines = lines_along (λ (t : Model). t.progress.moment ≡ s.progress.moment) (λ t line e. e) s lines refl
-
--- for lines that the client hears, from the model to this progress: none of them is a reply, and `alive` and `asked` stay as in
--- the model; or the line was alive at the moment told last, and no request went out since
-abbrev Alive : Model → List (List ℕ) → Progress → Type 0
-Alive s lines p = (AllByRecursion IsNoReply lines × (p.alive ≡ s.progress.alive) × (p.asked ≡ s.progress.asked)) ⊎ ((p.alive ≡ s.progress.moment.elapsed) × (p.asked ≡ false))
-
--- `Alive` holds after lines that the client hears
-lines_alive : (s : Model) (lines : List (List ℕ)) → Alive s lines (lines_came s lines).progress
-lines_alive s [] = inl (tt, refl, refl)
-lines_alive s (line ∷ others) = on (is_reply line) refl (lines_alive (line_came s line) others) where
-  -- where the line is a reply (`true`), the line was alive at this moment; else `alive` stays
-  here : (b : Bool) → is_reply line ≡ b → (line_came s line).progress.alive ≡ (if b then s.progress.moment.elapsed else s.progress.alive)
-  here b e = ap (λ (x : Bool). if x then s.progress.moment.elapsed else s.progress.alive) e
-
-  -- where the line is a reply (`true`), no request went out since; else `asked` stays
-  asks : (b : Bool) → is_reply line ≡ b → (line_came s line).progress.asked ≡ (if b then false else s.progress.asked)
-  asks b e = ap (λ (x : Bool). if x then false else s.progress.asked) e
-
-  -- `Alive` holds with one line more in front
-  on : (b : Bool) → is_reply line ≡ b → Alive (line_came s line) others (lines_came (line_came s line) others).progress → Alive s (line ∷ others) (lines_came (line_came s line) others).progress
-  on b e (inr now) = inr now
-  on true e (inl none) = inr (none.1 ∙ here true e, none.2 ∙ asks true e)
-  on false e (inl none) = inl ((e, none.0), none.1 ∙ here false e, none.2 ∙ asks false e)
-
--- a line that doesn't read as a reply has no id
-no_reply : (line : List ℕ) → is_reply line ≡ false → heard line ≡ None
-no_reply line e = by_reply (reply_at line) e where
-  -- the lemma above, by how the line reads
-  by_reply : (r : Result ReplyFields LineFault) → is_ok r ≡ false → id_in r ≡ None
-  by_reply (Ok fields) e = cc
-  by_reply (Err fault) e = refl
-
--- a line without an id answers no null procedure
-left_same : (word : List ℕ) (id : Option ℕ) → id ≡ None → left_by word id ≡ word
-left_same [] id e = refl
-left_same (asked ∷ others) id e = ap (λ (i : Option ℕ). left_by (asked ∷ others) i) e
-
--- a line without an id leaves `again`, the moment at which the null procedure goes out again
-again_same : (word : List ℕ) (id : Option ℕ) (again : ℕ) → id ≡ None → (if is_answered word id then 0 else again) ≡ again
-again_same [] id again e = refl
-again_same (asked ∷ others) id again e = ap (λ (i : Option ℕ). if is_answered (asked ∷ others) i then 0 else again) e
-
--- as `Alive`, for lines that the beginning hears, from one progress to another: where none of them is a reply, the ids that are
--- left (`word`) and the next null procedure's moment (`again`) stay, too
-abbrev AliveAsked : Progress → List (List ℕ) → Progress → Type 0
-AliveAsked p lines q =
-    (AllByRecursion IsNoReply lines × (q.alive ≡ p.alive) × (q.asked ≡ p.asked) × (q.word ≡ p.word) × (q.again ≡ p.again)) ⊎ ((q.alive ≡ p.moment.elapsed) × (q.asked ≡ false))
-
--- `AliveAsked` holds after lines that the beginning hears
-asked_alive : (p : Progress) (lines : List (List ℕ)) → AliveAsked p lines (lines_asked p lines)
-asked_alive p [] = inl (tt, refl, refl, refl, refl)
-asked_alive p (line ∷ others) = on (is_reply line) refl (asked_alive (line_asked p line) others) where
-  -- the progress after all lines
-  q : Progress
-  q = lines_asked (line_asked p line) others
-
-  -- where the line is a reply (`true`), the line was alive at this moment; else `alive` stays
-  here : (b : Bool) → is_reply line ≡ b → (line_asked p line).alive ≡ (if b then p.moment.elapsed else p.alive)
-  here b e = ap (λ (x : Bool). if x then p.moment.elapsed else p.alive) e
-
-  -- where the line is a reply (`true`), no request went out since; else `asked` stays
-  asks : (b : Bool) → is_reply line ≡ b → (line_asked p line).asked ≡ (if b then false else p.asked)
-  asks b e = ap (λ (x : Bool). if x then false else p.asked) e
-
-  -- `AliveAsked` holds with one line more in front
-  on : (b : Bool) → is_reply line ≡ b → AliveAsked (line_asked p line) others q → AliveAsked p (line ∷ others) q
-  on b e (inr now) = inr now
-  on true e (inl none) = inr (none.1 ∙ here true e, none.2 ∙ asks true e)
-  on false e (inl none) =
-      let silent = no_reply line e in
-      inl ((e, none.0), none.1 ∙ here false e, none.2 ∙ asks false e, none.3 ∙ left_same p.word (heard line) silent, none.4 ∙ again_same p.word (heard line) p.again silent)
-
--- whether a reply line is waited for on the connection: the station has begun (no id of `word` is left), or a null procedure went
--- out on it (`again`), or a request after the last reply line (`asked`)
+-- whether a reply line is waited for on the connection: the station has synchronized (no id of `word` is left), or a null
+-- procedure was sent on it (`again`), or a request after the last reply line (`asked`)
 abbrev is_sought : List ℕ → ℕ → Bool → Bool
 is_sought word again asked = is_none_left word || (nat_lt 0 again || asked)
 
--- once the station has begun, a reply line is waited for
+-- once the station has synchronized, a reply line is waited for
 sought_begun : (word : List ℕ) (again : ℕ) (asked : Bool) → is_none_left word ≡ true → is_sought word again asked ≡ true
 sought_begun word again asked e = ap (λ b. b || (nat_lt 0 again || asked)) e
 
--- where a null procedure of the beginning went out on this connection, a reply line is waited for
+-- if a null procedure of the synchronization was sent on this connection, a reply line is waited for
 sought_again : (word : List ℕ) (again : ℕ) (asked : Bool) → nat_lt 0 again ≡ true → is_sought word again asked ≡ true
 sought_again word again asked e = ap (λ b. is_none_left word || (b || asked)) e ∙ or_true (is_none_left word)
 
--- where a request went out after the last reply line, a reply line is waited for
+-- if a request was sent after the last reply line, a reply line is waited for
 sought_asked : (word : List ℕ) (again : ℕ) (asked : Bool) → asked ≡ true → is_sought word again asked ≡ true
 sought_asked word again asked e = ap (λ b. is_none_left word || (nat_lt 0 again || b)) e ∙ ap (λ b. is_none_left word || b) (or_true (nat_lt 0 again)) ∙ or_true (is_none_left word)
 
--- which requests went out in the acts `behind` (last), after a silence began at the moment `from`. If none is waited for
--- (`false`), none did; else the first of these acts sent one, or the clock went back to `from` after the acts `before` (the
--- third argument)
+-- which requests were sent in the acts `behind` (last), after a silence began at the moment `from`. If none is waited for
+-- (`false`), none did; otherwise the first of these acts sent one, or the clock went back to `from` after the acts `before`
+-- (the third argument)
 abbrev Asks : Bool → ℕ → List Act → List Act → Type 0
 Asks false from before behind = AllByRecursion IsListening behind
 Asks true from before behind = ((text : List ℕ) × (others : List Act) × (behind ≡ Put text ∷ others)) ⊎ WentBack from before
 
--- where a request went out at once, or the clock went back, `Asks` lasts over any act
+-- if a request was sent at once, or the clock went back, `Asks` is preserved by any act
 asks_still : (from : ℕ) (before behind : List Act) (act : Act) → Asks true from before behind → Asks true from before (behind ++ act ∷ [])
 asks_still from before behind act (inl put) = inl (put.0, put.1 ++ act ∷ [], ap (λ xs. xs ++ act ∷ []) put.2)
 asks_still from before behind act (inr back) = inr back
 
--- an act that puts no bytes keeps `Asks`
+-- an act that puts no bytes preserves `Asks`
 asks_on : (asked : Bool) (from : ℕ) (before behind : List Act) (act : Act) → IsListening act → Asks asked from before behind → Asks asked from before (behind ++ act ∷ [])
 asks_on false from before behind act listens asks = all_append IsListening behind (act ∷ []) asks (listens, tt)
 asks_on true from before behind act listens asks = asks_still from before behind act asks
@@ -163,12 +84,12 @@ asks_any false from before behind asks = inl asks
 asks_any true from before behind asks = inr asks
 
 module _ (plan : Plan) (commands : List Task) (scope : Scope) where
-  -- a silence began with `start`, which tells the moment `alive`: after it no act brings a reply line or closes the connection,
-  -- requests went out as `Asks` says, and `now` is the moment told last. The arguments are `asked`, `alive`, `now`, `before`,
+  -- a silence began with `start`, which reads the moment `alive`: after it no act brings a reply line or closes the connection,
+  -- requests were sent as `Asks` says, and `now` is the moment read last. The arguments are `asked`, `alive`, `now`, `before`,
   -- `start` and `behind`
   abbrev Mutes : Bool → ℕ → ℕ → List Act → Act → List Act → Type 0
   Mutes asked alive now before start behind =
-      TellsMoment alive start × AllByRecursion StaysConnected behind × IsMute plan commands (stood plan commands scope (before ++ start ∷ [])) behind
+      TellsMoment alive start × AllByRecursion StaysConnected behind × IsMute plan commands (state_after plan commands scope (before ++ start ∷ [])) behind
       × Asks asked alive before behind × (latest alive behind ≡ now) × (alive ≤ now)
 
   -- one of these acts begins a silence (`Mutes`). The arguments are `asked`, `alive`, `now` and the acts
@@ -180,32 +101,32 @@ module _ (plan : Plan) (commands : List Task) (scope : Scope) where
   mute_more s [] act mute here = (here, tt)
   mute_more s (x ∷ xs) act mute here = (mute.0, mute_more (after plan commands s x) xs act mute.1 here)
 
-  -- a silence begins with an act that tells a moment, if `Asks` holds with nothing after it
+  -- a silence begins with an act that reads a moment, if `Asks` holds with nothing after it
   muted_from : (asked : Bool) (now : ℕ) (acts : List Act) (act : Act) → TellsMoment now act → Asks asked now acts [] → IsMuted asked now now (acts ++ act ∷ [])
   muted_from asked now acts act tells asks = let least : now ≤ now = omega arith in since_now (Mutes asked now now) acts act (tells, tt, tt, asks, refl, least)
 
-  -- a silence begins with an act that tells a moment, where no request is waited for
+  -- a silence begins with an act that reads a moment, if no request is waited for
   muted_now : (now : ℕ) (acts : List Act) (act : Act) → TellsMoment now act → IsMuted false now now (acts ++ act ∷ [])
   muted_now now acts act tells = muted_from false now acts act tells tt
 
   -- a silence goes on after an act that brings no reply
-  muted_on : (asked : Bool) (alive now : ℕ) (acts : List Act) (act : Act) → StaysConnected act → BringsNoReply (stood plan commands scope acts).rest act
+  muted_on : (asked : Bool) (alive now : ℕ) (acts : List Act) (act : Act) → StaysConnected act → BringsNoReply (state_after plan commands scope acts).rest act
       → ((before behind : List Act) → Asks asked alive before behind → Asks asked alive before (behind ++ act ∷ [])) → alive ≤ latest now (act ∷ []) → IsMuted asked alive now acts
       → IsMuted asked alive (latest now (act ∷ [])) (acts ++ act ∷ [])
   muted_on asked alive now acts act stays none asks least q =
       since_on (Mutes asked alive now) (Mutes asked alive (latest now (act ∷ []))) acts (act ∷ [])
       (λ before start behind order h.
-      let there : stood plan commands scope acts ≡ after_all plan commands (stood plan commands scope (before ++ start ∷ [])) behind =
-      ap (stood plan commands scope) (order ∙ sym (append_assoc before (start ∷ []) behind)) ∙ after_all-append plan commands (opening plan scope) (before ++ start ∷ []) behind in (
+      let there : state_after plan commands scope acts ≡ after_all plan commands (state_after plan commands scope (before ++ start ∷ [])) behind =
+      ap (state_after plan commands scope) (order ∙ sym (append_assoc before (start ∷ []) behind)) ∙ after_all-append plan commands (opening plan scope) (before ++ start ∷ []) behind in (
         h.0,
         all_append StaysConnected behind (act ∷ []) h.1 (stays, tt),
-        mute_more (stood plan commands scope (before ++ start ∷ [])) behind act h.2 (subst (λ (x : Model). BringsNoReply x.rest act) there none),
+        mute_more (state_after plan commands scope (before ++ start ∷ [])) behind act h.2 (subst (λ (x : Model). BringsNoReply x.rest act) there none),
         asks before behind h.3,
         latest_more alive behind act ∙ ap (λ n. latest n (act ∷ [])) h.4,
         least,
       )) q
 
-  -- where a request goes out, a silence begins with the act before it, which told the last moment
+  -- if a request is sent, a silence begins with the act before it, which read the last moment
   muted_asking : (now : ℕ) (acts : List Act) (out : List ℕ) → LastTells now acts → IsMuted true now now (acts ++ Put out ∷ [])
   muted_asking now acts out (front, last, action, tells) =
       let least : now ≤ now = omega arith in
@@ -217,7 +138,7 @@ module _ (plan : Plan) (commands : List Task) (scope : Scope) where
         holds = (tells, (tt, tt), (tt, tt), inl (out, [], refl), refl, least);
       }
 
-  -- where the clock goes back to a moment (m) before a silence began, `Asks` holds of the silence that begins at m
+  -- if the clock goes back to a moment (m) before a silence began, `Asks` holds of the silence that begins at m
   went_back : (asked : Bool) (alive now m : ℕ) (acts : List Act) → m < alive → IsMuted asked alive now acts → Asks asked m acts []
   went_back false alive now m acts less q = tt
   went_back true alive now m acts less q =
@@ -234,10 +155,10 @@ module _ (plan : Plan) (commands : List Task) (scope : Scope) where
         later = later;
       })
 
-  -- a silence goes on after an act that tells a moment, or begins anew there where the clock went back
+  -- a silence goes on after an act that reads a moment, or starts again there if the clock went back
   muted_clock : (asked : Bool) (alive now : ℕ) (m : Moment) (acts : List Act) (act : Act) (b : Bool) → nat_le alive m.elapsed ≡ b → TellsMoment m.elapsed act
       → latest now (act ∷ []) ≡ m.elapsed → StaysConnected act → IsListening act
-      → BringsNoReply (stood plan commands scope acts).rest act → IsMuted asked alive now acts → IsMuted asked (min alive m.elapsed) m.elapsed (acts ++ act ∷ [])
+      → BringsNoReply (state_after plan commands scope acts).rest act → IsMuted asked alive now acts → IsMuted asked (min alive m.elapsed) m.elapsed (acts ++ act ∷ [])
   muted_clock asked alive now m acts act true e tells is stays listens none q =
       let low = leb-true alive m.elapsed e in
       let least : alive ≤ latest now (act ∷ []) = omega (arith, is, low) in
@@ -263,23 +184,23 @@ module _ (plan : Plan) (commands : List Task) (scope : Scope) where
 
   -- What each act leaves.
 
-  -- where no connection is in use, `Mute` says nothing
+  -- if no connection is in use, `Mute` says nothing
   mute_none : (sought asked : Bool) (alive now : ℕ) (at : Phase) (acts : List Act) → is_in_use at ≡ false → Mute sought asked alive now at acts
   mute_none sought asked alive now phase.Ready acts none = cc
   mute_none sought asked alive now at acts none = tt
 
-  -- `Mute` lasts over an act that tells a moment and brings no reply line
+  -- `Mute` is preserved by an act that reads a moment and brings no reply line
   mute_told : (sought sought' asked : Bool) (alive now : ℕ) (m : Moment) (at : Phase) (acts : List Act) (act : Act)
       → (at ≡ phase.Ready → sought' ≡ true → sought ≡ true) → TellsMoment m.elapsed act → latest now (act ∷ []) ≡ m.elapsed → StaysConnected act
       → IsListening act
-      → BringsNoReply (stood plan commands scope acts).rest act → Mute sought asked alive now at acts → Mute sought' asked (min alive m.elapsed) m.elapsed at (acts ++ act ∷ [])
+      → BringsNoReply (state_after plan commands scope acts).rest act → Mute sought asked alive now at acts → Mute sought' asked (min alive m.elapsed) m.elapsed at (acts ++ act ∷ [])
   mute_told sought sought' asked alive now m phase.Ready acts act back tells is stays listens none q =
       λ so. muted_clock asked alive now m acts act (nat_le alive m.elapsed) refl tells is stays listens none (q (back refl so))
   mute_told sought sought' asked alive now m at acts act back tells is stays listens none q = tt
 
-  -- after a piece that is heard a silence goes on, if there is no reply line in it; else one begins at its moment
-  heard_mute : (s : Model) (bytes : List ℕ) (m : Moment) (acts : List Act) (q : Progress) → (stood plan commands scope acts).rest ≡ s.rest → q.moment.elapsed ≡ m.elapsed
-      → (AllByRecursion IsNoReply (lines_behind s.rest bytes) × (q.alive ≡ min s.progress.alive m.elapsed) × (q.asked ≡ s.progress.asked)
+  -- after a piece that is heard a silence goes on, if there is no reply line in it; otherwise one begins at its moment
+  heard_mute : (s : Model) (bytes : List ℕ) (m : Moment) (acts : List Act) (q : Progress) → (state_after plan commands scope acts).rest ≡ s.rest → q.moment.elapsed ≡ m.elapsed
+      → (AllByRecursion IsNoReply (lines_completed s.rest bytes) × (q.alive ≡ min s.progress.alive m.elapsed) × (q.asked ≡ s.progress.asked)
       × IsMuted s.progress.asked s.progress.alive s.progress.moment.elapsed acts)
       ⊎ ((q.alive ≡ m.elapsed) × (q.asked ≡ false))
       → IsMuted q.asked q.alive q.moment.elapsed (acts ++ Gave bytes m ∷ [])
@@ -291,35 +212,35 @@ module _ (plan : Plan) (commands : List Task) (scope : Scope) where
         (subst (λ c. IsMuted b c q.moment.elapsed (acts ++ Gave bytes m ∷ [])) (sym ea) (subst (λ c. IsMuted b a c (acts ++ Gave bytes m ∷ [])) (sym now) x))
 
     -- the lemma above, by whether a reply line is in the piece
-    by_alive : (AllByRecursion IsNoReply (lines_behind s.rest bytes) × (q.alive ≡ min s.progress.alive m.elapsed) × (q.asked ≡ s.progress.asked)
+    by_alive : (AllByRecursion IsNoReply (lines_completed s.rest bytes) × (q.alive ≡ min s.progress.alive m.elapsed) × (q.asked ≡ s.progress.asked)
         × IsMuted s.progress.asked s.progress.alive s.progress.moment.elapsed acts)
         ⊎ ((q.alive ≡ m.elapsed) × (q.asked ≡ false)) → IsMuted q.asked q.alive q.moment.elapsed (acts ++ Gave bytes m ∷ [])
     by_alive (inl none) =
-        let quiet = subst (λ r. AllByRecursion IsNoReply (lines_behind r bytes)) (sym rest) none.0 in
+        let quiet = subst (λ r. AllByRecursion IsNoReply (lines_completed r bytes)) (sym rest) none.0 in
         carried s.progress.asked (min s.progress.alive m.elapsed) none.2 none.1
         (muted_clock s.progress.asked s.progress.alive s.progress.moment.elapsed m acts (Gave bytes m) (nat_le s.progress.alive m.elapsed) refl refl refl tt tt quiet none.3)
     by_alive (inr reply) = carried false m.elapsed reply.1 reply.0 (muted_now m.elapsed acts (Gave bytes m) refl)
 
   -- a piece leaves the phase and the moment
-  came_moment : (h : Bool) (word bytes : List ℕ) (s : Model) → ((came h word bytes s).progress.phase ≡ s.progress.phase) × ((came h word bytes s).progress.moment ≡ s.progress.moment)
+  came_moment : (h : Bool) (word bytes : List ℕ) (s : Model) → ((after_piece h word bytes s).progress.phase ≡ s.progress.phase) × ((after_piece h word bytes s).progress.moment ≡ s.progress.moment)
   came_moment h word bytes s =
       came_along (λ (t : Model). (t.progress.phase ≡ s.progress.phase) × (t.progress.moment ≡ s.progress.moment)) (λ t line e. e) h word bytes s (refl, refl)
-      (asked_along (λ (q : Progress). (q.phase ≡ s.progress.phase) × (q.moment ≡ s.progress.moment)) (λ q line e. e) s.progress (lines_behind s.rest bytes) (refl, refl)) (refl, refl)
+      (asked_along (λ (q : Progress). (q.phase ≡ s.progress.phase) × (q.moment ≡ s.progress.moment)) (λ q line e. e) s.progress (lines_completed s.rest bytes) (refl, refl)) (refl, refl)
 
-  -- `Mute` lasts over a piece in the phase `Ready`
-  ready_mute : (s : Model) (bytes : List ℕ) (m : Moment) (acts : List Act) (word : List ℕ) → s.progress.word ≡ word → (stood plan commands scope acts).rest ≡ s.rest
+  -- `Mute` is preserved by a piece in the phase `Ready`
+  ready_mute : (s : Model) (bytes : List ℕ) (m : Moment) (acts : List Act) (word : List ℕ) → s.progress.word ≡ word → (state_after plan commands scope acts).rest ≡ s.rest
       → (is_sought s.progress.word s.progress.again s.progress.asked ≡ true → IsMuted s.progress.asked s.progress.alive s.progress.moment.elapsed acts)
-      → (let q = (came true word bytes (with_moment m (with_progress (told m) s))).progress in is_sought q.word q.again q.asked ≡ true
+      → (let q = (after_piece true word bytes (with_moment m (with_progress (moment_noted m) s))).progress in is_sought q.word q.again q.asked ≡ true
       → IsMuted q.asked q.alive q.moment.elapsed (acts ++ Gave bytes m ∷ []))
   ready_mute s bytes m acts [] e rest h so = heard_mute s bytes m acts (lines_came mid lines).progress rest
       (ap (λ (x : Moment). x.elapsed) (lines_moment mid lines)) (by_lines (lines_alive mid lines)) where
-        -- the model before the lines: the moment was told, and the bytes behind the last line feed are kept
+        -- the model before the lines: the moment was read, and the bytes after the last line feed are kept
         mid : Model
-        mid = with_rest (rest_behind s.rest bytes) (with_moment m (with_progress (told m) s))
+        mid = with_rest (rest_behind s.rest bytes) (with_moment m (with_progress (moment_noted m) s))
 
         -- the lines of the piece
         lines : List (List ℕ)
-        lines = lines_behind s.rest bytes
+        lines = lines_completed s.rest bytes
 
         -- none of these lines is a reply, and there was a silence before them; or one is, and the line was alive at their moment
         by_lines : Alive mid lines (lines_came mid lines).progress
@@ -330,13 +251,13 @@ module _ (plan : Plan) (commands : List Task) (scope : Scope) where
         by_lines (inr now) = inr now
   ready_mute s bytes m acts (first ∷ others) e rest h so = heard_mute s bytes m acts q rest
       (ap (λ (x : Moment). x.elapsed) (came_moment true (first ∷ others) bytes mid).1) (by_lines (asked_alive mid.progress lines)) where
-        -- the model before the lines: the moment was told
+        -- the model before the lines: the moment was read
         mid : Model
-        mid = with_moment m (with_progress (told m) s)
+        mid = with_moment m (with_progress (moment_noted m) s)
 
         -- the lines of the piece
         lines : List (List ℕ)
-        lines = lines_behind s.rest bytes
+        lines = lines_completed s.rest bytes
 
         -- the progress after the lines
         q : Progress
@@ -352,28 +273,28 @@ module _ (plan : Plan) (commands : List Task) (scope : Scope) where
             inl (none.0, none.1, none.2, h (same ∙ so))
         by_lines (inr now) = inr now
 
-  -- `Mute` lasts over a piece in any phase
-  gave_mute : (s : Model) (bytes : List ℕ) (m : Moment) (at : Phase) (acts : List Act) → s.progress.phase ≡ at → (stood plan commands scope acts).rest ≡ s.rest
+  -- `Mute` is preserved by a piece in any phase
+  gave_mute : (s : Model) (bytes : List ℕ) (m : Moment) (at : Phase) (acts : List Act) → s.progress.phase ≡ at → (state_after plan commands scope acts).rest ≡ s.rest
       → Mute (is_sought s.progress.word s.progress.again s.progress.asked) s.progress.asked s.progress.alive s.progress.moment.elapsed at acts
-      → MuteAt (came (is_heard at) s.progress.word bytes (with_moment m (with_progress (told m) s))).progress (acts ++ Gave bytes m ∷ [])
+      → MuteAt (after_piece (is_heard at) s.progress.word bytes (with_moment m (with_progress (moment_noted m) s))).progress (acts ++ Gave bytes m ∷ [])
   gave_mute s bytes m phase.Ready acts is rest h =
-      let q = (came true s.progress.word bytes (with_moment m (with_progress (told m) s))).progress in
+      let q = (after_piece true s.progress.word bytes (with_moment m (with_progress (moment_noted m) s))).progress in
       subst (λ (x : Phase). Mute (is_sought q.word q.again q.asked) q.asked q.alive q.moment.elapsed x (acts ++ Gave bytes m ∷ []))
-      (sym ((came_moment true s.progress.word bytes (with_moment m (with_progress (told m) s))).0 ∙ is))
+      (sym ((came_moment true s.progress.word bytes (with_moment m (with_progress (moment_noted m) s))).0 ∙ is))
       (ready_mute s bytes m acts s.progress.word refl rest h)
   gave_mute s bytes m at acts is rest h =
-      let q = (came (is_heard at) s.progress.word bytes (with_moment m (with_progress (told m) s))).progress in
+      let q = (after_piece (is_heard at) s.progress.word bytes (with_moment m (with_progress (moment_noted m) s))).progress in
       subst (λ (x : Phase). Mute (is_sought q.word q.again q.asked) q.asked q.alive q.moment.elapsed x (acts ++ Gave bytes m ∷ []))
-      (sym ((came_moment (is_heard at) s.progress.word bytes (with_moment m (with_progress (told m) s))).0 ∙ is)) tt
+      (sym ((came_moment (is_heard at) s.progress.word bytes (with_moment m (with_progress (moment_noted m) s))).0 ∙ is)) tt
 
-  -- after a request the silence goes on, if a reply line was waited for already (`asked`); else a silence begins with the
-  -- moment told last
+  -- after a request the silence goes on, if a reply line was waited for already (`asked`); otherwise a silence begins with the
+  -- moment read last
   muted_asks : (asked : Bool) (alive now : ℕ) (acts : List Act) (out : List ℕ) → LastTells now acts → (asked ≡ true → IsMuted true alive now acts)
       → IsMuted true (if asked then alive else now) now (acts ++ Put out ∷ [])
   muted_asks true alive now acts out tells q = let it = q refl in muted_on true alive now acts (Put out) tt tt (λ before behind asks. asks_still alive before behind (Put out) asks) it.holds.5 it
   muted_asks false alive now acts out tells q = muted_asking now acts out tells
 
-  -- where this action sends a request, the last of the acts told the progress's moment
+  -- if this action sends a request, the last of the acts recorded the progress's moment
   abbrev Tells : Progress → List Act → Action → Type 0
   Tells p acts actions.Ask = LastTells p.moment.elapsed acts
   Tells p acts actions.Prepare = LastTells p.moment.elapsed acts
@@ -385,13 +306,13 @@ module _ (plan : Plan) (commands : List Task) (scope : Scope) where
   in_phase : (p : Progress) (at : Phase) (acts : List Act) → p.phase ≡ at → MuteAt p acts → Mute (is_sought p.word p.again p.asked) p.asked p.alive p.moment.elapsed at acts
   in_phase p at acts is q = subst (λ (x : Phase). Mute (is_sought p.word p.again p.asked) p.asked p.alive p.moment.elapsed x acts) is q
 
-  -- `MuteAt` lasts over an act that reads the clock
+  -- `MuteAt` is preserved by an act that reads the clock
   told_mute : (sought : Bool) (p : Progress) (m : Moment) (acts : List Act)
       → (p.phase ≡ phase.Ready → sought ≡ true → is_sought p.word p.again p.asked ≡ true) → MuteAt p acts
       → Mute sought p.asked (min p.alive m.elapsed) m.elapsed p.phase (acts ++ Told m ∷ [])
   told_mute sought p m acts back q = mute_told (is_sought p.word p.again p.asked) sought p.asked p.alive p.moment.elapsed m p.phase acts (Told m) back refl refl tt tt tt q
 
-  -- `MuteAt` lasts over a request
+  -- `MuteAt` is preserved by a request
   asks_mute : (sought : Bool) (p : Progress) (acts : List Act) (out : List ℕ) → p.phase ≡ phase.Ready → LastTells p.moment.elapsed acts → MuteAt p acts
       → Mute sought true (if p.asked then p.alive else p.moment.elapsed) p.moment.elapsed p.phase (acts ++ Put out ∷ [])
   asks_mute sought p acts out is tells q =
@@ -399,13 +320,13 @@ module _ (plan : Plan) (commands : List Task) (scope : Scope) where
       (λ so. muted_asks p.asked p.alive p.moment.elapsed acts out tells
       (λ e. subst (λ b. IsMuted b p.alive p.moment.elapsed acts) e (in_phase p phase.Ready acts is q (sought_asked p.word p.again p.asked e))))
 
-  -- `Mute` holds of a connection that was cleared: where a beginning goes on with it, no null procedure went out on it yet
+  -- `Mute` holds of a connection that was cleared: if a synchronization goes on with it, no null procedure was sent on it yet
   cleared_mute : (begun : Bool) (p : Progress) (acts : List Act) → has_begun p ≡ begun
       → Mute (is_sought p.word 0 false) false p.alive p.moment.elapsed (if begun then phase.Draining else phase.Ready) acts
   cleared_mute true p acts e = tt
-  cleared_mute false p acts e = λ so. absurd (clash (is_sought p.word 0 false) so (ap (λ b. b || false) e))
+  cleared_mute false p acts e = λ so. absurd (not_both (is_sought p.word 0 false) so (ap (λ b. b || false) e))
 
-  -- `Mute` lasts where the station begins anew: the silence goes on, or begins with the next request
+  -- `Mute` is preserved if the station resynchronizes: the silence goes on, or begins with the next request
   mute_where : (asked on : Bool) (alive now : ℕ) (at : Phase) (acts : List Act) → Mute (is_sought the_word 0 asked) asked alive now at acts
       → Mute (is_sought the_word 0 (asked && on)) (asked && on) alive now at acts
   mute_where true true alive now at acts q = q
@@ -414,13 +335,13 @@ module _ (plan : Plan) (commands : List Task) (scope : Scope) where
   mute_where false on alive now at acts q = q
 
   -- what `MuteAt` says holds on after an act of any action that leaves a connection in use
-  mute_line : (next : Action) (s : Model) (acts : List Act) → IsFor plan s.progress (waiting_of s) next → Tells s.progress acts next → (stood plan commands scope acts).rest ≡ s.rest
+  mute_line : (next : Action) (s : Model) (acts : List Act) → IsFor plan s.progress (waiting_of s) next → Tells s.progress acts next → (state_after plan commands scope acts).rest ≡ s.rest
       → MuteAt s.progress acts → OnLine plan commands MuteAt next (with_progress turned s) acts
   mute_line actions.Open s acts needs tells rest q = λ m. tt
   mute_line actions.Clear s acts needs tells rest q = λ m. cleared_mute (has_begun s.progress) s.progress (acts ++ Put (10 ∷ []) ∷ []) refl
   mute_line actions.Renew s acts needs tells rest q =
       let p = s.progress in
-      λ m. mute_where p.asked (goes_on plan (told m p)) (min p.alive m.elapsed) m.elapsed p.phase (acts ++ Told m ∷ [])
+      λ m. mute_where p.asked (goes_on plan (moment_noted m p)) (min p.alive m.elapsed) m.elapsed p.phase (acts ++ Told m ∷ [])
       (told_mute (is_sought the_word 0 p.asked) p m acts (λ ready so. sought_begun p.word p.again p.asked needs.1) q)
   mute_line actions.Ask s acts needs tells rest q =
       let p = s.progress in λ m. asks_mute (is_sought p.word (later p.moment.elapsed plan.deadline) true) p acts (null_text p.word) needs.0 tells q
@@ -441,7 +362,7 @@ module _ (plan : Plan) (commands : List Task) (scope : Scope) where
 
   -- Whole runs.
 
-  -- `Tells` holds of an action that is next, as the moment was told before a request goes out
+  -- `Tells` holds of an action that is next, as the moment was read before a request is sent
   tells_in : (p : Progress) (acts : List Act) (next : Action) → Wakes p next → (Awake p → LastTells p.moment.elapsed acts) → Tells p acts next
   tells_in p acts actions.Ask awake last = last awake
   tells_in p acts actions.Prepare awake last = last awake
@@ -450,28 +371,28 @@ module _ (plan : Plan) (commands : List Task) (scope : Scope) where
   tells_in p acts next awake last = tt
 
   -- `MuteAt` holds after every run
-  mute_stood : (acts : List Act) → Runs plan commands (opening plan scope) acts → MuteAt (stood plan commands scope acts).progress acts
+  mute_stood : (acts : List Act) → Runs plan commands (opening plan scope) acts → MuteAt (state_after plan commands scope acts).progress acts
   mute_stood acts runs = always_far plan commands (opening plan scope) MuteAt step tt acts runs where
-    -- one act of a run keeps `MuteAt`
+    -- one act of a run preserves `MuteAt`
     step : (done : List Act) (act : Act) → Runs plan commands (opening plan scope) done
-        → Performs commands (stood plan commands scope done) (action_at plan (stood plan commands scope done)) act
-        → MuteAt (stood plan commands scope done).progress done
-        → MuteAt (moved plan commands (action_at plan (stood plan commands scope done)) (with_progress turned (stood plan commands scope done)) act).progress (done ++ act ∷ [])
+        → Performs commands (state_after plan commands scope done) (action_at plan (state_after plan commands scope done)) act
+        → MuteAt (state_after plan commands scope done).progress done
+        → MuteAt (moved plan commands (action_at plan (state_after plan commands scope done)) (with_progress turned (state_after plan commands scope done)) act).progress (done ++ act ∷ [])
     step done act runs o q =
-        let s = stood plan commands scope done in
+        let s = state_after plan commands scope done in
         let p = s.progress in
         let tells = tells_in p done (action_at plan s) (order_wakes plan p (waiting_of s)) (λ awake. awake_last plan commands scope done runs awake) in
         on_line plan commands MuteAt (λ x acts none. mute_none (is_sought x.word x.again x.asked) x.asked x.alive x.moment.elapsed x.phase acts none)
         (action_at plan s) s act done o (mute_line (action_at plan s) s done (action_for plan p (waiting_of s)) tells refl q)
 
-  -- where a request waits, or a null procedure went out on this connection, a reply line is waited for
+  -- if a request is outstanding, or a null procedure was sent on this connection, a reply line is waited for
   sought_dead : (s : Model) → Invariant plan commands s → (nat_lt 0 (length s.client.waiting) || nat_lt 0 s.progress.again) ≡ true → is_sought s.progress.word s.progress.again s.progress.asked ≡ true
   sought_dead s fine e = by_again (nat_lt 0 s.progress.again) refl where
-    -- how far the station is
+    -- the progress after the acts
     p : Progress
     p = s.progress
 
-    -- where a request waits, by whether the station has begun: no request waits while it begins
+    -- if a request is outstanding, by whether the station has synchronized: no request is outstanding while it synchronizes
     by_begun : (b : Bool) → has_begun p ≡ b → nat_lt 0 (length s.client.waiting) ≡ true → is_sought p.word p.again p.asked ≡ true
     by_begun true begun some = sought_begun p.word p.again p.asked begun
     by_begun false begins some =
@@ -479,14 +400,14 @@ module _ (plan : Plan) (commands : List Task) (scope : Scope) where
         let many = ltb-true 0 (length s.client.waiting) some in
         absurd (omega (arith, none, many))
 
-    -- the lemma above, by whether a null procedure of the beginning went out on this connection (`true`)
+    -- the lemma above, by whether a null procedure of the synchronization was sent on this connection (`true`)
     by_again : (b : Bool) → nat_lt 0 p.again ≡ b → is_sought p.word p.again p.asked ≡ true
     by_again true again = sought_again p.word p.again p.asked again
     by_again false again = by_begun (has_begun p) refl (either_true (nat_lt 0 (length s.client.waiting)) (nat_lt 0 p.again) e again)
 
   -- a connection is closed for a dead line only after a silence that was long enough
   pub mute_close : (acts : List Act) → Runs plan commands (opening plan scope) acts
-      → action_at plan (stood plan commands scope acts) ≡ actions.Close cause.Dead → IsMuteFor (patience_of plan) plan commands scope acts
+      → action_at plan (state_after plan commands scope acts) ≡ actions.Close cause.Dead → IsMuteFor (patience_of plan) plan commands scope acts
   mute_close acts runs is = record {
     before = q.before;
     start = q.start;
@@ -501,13 +422,13 @@ module _ (plan : Plan) (commands : List Task) (scope : Scope) where
   } where
     -- the model after the acts
     s : Model
-    s = stood plan commands scope acts
+    s = state_after plan commands scope acts
 
     -- a dead line is no failed call, so the phase hasn't decided the close before
     never : s.progress.phase ≡ phase.Closing cause.Dead → ⊥
     never = not_closing plan commands scope acts cause.Dead runs (λ act shows. shows)
 
-    -- the phase is `Ready`, and the moment was told
+    -- the phase is `Ready`, and the moment was read
     awake : Awake s.progress
     awake = awake_here s.progress cause.Dead (subst (λ (next : Action). Wakes s.progress next) is (order_wakes plan s.progress (waiting_of s))) never
 
@@ -516,6 +437,6 @@ module _ (plan : Plan) (commands : List Task) (scope : Scope) where
     dead = both_true (nat_lt 0 (length s.client.waiting) || nat_lt 0 s.progress.again)
         (nat_le (patience_of plan) (s.progress.moment.elapsed - s.progress.alive)) (end_here plan s cause.Dead is never).1
 
-    -- there is a silence since `alive`
+    -- a silence has lasted since `alive`
     q : IsMuted s.progress.asked s.progress.alive s.progress.moment.elapsed acts
     q = in_phase s.progress phase.Ready acts awake.1 (mute_stood acts runs) (sought_dead s (fine_stood plan commands scope acts) dead.0)

@@ -1,8 +1,8 @@
--- Each request's mark has what its text expects of the answer: where the target stands, and which return codes are accepted.
--- Each record keeps to that: an answer that ends as answered is near the place or has no direction, one that ends as elsewhere
--- isn't near it, and its quality is as listed. An act is one call of the link, with what came of it. A mark says which command
--- a waiting request is of, and what is expected of its answer. `IsPlaced` says that a mark expects what its command's text
--- says, and `IsSo` that a record keeps to the place, the codes and the quality; `Keeps` says both of a model.
+-- Each request's mark has what its text expects of the answer: where the target is, and which return codes are accepted. Each
+-- record keeps to that: an answer that ends as answered is near the place or has no direction, one that ends as elsewhere isn't
+-- near it, and its quality is as listed. An act is one call on the link, with its result. A mark says which command an
+-- outstanding request is of, and what is expected of its answer. `IsPlaced` says that a mark expects what its command's text
+-- says, and `IsSo` that a record keeps to the place, the codes and the quality; `KeepsToText` says both of a model.
 use Rattle.std.proofs.Common.{◌≡◌, ℕ, zero, suc, Bool, true, false, List, [], ◌∷◌, ◌++◌, drop, Option, Some, None, if◌then◌else◌, refl, sym, ap, ◌∙◌, subst}
 use Rattle.std.specs.Prelude.{slice_get}
 use Rattle.std.specs.List.{AllByRecursion}
@@ -24,12 +24,12 @@ use Rattle.gc_texts.proofs.Placing.{near_unless_elsewhere, elsewhere_is}
 use Rattle.gc_links.specs.Acts.{Act, Told, Gave, Cut}
 use Rattle.gc_links.specs.declared.link.Moment.{Moment}
 use Rattle.gc_station.specs.Marks.{record_of, records_of}
-use Rattle.gc_station.specs.Model.{Model, opening, expected_first, mark_next, place_next, action_at, asks, asks_first, with_progress, with_moment, with_rest, line_came, lines_behind, is_heard, came, skips_first, losing, moved, after, after_all, mark_setup, asks_or_null, asks_setup}
-use Rattle.gc_station.specs.Nearness.{IsAtItsTarget, HasAnswer, IsTrulyElsewhere, AnswersAreAtTheirTargets}
+use Rattle.gc_station.specs.Model.{Model, opening, expected_first, mark_next, place_next, action_at, asks, asks_first, with_progress, with_moment, with_rest, line_came, lines_completed, is_heard, after_piece, skips_first, losing, moved, after, after_all, mark_setup, asks_or_null, asks_setup}
+use Rattle.gc_station.specs.Nearness.{IsAtItsTarget, HasAnswer, ElsewhereIsJustified, AnswersAreAtTheirTargets}
 use Rattle.gc_station.specs.Qualities.{IsOfQuality, IsAsListed, QualitiesAreAsListed}
-use Rattle.gc_station.specs.Progressing.{turned, told, loses_all}
+use Rattle.gc_station.specs.Progressing.{turned, moment_noted, loses_all}
 use Rattle.gc_station.specs.Records.{Record}
-use Rattle.gc_station.specs.Runs.{stood}
+use Rattle.gc_station.specs.Runs.{state_after}
 use Rattle.gc_station.specs.Scopes.{Scope}
 use Rattle.gc_station.specs.declared.mark.Mark.{Mark}
 use Rattle.gc_station.specs.declared.plan.Plan.{Plan}
@@ -52,15 +52,15 @@ expected_there (t ∷ commands) zero task e = let same : t ≡ task = cc in ap e
 expected_there (t ∷ commands) (suc k) task e = expected_there commands k task e
 
 module _ (plan : Plan) (commands : List Task) (scope : Scope) where
-  -- a mark has where its command's target stands, and which codes are accepted
+  -- a mark has where its command's target is, and which codes are accepted
   abbrev IsPlaced : Option Mark → Type 0
   IsPlaced None = Unit {0}
   IsPlaced (Some mark) =
       (mark.expected.near ≡ (expected_first (drop mark.place commands)).near) × (mark.expected.accepted ≡ (expected_first (drop mark.place commands)).accepted)
 
-  -- a record keeps to where its target stands: an answer is near it, and one that is elsewhere isn't
+  -- a record keeps to where its target is: an answer is near it, and one that is elsewhere isn't
   abbrev IsSo : Record → Type 0
-  IsSo r = IsAtItsTarget commands r × IsTrulyElsewhere scope.reads commands r × IsAsListed scope.reads commands r
+  IsSo r = IsAtItsTarget commands r × ElsewhereIsJustified scope.reads commands r × IsAsListed scope.reads commands r
 
   -- the record of a settlement whose mark is `IsPlaced` is `IsSo`
   record_so : (utc : ℕ) (mark : Mark) (x : Rule.Settlement Asked) → IsPlaced (Some mark) → IsSo (record_of scope.reads utc mark x)
@@ -101,53 +101,53 @@ module _ (plan : Plan) (commands : List Task) (scope : Scope) where
   all_drop (suc n) (mark ∷ marks) all = all_drop n marks all.1
 
   -- a model reads replies as the scope does, each of its marks is `IsPlaced`, and each of its records `IsSo`
-  record Keeps (s : Model) : Type 0 where
+  record KeepsToText (s : Model) : Type 0 where
     reads : s.reads ≡ scope.reads
     marks : AllByRecursion IsPlaced s.marks
     records : AllByRecursion IsSo s.records
 
-  -- settlements that are written down keep all records `IsSo`
-  settles_so : (s : Model) (x : List (Rule.Settlement Asked)) → Keeps s → AllByRecursion IsSo (s.records ++ records_of s.reads s.progress.moment.utc s.marks x)
+  -- settlements that are recorded keep all records `IsSo`
+  settles_so : (s : Model) (x : List (Rule.Settlement Asked)) → KeepsToText s → AllByRecursion IsSo (s.records ++ records_of s.reads s.progress.moment.utc s.marks x)
   settles_so s x k =
       all_append IsSo s.records _ k.records
       (subst (λ (reads : Asked → List ℕ → Reading). AllByRecursion IsSo (records_of reads s.progress.moment.utc s.marks x)) (sym k.reads) (records_so s.progress.moment.utc s.marks x k.marks))
 
-  -- `Keeps` lasts over a line that is heard
-  line_so : (s : Model) (line : List ℕ) → Keeps s → Keeps (line_came s line)
+  -- `KeepsToText` is preserved by a line that is heard
+  line_so : (s : Model) (line : List ℕ) → KeepsToText s → KeepsToText (line_came s line)
   line_so s line k =
       let x = hears s.client line (heard line) in
       record { reads = k.reads; marks = all_drop _ s.marks k.marks; records = settles_so s x.settlements k }
 
-  -- `Keeps` lasts over a piece
-  came_so : (b : Bool) (word piece : List ℕ) (s : Model) → Keeps s → Keeps (came b word piece s)
+  -- `KeepsToText` is preserved by a piece
+  came_so : (b : Bool) (word piece : List ℕ) (s : Model) → KeepsToText s → KeepsToText (after_piece b word piece s)
   came_so true (asked ∷ others) piece s k = record { reads = k.reads; marks = k.marks; records = k.records }
   came_so true [] piece s k =
-      lines_along Keeps line_so (with_rest (rest_behind s.rest piece) s) (lines_behind s.rest piece) (record { reads = k.reads; marks = k.marks; records = k.records })
+      lines_along KeepsToText line_so (with_rest (rest_behind s.rest piece) s) (lines_completed s.rest piece) (record { reads = k.reads; marks = k.marks; records = k.records })
   came_so false word piece s k = k
 
-  -- `Keeps` lasts over the loss of what waits
-  losing_so : (b : Bool) (s : Model) → Keeps s → Keeps (losing b s)
+  -- `KeepsToText` is preserved by the loss of what is outstanding
+  losing_so : (b : Bool) (s : Model) → KeepsToText s → KeepsToText (losing b s)
   losing_so true s k = let x = restarts s.client in record { reads = k.reads; marks = all_drop _ s.marks k.marks; records = settles_so s x.settlements k }
   losing_so false s k = k
 
-  -- `Keeps` lasts over a request that is sent, if its mark is `IsPlaced`
-  asks_so : (wait target : ℕ) (call : Asked) (mark : Option Mark) (s : Model) → IsPlaced mark → Keeps s → Keeps (asks wait target call mark s)
+  -- `KeepsToText` is preserved by a request that is sent, if its mark is `IsPlaced`
+  asks_so : (wait target : ℕ) (call : Asked) (mark : Option Mark) (s : Model) → IsPlaced mark → KeepsToText s → KeepsToText (asks wait target call mark s)
   asks_so wait target call mark s placed k = record { reads = k.reads; marks = all_append IsPlaced s.marks _ k.marks (placed, tt); records = k.records }
 
-  -- `Keeps` lasts over the send of the first of these commands, if its mark is `IsPlaced`
-  first_so : (mark : Mark) (left : List Task) (s : Model) → IsPlaced (Some mark) → Keeps s → Keeps (asks_first mark left s)
+  -- `KeepsToText` is preserved by the send of the first of these commands, if its mark is `IsPlaced`
+  first_so : (mark : Mark) (left : List Task) (s : Model) → IsPlaced (Some mark) → KeepsToText s → KeepsToText (asks_first mark left s)
   first_so mark [] s placed k = k
   first_so mark (task ∷ others) s placed k = asks_so task.deadline task.command.target (call_at task mark.sent) (Some mark) s placed k
 
-  -- `Keeps` lasts over the send of the next command
-  next_so : (s : Model) → Keeps s → Keeps (asks_first (mark_next plan commands s.progress) (drop (place_next commands s.progress) commands) s)
+  -- `KeepsToText` is preserved by the send of the next command
+  next_so : (s : Model) → KeepsToText s → KeepsToText (asks_first (mark_next plan commands s.progress) (drop (place_next commands s.progress) commands) s)
   next_so s k = first_so (mark_next plan commands s.progress) (drop (place_next commands s.progress) commands) s (refl, refl) k
 
-  -- `Keeps` lasts over the send of the next command of the set-up
-  setup_so : (s : Model) → Keeps s → Keeps (asks_setup plan commands s)
+  -- `KeepsToText` is preserved by the send of the next command of the setup
+  setup_so : (s : Model) → KeepsToText s → KeepsToText (asks_setup plan commands s)
   setup_so s k = by_list (drop s.progress.prepared commands) where
     -- the lemma above, whether there is one or not
-    by_list : (left : List Task) → Keeps (asks_or_null plan (mark_setup commands s.progress) left s)
+    by_list : (left : List Task) → KeepsToText (asks_or_null plan (mark_setup commands s.progress) left s)
     by_list [] = asks_so plan.deadline 0 (Table NullProc) None s tt k
     by_list (task ∷ others) = asks_so task.deadline task.command.target (call_at task s.progress.moment.utc) (Some (mark_setup commands s.progress)) s (refl, refl) k
 
@@ -173,8 +173,8 @@ module _ (plan : Plan) (commands : List Task) (scope : Scope) where
     tt,
   )
 
-  -- `Keeps` lasts over an act of each action, before what waits is lost
-  moved_so : (next : Action) (s : Model) (act : Act) → Keeps s → Keeps (moved plan commands next s act)
+  -- `KeepsToText` is preserved by an act of each action, before what is outstanding is lost
+  moved_so : (next : Action) (s : Model) (act : Act) → KeepsToText s → KeepsToText (moved plan commands next s act)
   moved_so actions.Prepare s (Cut bytes count) k = let n = setup_so s k in record { reads = n.reads; marks = n.marks; records = n.records }
   moved_so actions.Prepare s act k = let n = setup_so s k in record { reads = n.reads; marks = n.marks; records = n.records }
   moved_so actions.Send s (Cut bytes count) k = let n = next_so s k in record { reads = n.reads; marks = n.marks; records = n.records }
@@ -188,24 +188,24 @@ module _ (plan : Plan) (commands : List Task) (scope : Scope) where
   }
   moved_so actions.Skip s act k = record { reads = k.reads; marks = k.marks; records = all_append IsSo s.records [] k.records tt }
   moved_so (actions.Read until) s (Gave bytes m) k =
-      let n = came_so (is_heard s.progress.phase) s.progress.word bytes (with_moment m (with_progress (told m) s)) (record { reads = k.reads; marks = k.marks; records = k.records }) in
+      let n = came_so (is_heard s.progress.phase) s.progress.word bytes (with_moment m (with_progress (moment_noted m) s)) (record { reads = k.reads; marks = k.marks; records = k.records }) in
       record { reads = n.reads; marks = n.marks; records = n.records }
   moved_so (actions.Read until) s act k = record { reads = k.reads; marks = k.marks; records = k.records }
-  moved_so next s act k = subst Keeps (sym (moved_changed plan commands next s act)) (record { reads = k.reads; marks = k.marks; records = k.records })
+  moved_so next s act k = subst KeepsToText (sym (moved_changed plan commands next s act)) (record { reads = k.reads; marks = k.marks; records = k.records })
 
-  -- `Keeps` lasts over an act
-  after_so : (s : Model) (act : Act) → Keeps s → Keeps (after plan commands s act)
+  -- `KeepsToText` is preserved by an act
+  after_so : (s : Model) (act : Act) → KeepsToText s → KeepsToText (after plan commands s act)
   after_so s act k =
       let t = moved plan commands (action_at plan s) (with_progress turned s) act in
       losing_so (loses_all t.progress) t (moved_so (action_at plan s) (with_progress turned s) act (record { reads = k.reads; marks = k.marks; records = k.records }))
 
-  -- `Keeps` lasts over acts
-  along : (s : Model) (acts : List Act) → Keeps s → Keeps (after_all plan commands s acts)
+  -- `KeepsToText` is preserved by acts
+  along : (s : Model) (acts : List Act) → KeepsToText s → KeepsToText (after_all plan commands s acts)
   along s [] k = k
   along s (act ∷ acts) k = along (after plan commands s act) acts (after_so s act k)
 
 -- each record of a run is `IsSo`
-all_so : (plan : Plan) (commands : List Task) (scope : Scope) (acts : List Act) → AllByRecursion (IsSo plan commands scope) (stood plan commands scope acts).records
+all_so : (plan : Plan) (commands : List Task) (scope : Scope) (acts : List Act) → AllByRecursion (IsSo plan commands scope) (state_after plan commands scope acts).records
 all_so plan commands scope acts = (along plan commands scope (opening plan scope) acts (record { reads = refl; marks = tt; records = tt })).records
 
 -- if P gives Q for each record, and P holds of all of these records, Q holds of all of them
@@ -213,14 +213,14 @@ all_to : (P Q : Record → Type 0) (rs : List Record) → ((r : Record) → P r 
 all_to P Q [] f all = tt
 all_to P Q (r ∷ rs) f all = (f r all.0, all_to P Q rs f all.1)
 
--- the law: each record after any acts keeps to where its target stands
+-- the law: each record after any acts keeps to where its target is
 pub at_their_targets : AnswersAreAtTheirTargets
 at_their_targets plan commands scope acts =
-    all_to (IsSo plan commands scope) (λ r. IsAtItsTarget commands r × IsTrulyElsewhere scope.reads commands r) (stood plan commands scope acts).records
+    all_to (IsSo plan commands scope) (λ r. IsAtItsTarget commands r × ElsewhereIsJustified scope.reads commands r) (state_after plan commands scope acts).records
     (λ r so. (so.0, so.1)) (all_so plan commands scope acts)
 
 -- the law: after any acts, the quality of each answered command is as listed: what its line says, by the codes that are
 -- accepted of it
 pub as_listed : QualitiesAreAsListed
 as_listed plan commands scope acts =
-    all_to (IsSo plan commands scope) (λ r. IsAsListed scope.reads commands r) (stood plan commands scope acts).records (λ r so. so.2) (all_so plan commands scope acts)
+    all_to (IsSo plan commands scope) (λ r. IsAsListed scope.reads commands r) (state_after plan commands scope acts).records (λ r so. so.2) (all_so plan commands scope acts)

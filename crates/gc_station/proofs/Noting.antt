@@ -1,5 +1,5 @@
--- A run on the way, with what was seen at each act (a `Turn`): what the acts before it settled is in the book then, and lasts.
--- An act is one call of the link, with what came of it. At the start the link had told `told`, the book had taken `taken`, and
+-- A run on the way, with what was seen at each act (a `Snapshot`): what the acts before it settled is in the book then, and lasts.
+-- An act is one call on the link, with its result. At the start the link had recorded `told`, the book had taken `taken`, and
 -- `saw` were the turns seen; by now they are those with primes. `text` is how a record is written. `Noted` says what was done
 -- and seen so far.
 use Rattle.std.proofs.Common.{◌≡◌, ℕ, Bool, true, List, [], ◌∷◌, ◌++◌, Option, Some, Err, sym, ap, ◌∙◌, subst, append-nil, append_assoc}
@@ -15,9 +15,9 @@ use Rattle.gc_station.specs.declared.cause.Cause.TheVariants.{Done, Dead, Read, 
 use Rattle.gc_station.specs.declared.progress.Action.{Action}
 use Rattle.gc_station.specs.declared.station.Station.{Station}
 use Rattle.gc_station.specs.Causes.{fault_of}
-use Rattle.gc_station.specs.Keeping.{Turn, IsKept, AreKept, KeepsUp, closing_at}
+use Rattle.gc_station.specs.Keeping.{Snapshot, IsKept, AreKept, KeepsUp, closing_at}
 use Rattle.gc_station.specs.Records.{Record}
-use Rattle.gc_station.specs.Runs.{stood}
+use Rattle.gc_station.specs.Runs.{state_after}
 use Rattle.gc_station.specs.Model.{opening, action_at, Performs}
 use Rattle.gc_station.specs.Scopes.{Scope, AreReadings}
 use Rattle.gc_station.specs.Stations.{Refines, Makes, Breaks, stepped, seen}
@@ -27,14 +27,14 @@ use Rattle.gc_station.proofs.Hearing.{tells_more}
 
 module _ (plan : Plan) (commands : List Task) (scope : Scope) (text : Record → List ℕ) (told : Option (List Act)) (taken : Option (List ℕ)) where
   -- what was done so far, and what was seen at each act
-  pub record Noted (told' : Option (List Act)) (taken' : Option (List ℕ)) (station : Station) (saw saw' : List Turn) : Type 0 where
+  pub record Noted (told' : Option (List Act)) (taken' : Option (List ℕ)) (station : Station) (saw saw' : List Snapshot) : Type 0 where
     pub went : Went plan commands scope text told told' taken taken' station
-    pub turns : List Turn
+    pub turns : List Snapshot
     pub all : saw' ≡ saw ++ turns
     pub kept : AreKept plan commands scope text told taken [] went.acts turns
 
-  -- `AreKept` lasts over one act more, if what all acts before that act settled was kept at its turn
-  kept_more : (done acts : List Act) (turns : List Turn) (act : Act) (turn : Turn) → AreKept plan commands scope text told taken done acts turns
+  -- `AreKept` is preserved by one act more, if what all acts before that act settled was kept at its turn
+  kept_more : (done acts : List Act) (turns : List Snapshot) (act : Act) (turn : Snapshot) → AreKept plan commands scope text told taken done acts turns
       → IsKept plan commands scope text told taken (done ++ acts) turn → AreKept plan commands scope text told taken done (acts ++ act ∷ []) (turns ++ turn ∷ [])
   kept_more done [] [] act turn are is = (subst (λ (xs : List Act). IsKept plan commands scope text told taken xs turn) (append-nil done) is, tt)
   kept_more done [] (t ∷ turns) act turn are is = absurd are
@@ -45,34 +45,34 @@ module _ (plan : Plan) (commands : List Task) (scope : Scope) (text : Record →
         (subst (λ (xs : List Act). IsKept plan commands scope text told taken xs turn) (sym (append_assoc done (a ∷ []) acts)) is),
   )
 
-  -- `Noted` holds where nothing was done
-  pub noted_nothing : (station : Station) (saw : List Turn) → Refines station (opening plan scope) → Noted told taken station saw saw
+  -- `Noted` holds if nothing was done
+  pub noted_nothing : (station : Station) (saw : List Snapshot) → Refines station (opening plan scope) → Noted told taken station saw saw
   noted_nothing station saw stands = record { went = went_nothing plan commands scope text told taken station stands; turns = []; all = sym (append-nil saw); kept = tt }
 
-  -- `Noted` lasts where a book took nothing more, as `Keeps` says: if what it took was known, it is known still, and the same
-  pub noted_kept : (told' : Option (List Act)) (taken' taken'' : Option (List ℕ)) (station : Station) (saw saw' : List Turn) → Keeps taken' taken''
+  -- `Noted` is preserved if a book took nothing more, as `Keeps` says: if what it took was known, it is known still, and the same
+  pub noted_kept : (told' : Option (List Act)) (taken' taken'' : Option (List ℕ)) (station : Station) (saw saw' : List Snapshot) → Keeps taken' taken''
       → Noted told' taken' station saw saw' → Noted told' taken'' station saw saw'
   noted_kept told' taken' taken'' station saw saw' keeps n =
       record { went = went_kept plan commands scope text told told' taken taken' taken'' station keeps n.went; turns = n.turns; all = n.all; kept = n.kept }
 
-  -- `Noted` lasts where a book took the same
-  pub noted_same : (told' : Option (List Act)) (taken' taken'' : Option (List ℕ)) (station : Station) (saw saw' : List Turn) → taken'' ≡ taken'
+  -- `Noted` is preserved if a book took the same
+  pub noted_same : (told' : Option (List Act)) (taken' taken'' : Option (List ℕ)) (station : Station) (saw saw' : List Snapshot) → taken'' ≡ taken'
       → Noted told' taken' station saw saw' → Noted told' taken'' station saw saw'
   noted_same told' taken' taken'' station saw saw' same n =
       noted_kept told' taken' taken'' station saw saw' (subst (λ (t : Option (List ℕ)). Keeps taken' t) (sym same) (Keeps-refl taken')) n
 
-  -- what is seen now: what the link has told, what the book has taken, and whether that lasts
-  abbrev now : Option (List Act) → Option (List ℕ) → Bool → Turn
+  -- what is seen now: what the link has recorded, what the book has taken, and whether that lasts
+  abbrev now : Option (List Act) → Option (List ℕ) → Bool → Snapshot
   now told' taken' lasts = record { acts = told'; taken = taken'; lasts = lasts }
 
-  -- the turns seen so far, and one more behind them
-  saw_more : (saw saw' saw'' turns : List Turn) (turn : Turn) → saw' ≡ saw ++ turns → saw'' ≡ saw' ++ turn ∷ [] → saw'' ≡ saw ++ (turns ++ turn ∷ [])
-  saw_more saw saw' saw'' turns turn all one = one ∙ ap (λ (xs : List Turn). xs ++ turn ∷ []) all ∙ append_assoc saw turns (turn ∷ [])
+  -- the turns seen so far, and one more after them
+  saw_more : (saw saw' saw'' turns : List Snapshot) (turn : Snapshot) → saw' ≡ saw ++ turns → saw'' ≡ saw' ++ turn ∷ [] → saw'' ≡ saw ++ (turns ++ turn ∷ [])
+  saw_more saw saw' saw'' turns turn all one = one ∙ ap (λ (xs : List Snapshot). xs ++ turn ∷ []) all ∙ append_assoc saw turns (turn ∷ [])
 
-  -- `Noted` lasts over one act more, before which the link and the book were seen, and all records lasted
-  pub noted_on : (told' told'' : Option (List Act)) (taken' taken'' : Option (List ℕ)) (lasts : Bool) (station new : Station) (action : Action) (saw saw' saw'' : List Turn)
+  -- `Noted` is preserved by one act more, before which the link and the book were seen, and all records lasted
+  pub noted_on : (told' told'' : Option (List Act)) (taken' taken'' : Option (List ℕ)) (lasts : Bool) (station new : Station) (action : Action) (saw saw' saw'' : List Snapshot)
       → (n : Noted told' taken' station saw saw')
-      → action ≡ action_at plan (stood plan commands scope n.went.acts)
+      → action ≡ action_at plan (state_after plan commands scope n.went.acts)
       → Makes commands action (stepped plan commands action) (seen told' text taken' station) (seen told'' text taken'' new)
       → AreReadings scope.reads → saw'' ≡ saw' ++ now told' taken' lasts ∷ [] → lasts ≡ true → Noted told'' taken'' new saw saw''
   noted_on told' told'' taken' taken'' lasts station new action saw saw' saw'' n is makes are one true_ =
@@ -84,7 +84,7 @@ module _ (plan : Plan) (commands : List Task) (scope : Scope) (text : Record →
       }
 
   -- a run that stopped has kept up, and no act follows
-  pub noted_end : (told' : Option (List Act)) (taken' : Option (List ℕ)) (station : Station) (saw saw' : List Turn)
+  pub noted_end : (told' : Option (List Act)) (taken' : Option (List ℕ)) (station : Station) (saw saw' : List Snapshot)
       → Noted told' taken' station saw saw' → KeepsUp plan commands scope text told told' taken saw saw' []
   noted_end told' taken' station saw saw' n = record {
     acts = n.went.acts;
@@ -96,7 +96,7 @@ module _ (plan : Plan) (commands : List Task) (scope : Scope) (text : Record →
   }
 
   -- a run whose records couldn't be made to last has kept up, but for the close of the connection after it
-  pub noted_left : (told' told'' : Option (List Act)) (taken' : Option (List ℕ)) (station : Station) (saw saw' : List Turn)
+  pub noted_left : (told' told'' : Option (List Act)) (taken' : Option (List ℕ)) (station : Station) (saw saw' : List Snapshot)
       → Noted told' taken' station saw saw' → Tells told' told'' (Closed ∷ []) → KeepsUp plan commands scope text told told'' taken saw saw' (Closed ∷ [])
   noted_left told' told'' taken' station saw saw' n closed = record {
     acts = n.went.acts;
@@ -108,15 +108,15 @@ module _ (plan : Plan) (commands : List Task) (scope : Scope) (text : Record →
   }
 
   -- a run whose book refused a record of its last act has kept up, but for the close of the connection after it
-  pub noted_wrong : (told' told'' told''' : Option (List Act)) (taken' taken'' : Option (List ℕ)) (lasts : Bool) (station : Station) (action : Action) (saw saw' saw'' : List Turn)
+  pub noted_wrong : (told' told'' told''' : Option (List Act)) (taken' taken'' : Option (List ℕ)) (lasts : Bool) (station : Station) (action : Action) (saw saw' saw'' : List Snapshot)
       → (n : Noted told' taken' station saw saw')
-      → action ≡ action_at plan (stood plan commands scope n.went.acts)
+      → action ≡ action_at plan (state_after plan commands scope n.went.acts)
       → Breaks commands action (stepped plan commands action) (seen told' text taken' station) told'' taken''
       → Tells told'' told''' (Closed ∷ []) → saw'' ≡ saw' ++ now told' taken' lasts ∷ [] → lasts ≡ true
       → KeepsUp plan commands scope text told told''' taken saw saw'' (Closed ∷ [])
   noted_wrong told' told'' told''' taken' taken'' lasts station action saw saw' saw'' n is breaks closed one true_ =
       let w = n.went in
-      let s = stood plan commands scope w.acts in
+      let s = state_after plan commands scope w.acts in
       let obeys : Performs commands s (action_at plan s) breaks.act =
       subst (λ (o : Action). Performs commands s o breaks.act) is (breaks.goes s taken w.stands (λ ok. w.took)).0 in
       record {
@@ -129,12 +129,12 @@ module _ (plan : Plan) (commands : List Task) (scope : Scope) (text : Record →
       }
 
   -- `KeepsUp` of this run, with the acts `others` after it
-  abbrev Up : Option (List Act) → List Turn → List Turn → List Act → Type 0
+  abbrev Up : Option (List Act) → List Snapshot → List Snapshot → List Act → Type 0
   Up told' saw saw' others = KeepsUp plan commands scope text told told' taken saw saw' others
 
-  -- a run that stopped for a cause has kept up to its end, and no close follows: a close follows only where the book failed
+  -- a run that stopped for a cause has kept up to its end, and no close follows: a close follows only if the book failed
   -- (`Output`), which is the fault of no cause
-  pub faulty_keeps : (told' : Option (List Act)) (saw saw' : List Turn) (cause : Cause) (why : RunFault) → fault_of cause ≡ Some why
+  pub faulty_keeps : (told' : Option (List Act)) (saw saw' : List Snapshot) (cause : Cause) (why : RunFault) → fault_of cause ≡ Some why
       → Up told' saw saw' [] → Up told' saw saw' (closing_at {X = Tally} (Err why))
   faulty_keeps told' saw saw' Done why e up = absurd (cc)
   faulty_keeps told' saw saw' Dead why e up = let same : fault.Mute ≡ why = cc in subst (λ (w : RunFault). Up told' saw saw' (closing_at {X = Tally} (Err w))) same up

@@ -1,6 +1,6 @@
 -- Each connection that ends was asked for, and so was each that couldn't be made. `Counted` says of one act: connections before
--- it and asked for by it are as many as those that end at it, can't be made, or are there after it. An act is one call of the
--- link, with what came of it.
+-- it and asked for by it are as many as those that end at it, can't be made, or are there after it. An act is one call on the
+-- link, with its result.
 use Rattle.std.proofs.Common.{◌≡◌, ◌+◌, Bool, true, false, List, [], ◌∷◌, if◌then◌else◌, refl, sym, ap, ◌∙◌, arith}
 use Rattle.gc_texts.specs.declared.tasks.Task.{Task}
 use Rattle.gc_station.specs.declared.plan.Plan.{Plan}
@@ -13,7 +13,7 @@ use Rattle.gc_station.specs.declared.progress.Action.TheVariants as actions
 use Rattle.gc_links.specs.Acts.{Act, Closed, Unopened}
 use Rattle.gc_station.specs.Deciding.{has_begun, is_up}
 use Rattle.gc_station.specs.Marks.{commands_in}
-use Rattle.gc_station.specs.Progressing.{failing, turned, told, cleared, time_passed, closed}
+use Rattle.gc_station.specs.Progressing.{failing, turned, moment_noted, cleared, time_passed, closed}
 use Rattle.gc_station.specs.Reasons.{IsFor, HasOneFor}
 use Rattle.gc_station.specs.Model.{Model, requests_out, waiting_of, with_progress, with_moment, is_heard, after_open, Performs, moved}
 use Rattle.gc_station.specs.Tries.{ends_in, opens_in}
@@ -36,7 +36,7 @@ fails : (up : Bool) (why : Cause) → is_up (if up then phase.Closing why else p
 fails true why = refl
 fails false why = refl
 
--- an act that asks for no connection and ends none is `Counted`, if there is one after it exactly where there was before
+-- an act that asks for no connection and ends none is `Counted`, if there is one after it exactly if there was before
 calm : (before behind : Bool) → behind ≡ before → 0 + up_count before ≡ 0 + up_count behind
 calm before behind same = ap (λ b. 0 + up_count b) (sym same)
 
@@ -54,7 +54,7 @@ Quits (actions.Close cause.Stale) = Unit {0}
 Quits (actions.Close cause.Stopped) = Unit {0}
 Quits next = ⊥
 
--- where a connection is closed for a cause that doesn't end a run without one, there is one
+-- if a connection is closed for a cause that doesn't end a run without one, there is one
 up_for : (why : Cause) (p : Progress) → HasOneFor why p → (Quits (actions.Close why) → ⊥) → is_up p.phase ≡ true
 up_for cause.Stale p has never = absurd (never tt)
 up_for cause.Stopped p has never = absurd (never tt)
@@ -72,7 +72,7 @@ counted_moved plan commands actions.Clear s act o needs never =
     let up : is_up at ≡ is_up s.progress.phase = cleared_up (has_begun s.progress) ∙ sym (ap is_up needs) in
     walk plan commands (Counts s) actions.Clear (with_progress turned s) act o
     (λ m. calm (is_up s.progress.phase) (is_up at) up, λ n. calm (is_up s.progress.phase) _ (fails (is_up at) (cause.Write (requests_out plan commands (turned s.progress)) n) ∙ up)) where
-      -- after a line feed that went out there is a connection
+      -- after a line feed that was sent there is a connection
       cleared_up : (begun : Bool) → is_up (if begun then phase.Draining else phase.Ready) ≡ true
       cleared_up true = refl
       cleared_up false = refl
@@ -86,7 +86,7 @@ counted_moved plan commands actions.Flush s act o needs never =
     walk plan commands (Counts s) actions.Flush (with_progress turned s) act o (λ m. refl, λ n. failed s (cause.Write (requests_out plan commands (turned s.progress)) n))
 counted_moved plan commands (actions.Read until) s act o needs never =
     walk plan commands (Counts s) (actions.Read until) (with_progress turned s) act o (
-      λ bytes m. calm (is_up s.progress.phase) _ (ap is_up (came_phase (is_heard s.progress.phase) s.progress.word bytes (with_moment m (with_progress (told m) (with_progress turned s))))),
+      λ bytes m. calm (is_up s.progress.phase) _ (ap is_up (came_phase (is_heard s.progress.phase) s.progress.word bytes (with_moment m (with_progress (moment_noted m) (with_progress turned s))))),
       λ m. calm (is_up s.progress.phase) _ (quieted_up plan s.progress.phase (time_passed until m (turned s.progress)) refl),
       failed s cause.End,
       failed s cause.Read,

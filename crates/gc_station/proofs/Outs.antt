@@ -1,5 +1,5 @@
--- Which command goes out, of a cycle or of the set-up: a command of a cycle goes out only once the set-up is done, and one of the set-up only while it
--- isn't.
+-- Which command is sent, of a cycle or of the setup: a command of a cycle is sent only once the setup is done, and one of the
+-- setup only while it isn't.
 use Rattle.std.proofs.Common.{◌≡◌, ◌⊎◌, inl, inr, ◌<◌, Bool, true, false, List, if◌then◌else◌, sym, ap, subst, arith}
 use Rattle.gc_texts.specs.declared.tasks.Task.{Task}
 use Rattle.gc_station.specs.declared.mark.Mark.{Mark}
@@ -12,47 +12,47 @@ use Rattle.gc_station.specs.Reasons.{IsFor}
 use Rattle.gc_station.specs.Model.{Model, IsSending, action_at, waiting_of, cycles_begun, place_next, cycle_out, place_out, mark_next, mark_setup}
 use Rattle.gc_station.proofs.Facts.{action_for}
 
--- the conditions of this action hold, where it is next
+-- the conditions of this action hold, if it is next
 needs_as : (plan : Plan) (s : Model) (o : Action) → action_at plan s ≡ o → IsFor plan s.progress (waiting_of s) o
 needs_as plan s o is = subst (λ (x : Action). IsFor plan s.progress (waiting_of s) x) is (action_for plan s.progress (waiting_of s))
 
--- where a command of a cycle is next, the set-up is done
+-- if a command of a cycle is next, the setup is done
 pub send_done : (plan : Plan) (s : Model) → action_at plan s ≡ Send → is_preparing plan s.progress (waiting_of s) ≡ false
 send_done plan s is = (needs_as plan s Send is).8
 
--- where a command of the set-up is next, that isn't done
+-- if a command of the setup is next, that isn't done
 pub prepare_on : (plan : Plan) (s : Model) → action_at plan s ≡ Prepare → is_preparing plan s.progress (waiting_of s) ≡ true
 prepare_on plan s is = (needs_as plan s Prepare is).2.0
 
--- where a command of a cycle is next, the cycle and the place of what goes out are its own
+-- if a command of a cycle is next, the cycle and the place of what is sent are its own
 pub send_cycle : (plan : Plan) (s : Model) → action_at plan s ≡ Send → cycle_out plan s ≡ cycles_begun plan s.progress
 send_cycle plan s is = ap (λ (b : Bool). if b then 0 else cycles_begun plan s.progress) (send_done plan s is)
 
 pub send_place : (plan : Plan) (commands : List Task) (s : Model) → action_at plan s ≡ Send → place_out plan commands s ≡ place_next commands s.progress
 send_place plan commands s is = ap (λ (b : Bool). if b then s.progress.prepared else place_next commands s.progress) (send_done plan s is)
 
--- where a command of the set-up is next, what goes out has cycle 0, and its place
+-- if a command of the setup is next, what is sent has cycle 0, and its place
 pub prepare_cycle : (plan : Plan) (s : Model) → action_at plan s ≡ Prepare → cycle_out plan s ≡ 0
 prepare_cycle plan s is = ap (λ (b : Bool). if b then 0 else cycles_begun plan s.progress) (prepare_on plan s is)
 
 pub prepare_place : (plan : Plan) (commands : List Task) (s : Model) → action_at plan s ≡ Prepare → place_out plan commands s ≡ s.progress.prepared
 prepare_place plan commands s is = ap (λ (b : Bool). if b then s.progress.prepared else place_next commands s.progress) (prepare_on plan s is)
 
--- what goes out with a cycle above 0 is of a cycle
+-- what is sent with a cycle above 0 is of a cycle
 pub sends_of_cycle : (plan : Plan) (s : Model) → IsSending plan s → 0 < cycle_out plan s → action_at plan s ≡ Send
 sends_of_cycle plan s (inl is) many = is
 sends_of_cycle plan s (inr is) many = let none = prepare_cycle plan s is in absurd (omega (arith, none, many))
 
--- a command that goes out is a request of the client
+-- a command that is sent is a request of the client
 pub sending_asks : (plan : Plan) (s : Model) → IsSending plan s → IsAsking (action_at plan s)
 sending_asks plan s (inl is) = subst IsAsking (sym is) tt
 sending_asks plan s (inr is) = subst IsAsking (sym is) tt
 
--- the action o sends the command with this mark: the next of a cycle, or the next of the set-up
+-- the action o sends the command with this mark: the next of a cycle, or the next of the setup
 abbrev pub SendsIt : Plan → List Task → Model → Action → Mark → Type 0
 SendsIt plan commands s o mark = ((o ≡ Send) × (mark ≡ mark_next plan commands s.progress)) ⊎ ((o ≡ Prepare) × (mark ≡ mark_setup commands s.progress))
 
--- where the mark is of a cycle, the command of a cycle is sent
+-- if the mark is of a cycle, the command of a cycle is sent
 pub of_a_cycle : (plan : Plan) (commands : List Task) (s : Model) (o : Action) (mark : Mark) → SendsIt plan commands s o mark → 0 < mark.cycle
     → (o ≡ Send) × (mark ≡ mark_next plan commands s.progress)
 of_a_cycle plan commands s o mark (inl it) many = it

@@ -1,5 +1,5 @@
--- What had its turn is what was kept and what was passed over, each in order (`Parted`): one list grows with each command that had its
--- turn, and so does one of the other two.
+-- What had its turn is what was kept and what was left out, each in order (`Parted`): one list grows with each command that had
+-- its turn, and so does one of the other two.
 use Rattle.std.proofs.Common.{Bool, true, false, nat_lt, ◌≡◌, ◌⊎◌, inl, inr, ℕ, zero, suc, ◌+◌, ◌-◌, ◌<◌, ◌≤◌, List, [], ◌∷◌, ◌++◌, length, take, drop, map, refl, sym, ap, ◌∙◌, subst, arith, append_assoc}
 use Rattle.std.proofs.lemmas.List.{length-map, length-drop, map-append, nil_from_length}
 use Rattle.std.proofs.lemmas.Bool.{ltb-true, ltb-false}
@@ -26,19 +26,19 @@ parted_more {A} xs ys [] us h = subst (λ (l : List A). Parted (l ++ us) ys us) 
 parted_more {A} xs ys (z ∷ zs) us (inl k) = inl (k.0 ++ us, ap (λ (l : List A). l ++ us) k.1, parted_more k.0 ys zs us k.2)
 parted_more {A} xs ys (z ∷ zs) us (inr k) = inr (k.0, k.1, parted_more xs k.0 zs us k.2)
 
--- what had its turn grows by what is passed over
+-- what had its turn grows by what is left out
 pub parted_past : {A : Type 0} (xs ys zs us : List A) → Parted xs ys zs → Parted xs (ys ++ us) (zs ++ us)
 parted_past {A} xs ys [] us h = subst (λ (l : List A). Parted xs (l ++ us) us) (sym h.1) (subst (λ (l : List A). Parted l us us) (sym h.0) (parted_passed us))
 parted_past {A} xs ys (z ∷ zs) us (inl k) = inl (k.0, k.1, parted_past k.0 ys zs us k.2)
 parted_past {A} xs ys (z ∷ zs) us (inr k) = inr (k.0 ++ us, ap (λ (l : List A). l ++ us) k.1, parted_past xs k.0 zs us k.2)
 
--- what was kept and what was passed over are together as many as what had its turn
+-- what was kept and what was left out are together as many as what had its turn
 pub parted_length : {A : Type 0} (xs ys zs : List A) → Parted xs ys zs → length xs + length ys ≡ length zs
 parted_length xs ys [] h = let a = ap length h.0 in let b = ap length h.1 in omega (arith, a, b)
 parted_length xs ys (z ∷ zs) (inl k) = let a = ap length k.1 in let b = parted_length k.0 ys zs k.2 in omega (arith, a, b)
 parted_length xs ys (z ∷ zs) (inr k) = let a = ap length k.1 in let b = parted_length xs k.0 zs k.2 in omega (arith, a, b)
 
--- what holds of all that had its turn holds of what was passed over
+-- what holds of all that had its turn holds of what was left out
 pub parted_all : {A : Type 0} (P : A → Type 0) (xs ys zs : List A) → Parted xs ys zs → AllByRecursion P zs → AllByRecursion P ys
 parted_all P xs ys [] h all = subst (AllByRecursion P) (sym h.1) tt
 parted_all P xs ys (z ∷ zs) (inl k) all = parted_all P k.0 ys zs k.2 all.1
@@ -55,7 +55,7 @@ take_more zero k xs = ap (λ (m : ℕ). take m xs) (omega arith)
 take_more {A} (suc n) k [] = take_none {A = A} k ∙ sym (take_none {A = A} (suc n + k))
 take_more (suc n) k (x ∷ xs) = let more : suc (n + k) ≡ suc n + k = omega arith in ap (λ ys. x ∷ ys) (take_more n k xs) ∙ ap (λ (m : ℕ). take m (x ∷ xs)) more
 
--- so many of a list are all that it has, where it has no more
+-- so many of a list are all that it has, if it has no more
 take_all : {A : Type 0} (a b : ℕ) (xs : List A) → length xs ≤ a → length xs ≤ b → take a xs ≡ take b xs
 take_all zero zero xs m n = refl
 take_all zero (suc b) [] m n = refl
@@ -65,9 +65,10 @@ take_all (suc a) zero (x ∷ xs) m n = absurd (omega (arith, n))
 take_all (suc a) (suc b) [] m n = refl
 take_all (suc a) (suc b) (x ∷ xs) m n = ap (λ ys. x ∷ ys) (take_all a b xs (omega (arith, m)) (omega (arith, n)))
 
--- the commands that had their turn, with so many of the next ones behind them, are those that had their turn at a place behind these, or
--- at the end
-pub sent_past : (setup : ℕ) (commands : List Task) (begun place count place' : ℕ) → setup ≤ place → place ≤ length commands → 0 < begun → (place' ≡ place + count) ⊎ ((place' ≡ length commands) × (length commands ≤ place + count))
+-- the commands that had their turn, with so many of the next ones after them, are those that had their turn at a place after
+-- these, or at the end
+pub sent_past : (setup : ℕ) (commands : List Task) (begun place count place' : ℕ) → setup ≤ place → place ≤ length commands → 0 < begun
+    → (place' ≡ place + count) ⊎ ((place' ≡ length commands) × (length commands ≤ place + count))
     → sent_by setup commands begun place ++ requests begun place (map of_task (take count (drop place commands))) ≡ sent_by setup commands begun place'
 sent_past setup commands zero place count place' low within some at = absurd (omega (arith, some))
 sent_past setup commands (suc n) place count place' low within some at =
@@ -88,12 +89,12 @@ sent_past setup commands (suc n) place count place' low within some at =
       length_take (suc k) [] few = absurd (omega (arith, few))
       length_take (suc k) (x ∷ xs) few = ap suc (length_take k xs (omega (arith, few)))
 
-      -- the first ones up to the place behind are those up to the new place
+      -- the first ones up to the place after are those up to the new place
       as_many : ((place' ≡ place + count) ⊎ ((place' ≡ length commands) × (length commands ≤ place + count))) → take (place + count) commands ≡ take place' commands
       as_many (inl is) = ap (λ (k : ℕ). take k commands) (sym is)
       as_many (inr is) = take_all (place + count) place' commands is.1 (omega (arith, is.0))
 
--- the commands behind so many of the next ones are those behind the place that is so many further, or at the end
+-- the commands after so many of the next ones are those after the place that is so many further, or at the end
 pub drop_past : (commands : List Task) (unsent count : ℕ) → unsent ≤ length commands → drop ((length commands - unsent) + count) commands ≡ drop (length commands - (unsent - count)) commands
 drop_past commands unsent count within = by_count (nat_lt unsent count) refl where
   -- the lemma above, where fewer are unsent (`true`), and none is left of either
@@ -109,14 +110,15 @@ drop_past commands unsent count within = by_count (nat_lt unsent count) refl whe
 -- the requests of a cycle are of it, and of places from the first one on
 requests_before : (cycle place : ℕ) (asks : List (Wanted Asked)) → AllByRecursion (λ (r : Request). (r.cycle ≡ cycle) × (r.place < place + length asks)) (requests cycle place asks)
 requests_before cycle place [] = tt
-requests_before cycle place (a ∷ others) = ((refl, omega arith), all_by cycle (place + 1) (length others) place (length (a ∷ others)) (requests cycle (place + 1) others) (omega arith) (requests_before cycle (place + 1) others)) where
-  -- a place below one number is below another that is the same
-  all_by : (cycle a m b n : ℕ) (rs : List Request) → a + m ≡ b + n → AllByRecursion (λ (r : Request). (r.cycle ≡ cycle) × (r.place < a + m)) rs
-      → AllByRecursion (λ (r : Request). (r.cycle ≡ cycle) × (r.place < b + n)) rs
-  all_by cycle a m b n [] e all = tt
-  all_by cycle a m b n (r ∷ rs) e all = ((all.0.0, omega (arith, all.0.1, e)), all_by cycle a m b n rs e all.1)
+requests_before cycle place (a ∷ others) =
+    ((refl, omega arith), all_by cycle (place + 1) (length others) place (length (a ∷ others)) (requests cycle (place + 1) others) (omega arith) (requests_before cycle (place + 1) others)) where
+      -- a place below one number is below another that is the same
+      all_by : (cycle a m b n : ℕ) (rs : List Request) → a + m ≡ b + n → AllByRecursion (λ (r : Request). (r.cycle ≡ cycle) × (r.place < a + m)) rs
+          → AllByRecursion (λ (r : Request). (r.cycle ≡ cycle) × (r.place < b + n)) rs
+      all_by cycle a m b n [] e all = tt
+      all_by cycle a m b n (r ∷ rs) e all = ((all.0.0, omega (arith, all.0.1, e)), all_by cycle a m b n rs e all.1)
 
--- a request is of a place in front of this one: in an earlier cycle, or in the same one
+-- a request is of a place before this one: in an earlier cycle, or in the same one
 abbrev pub IsInFront : ℕ → ℕ → Request → Type 0
 IsInFront cycle place r = (r.cycle < cycle) ⊎ ((r.cycle ≡ cycle) × (r.place < place))
 
@@ -125,24 +127,24 @@ all_both : {A : Type 0} (P : A → Type 0) (xs ys : List A) → AllByRecursion P
 all_both P [] ys a b = b
 all_both P (x ∷ xs) ys a b = (a.0, all_both P xs ys a.1 b)
 
--- what holds by another fact holds where that does
+-- what holds by another fact holds if that does
 all_for : {A : Type 0} (P Q : A → Type 0) (xs : List A) → ((x : A) → P x → Q x) → AllByRecursion P xs → AllByRecursion Q xs
 all_for P Q [] f all = tt
 all_for P Q (x ∷ xs) f all = (f x all.0, all_for P Q xs f all.1)
 
--- the requests of the first cycles are in front of any place of a later one
+-- the requests of the first cycles are before any place of a later one
 cycles_before : (setup : ℕ) (commands : List Task) (n place : ℕ) → AllByRecursion (IsInFront (suc n) place) (all_cycles setup commands n)
 cycles_before setup commands zero place = tt
 cycles_before setup commands (suc n) place =
     all_both (IsInFront (suc (suc n)) place) (all_cycles setup commands n) (requests (suc n) setup (map of_task (drop setup commands)))
     (all_for (IsInFront (suc n) place) (IsInFront (suc (suc n)) place) (all_cycles setup commands n) later (cycles_before setup commands n place))
     (all_for _ (IsInFront (suc (suc n)) place) (requests (suc n) setup (map of_task (drop setup commands))) (λ r h. inl (omega (arith, h.0))) (requests_before (suc n) setup (map of_task (drop setup commands)))) where
-      -- what is in front of a cycle's place is in front of the next one's
+      -- what is before a cycle's place is before the next one's
       later : (r : Request) → IsInFront (suc n) place r → IsInFront (suc (suc n)) place r
       later r (inl less) = inl (omega (arith, less))
       later r (inr same) = inl (omega (arith, same.0))
 
--- all that had its turn is in front of the next place
+-- all that had its turn is before the next place
 pub sent_before : (setup : ℕ) (commands : List Task) (cycle place : ℕ) → setup ≤ place → AllByRecursion (IsInFront cycle place) (sent_by setup commands cycle place)
 sent_before setup commands zero place low = tt
 sent_before setup commands (suc n) place low =
@@ -163,7 +165,7 @@ sent_before setup commands (suc n) place low =
           let t = taken place commands in
           omega (arith, less, m, d, t, low)
 
--- where the last of what had its turn isn't among what was passed over, it is the last of what was kept
+-- if the last of what had its turn isn't among what was left out, it is the last of what was kept
 pub parted_last : {A : Type 0} (x : A) (xs ys zs : List A) → Parted xs ys (zs ++ x ∷ []) → ((front : List A) → ys ≡ front ++ x ∷ [] → ⊥) → (front : List A) × (xs ≡ front ++ x ∷ [])
 parted_last x xs ys [] (inl k) not = ([], k.1 ∙ ap (λ l. x ∷ l) k.2.0)
 parted_last x xs ys [] (inr k) not = absurd (not [] (k.1 ∙ ap (λ l. x ∷ l) k.2.1))

@@ -1,6 +1,6 @@
--- What each act is to the client (its part, `Parts`), and what is written down at it. An act is one call of the link, with what
--- came of it. Steps of the client are to send, to hear a line, to be told a moment and to restart; a turn is a null procedure
--- that is put, or a line heard, while the station begins. `Leads` says that the steps of a part take the client, the marks and
+-- What each act is to the client (its part, `Parts`), and what is recorded at it. An act is one call on the link, with its
+-- result. Steps of the client are to send, to hear a line, to read the clock and to restart; a turn is a null procedure that is
+-- put, or a line heard, while the station synchronizes. `Leads` says that the steps of a part take the client, the marks and
 -- the records of one model to those of another.
 use Rattle.std.proofs.Common.{◌≡◌, ℕ, ◌-◌, ◌<◌, Bool, true, false, List, [], ◌∷◌, length, map, drop, Option, Some, None, refl, sym, ap, ◌∙◌, ◌++◌, subst, arith, append-nil, if◌then◌else◌, length-drop}
 use Rattle.std.proofs.lemmas.List.{length-map}
@@ -22,18 +22,18 @@ use Rattle.gc_station.specs.declared.progress.Until.{Until}
 use Rattle.gc_links.specs.Acts.{Act, Told, Put, Cut, Gave}
 use Rattle.gc_station.specs.Deciding.{later, has_begun, is_none_left}
 use Rattle.gc_station.specs.Parts.{Turn, Part, only_turns, only, nothing, putting, asking, asking_first, hearing, doing, beginning, acting, sent_of, asking_or_null}
-use Rattle.gc_station.specs.Progressing.{told, turned, skipped_at}
+use Rattle.gc_station.specs.Progressing.{moment_noted, turned, skipped_at}
 use Rattle.gc_station.specs.Reasons.{IsFor}
 use Rattle.gc_station.specs.Records.{Record}
 use Rattle.gc_station.specs.declared.mark.Mark.{Mark}
-use Rattle.gc_station.specs.Model.{Model, waiting_of, place_next, mark_next, Performs, with_progress, with_moment, with_rest, asks_null, asks_first, skips, skips_first, line_came, lines_came, lines_behind, is_heard, came, after_read, moved, mark_setup, asks_or_null}
+use Rattle.gc_station.specs.Model.{Model, waiting_of, place_next, mark_next, Performs, with_progress, with_moment, with_rest, asks_null, asks_first, skips, skips_first, line_came, lines_came, lines_completed, is_heard, after_piece, after_read, moved, mark_setup, asks_or_null}
 use Rattle.gc_station.proofs.Tasked.{at_place}
 use Rattle.gc_station.proofs.Booking.{Books, books_turns, sent_both, sent_records, books_both, books_nothing, books_moment, books_line, books_send}
 use Rattle.gc_station.proofs.Facts.{either}
 use Rattle.gc_station.proofs.Invariant.{Invariant}
 use Rattle.gc_station.proofs.Hearing.{hears_paired}
-use Rattle.gc_station.proofs.Midway.{clash}
 use Rattle.gc_station.proofs.Walk.{is_sent, walk, is_prepared}
+use Rattle.gc_station.proofs.Ticking.{not_both}
 
 -- the part p takes the client of one model, with its marks and records, to those of another
 abbrev pub Leads : List Task → Model → Part → Model → Type 0
@@ -62,28 +62,28 @@ module _ (plan : Plan) (commands : List Task) where
       (heard_books s line paired)
       (leads_lines t others (hears_paired s.marks s.client line (heard line) paired))
 
-  -- a piece leads on by the steps that hear its lines; by none where it is dropped
-  leads_came : (h : Bool) (word piece : List ℕ) (s : Model) → is_none_left word ≡ true → Paired s → Leads commands s (only (hearing h s.rest piece)) (came h word piece s)
+  -- a piece leads on by the steps that hear its lines; by none if it is discarded
+  leads_came : (h : Bool) (word piece : List ℕ) (s : Model) → is_none_left word ≡ true → Paired s → Leads commands s (only (hearing h s.rest piece)) (after_piece h word piece s)
   leads_came true (asked ∷ others) piece s begun paired = cc
-  leads_came true [] piece s begun paired = leads_lines (with_rest (rest_behind s.rest piece) s) (lines_behind s.rest piece) paired
+  leads_came true [] piece s begun paired = leads_lines (with_rest (rest_behind s.rest piece) s) (lines_completed s.rest piece) paired
   leads_came false word piece s begun paired = books_nothing s.reads commands s.client s.marks (sent_of s.records)
 
-  -- where a moment gives requests up, each still has a mark
+  -- if a moment times requests out, each still has a mark
   paired_told : (s : Model) (m : ℕ) → Paired s → length s.marks ≡ length (map (expired m) s.client.waiting)
   paired_told s m paired = paired ∙ sym (length-map s.client.waiting (expired m))
 
-  -- a read that gave bytes leads on by its part, once the station has begun
+  -- a read that gave bytes leads on by its part, once the station has synchronized
   leads_gave : (s : Model) (until : Until) (bytes : List ℕ) (m : Moment) → has_begun s.progress ≡ true → Paired s
       → Leads commands s (doing plan commands s (action.Read until) (Gave bytes m)) (after_read plan until (with_progress turned s) (Gave bytes m))
   leads_gave s until bytes m begun paired =
-      let x = with_moment m (with_progress (told m) (with_progress turned s)) in
-      let t = came (is_heard s.progress.phase) s.progress.word bytes x in
+      let x = with_moment m (with_progress (moment_noted m) (with_progress turned s)) in
+      let t = after_piece (is_heard s.progress.phase) s.progress.word bytes x in
       books_both s.reads commands s.client x.client t.client s.marks s.marks t.marks (sent_of s.records) (sent_of s.records) (sent_of t.records)
       (only (Expire m.elapsed ∷ [])) (only (hearing (is_heard s.progress.phase) s.rest bytes))
       (books_moment s.reads commands s.client s.marks (sent_of s.records) m.elapsed)
       (leads_came (is_heard s.progress.phase) s.progress.word bytes x begun (paired_told s m.elapsed paired))
 
-  -- the next command, where it goes out, leads on by the part of its request
+  -- the next command, if it is sent, leads on by the part of its request
   leads_first : (s : Model) (left : List Task) → drop (place_next commands s.progress) commands ≡ left → 0 < length left → length s.client.waiting < 7
       → Leads commands s (asking_first s.progress.moment.elapsed (mark_next plan commands s.progress) left) (asks_first (mark_next plan commands s.progress) left (with_progress turned s))
   leads_first s [] at some room = absurd (omega (arith, some))
@@ -96,7 +96,7 @@ module _ (plan : Plan) (commands : List Task) where
   leads_null : (s : Model) → length s.client.waiting < 7 → Leads commands s (asking 0 (Table NullProc) (later s.progress.moment.elapsed plan.deadline) None) (asks_null plan s)
   leads_null s room = books_send s.reads commands s.client s.marks (sent_of s.records) 0 (Table NullProc) (later s.progress.moment.elapsed plan.deadline) None room refl
 
-  -- the next command of the set-up, where it goes out, leads on by the part of its request
+  -- the next command of the setup, if it is sent, leads on by the part of its request
   leads_setup : (s : Model) (left : List Task) → drop s.progress.prepared commands ≡ left → length s.client.waiting < 7
       → Leads commands s (asking_or_null plan s.progress.moment.elapsed (mark_setup commands s.progress) left) (asks_or_null plan (mark_setup commands s.progress) left (with_progress turned s))
   leads_setup s [] at room = leads_null s room
@@ -104,7 +104,7 @@ module _ (plan : Plan) (commands : List Task) where
       books_send s.reads commands s.client s.marks (sent_of s.records) task.command.target (call_at task s.progress.moment.utc) (later s.progress.moment.elapsed task.deadline)
       (Some (mark_setup commands s.progress)) room (task, at_place s.progress.prepared commands task others at, refl)
 
-  -- the record of a command that isn't sent isn't among those of commands that went out
+  -- the record of a command that isn't sent isn't among those of commands that were sent
   skips_first_unsent : (p : Progress) (m : Moment) (mark : Mark) (left : List Task) → sent_of (skips_first p m mark left) ≡ []
   skips_first_unsent p m mark [] = refl
   skips_first_unsent p m mark (task ∷ others) = by_case p.missed where
@@ -113,11 +113,11 @@ module _ (plan : Plan) (commands : List Task) where
     by_case true = refl
     by_case false = refl
 
-  -- the record of the next command, where that isn't sent, isn't among those of commands that went out
+  -- the record of the next command, if that isn't sent, isn't among those of commands that were sent
   skips_unsent : (s : Model) (m : Moment) → sent_of (skips plan commands s.progress (Told m)) ≡ []
   skips_unsent s m = skips_first_unsent s.progress m (mark_next plan commands s.progress) (drop (place_next commands s.progress) commands)
 
-  -- records of commands that didn't go out add none to those that did
+  -- records of commands that weren't sent add none to those that did
   none_sent : (rs more : List Record) → sent_of more ≡ [] → sent_of (rs ++ more) ≡ sent_of rs
   none_sent rs more none = sent_both rs more ∙ ap (λ xs. sent_of rs ++ xs) none ∙ append-nil (sent_of rs)
 
@@ -129,16 +129,16 @@ module _ (plan : Plan) (commands : List Task) where
   none_booked : (s : Model) → Leads commands s nothing s
   none_booked s = books_nothing s.reads commands s.client s.marks (sent_of s.records)
 
-  -- a moment leads on by the step that tells it
+  -- a moment leads on by the step that reads it
   moment_booked : (s : Model) (m : Moment) → Leads commands s (only (Expire m.elapsed ∷ [])) (with_moment m s)
   moment_booked s m = books_moment s.reads commands s.client s.marks (sent_of s.records) m.elapsed
 
-  -- an act of each action leads on by its part, once the station has begun
+  -- an act of each action leads on by its part, once the station has synchronized
   leads_order : (s : Model) (o : Action) (act : Act) → Invariant plan commands s → IsFor plan s.progress (waiting_of s) o → Performs commands s o act → has_begun s.progress ≡ true
       → Leads commands s (doing plan commands s o act) (moved plan commands o (with_progress turned s) act)
   leads_order s action.Open act fine is obeys begun = walk plan commands (LeadsSo action.Open s) action.Open (with_progress turned s) act obeys (λ m. none_booked s, λ n. none_booked s)
   leads_order s action.Clear act fine is obeys begun = walk plan commands (LeadsSo action.Clear s) action.Clear (with_progress turned s) act obeys (λ m. none_booked s, λ n. none_booked s)
-  leads_order s action.Ask act fine is obeys begun = absurd (clash (has_begun s.progress) begun is.1)
+  leads_order s action.Ask act fine is obeys begun = absurd (not_both (has_begun s.progress) begun is.1)
   leads_order s action.Flush act fine is obeys begun = walk plan commands (LeadsSo action.Flush s) action.Flush (with_progress turned s) act obeys (λ m. leads_null s is.4.1, λ n. leads_null s is.4.1)
   leads_order s action.Prepare act fine is obeys begun =
       let prepares = subst (λ (t : Model). Leads commands s (putting plan commands s action.Prepare) t) (sym (is_prepared plan commands (with_progress turned s)))
@@ -170,32 +170,32 @@ module _ (plan : Plan) (commands : List Task) where
   abbrev Keeps : Model → Act → Model → Type 0
   Keeps s act t = (t.client ≡ fresh) × (t.marks ≡ s.marks) × (t.records ≡ s.records)
 
-  -- while the station begins, a piece leaves the client new, and the marks and the records as they are
+  -- while the station synchronizes, a piece leaves the client new, and the marks and the records as they are
   keeps_came : (h : Bool) (word piece : List ℕ) (s : Model) → is_none_left word ≡ false → s.client ≡ fresh
-      → ((came h word piece s).client ≡ fresh) × ((came h word piece s).marks ≡ s.marks) × ((came h word piece s).records ≡ s.records)
+      → ((after_piece h word piece s).client ≡ fresh) × ((after_piece h word piece s).marks ≡ s.marks) × ((after_piece h word piece s).records ≡ s.records)
   keeps_came true [] piece s begins new = cc
   keeps_came true (asked ∷ others) piece s begins new = (new, refl, refl)
   keeps_came false word piece s begins new = (new, refl, refl)
 
-  -- a moment gives up nothing of a new client, in which no request waits
+  -- a moment times out nothing of a new client, in which no request is outstanding
   new_told : (s : Model) (m : Moment) → s.client ≡ fresh → expires s.client m.elapsed ≡ fresh
   new_told s m new = ap (λ c. expires c m.elapsed) new
 
-  -- while the station begins, an act of each action leaves the client new, and the marks and the records as they are
+  -- while the station synchronizes, an act of each action leaves the client new, and the marks and the records as they are
   pub keeps_action : (s : Model) (o : Action) (act : Act) → IsFor plan s.progress (waiting_of s) o → Performs commands s o act → has_begun s.progress ≡ false
       → s.client ≡ fresh → Keeps s act (moved plan commands o (with_progress turned s) act)
-  keeps_action s action.Renew act is obeys begins new = absurd (clash (has_begun s.progress) is.1 begins)
-  keeps_action s action.Begin act is obeys begins new = absurd (clash (has_begun s.progress) is.1 begins)
-  keeps_action s action.Prepare act is obeys begins new = absurd (clash (has_begun s.progress) is.1 begins)
-  keeps_action s action.Send act is obeys begins new = absurd (clash (has_begun s.progress) is.1 begins)
-  keeps_action s action.Skip act is obeys begins new = absurd (clash (has_begun s.progress) is.1 begins)
-  keeps_action s action.Pass act is obeys begins new = absurd (clash (has_begun s.progress) is.1 begins)
-  keeps_action s action.Flush act is obeys begins new = absurd (clash (has_begun s.progress) is.1 begins)
+  keeps_action s action.Renew act is obeys begins new = absurd (not_both (has_begun s.progress) is.1 begins)
+  keeps_action s action.Begin act is obeys begins new = absurd (not_both (has_begun s.progress) is.1 begins)
+  keeps_action s action.Prepare act is obeys begins new = absurd (not_both (has_begun s.progress) is.1 begins)
+  keeps_action s action.Send act is obeys begins new = absurd (not_both (has_begun s.progress) is.1 begins)
+  keeps_action s action.Skip act is obeys begins new = absurd (not_both (has_begun s.progress) is.1 begins)
+  keeps_action s action.Pass act is obeys begins new = absurd (not_both (has_begun s.progress) is.1 begins)
+  keeps_action s action.Flush act is obeys begins new = absurd (not_both (has_begun s.progress) is.1 begins)
   keeps_action s action.ReadClock act is obeys begins new = walk plan commands (Keeps s) action.ReadClock (with_progress turned s) act obeys
       (λ m. (new_told s m new, refl, refl), λ n. (new, refl, refl))
   keeps_action s (action.Read until) act is obeys begins new =
       walk plan commands (Keeps s) (action.Read until) (with_progress turned s) act obeys (
-        λ bytes m. keeps_came (is_heard s.progress.phase) s.progress.word bytes (with_moment m (with_progress (told m) (with_progress turned s))) begins (new_told s m new),
+        λ bytes m. keeps_came (is_heard s.progress.phase) s.progress.word bytes (with_moment m (with_progress (moment_noted m) (with_progress turned s))) begins (new_told s m new),
         λ m. (new_told s m new, refl, refl),
         (new, refl, refl),
         (new, refl, refl),
@@ -205,7 +205,7 @@ module _ (plan : Plan) (commands : List Task) where
   keeps_action s (action.Stop why) act is obeys begins new = absurd obeys
   keeps_action s o act is obeys begins new = walk plan commands (Keeps s) o (with_progress turned s) act obeys (λ m. (new, refl, refl), λ n. (new, refl, refl))
 
-  -- the part of an act while the station begins has only turns
+  -- the part of an act while the station synchronizes has only turns
   only_of : (s : Model) (o : Action) (act : Act) → beginning s o act ≡ only_turns (beginning s o act).turns
   only_of s action.Ask (Put bytes) = refl
   only_of s action.Ask (Cut bytes count) = refl
@@ -222,7 +222,7 @@ module _ (plan : Plan) (commands : List Task) where
       (subst (λ (x : List (Option Mark)). books s.client x (sent_of t.records)) ms
       (subst (λ (x : List Record). books s.client s.marks (sent_of x)) rs (books_turns s.reads commands s.client s.marks (sent_of s.records) turns)))
 
-  -- an act of each action leads on by its part, while the station begins
+  -- an act of each action leads on by its part, while the station synchronizes
   leads_begins : (s : Model) (o : Action) (act : Act) → Invariant plan commands s → IsFor plan s.progress (waiting_of s) o → Performs commands s o act → has_begun s.progress ≡ false
       → Leads commands s (beginning s o act) (moved plan commands o (with_progress turned s) act)
   leads_begins s o act fine is obeys begins =

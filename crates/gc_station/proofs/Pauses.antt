@@ -1,13 +1,13 @@
--- How failures in a row take tries and lengthen the pause. A failure is spared where no connection is wanted: it takes no try.
--- An act is one call of the link, with what came of it. `again` is the progress after a connection ended or couldn't be made,
--- and `pause_behind plan n` the pause after n such failures in a row. Times are in milliseconds.
+-- How failures in a row take tries and lengthen the pause. A failure is spared if no connection is wanted: it takes no try. An
+-- act is one call on the link, with its result. `after_failure` is the progress after a connection ended or couldn't be made, and
+-- `pause_after plan n` the pause after n such failures in a row. Times are in milliseconds.
 use Rattle.std.proofs.Common.{◌≡◌, ◌⊎◌, inl, inr, ℕ, zero, suc, ◌+◌, ◌-◌, ◌*◌, ◌<◌, ◌≤◌, ◌||◌, Bool, true, false, List, if◌then◌else◌, nat_lt, min, max, refl, ap, ◌∙◌, arith, ◌&&◌, not}
 use Rattle.std.proofs.lemmas.Bool.{lt-ltb, le-ltb}
 use Rattle.gc_texts.specs.declared.tasks.Task.{Task}
 use Rattle.gc_links.specs.Acts.{Act}
 use Rattle.gc_station.specs.Deciding.{later}
-use Rattle.gc_station.specs.Pauses.{doubled, pause_behind, LeavesTries, TriesAndPausesAreCounted}
-use Rattle.gc_station.specs.Progressing.{is_finished, is_spared, again, gave, gives_back}
+use Rattle.gc_station.specs.Pauses.{doubled, pause_after, LeavesTries, TriesAndPausesAreCounted}
+use Rattle.gc_station.specs.Progressing.{is_finished, is_spared, after_failure, bytes_noted, gives_back}
 use Rattle.gc_station.specs.Model.{Model, moved}
 use Rattle.gc_station.specs.declared.cause.Cause.{Cause}
 use Rattle.gc_station.specs.declared.cause.Cause.TheVariants as cause
@@ -20,11 +20,11 @@ use Rattle.gc_station.specs.declared.progress.Until.{Until}
 use Rattle.gc_station.specs.declared.progress.Waiting.{Waiting}
 use Rattle.gc_station.proofs.Walk.{moved_changed}
 
--- where the test b holds, the first of two values is chosen
+-- if the test b holds, the first of two values is chosen
 takes_first : {A : Type 0} (b : Bool) (x y : A) → b ≡ true → (if b then x else y) ≡ x
 takes_first b x y e = ap (λ (c : Bool). if c then x else y) e
 
--- where the test b doesn't hold, the second of two values is chosen
+-- if the test b doesn't hold, the second of two values is chosen
 takes_second : {A : Type 0} (b : Bool) (x y : A) → b ≡ false → (if b then x else y) ≡ y
 takes_second b x y e = ap (λ (c : Bool). if c then x else y) e
 
@@ -42,21 +42,22 @@ twice_more : (d quiet : ℕ) → quiet ≤ d → max (min (min (max (min d 60000
 twice_more d quiet least = omega (arith, least)
 
 -- twice the pause after n failures, bounded, is the one after n + 1
-twice : (plan : Plan) (n : ℕ) → max (min (later (pause_behind plan n) (pause_behind plan n)) 60000) plan.quiet ≡ pause_behind plan (suc n)
+twice : (plan : Plan) (n : ℕ) → max (min (later (pause_after plan n) (pause_after plan n)) 60000) plan.quiet ≡ pause_after plan (suc n)
 twice plan zero = twice_none plan.quiet
 twice plan (suc n) = twice_more (doubled n plan.quiet) plan.quiet (doubled_least n plan.quiet)
 
 -- a failure that isn't spared makes the pause that of one failure more
-failed : (plan : Plan) (commands n : ℕ) (why : Cause) (p : Progress) → is_spared plan why p ≡ false → p.pause ≡ pause_behind plan n → (again plan commands why p).pause ≡ pause_behind plan (suc n)
+failed : (plan : Plan) (commands n : ℕ) (why : Cause) (p : Progress) → is_spared plan why p ≡ false → p.pause ≡ pause_after plan n
+    → (after_failure plan commands why p).pause ≡ pause_after plan (suc n)
 failed plan commands n why p e is =
     takes_second (is_spared plan why p) (max p.pause plan.quiet) (max (min (later p.pause p.pause) 60000) plan.quiet) e
     ∙ ap (λ x. max (min (later x x) 60000) plan.quiet) is ∙ twice plan n
 
 -- a failure that isn't spared takes one try
-takes : (plan : Plan) (commands : ℕ) (why : Cause) (p : Progress) → is_spared plan why p ≡ false → 0 < p.tries → (again plan commands why p).tries + 1 ≡ p.tries
+takes : (plan : Plan) (commands : ℕ) (why : Cause) (p : Progress) → is_spared plan why p ≡ false → 0 < p.tries → (after_failure plan commands why p).tries + 1 ≡ p.tries
 takes plan commands why p e some = let less = takes_second (is_spared plan why p) p.tries (p.tries - 1) e in omega (arith, less, some)
 
--- a failure that isn't spared, without a try left (`some`), ends the run: as done, where all is done, or for its cause
+-- a failure that isn't spared, without a try left (`some`), ends the run: as done, if all is done, or for its cause
 over_by : (done spared some : Bool) (why : Cause) → spared ≡ false → some ≡ false
     → ((if done then phase.Over cause.Done else if spared || some then phase.Pausing else phase.Over why) ≡ phase.Over cause.Done)
     ⊎ ((if done then phase.Over cause.Done else if spared || some then phase.Pausing else phase.Over why) ≡ phase.Over why)
@@ -67,7 +68,7 @@ over_by false false false why e f = inr refl
 
 -- a failure that isn't spared, without a try left, ends the run
 none_left : (plan : Plan) (commands : ℕ) (why : Cause) (p : Progress) → is_spared plan why p ≡ false → p.tries ≡ 0
-    → ((again plan commands why p).phase ≡ phase.Over cause.Done) ⊎ ((again plan commands why p).phase ≡ phase.Over why)
+    → ((after_failure plan commands why p).phase ≡ phase.Over cause.Done) ⊎ ((after_failure plan commands why p).phase ≡ phase.Over why)
 none_left plan commands why p e none = over_by (is_finished commands p) (is_spared plan why p) (nat_lt 0 p.tries) why e (le-ltb 0 p.tries (omega (arith, none)))
 
 -- a bounded pause that is at least the quiet time stays
@@ -75,30 +76,30 @@ spared_stays : (d quiet : ℕ) → max (max (min d 60000) quiet) quiet ≡ max (
 spared_stays d quiet = omega arith
 
 -- a spared close takes no try, and leaves a pause as it is
-spared : (plan : Plan) (commands n : ℕ) (why : Cause) (p : Progress) → is_spared plan why p ≡ true → p.pause ≡ pause_behind plan (suc n)
-    → ((again plan commands why p).pause ≡ pause_behind plan (suc n)) × ((again plan commands why p).tries ≡ p.tries)
+spared : (plan : Plan) (commands n : ℕ) (why : Cause) (p : Progress) → is_spared plan why p ≡ true → p.pause ≡ pause_after plan (suc n)
+    → ((after_failure plan commands why p).pause ≡ pause_after plan (suc n)) × ((after_failure plan commands why p).tries ≡ p.tries)
 spared plan commands n why p e is = (
   takes_first (is_spared plan why p) (max p.pause plan.quiet) (max (min (later p.pause p.pause) 60000) plan.quiet) e
       ∙ ap (λ x. max x plan.quiet) is ∙ spared_stays (doubled n plan.quiet) plan.quiet,
   takes_first (is_spared plan why p) p.tries (p.tries - 1) e,
 )
 
--- where there was no pause, the pause after a spared close is the quiet time
+-- if there was no pause, the pause after a spared close is the quiet time
 spared_none : (quiet : ℕ) → max 0 quiet ≡ max (min quiet 60000) quiet
 spared_none quiet = omega arith
 
 -- a spared close takes no try, and makes a pause of 0 that of one failure
-spared_first : (plan : Plan) (commands : ℕ) (why : Cause) (p : Progress) → is_spared plan why p ≡ true → p.pause ≡ pause_behind plan 0
-    → ((again plan commands why p).pause ≡ pause_behind plan 1) × ((again plan commands why p).tries ≡ p.tries)
+spared_first : (plan : Plan) (commands : ℕ) (why : Cause) (p : Progress) → is_spared plan why p ≡ true → p.pause ≡ pause_after plan 0
+    → ((after_failure plan commands why p).pause ≡ pause_after plan 1) × ((after_failure plan commands why p).tries ≡ p.tries)
 spared_first plan commands why p e is = (
   takes_first (is_spared plan why p) (max p.pause plan.quiet) (max (min (later p.pause p.pause) 60000) plan.quiet) e
       ∙ ap (λ x. max x plan.quiet) is ∙ spared_none plan.quiet,
   takes_first (is_spared plan why p) p.tries (p.tries - 1) e,
 )
 
--- a read that settled a command gives all tries back, and makes the pause 0, once the set-up is done
+-- a read that settled a command gives all tries back, and makes the pause 0, once the setup is done
 settled : (plan : Plan) (until : Until) (before : ℕ) (after : Waiting) (p : Progress) → after.commands < before → p.preparing ≡ false
-    → ((gave plan until before after p).tries ≡ plan.retries) × ((gave plan until before after p).pause ≡ pause_behind plan 0)
+    → ((bytes_noted plan until before after p).tries ≡ plan.retries) × ((bytes_noted plan until before after p).pause ≡ pause_after plan 0)
 settled plan until before after p fewer done =
     let e = both_hold (nat_lt after.commands before) (p.preparing) (lt-ltb after.commands before fewer) done in
     (takes_first (gives_back before after p) plan.retries p.tries e, takes_first (gives_back before after p) 0 p.pause e) where
@@ -108,9 +109,9 @@ settled plan until before after p fewer done =
       both_hold true true x y = cc
       both_hold false b x y = cc
 
--- a read that settled no command, or while the set-up isn't done, leaves the tries and the pause
+-- a read that settled no command, or while the setup isn't done, leaves the tries and the pause
 unsettled : (plan : Plan) (until : Until) (before : ℕ) (after : Waiting) (p : Progress) → (before ≤ after.commands) ⊎ (p.preparing ≡ true)
-    → ((gave plan until before after p).tries ≡ p.tries) × ((gave plan until before after p).pause ≡ p.pause)
+    → ((bytes_noted plan until before after p).tries ≡ p.tries) × ((bytes_noted plan until before after p).pause ≡ p.pause)
 unsettled plan until before after p why =
     let e = by_cause (nat_lt after.commands before) (p.preparing) refl refl why in
     (takes_second (gives_back before after p) plan.retries p.tries e, takes_second (gives_back before after p) 0 p.pause e) where

@@ -1,6 +1,6 @@
--- The lines of the piece that an act brings, heard one by one: the requests that wait were put among the acts before (`WaitsAt`
--- of `Waiting`), and each record that is written is true (`IsTrue`). An act is one call of the link, with what came of it.
--- `Hears` says both of the model after some of the lines.
+-- The lines of the piece that an act brings, heard one by one: the outstanding requests were put among the acts before
+-- (`WaitsAt` of `Waiting`), and each record that is written is true (`IsJustified`). An act is one call on the link, with its
+-- result. `Hears` says both of the model after some of the lines.
 use Rattle.std.proofs.Common.{◌≡◌, inl, inr, ℕ, ◌<◌, ◌≤◌, Bool, true, false, List, [], ◌∷◌, ◌++◌, length, Option, Some, IfSome, refl, sym, ap, ◌∙◌, subst, arith, append_assoc, append-nil}
 use Rattle.std.specs.List.{AllByRecursion}
 use Rattle.gc_lines.specs.Frames.{rest_behind}
@@ -16,22 +16,22 @@ use Rattle.gc_station.specs.declared.mark.Mark.{Mark}
 use Rattle.gc_station.specs.declared.plan.Plan.{Plan}
 use Rattle.gc_links.specs.declared.link.Moment.{Moment}
 use Rattle.gc_links.specs.Acts.{Act, Gave}
-use Rattle.gc_station.specs.Answers.{IsBefore, IsAnsweredIn}
-use Rattle.gc_station.specs.Ends.{IsPast, TellsPast, IsOwnRequest, Brings, IsWrittenAt, IsLateIn, IsOvertaken}
+use Rattle.gc_station.specs.Answers.{ReadsBefore, IsAnsweredIn}
+use Rattle.gc_station.specs.Ends.{ReadsAtOrPast, OneReadsPast, IsOwnRequest, BringsLine, IsWrittenAt, IsLateIn, IsOvertaken}
 use Rattle.gc_station.specs.Marks.{records_of}
 use Rattle.gc_station.specs.Quiet.{IsAsking}
-use Rattle.gc_station.specs.Progressing.{turned, told}
+use Rattle.gc_station.specs.Progressing.{turned, moment_noted}
 use Rattle.gc_station.specs.Records.{Record}
-use Rattle.gc_station.specs.Runs.{stood}
-use Rattle.gc_station.specs.Model.{Model, action_at, request_text, with_progress, with_moment, with_rest, line_came, lines_came, lines_behind, came, Puts}
+use Rattle.gc_station.specs.Runs.{state_after}
+use Rattle.gc_station.specs.Model.{Model, action_at, request_text, with_progress, with_moment, with_rest, line_came, lines_came, lines_completed, after_piece, Puts}
 use Rattle.gc_station.proofs.Growing.{lines_records}
 use Rattle.gc_station.proofs.Lists.{all_append, all_split, cuts_on, Rows}
 use Rattle.gc_station.proofs.Meets.{HasPlace, EndedBy, heard_ended, heard_left, left_window, left_waits, records_all, IsRecordOf, was_answered, was_late, was_lost}
-use Rattle.gc_station.proofs.Waiting.{WasAsked, StayedAt, WaitsAt, IsTrue, IsHonest, past_more, past_here, expired_waits, expired_window, behind_moment, moment_told}
+use Rattle.gc_station.proofs.Waiting.{WasAsked, StayedAt, WaitsAt, IsJustified, IsHonest, past_more, past_here, expired_waits, expired_window, behind_moment, moment_told}
 use Rattle.gc_station.specs.Scopes.{Scope}
 
--- ids count from 0 to 7 and then from 0 again: the id at the place of the id `id`, among the `count` requests that wait before
--- the id `next`, is `id` again
+-- ids count from 0 to 7 and then from 0 again: the id at the place of the id `id`, among the `count` outstanding requests
+-- before the id `next`, is `id` again
 pub id_back : (next count id : ℕ) → next < 8 → count ≤ 7 → id < 8 → id_at next count (place_behind next count id) ≡ id
 id_back next count id digit few below = omega arith
 
@@ -45,14 +45,14 @@ regroup start news front r back more =
     append_assoc (start ++ news) (front ++ r ∷ back) more ∙ ap (λ xs. (start ++ news) ++ xs) (append_assoc front (r ∷ back) more)
     ∙ append_assoc start news (front ++ r ∷ (back ++ more)) ∙ ap (λ xs. start ++ xs) (sym (append_assoc news front (r ∷ (back ++ more))))
 
--- after some lines of the piece that an act brings, at the moment m, the model is x: the requests that wait were put among the
--- acts before that act, and the records so far are true by the acts up to it
+-- after some lines of the piece that an act brings, at the moment m, the model is x: the outstanding requests were put among
+-- the acts before that act, and the records so far are true by the acts up to it
 pub record Hears (plan : Plan) (commands : List Task) (scope : Scope) (acts : List Act) (piece : List ℕ) (m : Moment) (x : Model) : Type 0 where
   pub window : IsWindow x.client
-  pub waiting : Rows (WaitsAt plan commands scope acts (stood plan commands scope acts).client m.elapsed x.client.next (length x.client.waiting)) 0 0 x.client.waiting x.marks
-  pub written : AllByRecursion (IsTrue plan commands scope (acts ++ Gave piece m ∷ [])) x.records
+  pub waiting : Rows (WaitsAt plan commands scope acts (state_after plan commands scope acts).client m.elapsed x.client.next (length x.client.waiting)) 0 0 x.client.waiting x.marks
+  pub written : AllByRecursion (IsJustified plan commands scope (acts ++ Gave piece m ∷ [])) x.records
   pub news : List Record
-  pub grew : x.records ≡ (stood plan commands scope acts).records ++ news
+  pub grew : x.records ≡ (state_after plan commands scope acts).records ++ news
 
 -- `request`, the very request of the record r, was put after the acts `before`; and r was written at the act that brought the
 -- piece
@@ -68,7 +68,7 @@ written_down : (plan : Plan) (commands : List Task) (scope : Scope) (acts : List
     (mark : Mark) (r : Record) (news earlier later more : List Record)
     → r.cycle ≡ mark.cycle → r.place ≡ mark.place → r.sent ≡ Some mark.sent → p.call ≡ r.command.call
     → (s : WasAsked plan commands scope acts (StayedAt m.elapsed) number at id p (Some mark))
-    → (stood plan commands scope (acts ++ Gave piece m ∷ [])).records ≡ (((stood plan commands scope acts).records ++ news) ++ (earlier ++ r ∷ later)) ++ more
+    → (state_after plan commands scope (acts ++ Gave piece m ∷ [])).records ≡ (((state_after plan commands scope acts).records ++ news) ++ (earlier ++ r ∷ later)) ++ more
     → WrittenDown plan commands scope acts piece m s.before s.request s.between r
 written_down plan commands scope acts piece m number at id p mark r news earlier later more cycle place sent asks s ends =
     let its = s.its mark refl in
@@ -79,14 +79,14 @@ written_down plan commands scope acts piece m number at id p mark r news earlier
         cycle = cycle ∙ its.cycle;
         place = place ∙ its.place;
         sent = sent ∙ ap Some its.sent;
-        put = subst (λ (y : Asked). Puts (request_text (stood plan commands scope s.before).client y) s.request) asks s.put;
+        put = subst (λ (y : Asked). Puts (request_text (state_after plan commands scope s.before).client y) s.request) asks s.put;
       };
       written = record {
         earlier = news ++ earlier;
         later = later ++ more;
-        written = ap (λ (xs : List Act). (stood plan commands scope (xs ++ Gave piece m ∷ [])).records) (sym s.order) ∙ ends
-            ∙ regroup (stood plan commands scope acts).records news earlier r later more
-            ∙ ap (λ (xs : List Act). (stood plan commands scope xs).records ++ ((news ++ earlier) ++ r ∷ (later ++ more))) s.order;
+        written = ap (λ (xs : List Act). (state_after plan commands scope (xs ++ Gave piece m ∷ [])).records) (sym s.order) ∙ ends
+            ∙ regroup (state_after plan commands scope acts).records news earlier r later more
+            ∙ ap (λ (xs : List Act). (state_after plan commands scope xs).records ++ ((news ++ earlier) ++ r ∷ (later ++ more))) s.order;
       };
     }
 
@@ -96,38 +96,38 @@ id_heard c line at next w has is =
     let back = id_back c.next (length c.waiting) has.id w.digit w.few (id_digit line has.id has.has) in
     has.has ∙ ap Some (sym back ∙ ap (λ (k : ℕ). id_at c.next (length c.waiting) k) (sym has.is) ∙ is)
 
--- a line of the piece has the id `next`, which is that of the request at the place `at`: so the piece brings that id (`Brings`)
+-- a line of the piece has the id `next`, which is that of the request at the place `at`: so the piece brings that id (`BringsLine`)
 brings : (plan : Plan) (commands : List Task) (scope : Scope) (acts : List Act) (piece : List ℕ) (c : ById Asked) (front others : List (List ℕ)) (line : List ℕ)
     (at next : ℕ) (before : List Act) (request : Act) (between : List Act)
-    → front ++ line ∷ others ≡ lines_behind (stood plan commands scope acts).rest piece → acts ≡ before ++ request ∷ between → IsWindow c
+    → front ++ line ∷ others ≡ lines_completed (state_after plan commands scope acts).rest piece → acts ≡ before ++ request ∷ between → IsWindow c
     → HasPlace c (heard line) at → id_at c.next (length c.waiting) at ≡ next
-    → Brings plan commands scope (before ++ request ∷ between) piece next
+    → BringsLine plan commands scope (before ++ request ∷ between) piece next
 brings plan commands scope acts piece c front others line at next before request between split action w has is = record {
   front = front;
   line = line;
   others = others;
-  came = sym (ap (λ (xs : List Act). lines_behind (stood plan commands scope xs).rest piece) action) ∙ sym split;
+  came = sym (ap (λ (xs : List Act). lines_completed (state_after plan commands scope xs).rest piece) action) ∙ sym split;
   has = id_heard c line at next w has is;
 }
 
--- where a request isn't given up at the moment `now` (b), its deadline d is later than `now`, and than each moment that these
--- acts tell
-in_time : (now d : ℕ) (b : Bool) (acts : List Act) → b ≡ false → StayedAt now b d acts → AllByRecursion (IsBefore d) acts × (now < d)
+-- if a request hasn't timed out at the moment `now` (b), its deadline d is later than `now`, and than each moment that these
+-- acts read
+in_time : (now d : ℕ) (b : Bool) (acts : List Act) → b ≡ false → StayedAt now b d acts → AllByRecursion (ReadsBefore d) acts × (now < d)
 in_time now d true acts is both = cc
 in_time now d false acts is both = both
 
--- `acts` are those since a request with the deadline d was sent, and `act`, the next one, tells the moment `now`. If the request is given
--- up by then (b is true), one of them, `act` included, tells a moment at or past d. (`StayedAt`: whether it is given up is what the moments
--- told so far make it.)
-too_late : (now d : ℕ) (b : Bool) (acts : List Act) (act : Act) → b ≡ true → (d ≤ now → IsPast d act) → StayedAt now b d acts → TellsPast d (acts ++ act ∷ [])
-too_late now d true acts act is past (inl told) = past_more d acts (act ∷ []) told
+-- `acts` are those since a request with the deadline d was sent, and `act`, the next one, reads the moment `now`. If the
+-- request has timed out by then (b is true), one of them, `act` included, reads a moment at or past d. (`StayedAt`: whether it
+-- has timed out is what the moments read so far make it.)
+too_late : (now d : ℕ) (b : Bool) (acts : List Act) (act : Act) → b ≡ true → (d ≤ now → ReadsAtOrPast d act) → StayedAt now b d acts → OneReadsPast d (acts ++ act ∷ [])
+too_late now d true acts act is past (inl moment_noted) = past_more d acts (act ∷ []) moment_noted
 too_late now d true acts act is past (inr reached) = past_here d acts act (past reached)
 too_late now d false acts act is past both = cc
 
 -- the record of an answer, of the request with this mark, is as `IsAnsweredIn` says
 answered : (plan : Plan) (commands : List Task) (scope : Scope) (acts : List Act) (piece : List ℕ) (m : Moment) (c : ById Asked) (front others : List (List ℕ))
     (line l : List ℕ) (number at : ℕ) (p : Pending Asked) (mark : Mark) (r : Record)
-    → front ++ line ∷ others ≡ lines_behind (stood plan commands scope acts).rest piece → IsWindow c
+    → front ++ line ∷ others ≡ lines_completed (state_after plan commands scope acts).rest piece → IsWindow c
     → (s : WasAsked plan commands scope acts (StayedAt m.elapsed) number at (id_at c.next (length c.waiting) at) p (Some mark))
     → WrittenDown plan commands scope acts piece m s.before s.request s.between r
     → l ≡ line → p.given_up ≡ false → HasPlace c (heard line) at
@@ -147,21 +147,21 @@ answered plan commands scope acts piece m c front others line l number at p mark
       place = down.own.place;
       sent = down.own.sent;
       put = down.own.put;
-      waits = subst (λ (d : ℕ). AllByRecursion (IsBefore d) s.between) (s.deadline mark refl) both.0;
+      waits = subst (λ (d : ℕ). AllByRecursion (ReadsBefore d) s.between) (s.deadline mark refl) both.0;
       in_time = subst (λ (d : ℕ). m.elapsed < d) (s.deadline mark refl) both.1;
       front = front;
       others = others;
-      came = sym (ap (λ (xs : List Act). lines_behind (stood plan commands scope xs).rest piece) s.order) ∙ sym split ∙ ap (λ y. front ++ y ∷ others) (sym same);
+      came = sym (ap (λ (xs : List Act). lines_completed (state_after plan commands scope xs).rest piece) s.order) ∙ sym split ∙ ap (λ y. front ++ y ∷ others) (sym same);
       id = ap heard same ∙ id_heard c line at _ w has s.id;
       earlier = down.written.earlier;
       later = down.written.later;
-      written = ap (λ (xs : List Act). (stood plan commands scope xs).records) (sym (append_assoc s.before (s.request ∷ s.between) (Gave piece m ∷ []))) ∙ down.written.written;
+      written = ap (λ (xs : List Act). (state_after plan commands scope xs).records) (sym (append_assoc s.before (s.request ∷ s.between) (Gave piece m ∷ []))) ∙ down.written.written;
     }
 
 -- the record of a late reply, of the request with this mark, is as `IsLateIn` says
 late : (plan : Plan) (commands : List Task) (scope : Scope) (acts : List Act) (piece : List ℕ) (m : Moment) (c : ById Asked) (front others : List (List ℕ))
     (line : List ℕ) (number at : ℕ) (p : Pending Asked) (mark : Mark) (r : Record)
-    → front ++ line ∷ others ≡ lines_behind (stood plan commands scope acts).rest piece → IsWindow c
+    → front ++ line ∷ others ≡ lines_completed (state_after plan commands scope acts).rest piece → IsWindow c
     → (s : WasAsked plan commands scope acts (StayedAt m.elapsed) number at (id_at c.next (length c.waiting) at) p (Some mark))
     → WrittenDown plan commands scope acts piece m s.before s.request s.between r
     → p.given_up ≡ true → HasPlace c (heard line) at
@@ -175,7 +175,7 @@ late plan commands scope acts piece m c front others line number at p mark r spl
   behind = [];
   order = down.order;
   own = down.own;
-  too_late = subst (λ (d : ℕ). TellsPast d (s.between ++ Gave piece m ∷ [])) (s.deadline mark refl)
+  too_late = subst (λ (d : ℕ). OneReadsPast d (s.between ++ Gave piece m ∷ [])) (s.deadline mark refl)
       (too_late m.elapsed p.deadline p.given_up s.between (Gave piece m) given (λ reached. reached) s.stays);
   came = brings plan commands scope acts piece c front others line at _ s.before s.request s.between split s.order w has s.id;
   written = down.written;
@@ -184,9 +184,9 @@ late plan commands scope acts piece m c front others line number at p mark r spl
 -- a request that is lost was overtaken: the piece brings the reply to a request that was put after it, and that waits
 overtaken : (plan : Plan) (commands : List Task) (scope : Scope) (acts : List Act) (piece : List ℕ) (m : Moment) (c : ById Asked) (front others : List (List ℕ))
     (line : List ℕ) (number at there : ℕ) (p q : Pending Asked) (mark mark' : Option Mark) (number' : ℕ)
-    → front ++ line ∷ others ≡ lines_behind (stood plan commands scope acts).rest piece → IsWindow c
+    → front ++ line ∷ others ≡ lines_completed (state_after plan commands scope acts).rest piece → IsWindow c
     → (s : WasAsked plan commands scope acts (StayedAt m.elapsed) number at (id_at c.next (length c.waiting) at) p mark)
-    → WaitsAt plan commands scope acts (stood plan commands scope acts).client m.elapsed c.next (length c.waiting) number' there q mark'
+    → WaitsAt plan commands scope acts (state_after plan commands scope acts).client m.elapsed c.next (length c.waiting) number' there q mark'
     → number < number' → at < there → HasPlace c (heard line) there
     → IsOvertaken plan commands scope s.before s.request s.between (Gave piece m)
 overtaken plan commands scope acts piece m c front others line number at there p q mark mark' number' split w s waits low above has =
@@ -200,40 +200,40 @@ overtaken plan commands scope acts piece m c front others line number at there p
       other = t.request;
       next = t.between;
       order = cut.splits;
-      asks = subst (λ (xs : List Act). IsAsking (action_at plan (stood plan commands scope xs))) on (t.asks above_none);
+      asks = subst (λ (xs : List Act). IsAsking (action_at plan (state_after plan commands scope xs))) on (t.asks above_none);
       call = q.call;
-      put = subst (λ (xs : List Act). Puts (request_text (stood plan commands scope xs).client q.call) t.request) on t.put;
-      waits = subst (λ (xs : List Act). Waits (stood plan commands scope (s.before ++ s.request ∷ s.between)).client (stood plan commands scope xs).client.next) on
-          (subst (λ (i : ℕ). Waits (stood plan commands scope (s.before ++ s.request ∷ s.between)).client i) t.id
-          (subst (λ (xs : List Act). Waits (stood plan commands scope xs).client (id_at c.next (length c.waiting) there)) s.order waits.1));
+      put = subst (λ (xs : List Act). Puts (request_text (state_after plan commands scope xs).client q.call) t.request) on t.put;
+      waits = subst (λ (xs : List Act). Waits (state_after plan commands scope (s.before ++ s.request ∷ s.between)).client (state_after plan commands scope xs).client.next) on
+          (subst (λ (i : ℕ). Waits (state_after plan commands scope (s.before ++ s.request ∷ s.between)).client i) t.id
+          (subst (λ (xs : List Act). Waits (state_after plan commands scope xs).client (id_at c.next (length c.waiting) there)) s.order waits.1));
       piece = piece;
       moment = m;
       reads = refl;
       came = brings plan commands scope acts piece c front others line there _ s.before s.request s.between split s.order w has
-          (t.id ∙ ap (λ (xs : List Act). (stood plan commands scope xs).client.next) on);
+          (t.id ∙ ap (λ (xs : List Act). (state_after plan commands scope xs).client.next) on);
     }
 
 -- this record is of a request that the line settles (`EndedBy`)
 abbrev pub IsRecorded : Plan → List Task → Scope → List Act → ℕ → ById Asked → List ℕ → Record → Type 0
 IsRecorded plan commands scope acts now c line r =
     (at : ℕ) × (mark : Mark) × (x : Settlement Asked) × (r.cycle ≡ mark.cycle) × (r.place ≡ mark.place) × (r.sent ≡ Some mark.sent) × IsRecordOf r x
-    × EndedBy (WaitsAt plan commands scope acts (stood plan commands scope acts).client now c.next (length c.waiting)) c (heard line) line at x (Some mark)
+    × EndedBy (WaitsAt plan commands scope acts (state_after plan commands scope acts).client now c.next (length c.waiting)) c (heard line) line at x (Some mark)
 
 -- each record of a line is of a request that the line settles
 pub line_written : (plan : Plan) (commands : List Task) (scope : Scope) (acts : List Act) (reads : Asked → List ℕ → Reading) (now utc : ℕ) (c : ById Asked) (marks : List (Option Mark)) (line : List ℕ)
-    → Rows (WaitsAt plan commands scope acts (stood plan commands scope acts).client now c.next (length c.waiting)) 0 0 c.waiting marks
+    → Rows (WaitsAt plan commands scope acts (state_after plan commands scope acts).client now c.next (length c.waiting)) 0 0 c.waiting marks
     → AllByRecursion (IsRecorded plan commands scope acts now c line) (records_of reads utc marks (hears c line (heard line)).settlements)
 line_written plan commands scope acts reads now utc c marks line waits =
-    let W = WaitsAt plan commands scope acts (stood plan commands scope acts).client now c.next (length c.waiting) in
+    let W = WaitsAt plan commands scope acts (state_after plan commands scope acts).client now c.next (length c.waiting) in
     records_all (EndedBy W c (heard line) line) (IsRecorded plan commands scope acts now c line) reads utc 0 (hears c line (heard line)).settlements marks
     (λ i y mark ended. (i, mark, y, refl, refl, refl, record { reads = reads; expected = mark.expected; command = refl; ended = refl }, ended)) (heard_ended W c marks line (heard line) waits)
 
 -- the record of a request that a line settles is true
 line_true : (plan : Plan) (commands : List Task) (scope : Scope) (acts : List Act) (piece : List ℕ) (m : Moment) (c : ById Asked) (front others : List (List ℕ))
     (line : List ℕ) (r : Record) (news earlier later more : List Record)
-    → front ++ line ∷ others ≡ lines_behind (stood plan commands scope acts).rest piece → IsWindow c
-    → (stood plan commands scope (acts ++ Gave piece m ∷ [])).records ≡ (((stood plan commands scope acts).records ++ news) ++ (earlier ++ r ∷ later)) ++ more
-    → IsRecorded plan commands scope acts m.elapsed c line r → IsTrue plan commands scope (acts ++ Gave piece m ∷ []) r
+    → front ++ line ∷ others ≡ lines_completed (state_after plan commands scope acts).rest piece → IsWindow c
+    → (state_after plan commands scope (acts ++ Gave piece m ∷ [])).records ≡ (((state_after plan commands scope acts).records ++ news) ++ (earlier ++ r ∷ later)) ++ more
+    → IsRecorded plan commands scope acts m.elapsed c line r → IsJustified plan commands scope (acts ++ Gave piece m ∷ []) r
 line_true plan commands scope acts piece m c front others line r news earlier later more split w ends it =
     let at = it.0 in
     let mark = it.1 in
@@ -261,14 +261,14 @@ line_true plan commands scope acts piece m c front others line r news earlier la
           };
     }
 
--- `Hears` lasts over the lines of a piece
+-- `Hears` is preserved by the lines of a piece
 pub hear_all : (plan : Plan) (commands : List Task) (scope : Scope) (acts : List Act) (piece : List ℕ) (m : Moment) (front lines : List (List ℕ)) (x : Model) (tail : List Record)
-    → front ++ lines ≡ lines_behind (stood plan commands scope acts).rest piece
-    → (stood plan commands scope (acts ++ Gave piece m ∷ [])).records ≡ (lines_came x lines).records ++ tail
+    → front ++ lines ≡ lines_completed (state_after plan commands scope acts).rest piece
+    → (state_after plan commands scope (acts ++ Gave piece m ∷ [])).records ≡ (lines_came x lines).records ++ tail
     → Hears plan commands scope acts piece m x → Hears plan commands scope acts piece m (lines_came x lines)
 hear_all plan commands scope acts piece m front [] x tail split ends h = h
 hear_all plan commands scope acts piece m front (line ∷ others) x tail split ends h =
-    let R = IsTrue plan commands scope (acts ++ Gave piece m ∷ []) in
+    let R = IsJustified plan commands scope (acts ++ Gave piece m ∷ []) in
     let c = x.client in
     let done = hears c line (heard line) in
     let written : List Record = records_of x.reads x.progress.moment.utc x.marks done.settlements in
@@ -279,46 +279,46 @@ hear_all plan commands scope acts piece m front (line ∷ others) x tail split e
     (λ (earlier : List Record) (r : Record) (later : List Record) at said.
     line_true plan commands scope acts piece m c front others line r h.news earlier later (more.0 ++ tail) split h.window
     (ends ∙ ap (λ xs. xs ++ tail) more.1 ∙ append_assoc (x.records ++ written) more.0 tail ∙ ap (λ xs. (xs ++ written) ++ (more.0 ++ tail)) h.grew
-    ∙ ap (λ xs. (((stood plan commands scope acts).records ++ h.news) ++ xs) ++ (more.0 ++ tail)) (sym at))
+    ∙ ap (λ xs. (((state_after plan commands scope acts).records ++ h.news) ++ xs) ++ (more.0 ++ tail)) (sym at))
     said)
     all_written in
     hear_all plan commands scope acts piece m (front ++ line ∷ []) others (line_came x line) tail (append_assoc front (line ∷ []) others ∙ split) ends
     (record {
       window = left_window c done left h.window;
-      waiting = left_waits plan commands scope acts (stood plan commands scope acts).client m.elapsed c done x.marks left h.window h.waiting;
+      waiting = left_waits plan commands scope acts (state_after plan commands scope acts).client m.elapsed c done x.marks left h.window h.waiting;
       written = all_append R x.records written h.written true_written;
       news = h.news ++ written;
-      grew = ap (λ xs. xs ++ written) h.grew ∙ append_assoc (stood plan commands scope acts).records h.news written;
+      grew = ap (λ xs. xs ++ written) h.grew ∙ append_assoc (state_after plan commands scope acts).records h.news written;
     })
 
 -- once the lines of a piece were heard, `IsHonest` holds after the act that brought it
 pub behind_piece : (plan : Plan) (commands : List Task) (scope : Scope) (acts : List Act) (piece : List ℕ) (m : Moment) (x : Model)
     → Hears plan commands scope acts piece m x → IsHonest plan commands scope (acts ++ Gave piece m ∷ []) (acts ++ Gave piece m ∷ []) x
 behind_piece plan commands scope acts piece m x h = record {
-  waiting = behind_moment plan commands scope acts (Gave piece m) (stood plan commands scope acts).client m.elapsed _ _ x.client.waiting x.marks (λ d low. low) (λ d past. past) h.waiting;
+  waiting = behind_moment plan commands scope acts (Gave piece m) (state_after plan commands scope acts).client m.elapsed _ _ x.client.waiting x.marks (λ d low. low) (λ d past. past) h.waiting;
   written = h.written;
 }
 
--- the model before the lines of a piece: the moment was told, and requests were given up
+-- the model before the lines of a piece: the moment was read, and requests timed out
 abbrev pub piece_before : Moment → Model → Model
-piece_before m s = with_moment m (with_progress (told m) (with_progress turned s))
+piece_before m s = with_moment m (with_progress (moment_noted m) (with_progress turned s))
 
--- an act that brings a piece keeps `IsHonest`
+-- an act that brings a piece preserves `IsHonest`
 pub piece_honest : (plan : Plan) (commands : List Task) (scope : Scope) (acts : List Act) (piece : List ℕ) (m : Moment) (b : Bool) (word : List ℕ) (tail : List Record)
-    → (stood plan commands scope (acts ++ Gave piece m ∷ [])).records ≡ (came b word piece (piece_before m (stood plan commands scope acts))).records ++ tail
-    → IsWindow (stood plan commands scope acts).client
-    → IsHonest plan commands scope acts (acts ++ Gave piece m ∷ []) (stood plan commands scope acts)
-    → IsHonest plan commands scope (acts ++ Gave piece m ∷ []) (acts ++ Gave piece m ∷ []) (came b word piece (piece_before m (stood plan commands scope acts)))
+    → (state_after plan commands scope (acts ++ Gave piece m ∷ [])).records ≡ (after_piece b word piece (piece_before m (state_after plan commands scope acts))).records ++ tail
+    → IsWindow (state_after plan commands scope acts).client
+    → IsHonest plan commands scope acts (acts ++ Gave piece m ∷ []) (state_after plan commands scope acts)
+    → IsHonest plan commands scope (acts ++ Gave piece m ∷ []) (acts ++ Gave piece m ∷ []) (after_piece b word piece (piece_before m (state_after plan commands scope acts)))
 piece_honest plan commands scope acts piece m false word tail ends window h =
-    let s = stood plan commands scope acts in
+    let s = state_after plan commands scope acts in
     moment_told plan commands scope acts (Gave piece m) m.elapsed s.client s.marks s.records (λ d low. low) (λ d past. past) h
 piece_honest plan commands scope acts piece m true (asked ∷ others) tail ends window h =
-    let s = stood plan commands scope acts in
+    let s = state_after plan commands scope acts in
     moment_told plan commands scope acts (Gave piece m) m.elapsed s.client s.marks s.records (λ d low. low) (λ d past. past) h
 piece_honest plan commands scope acts piece m true [] tail ends window h =
-    let s = stood plan commands scope acts in
+    let s = state_after plan commands scope acts in
     behind_piece plan commands scope acts piece m _
-    (hear_all plan commands scope acts piece m [] (lines_behind s.rest piece) (with_rest (rest_behind s.rest piece) (piece_before m s)) tail refl ends
+    (hear_all plan commands scope acts piece m [] (lines_completed s.rest piece) (with_rest (rest_behind s.rest piece) (piece_before m s)) tail refl ends
     (record {
       window = expired_window s.client m.elapsed window;
       waiting = expired_waits plan commands scope acts m.elapsed s.client s.marks h.waiting;

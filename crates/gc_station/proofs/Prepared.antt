@@ -1,5 +1,5 @@
--- No command of a cycle goes out before the set-up is done: each command of it was answered well, in order, since the connection was made and the
--- station began. So it is before each command of the set-up, and those in front of it.
+-- No command of a cycle is sent before the setup is done: each command of it was answered well, in order, since the connection
+-- was made and the station synchronized. So it is before each command of the setup, and those before it.
 use Rattle.std.proofs.Common.{◌≡◌, ◌⊎◌, inl, inr, ℕ, zero, suc, ◌+◌, ◌<◌, ◌≤◌, ◌&&◌, ◌||◌, Bool, true, false, not, nat_eq, nat_le, nat_lt, min, List, [], ◌∷◌, ◌++◌, length, drop, map, refl, sym, ap, ◌∙◌, subst, arith, append_assoc, append-nil, leb-true, eqb-true, lt-ltb}
 use Rattle.std.proofs.lemmas.List.{map-append}
 use Rattle.gc_texts.specs.declared.tasks.Task.{Task}
@@ -14,39 +14,39 @@ use Rattle.gc_station.specs.Progressing.{turned, is_over_in, loses_all}
 use Rattle.gc_station.specs.Quiet.{KeepsOpen}
 use Rattle.gc_station.specs.Reasons.{IsFor}
 use Rattle.gc_station.specs.Records.{Record}
-use Rattle.gc_station.specs.Runs.{stood}
+use Rattle.gc_station.specs.Runs.{state_after}
 use Rattle.gc_station.specs.Scopes.{Scope}
 use Rattle.gc_station.specs.Model.{Model, opening, action_at, waiting_of, mark_setup, with_progress, Performs, moved, after, after_all, Runs}
-use Rattle.gc_station.specs.Setups.{Dispatch, of_record, of_mark, of_marks, sent_as, StaysUp, ArePrepared, NoneBeforeTheSetUp, SetUpInOrder}
+use Rattle.gc_station.specs.Setups.{Dispatch, dispatch_of_record, dispatch_of_mark, dispatches_of, sent_as, StaysUp, ArePrepared, NoneBeforeTheSetUp, SetUpInOrder}
 use Rattle.gc_station.proofs.Always.{always, progress_behind}
-use Rattle.gc_station.proofs.Chaining.{stays_open}
+use Rattle.gc_station.proofs.ChainSteps.{stays_open}
 use Rattle.gc_station.proofs.EachRun.{fine_stood}
 use Rattle.gc_station.proofs.Facts.{action_for}
 use Rattle.gc_station.proofs.Going.{after_all-append}
-use Rattle.gc_station.proofs.Midway.{clash}
 use Rattle.gc_station.proofs.SentAt.{records_stay}
 use Rattle.gc_station.proofs.Setups.{row_of, row_losing, row_prepared, row_kept, none_marked, prepares, sends_it}
 use Rattle.gc_station.proofs.Turns.{over_stays}
 use Rattle.gc_station.proofs.Walk.{closed_along, is_sent, moved_changed}
 use Rattle.gc_station.proofs.Words.{begun_other}
+use Rattle.gc_station.proofs.Ticking.{not_both}
 
 -- Records.
 
--- where the commands of some records end with one, the records end with one of that command
-split_last : (rs : List Record) (xs : List Dispatch) (x : Dispatch) → map of_record rs ≡ xs ++ x ∷ [] → (mid : List Record) × (r : Record) × (rs ≡ mid ++ r ∷ []) × (of_record r ≡ x)
+-- if the commands of some records end with one, the records end with one of that command
+split_last : (rs : List Record) (xs : List Dispatch) (x : Dispatch) → map dispatch_of_record rs ≡ xs ++ x ∷ [] → (mid : List Record) × (r : Record) × (rs ≡ mid ++ r ∷ []) × (dispatch_of_record r ≡ x)
 split_last [] [] x e = cc
 split_last [] (y ∷ xs) x e = cc
-split_last (r ∷ []) [] x e = let same : of_record r ≡ x = cc in ([], r, refl, same)
+split_last (r ∷ []) [] x e = let same : dispatch_of_record r ≡ x = cc in ([], r, refl, same)
 split_last (r ∷ q ∷ rs) [] x e = cc
 split_last (r ∷ rs) (y ∷ xs) x e =
-    let tail : map of_record rs ≡ xs ++ x ∷ [] = ap (drop 1) e in
+    let tail : map dispatch_of_record rs ≡ xs ++ x ∷ [] = ap (drop 1) e in
     let it = split_last rs xs x tail in
     (r ∷ it.0, it.1, ap (λ ys. r ∷ ys) it.2, it.3)
 
--- what is behind the same front is the same
-cancel : {A : Type 0} (xs ys zs : List A) → xs ++ ys ≡ xs ++ zs → ys ≡ zs
-cancel [] ys zs e = e
-cancel (x ∷ xs) ys zs e = cancel xs ys zs (ap (drop 1) e)
+-- if two lists with the same front are equal, what follows the front is equal
+append_cancel : {A : Type 0} (xs ys zs : List A) → xs ++ ys ≡ xs ++ zs → ys ≡ zs
+append_cancel [] ys zs e = e
+append_cancel (x ∷ xs) ys zs e = append_cancel xs ys zs (ap (drop 1) e)
 
 -- the last of records decides whether the last command was answered well
 last_end : (b : Bool) (rs : List Record) (r : Record) → last_well b (rs ++ r ∷ []) ≡ is_well r.end
@@ -55,7 +55,7 @@ last_end b (x ∷ rs) r = last_end (is_well x.end) rs r
 
 -- Numbers and tests.
 
--- what is below the number behind j is below j, or j itself
+-- a number below j + 1 is below j, or is j
 below_or_last : (n j : ℕ) → n < suc j → (n < j) ⊎ (n ≡ j)
 below_or_last zero zero h = inr refl
 below_or_last zero (suc j) h = inl (omega arith)
@@ -66,29 +66,30 @@ below_or_last (suc n) (suc j) h =
       | inr e ↦ inr (ap suc e)
     ]
 
--- three tests hold, where the negation of all of them doesn't
-three : (a b c : Bool) → (true && not (a && b && c)) ≡ false → (a ≡ true) × (b ≡ true) × (c ≡ true)
-three true true true e = (refl, refl, refl)
-three false b c e = cc
-three true false c e = cc
-three true true false e = cc
+-- if "not all three" is false, all three tests are true
+all_three : (a b c : Bool) → (true && not (a && b && c)) ≡ false → (a ≡ true) × (b ≡ true) × (c ≡ true)
+all_three true true true e = (refl, refl, refl)
+all_three false b c e = cc
+all_three true false c e = cc
+all_three true true false e = cc
 
--- the first of two tests that hold together
+-- if two tests are true together, the first is true
 first_true : (a b : Bool) → (a && b) ≡ true → a ≡ true
 first_true true b e = refl
 first_true false b e = cc
 
--- 0 is below a number above it
-above : (n : ℕ) → 0 < n → nat_lt 0 n ≡ true
-above n some = lt-ltb 0 n some
+-- the test for "above 0" is true of a number above 0
+above_zero : (n : ℕ) → 0 < n → nat_lt 0 n ≡ true
+above_zero n some = lt-ltb 0 n some
 
 module _ (plan : Plan) (commands : List Task) (scope : Scope) where
   -- the model after these acts
   abbrev at : List Act → Model
-  at acts = stood plan commands scope acts
+  at acts = state_after plan commands scope acts
 
-  -- after these acts, the first j commands of the set-up were answered well, and the one at place j went out, which is the last of the row
-  record Partly (j : ℕ) (acts : List Act) : Type 0 where
+  -- after these acts, the first j commands of the setup were answered well, and the one at place j was sent, which is the last
+  -- of the row
+  record SentAfterPrepared (j : ℕ) (acts : List Act) : Type 0 where
     done : ArePrepared plan commands scope acts j
     before : List Act
     request : Act
@@ -100,17 +101,18 @@ module _ (plan : Plan) (commands : List Task) (scope : Scope) where
     more : List Record
     written : (at acts).records ≡ (at before).records ++ more
     xs : List Dispatch
-    row : row_of (at acts) ≡ map of_record (at before).records ++ (xs ++ of_mark (mark_setup commands (at before).progress) ∷ [])
+    row : row_of (at acts) ≡ map dispatch_of_record (at before).records ++ (xs ++ dispatch_of_mark (mark_setup commands (at before).progress) ∷ [])
 
-  -- where the last one is settled, and was answered well, one more was
-  finish : (j : ℕ) (acts : List Act) → commands_in (at acts).marks ≡ 0 → last_well false (at acts).records ≡ true → Partly j acts → ArePrepared plan commands scope acts (suc j)
-  finish j acts none good p place below =
+  -- if all commands are settled and the last record was answered well, the first j + 1 commands of the setup were
+  one_more_prepared : (j : ℕ) (acts : List Act) → commands_in (at acts).marks ≡ 0 → last_well false (at acts).records ≡ true → SentAfterPrepared j acts → ArePrepared plan commands scope acts (suc j)
+  one_more_prepared j acts none good p place below =
       let s = at acts in
       let old = (at p.before).records in
-      let x = of_mark (mark_setup commands (at p.before).progress) in
-      let all : row_of s ≡ map of_record old ++ map of_record p.more =
-      ap (λ ys. map of_record s.records ++ ys) (none_marked s.marks none) ∙ append-nil (map of_record s.records) ∙ ap (map of_record) p.written ∙ map-append of_record old p.more in
-      let it = split_last p.more p.xs x (cancel (map of_record old) (map of_record p.more) (p.xs ++ x ∷ []) (sym all ∙ p.row)) in
+      let x = dispatch_of_mark (mark_setup commands (at p.before).progress) in
+      let all : row_of s ≡ map dispatch_of_record old ++ map dispatch_of_record p.more =
+      ap (λ ys. map dispatch_of_record s.records ++ ys) (none_marked s.marks none) ∙ append-nil (map dispatch_of_record s.records) ∙ ap
+      (map dispatch_of_record) p.written ∙ map-append dispatch_of_record old p.more in
+      let it = split_last p.more p.xs x (append_cancel (map dispatch_of_record old) (map dispatch_of_record p.more) (p.xs ++ x ∷ []) (sym all ∙ p.row)) in
       let r : Record = it.1 in
       let written : s.records ≡ old ++ (it.0 ++ r ∷ []) = p.written ∙ ap (λ ys. old ++ ys) it.2 in
       let flat : s.records ≡ (old ++ it.0) ++ r ∷ [] = written ∙ sym (append_assoc old it.0 (r ∷ [])) in
@@ -133,21 +135,22 @@ module _ (plan : Plan) (commands : List Task) (scope : Scope) where
         }
       ]
 
-  -- `StaysUp` holds with one act more that closes no connection, if the station has begun after it
+  -- `StaysUp` holds after one more act that closes no connection, if the station has synchronized after it
   stays_more : (s : Model) (xs : List Act) (act : Act) → StaysUp plan commands s xs → KeepsOpen act → has_begun (after_all plan commands s (xs ++ act ∷ [])).progress ≡ true
       → StaysUp plan commands s (xs ++ act ∷ [])
   stays_more s [] act h keeps begun = (keeps, begun, tt)
   stays_more s (x ∷ xs) act h keeps begun = (h.0, h.1, stays_more (after plan commands s x) xs act h.2 keeps begun)
 
-  -- the acts since a request, with one more, where no connection was closed and the station is begun after it
+  -- the acts since a request, with one more, if no connection was closed and the station is synchronized after it
   since_more : (acts before since : List Act) (act : Act) → acts ≡ before ++ since → StaysUp plan commands (at before) since → KeepsOpen act
       → has_begun (at (acts ++ act ∷ [])).progress ≡ true → (acts ++ act ∷ [] ≡ before ++ (since ++ act ∷ [])) × StaysUp plan commands (at before) (since ++ act ∷ [])
   since_more acts before since act order stays keeps begun =
       let longer : acts ++ act ∷ [] ≡ before ++ (since ++ act ∷ []) = ap (λ xs. xs ++ act ∷ []) order ∙ append_assoc before since (act ∷ []) in
-      let there = ap (λ (x : Model). has_begun x.progress) (sym (ap (stood plan commands scope) longer ∙ after_all-append plan commands (opening plan scope) before (since ++ act ∷ []))) ∙ begun in
+      let there = ap (λ (x : Model). has_begun x.progress)
+      (sym (ap (state_after plan commands scope) longer ∙ after_all-append plan commands (opening plan scope) before (since ++ act ∷ []))) ∙ begun in
       (longer, stays_more (at before) since act stays keeps there)
 
-  -- an act that closes no connection, behind which the station is begun, keeps `ArePrepared`
+  -- an act that closes no connection, after which the station is synchronized, preserves `ArePrepared`
   prepared_more : (n : ℕ) (acts : List Act) (act : Act) → KeepsOpen act → has_begun (at (acts ++ act ∷ [])).progress ≡ true → ArePrepared plan commands scope acts n
       → ArePrepared plan commands scope (acts ++ act ∷ []) n
   prepared_more n acts act keeps begun h place below =
@@ -173,10 +176,10 @@ module _ (plan : Plan) (commands : List Task) (scope : Scope) where
         well = d.well;
       }
 
-  -- it keeps `Partly`, if it leaves the row
-  partly_more : (j : ℕ) (acts : List Act) (act : Act) → KeepsOpen act → has_begun (at (acts ++ act ∷ [])).progress ≡ true → row_of (at (acts ++ act ∷ [])) ≡ row_of (at acts) → Partly j acts
-      → Partly j (acts ++ act ∷ [])
-  partly_more j acts act keeps begun same d =
+  -- an act that closes no connection, after which the station is synchronized, and which leaves the row, preserves `SentAfterPrepared`
+  sent_kept : (j : ℕ) (acts : List Act) (act : Act) → KeepsOpen act → has_begun (at (acts ++ act ∷ [])).progress ≡ true → row_of (at (acts ++ act ∷ [])) ≡ row_of (at acts) → SentAfterPrepared j acts
+      → SentAfterPrepared j (acts ++ act ∷ [])
+  sent_kept j acts act keeps begun same d =
       let its = since_more acts d.before (d.request ∷ d.behind) act d.order d.stays keeps begun in
       let grew = records_stay plan commands scope acts (act ∷ []) in
       record {
@@ -194,11 +197,11 @@ module _ (plan : Plan) (commands : List Task) (scope : Scope) where
         row = same ∙ d.row;
       }
 
-  -- a command of the set-up that goes out behind j that were answered well, and is the last of the row
-  partly_sent : (j : ℕ) (acts : List Act) (act : Act) → KeepsOpen act → has_begun (at (acts ++ act ∷ [])).progress ≡ true → action_at plan (at acts) ≡ action.Prepare
-      → (at acts).progress.prepared ≡ j → row_of (at (acts ++ act ∷ [])) ≡ row_of (at acts) ++ of_mark (mark_setup commands (at acts).progress) ∷ [] → ArePrepared plan commands scope acts j
-      → Partly j (acts ++ act ∷ [])
-  partly_sent j acts act keeps begun sends place longer d =
+  -- a command of the setup that is sent after j that were answered well, and is the last of the row
+  sent_next : (j : ℕ) (acts : List Act) (act : Act) → KeepsOpen act → has_begun (at (acts ++ act ∷ [])).progress ≡ true → action_at plan (at acts) ≡ action.Prepare
+      → (at acts).progress.prepared ≡ j → row_of (at (acts ++ act ∷ [])) ≡ row_of (at acts) ++ dispatch_of_mark (mark_setup commands (at acts).progress) ∷ [] → ArePrepared plan commands scope acts j
+      → SentAfterPrepared j (acts ++ act ∷ [])
+  sent_next j acts act keeps begun sends place longer d =
       let s = at acts in
       let there = ap (λ (x : Model). has_begun x.progress) (sym (after_all-append plan commands (opening plan scope) acts (act ∷ []))) ∙ begun in
       let grew = records_stay plan commands scope acts (act ∷ []) in
@@ -213,192 +216,201 @@ module _ (plan : Plan) (commands : List Task) (scope : Scope) where
         stays = (keeps, there, tt);
         more = grew.0;
         written = grew.1;
-        xs = of_marks s.marks;
-        row = longer ∙ append_assoc (map of_record s.records) (of_marks s.marks) (of_mark (mark_setup commands s.progress) ∷ []);
+        xs = dispatches_of s.marks;
+        row = longer ∙ append_assoc (map dispatch_of_record s.records) (dispatches_of s.marks) (dispatch_of_mark (mark_setup commands s.progress) ∷ []);
       }
 
-  -- what holds by whether the set-up's turn isn't over (`preparing`), and by how many of its commands went out (`prepared`)
-  abbrev By : Bool → ℕ → List Act → Type 0
-  By false k acts = (has_begun (at acts).progress ≡ true) × ArePrepared plan commands scope acts plan.setup
-  By true zero acts = Unit {0}
-  By true (suc j) acts = (has_begun (at acts).progress ≡ true) × Partly j acts
+  -- what holds of the setup, by `preparing` (the setup isn't over) and `prepared` (how many of its commands were sent on this connection)
+  abbrev SetupFits : Bool → ℕ → List Act → Type 0
+  SetupFits false k acts = (has_begun (at acts).progress ≡ true) × ArePrepared plan commands scope acts plan.setup
+  SetupFits true zero acts = Unit {0}
+  SetupFits true (suc j) acts = (has_begun (at acts).progress ≡ true) × SentAfterPrepared j acts
 
-  -- that, of the station as it stands; or the run is over
-  abbrev Stands : List Act → Type 0
-  Stands acts = (is_over_in (at acts).progress.phase ≡ true) ⊎ By (at acts).progress.preparing (at acts).progress.prepared acts
+  -- `SetupFits` holds for the fields of the station after these acts, or the run is over
+  abbrev SetupFitsNow : List Act → Type 0
+  SetupFitsNow acts = (is_over_in (at acts).progress.phase ≡ true) ⊎ SetupFits (at acts).progress.preparing (at acts).progress.prepared acts
 
-  -- where the set-up is done, each of its commands was answered well
-  done_so : (some : 0 < plan.setup) (b : Bool) (k : ℕ) (acts : List Act) → By b k acts
+  -- if the setup is done, each of its commands was answered well
+  prepared_if_done : (some : 0 < plan.setup) (b : Bool) (k : ℕ) (acts : List Act) → SetupFits b k acts
       → (b && not (nat_le plan.setup k && nat_eq (commands_in (at acts).marks) 0 && last_well false (at acts).records)) ≡ false
       → (has_begun (at acts).progress ≡ true) × ArePrepared plan commands scope acts plan.setup
-  done_so some false k acts h e = h
-  done_so some true zero acts h e =
-      let it = three (nat_le plan.setup 0) (nat_eq (commands_in (at acts).marks) 0) (last_well false (at acts).records) e in
+  prepared_if_done some false k acts h e = h
+  prepared_if_done some true zero acts h e =
+      let it = all_three (nat_le plan.setup 0) (nat_eq (commands_in (at acts).marks) 0) (last_well false (at acts).records) e in
       let none = leb-true plan.setup 0 it.0 in absurd (omega (arith, none, some))
-  done_so some true (suc j) acts h e =
-      let it = three (nat_le plan.setup (suc j)) (nat_eq (commands_in (at acts).marks) 0) (last_well false (at acts).records) e in
-      let all = finish j acts (eqb-true (commands_in (at acts).marks) 0 it.1) it.2 h.1 in
+  prepared_if_done some true (suc j) acts h e =
+      let it = all_three (nat_le plan.setup (suc j)) (nat_eq (commands_in (at acts).marks) 0) (last_well false (at acts).records) e in
+      let all = one_more_prepared j acts (eqb-true (commands_in (at acts).marks) 0 it.1) it.2 h.1 in
       let enough = leb-true plan.setup (suc j) it.0 in
       (h.0, λ place below. all place (omega (arith, below, enough)))
 
-  -- where the next command of the set-up may go out, each one before it was answered well
-  next_so : (b : Bool) (k : ℕ) (acts : List Act) → By b k acts → b ≡ true → (k ≡ 0) ⊎ ((commands_in (at acts).marks ≡ 0) × (last_well false (at acts).records ≡ true))
+  -- if the next command of the setup may be sent, each one before it was answered well
+  prepared_before_next : (b : Bool) (k : ℕ) (acts : List Act) → SetupFits b k acts → b ≡ true → (k ≡ 0) ⊎ ((commands_in (at acts).marks ≡ 0) × (last_well false (at acts).records ≡ true))
       → ArePrepared plan commands scope acts k
-  next_so false k acts h e may place below = cc
-  next_so true zero acts h e may place below = absurd (omega (arith, below))
-  next_so true (suc j) acts h e (inl none) place below = absurd (omega (arith, none))
-  next_so true (suc j) acts h e (inr it) place below = finish j acts it.0 it.1 h.1 place below
+  prepared_before_next false k acts h e may place below = cc
+  prepared_before_next true zero acts h e may place below = absurd (omega (arith, below))
+  prepared_before_next true (suc j) acts h e (inl none) place below = absurd (omega (arith, none))
+  prepared_before_next true (suc j) acts h e (inr it) place below = one_more_prepared j acts it.0 it.1 h.1 place below
 
-  -- an act that closes no connection, leaves these two and the row, and behind which the station is begun if it was, keeps it
-  by_still : (b c : Bool) (k n : ℕ) (acts : List Act) (act : Act) → c ≡ b → n ≡ k → KeepsOpen act → (has_begun (at acts).progress ≡ true → has_begun (at (acts ++ act ∷ [])).progress ≡ true)
-      → row_of (at (acts ++ act ∷ [])) ≡ row_of (at acts) → By b k acts → By c n (acts ++ act ∷ [])
-  by_still b c k n acts act e f keeps begins same h =
-      subst (λ (x : Bool). By x n (acts ++ act ∷ [])) (sym e) (subst (λ (m : ℕ). By b m (acts ++ act ∷ [])) (sym f) (by_case b k h)) where
-        -- the lemma above, by the two
-        by_case : (b : Bool) (k : ℕ) → By b k acts → By b k (acts ++ act ∷ [])
+  -- `SetupFits` is preserved by an act that closes no connection, leaves both fields and the row, and leaves a synchronized station synchronized
+  fits_kept : (b c : Bool) (k n : ℕ) (acts : List Act) (act : Act) → c ≡ b → n ≡ k → KeepsOpen act → (has_begun (at acts).progress ≡ true → has_begun (at (acts ++ act ∷ [])).progress ≡ true)
+      → row_of (at (acts ++ act ∷ [])) ≡ row_of (at acts) → SetupFits b k acts → SetupFits c n (acts ++ act ∷ [])
+  fits_kept b c k n acts act e f keeps begins same h =
+      subst (λ (x : Bool). SetupFits x n (acts ++ act ∷ [])) (sym e) (subst (λ (m : ℕ). SetupFits b m (acts ++ act ∷ [])) (sym f) (by_case b k h)) where
+        -- the lemma above, by cases on both fields
+        by_case : (b : Bool) (k : ℕ) → SetupFits b k acts → SetupFits b k (acts ++ act ∷ [])
         by_case false k h = let on = begins h.0 in (on, prepared_more plan.setup acts act keeps on h.1)
         by_case true zero h = tt
-        by_case true (suc j) h = let on = begins h.0 in (on, partly_more j acts act keeps on same h.1)
+        by_case true (suc j) h = let on = begins h.0 in (on, sent_kept j acts act keeps on same h.1)
 
   module _ (some : 0 < plan.setup) (within : plan.setup ≤ length commands) (acts : List Act) (act : Act) where
-    -- the station before the act
+    -- the model before the act
     abbrev s : Model
     s = at acts
 
-    -- the station after it, where it performs this action, but for what is lost then
+    -- the model after an act of this action, before what is outstanding is lost
     abbrev t : Action → Model
     t o = moved plan commands o (with_progress turned s) act
 
     -- the progress after the act is that of `t`
-    far : (o : Action) → action_at plan s ≡ o → (at (acts ++ act ∷ [])).progress ≡ (t o).progress
-    far o is = progress_behind plan commands scope acts act ∙ ap (λ (x : Action). (t x).progress) is
+    progress_after : (o : Action) → action_at plan s ≡ o → (at (acts ++ act ∷ [])).progress ≡ (t o).progress
+    progress_after o is = progress_behind plan commands scope acts act ∙ ap (λ (x : Action). (t x).progress) is
 
-    -- and so is the row
-    row_far : (o : Action) → action_at plan s ≡ o → row_of (at (acts ++ act ∷ [])) ≡ row_of (t o)
-    row_far o is =
-        ap row_of (after_all-append plan commands (opening plan scope) acts (act ∷ [])) ∙ row_losing (loses_all (t (action_at plan s)).progress) (t (action_at plan s)) ∙ ap (λ (x : Action). row_of (t x)) is
+    -- the row after the act is that of `t`
+    row_after : (o : Action) → action_at plan s ≡ o → row_of (at (acts ++ act ∷ [])) ≡ row_of (t o)
+    row_after o is =
+        ap row_of (after_all-append plan commands (opening plan scope) acts (act ∷ [])) ∙ row_losing (loses_all (t (action_at plan s)).progress) (t (action_at plan s)) ∙ ap
+        (λ (x : Action). row_of (t x)) is
 
-    -- the station stays begun, where it doesn't begin anew
+    -- a synchronized station stays so, if the act doesn't resynchronize
     begins : (o : Action) → action_at plan s ≡ o → Performs commands s o act → (o ≡ action.Renew → ⊥) → has_begun s.progress ≡ true → has_begun (at (acts ++ act ∷ [])).progress ≡ true
-    begins o is obeys other begun = ap has_begun (far o is) ∙ begun_other plan commands s o act obeys other begun
+    begins o is obeys other begun = ap has_begun (progress_after o is) ∙ begun_other plan commands s o act obeys other begun
 
-    -- an act that leaves the two fields and the row keeps `By`
-    stands_still : (o : Action) → action_at plan s ≡ o → (has_begun s.progress ≡ true → has_begun (at (acts ++ act ∷ [])).progress ≡ true) → KeepsOpen act
+    -- an act that leaves the two fields and the row preserves `SetupFits`
+    fits_unchanged : (o : Action) → action_at plan s ≡ o → (has_begun s.progress ≡ true → has_begun (at (acts ++ act ∷ [])).progress ≡ true) → KeepsOpen act
         → (t o).progress.preparing ≡ s.progress.preparing → (t o).progress.prepared ≡ s.progress.prepared → row_of (t o) ≡ row_of s
-        → By s.progress.preparing s.progress.prepared acts → Stands (acts ++ act ∷ [])
-    stands_still o is begin keeps b k same h =
-        inr (by_still s.progress.preparing (at (acts ++ act ∷ [])).progress.preparing s.progress.prepared (at (acts ++ act ∷ [])).progress.prepared acts act
-        (ap (λ (p : Progress). p.preparing) (far o is) ∙ b) (ap (λ (p : Progress). p.prepared) (far o is) ∙ k) keeps begin (row_far o is ∙ same) h)
+        → SetupFits s.progress.preparing s.progress.prepared acts → SetupFitsNow (acts ++ act ∷ [])
+    fits_unchanged o is begin keeps b k same h =
+        inr (fits_kept s.progress.preparing (at (acts ++ act ∷ [])).progress.preparing s.progress.prepared (at (acts ++ act ∷ [])).progress.prepared acts act
+        (ap (λ (p : Progress). p.preparing) (progress_after o is) ∙ b) (ap (λ (p : Progress). p.prepared) (progress_after o is) ∙ k) keeps begin (row_after o is ∙ same) h)
 
-    -- so does one behind which the set-up goes out again from its first command on
-    stands_anew : (o : Action) → action_at plan s ≡ o → (t o).progress.preparing ≡ nat_lt 0 plan.setup → (t o).progress.prepared ≡ 0 → Stands (acts ++ act ∷ [])
-    stands_anew o is b k =
-        inr (subst (λ (n : ℕ). By (at (acts ++ act ∷ [])).progress.preparing n (acts ++ act ∷ [])) (sym (ap (λ (p : Progress). p.prepared) (far o is) ∙ k))
-        (subst (λ (c : Bool). By c 0 (acts ++ act ∷ [])) (sym (ap (λ (p : Progress). p.preparing) (far o is) ∙ b ∙ above plan.setup some)) tt))
+    -- after an act that makes the setup start again from its first command, `SetupFitsNow` holds
+    fits_restarted : (o : Action) → action_at plan s ≡ o → (t o).progress.preparing ≡ nat_lt 0 plan.setup → (t o).progress.prepared ≡ 0 → SetupFitsNow (acts ++ act ∷ [])
+    fits_restarted o is b k =
+        inr (subst (λ (n : ℕ). SetupFits (at (acts ++ act ∷ [])).progress.preparing n (acts ++ act ∷ [])) (sym (ap (λ (p : Progress). p.prepared) (progress_after o is) ∙ k))
+        (subst (λ (c : Bool). SetupFits c 0 (acts ++ act ∷ [])) (sym (ap (λ (p : Progress). p.preparing) (progress_after o is) ∙ b ∙ above_zero plan.setup some)) tt))
 
-    -- and one that gives a command of a cycle its turn, once the set-up is done
-    stands_done : (o : Action) → action_at plan s ≡ o → Performs commands s o act → (o ≡ action.Renew → ⊥) → KeepsOpen act → (t o).progress.preparing ≡ false
-        → is_preparing plan s.progress (waiting_of s) ≡ false → By s.progress.preparing s.progress.prepared acts → Stands (acts ++ act ∷ [])
-    stands_done o is obeys other keeps b done h =
-        let it = done_so some s.progress.preparing s.progress.prepared acts h done in
+    -- after an act that gives a command of a cycle its turn, which only happens once the setup is done, `SetupFitsNow` holds
+    fits_once_done : (o : Action) → action_at plan s ≡ o → Performs commands s o act → (o ≡ action.Renew → ⊥) → KeepsOpen act → (t o).progress.preparing ≡ false
+        → is_preparing plan s.progress (waiting_of s) ≡ false → SetupFits s.progress.preparing s.progress.prepared acts → SetupFitsNow (acts ++ act ∷ [])
+    fits_once_done o is obeys other keeps b done h =
+        let it = prepared_if_done some s.progress.preparing s.progress.prepared acts h done in
         let on = begins o is obeys other it.0 in
-        inr (subst (λ (c : Bool). By c (at (acts ++ act ∷ [])).progress.prepared (acts ++ act ∷ [])) (sym (ap (λ (p : Progress). p.preparing) (far o is) ∙ b)) (on, prepared_more plan.setup acts act keeps on it.1))
+        inr (subst (λ (c : Bool). SetupFits c (at (acts ++ act ∷ [])).progress.prepared (acts ++ act ∷ [])) (sym (ap (λ (p : Progress). p.preparing) (progress_after o is) ∙ b)) (on, prepared_more plan.setup acts act keeps on it.1))
 
-    -- an act that sends a command of the set-up keeps it
-    stands_sent : action_at plan s ≡ action.Prepare → Performs commands s action.Prepare act → IsFor plan s.progress (waiting_of s) action.Prepare → By s.progress.preparing s.progress.prepared acts
-        → Stands (acts ++ act ∷ [])
-    stands_sent is obeys needs h =
+    -- after an act that sends a command of the setup, `SetupFitsNow` holds
+    fits_sent : action_at plan s ≡ action.Prepare → Performs commands s action.Prepare act → IsFor plan s.progress (waiting_of s) action.Prepare
+        → SetupFits s.progress.preparing s.progress.prepared acts
+        → SetupFitsNow (acts ++ act ∷ [])
+    fits_sent is obeys needs h =
         let k = s.progress.prepared in
         let may = needs.2 in
         let preparing : s.progress.preparing ≡ true = first_true s.progress.preparing (not (nat_le plan.setup k && nat_eq (commands_in s.marks) 0 && last_well false s.records)) may.0 in
         let on = begins action.Prepare is obeys (λ e. cc) needs.1 in
         let keeps = stays_open plan commands action.Prepare s act obeys (λ why e. cc) in
         let one = sends_it plan commands within s is in
-        let longer = row_far action.Prepare is ∙ row_prepared plan commands (with_progress turned s) act ∙ ap (λ xs. row_of s ++ xs) (ap (λ (o : Action). sent_as o commands s) (sym is) ∙ one) in
-        let part = partly_sent k acts act keeps on is refl longer (next_so s.progress.preparing k acts h preparing may.2) in
+        let longer = row_after action.Prepare is ∙ row_prepared plan commands (with_progress turned s) act ∙ ap (λ xs. row_of s ++ xs) (ap (λ (o : Action). sent_as o commands s) (sym is) ∙ one) in
+        let part = sent_next k acts act keeps on is refl longer (prepared_before_next s.progress.preparing k acts h preparing may.2) in
         let q = prepares plan commands (with_progress turned s) act in
         let prepared : (t action.Prepare).progress.prepared ≡ min (k + 1) plan.setup = q.1 in
         let below : k < plan.setup = may.1 in
-        let next : (at (acts ++ act ∷ [])).progress.prepared ≡ suc k = ap (λ (p : Progress). p.prepared) (far action.Prepare is) ∙ omega (arith, prepared, below) in
+        let next : (at (acts ++ act ∷ [])).progress.prepared ≡ suc k = ap (λ (p : Progress). p.prepared) (progress_after action.Prepare is) ∙ omega (arith, prepared, below) in
         let same : (at (acts ++ act ∷ [])).progress.preparing ≡ true =
-        ap (λ (p : Progress). p.preparing) (far action.Prepare is) ∙ ap (λ (x : Model). x.progress.preparing) (moved_changed plan commands action.Prepare (with_progress turned s) act) ∙ preparing in
-        inr (subst (λ (n : ℕ). By (at (acts ++ act ∷ [])).progress.preparing n (acts ++ act ∷ [])) (sym next) (subst (λ (c : Bool). By c (suc k) (acts ++ act ∷ [])) (sym same) (on, part)))
+        ap (λ (p : Progress). p.preparing) (progress_after action.Prepare is) ∙ ap (λ (x : Model). x.progress.preparing)
+        (moved_changed plan commands action.Prepare (with_progress turned s) act) ∙ preparing in
+        inr (subst (λ (n : ℕ). SetupFits (at (acts ++ act ∷ [])).progress.preparing n (acts ++ act ∷ [])) (sym next) (subst (λ (c : Bool). SetupFits c (suc k) (acts ++ act ∷ [])) (sym same) (on, part)))
 
-  -- a command of a cycle that is sent ends the set-up's turn
+  -- a command of a cycle that is sent ends the setup's turn
   sent_preparing : (s : Model) (act : Act) → (moved plan commands action.Send s act).progress.preparing ≡ false
   sent_preparing s (Cut bytes n) = subst (λ (x : Model). x.progress.preparing ≡ false) (is_sent plan commands s) refl
   sent_preparing s act = subst (λ (x : Model). x.progress.preparing ≡ false) (is_sent plan commands s) refl
 
   module _ (some : 0 < plan.setup) (within : plan.setup ≤ length commands) (acts : List Act) where
-    -- the fact lasts over an act of each action
-    stands_by : (o : Action) (act : Act) → action_at plan (at acts) ≡ o → Performs commands (at acts) o act → IsFor plan (at acts).progress (waiting_of (at acts)) o
-        → By (at acts).progress.preparing (at acts).progress.prepared acts → Stands (acts ++ act ∷ [])
-    stands_by action.Prepare act is obeys needs h = stands_sent some within acts act is obeys needs h
-    stands_by action.Send act is obeys needs h =
-        stands_done some within acts act action.Send is obeys (λ e. cc) (stays_open plan commands action.Send (at acts) act obeys (λ why e. cc)) (sent_preparing (with_progress turned (at acts)) act) needs.8 h
-    stands_by action.Begin (Told m) is obeys needs h = stands_done some within acts (Told m) action.Begin is obeys (λ e. cc) tt refl needs.6 h
-    stands_by action.Skip (Told m) is obeys needs h = stands_done some within acts (Told m) action.Skip is obeys (λ e. cc) tt refl needs.6 h
-    stands_by action.Pass (Told m) is obeys needs h = stands_done some within acts (Told m) action.Pass is obeys (λ e. cc) tt refl needs.6 h
-    stands_by action.Renew (Told m) is obeys needs h = stands_anew some within acts (Told m) action.Renew is refl refl
-    stands_by action.Open Opened is obeys needs h = stands_still some within acts Opened action.Open is (begins some within acts Opened action.Open is obeys (λ e. cc)) tt refl refl refl h
-    stands_by action.Open act is obeys needs h = stands_anew some within acts act action.Open is refl refl
-    stands_by (action.Close why) act is obeys needs h =
+    -- after an act of any action, `SetupFitsNow` holds if `SetupFits` held before it
+    fits_after : (o : Action) (act : Act) → action_at plan (at acts) ≡ o → Performs commands (at acts) o act → IsFor plan (at acts).progress (waiting_of (at acts)) o
+        → SetupFits (at acts).progress.preparing (at acts).progress.prepared acts → SetupFitsNow (acts ++ act ∷ [])
+    fits_after action.Prepare act is obeys needs h = fits_sent some within acts act is obeys needs h
+    fits_after action.Send act is obeys needs h =
+        fits_once_done some within acts act action.Send is obeys (λ e. cc) (stays_open plan commands action.Send (at acts) act obeys (λ why e. cc))
+        (sent_preparing (with_progress turned (at acts)) act) needs.8 h
+    fits_after action.Begin (Told m) is obeys needs h = fits_once_done some within acts (Told m) action.Begin is obeys (λ e. cc) tt refl needs.6 h
+    fits_after action.Skip (Told m) is obeys needs h = fits_once_done some within acts (Told m) action.Skip is obeys (λ e. cc) tt refl needs.6 h
+    fits_after action.Pass (Told m) is obeys needs h = fits_once_done some within acts (Told m) action.Pass is obeys (λ e. cc) tt refl needs.6 h
+    fits_after action.Renew (Told m) is obeys needs h = fits_restarted some within acts (Told m) action.Renew is refl refl
+    fits_after action.Open Opened is obeys needs h = fits_unchanged some within acts Opened action.Open is (begins some within acts Opened action.Open is obeys (λ e. cc)) tt refl refl refl h
+    fits_after action.Open act is obeys needs h = fits_restarted some within acts act action.Open is refl refl
+    fits_after (action.Close why) act is obeys needs h =
         elim (closed_along (λ (q : Progress). (is_over_in q.phase ≡ true) ⊎ ((q.preparing ≡ nat_lt 0 plan.setup) × (q.prepared ≡ 0))) plan
         (waiting_of (with_progress turned (at acts))) why (turned (at acts).progress) (inl refl) (inr (refl, refl))) [
-          | inl over ↦ inl (ap (λ (p : Progress). is_over_in p.phase) (far some within acts act (action.Close why) is) ∙ over)
-          | inr anew ↦ stands_anew some within acts act (action.Close why) is anew.0 anew.1
+          | inl over ↦ inl (ap (λ (p : Progress). is_over_in p.phase) (progress_after some within acts act (action.Close why) is) ∙ over)
+          | inr anew ↦ fits_restarted some within acts act (action.Close why) is anew.0 anew.1
         ]
-    stands_by (action.Stop why) act is obeys needs h = absurd obeys
-    stands_by action.Begin act is obeys needs h =
-        stands_still some within acts act action.Begin is (begins some within acts act action.Begin is obeys (λ e. cc)) (stays_open plan commands action.Begin (at acts) act obeys (λ why e. cc)) refl refl refl h
-    stands_by action.Pass act is obeys needs h =
-        stands_still some within acts act action.Pass is (begins some within acts act action.Pass is obeys (λ e. cc)) (stays_open plan commands action.Pass (at acts) act obeys (λ why e. cc)) refl refl refl h
-    stands_by action.Skip act is obeys needs h =
-        stands_still some within acts act action.Skip is (begins some within acts act action.Skip is obeys (λ e. cc)) (stays_open plan commands action.Skip (at acts) act obeys (λ why e. cc)) refl refl
-        (ap (λ rs. map of_record rs ++ of_marks (at acts).marks) (append-nil (at acts).records)) h
-    stands_by action.Renew act is obeys needs h =
-        stands_still some within acts act action.Renew is (λ begun. ap has_begun (far some within acts act action.Renew is) ∙ begun) (stays_open plan commands action.Renew (at acts) act obeys (λ why e. cc)) refl refl refl h
-    stands_by o act is obeys needs h =
+    fits_after (action.Stop why) act is obeys needs h = absurd obeys
+    fits_after action.Begin act is obeys needs h =
+        fits_unchanged some within acts act action.Begin is (begins some within acts act action.Begin is obeys (λ e. cc))
+        (stays_open plan commands action.Begin (at acts) act obeys (λ why e. cc)) refl refl refl h
+    fits_after action.Pass act is obeys needs h =
+        fits_unchanged some within acts act action.Pass is (begins some within acts act action.Pass is obeys (λ e. cc))
+        (stays_open plan commands action.Pass (at acts) act obeys (λ why e. cc)) refl refl refl h
+    fits_after action.Skip act is obeys needs h =
+        fits_unchanged some within acts act action.Skip is (begins some within acts act action.Skip is obeys (λ e. cc))
+        (stays_open plan commands action.Skip (at acts) act obeys (λ why e. cc)) refl refl
+        (ap (λ rs. map dispatch_of_record rs ++ dispatches_of (at acts).marks) (append-nil (at acts).records)) h
+    fits_after action.Renew act is obeys needs h =
+        fits_unchanged some within acts act action.Renew is (λ begun. ap has_begun (progress_after some within acts act action.Renew is) ∙ begun)
+        (stays_open plan commands action.Renew (at acts) act obeys (λ why e. cc)) refl refl refl h
+    fits_after o act is obeys needs h =
         let u = with_progress turned (at acts) in
         let same = moved_changed plan commands o u act in
-        stands_still some within acts act o is (begins some within acts act o is obeys (λ e. cc)) (stays_open plan commands o (at acts) act obeys (λ why e. cc))
+        fits_unchanged some within acts act o is (begins some within acts act o is obeys (λ e. cc)) (stays_open plan commands o (at acts) act obeys (λ why e. cc))
         (ap (λ (x : Model). x.progress.preparing) same) (ap (λ (x : Model). x.progress.prepared) same) (row_kept plan commands o u act tt) h
 
-  -- it holds after every run
-  stands : (some : 0 < plan.setup) (within : plan.setup ≤ length commands) (acts : List Act) → Runs plan commands (opening plan scope) acts → Stands acts
-  stands some within acts runs = always plan commands (opening plan scope) (λ (xs : List Act) (u : Model). Stands xs) step start acts runs where
-    -- at the start the set-up goes out from its first command on
-    start : Stands []
-    start = inr (subst (λ (c : Bool). By c 0 []) (sym (above plan.setup some)) tt)
+  -- `SetupFitsNow` holds after every run
+  setup_fits : (some : 0 < plan.setup) (within : plan.setup ≤ length commands) (acts : List Act) → Runs plan commands (opening plan scope) acts → SetupFitsNow acts
+  setup_fits some within acts runs = always plan commands (opening plan scope) (λ (xs : List Act) (u : Model). SetupFitsNow xs) step start acts runs where
+    -- at the start the setup is sent from its first command on
+    start : SetupFitsNow []
+    start = inr (subst (λ (c : Bool). SetupFits c 0 []) (sym (above_zero plan.setup some)) tt)
 
-    -- an act keeps it: where the run is over, none follows
-    step : (done : List Act) (act : Act) → Runs plan commands (opening plan scope) done → Performs commands (at done) (action_at plan (at done)) act → Stands done → Stands (done ++ act ∷ [])
+    -- one more act preserves `SetupFitsNow`; if the run is over, no act follows
+    step : (done : List Act) (act : Act) → Runs plan commands (opening plan scope) done → Performs commands (at done) (action_at plan (at done)) act → SetupFitsNow done
+        → SetupFitsNow (done ++ act ∷ [])
     step done act before obeys (inl over) =
         let p = (at done).progress in absurd (over_stays plan commands (at done) act (ap (λ b. b || (not (is_up p.phase) && nat_eq p.turns 0)) over) obeys)
-    step done act before obeys (inr h) = stands_by some within done (action_at plan (at done)) act refl obeys (action_for plan (at done).progress (waiting_of (at done))) h
+    step done act before obeys (inr h) = fits_after some within done (action_at plan (at done)) act refl obeys (action_for plan (at done).progress (waiting_of (at done))) h
 
--- the law: no command of a cycle goes out before the set-up is done
+-- the law: no command of a cycle is sent before the setup is done
 pub none_before_the_set_up : NoneBeforeTheSetUp
 none_before_the_set_up plan commands scope acts runs is place below =
-    let s = stood plan commands scope acts in
+    let s = state_after plan commands scope acts in
     let needs = subst (λ (o : Action). IsFor plan s.progress (waiting_of s) o) is (action_for plan s.progress (waiting_of s)) in
     let some : 0 < plan.setup = omega (arith, below) in
     let unsent : 0 < s.progress.unsent = needs.2 in
     let within : plan.setup ≤ length commands = let most = (fine_stood plan commands scope acts).unsent in omega (arith, unsent, most) in
-    elim (stands plan commands scope some within acts runs) [
-      | inl over ↦ absurd (clash (is_over_in s.progress.phase) over (ap is_over_in needs.0))
-      | inr h ↦ (done_so plan commands scope some s.progress.preparing s.progress.prepared acts h needs.8).1 place below
+    elim (setup_fits plan commands scope some within acts runs) [
+      | inl over ↦ absurd (not_both (is_over_in s.progress.phase) over (ap is_over_in needs.0))
+      | inr h ↦ (prepared_if_done plan commands scope some s.progress.preparing s.progress.prepared acts h needs.8).1 place below
     ]
 
--- the law: each command of the set-up goes out only behind the good answers of those before it
+-- the law: each command of the setup is sent only after the good answers of those before it
 pub set_up_in_order : SetUpInOrder
 set_up_in_order plan commands scope acts runs within is place below =
-    let s = stood plan commands scope acts in
+    let s = state_after plan commands scope acts in
     let k = s.progress.prepared in
     let needs = subst (λ (o : Action). IsFor plan s.progress (waiting_of s) o) is (action_for plan s.progress (waiting_of s)) in
     let some : 0 < plan.setup = omega (arith, needs.2.1) in
     let preparing : s.progress.preparing ≡ true = first_true s.progress.preparing (not (nat_le plan.setup k && nat_eq (commands_in s.marks) 0 && last_well false s.records)) needs.2.0 in
-    elim (stands plan commands scope some within acts runs) [
-      | inl over ↦ absurd (clash (is_over_in s.progress.phase) over (ap is_over_in needs.0))
-      | inr h ↦ next_so plan commands scope s.progress.preparing k acts h preparing needs.2.2 place below
+    elim (setup_fits plan commands scope some within acts runs) [
+      | inl over ↦ absurd (not_both (is_over_in s.progress.phase) over (ap is_over_in needs.0))
+      | inr h ↦ prepared_before_next plan commands scope s.progress.preparing k acts h preparing needs.2.2 place below
     ]

@@ -126,7 +126,8 @@ module _ (reads : Asked → List ℕ → Reading) (expected : Expected) (call : 
 
       -- a line with an accepted code that says the answer a with return code 0 has the quality with which it ends a command as
       -- answered: `Warning`, and that answer
-      value_warned : (a : Answer) (away : Bool) → are_accepted expected.accepted code ≡ true → reads call (as_zero line) ≡ reading.Value a → value_as quality.Warning away a line ≡ Answered k said line → Holds
+      value_warned : (a : Answer) (away : Bool) → are_accepted expected.accepted code ≡ true → reads call (as_zero line) ≡ reading.Value a
+          → value_as quality.Warning away a line ≡ Answered k said line → Holds
       value_warned a true listed zs e = cc
       value_warned a false listed zs e = let same : quality.Warning ≡ k = cc in let has : Some a ≡ said = cc in warning (reading.Value a) listed zs same has
 

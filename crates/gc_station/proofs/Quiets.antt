@@ -1,7 +1,7 @@
--- Before a request goes out its connection was cleared and, where the station had begun by then, quiet: what was done on a
--- connection, by the phase (`Stage`). A connection is drained while what comes on it is dropped until it is quiet. An act is
--- one call of the link, with what came of it. In facts of the form P before start behind, `start` is one of the acts, `before`
--- the acts before it, and `behind` those after it.
+-- Before a request is sent its connection was cleared and, if the station had synchronized by then, quiet: what was done on a
+-- connection, by the phase (`Stage`). A connection is drained while what comes on it is discarded until it is quiet. An act is
+-- one call on the link, with its result. In facts of the form P before start after, `start` is one of the acts, `before` the
+-- acts before it, and `behind` those after it.
 use Rattle.std.proofs.Common.{◌≡◌, ℕ, ◌-◌, ◌≤◌, ◌⊎◌, inl, inr, Bool, true, false, List, [], ◌∷◌, ◌++◌, drop, if◌then◌else◌, nat_le, min, refl, sym, ap, ◌∙◌, subst, arith}
 use Rattle.std.specs.List.{AllByRecursion}
 use Rattle.std.proofs.Math.Nat.{min-eq_left, min-eq_right}
@@ -20,20 +20,20 @@ use Rattle.gc_station.specs.declared.progress.Until.{Until}
 use Rattle.gc_links.specs.Acts.{Act, Told, Put, Gave, Silent, Closed, Opened}
 use Rattle.gc_station.specs.Beginnings.{IsClearedAndQuiet}
 use Rattle.gc_station.specs.Deciding.{has_begun, is_quiet}
-use Rattle.gc_station.specs.Progressing.{turned, told, time_passed, drained}
+use Rattle.gc_station.specs.Progressing.{turned, moment_noted, time_passed, drained}
 use Rattle.gc_station.specs.Quiet.{IsRequest, TellsMoment, IsListening, IsSilent, StaysConnected}
 use Rattle.gc_station.specs.Reasons.{IsFor}
-use Rattle.gc_station.specs.Runs.{stood}
-use Rattle.gc_station.specs.Model.{Model, null_text, request_text, first_text, place_next, opening, action_at, waiting_of, with_progress, with_moment, lines_behind, is_heard, Performs, moved, Runs, text_or_null}
+use Rattle.gc_station.specs.Runs.{state_after}
+use Rattle.gc_station.specs.Model.{Model, null_text, request_text, first_text, place_next, opening, action_at, waiting_of, with_progress, with_moment, lines_completed, is_heard, Performs, moved, Runs, text_or_null}
 use Rattle.gc_station.proofs.Closings.{runs_split}
 use Rattle.gc_station.proofs.Always.{always_far}
 use Rattle.gc_station.proofs.Connected.{is_in_use, OnLine, on_line}
 use Rattle.gc_station.proofs.Facts.{action_for, order_timely, Timely}
 use Rattle.gc_station.proofs.Lists.{all_append, all_on}
-use Rattle.gc_station.proofs.Midway.{clash}
 use Rattle.gc_station.proofs.Since.{Since, since_now, since_on, cut_on}
 use Rattle.gc_station.proofs.Walk.{asked_along, came_along, walk}
 use Rattle.gc_station.specs.Scopes.{Scope}
+use Rattle.gc_station.proofs.Ticking.{not_both}
 
 -- What was done on a connection.
 
@@ -41,15 +41,15 @@ use Rattle.gc_station.specs.Scopes.{Scope}
 abbrev pub IsOpened : List Act → Type 0
 IsOpened acts = (before : List Act) × (acts ≡ before ++ Opened ∷ [])
 
--- `start` cleared the connection that the acts `before` made, and nothing went out after it
+-- `start` cleared the connection that the acts `before` made, and nothing was sent after it
 abbrev Clears : List Act → Act → List Act → Type 0
 Clears before start behind = IsOpened before × (start ≡ Put (10 ∷ [])) × AllByRecursion IsListening behind
 
--- the connection was cleared, and since the moment `since`, which `start` tells, nothing came on it
+-- the connection was cleared, and since the moment `since`, which `start` reads, nothing came on it
 abbrev Drains : ℕ → List Act → Act → List Act → Type 0
 Drains since before start behind = Since Clears before × TellsMoment since start × AllByRecursion IsSilent behind
 
--- the connection was cleared, and since the moment `since`, which one of these acts tells, nothing came on it
+-- the connection was cleared, and since the moment `since`, which one of these acts reads, nothing came on it
 abbrev pub IsDrained : ℕ → List Act → Type 0
 IsDrained since acts = Since (Drains since) acts
 
@@ -61,12 +61,12 @@ Quiets quiet before start behind = (from : ℕ) × (last : Moment) × IsDrained 
 abbrev pub WasQuiet : ℕ → List Act → Type 0
 WasQuiet quiet acts = Since (Quiets quiet) acts
 
--- the connection was cleared; and where the moment told last isn't out of date (`false`), nothing came since the moment `since`
+-- the connection was cleared; and if the moment read last isn't out of date (`false`), nothing came since the moment `since`
 abbrev pub IsDraining : Bool → ℕ → List Act → Type 0
 IsDraining true since acts = Since Clears acts
 IsDraining false since acts = IsDrained since acts
 
--- an act that tells a moment sends nothing, and keeps the connection
+-- an act that reads a moment sends nothing, and keeps the connection
 tells_listening : (since : ℕ) (act : Act) → TellsMoment since act → IsListening act
 tells_listening since (Told m) e = tt
 tells_listening since (Gave bytes m) e = tt
@@ -86,15 +86,16 @@ listening_stays (Silent m) e = tt
 listening_stays act e = absurd e
 
 module _ (plan : Plan) (commands : List Task) (scope : Scope) where
-  -- these acts end with a connection that was made when the station had begun (`true`), or while it began (`false`)
+  -- these acts end with a connection that was made when the station had synchronized (`true`), or while it synchronized
+  -- (`false`)
   abbrev pub IsOpenedSo : Bool → List Act → Type 0
-  IsOpenedSo begun acts = (before : List Act) × (acts ≡ before ++ Opened ∷ []) × (has_begun (stood plan commands scope before).progress ≡ begun)
+  IsOpenedSo begun acts = (before : List Act) × (acts ≡ before ++ Opened ∷ []) × (has_begun (state_after plan commands scope before).progress ≡ begun)
 
-  -- the connection was made while the station began, and cleared by `start`, and then nobody closed it
+  -- the connection was made while the station synchronized, and cleared by `start`, and then nobody closed it
   abbrev pub Begins : List Act → Act → List Act → Type 0
   Begins before start behind = IsOpenedSo false before × (start ≡ Put (10 ∷ [])) × AllByRecursion StaysConnected behind
 
-  -- where requests go out: the connection was cleared, and was quiet; or it was cleared and a beginning went on with it
+  -- where requests are sent: the connection was cleared, and was quiet; or it was cleared and a synchronization went on with it
   abbrev pub WasCleared : List Act → Type 0
   WasCleared acts = WasQuiet plan.quiet acts ⊎ Since Begins acts
 
@@ -132,7 +133,7 @@ module _ (plan : Plan) (commands : List Task) (scope : Scope) where
         };
       }
 
-  -- a connection on which requests go out is as `IsClearedAndQuiet` says
+  -- a connection on which requests are sent is as `IsClearedAndQuiet` says
   was_cleared : (acts : List Act) → WasCleared acts → IsClearedAndQuiet plan commands scope acts
   was_cleared acts (inl q) = was_quiet acts q
   was_cleared acts (inr b) =
@@ -142,12 +143,12 @@ module _ (plan : Plan) (commands : List Task) (scope : Scope) where
         behind = b.behind;
         order = cut_on acts b.before o.0 (Opened ∷ []) (b.start ∷ b.behind) b.order o.1 ∙ ap (λ (x : Act). o.0 ++ Opened ∷ x ∷ b.behind) b.holds.1;
         stays = b.holds.2;
-        quiet = λ begun. absurd (clash (has_begun (stood plan commands scope o.0).progress) begun o.2);
+        quiet = λ begun. absurd (not_both (has_begun (state_after plan commands scope o.0).progress) begun o.2);
       }
 
   -- what was done on the connection, by the phase: in `Clearing` it was just made, in `Draining` it is drained, and in `Ready`
-  -- it was cleared. The other arguments are whether the station has begun, whether the moment told last is out of date, the
-  -- moment since which nothing came, and the acts
+  -- it was cleared. The other arguments are whether the station has synchronized, whether the moment read last is out of date,
+  -- the moment since which nothing came, and the acts
   abbrev pub Stage : Bool → Bool → ℕ → Phase → List Act → Type 0
   Stage begun stale since phase.Clearing acts = (stale ≡ false) × IsOpenedSo begun acts
   Stage begun stale since phase.Draining acts = IsDraining stale since acts
@@ -167,26 +168,26 @@ drained_clears since acts d =
     subst (λ (xs : List Act). Since Clears xs) (sym d.order)
     (since_on Clears Clears d.before (d.start ∷ d.behind) (λ before start behind order c. (c.0, c.1, all_append IsListening behind (d.start ∷ d.behind) c.2 listened)) d.holds.0)
 
--- the quiet time begins anew with an act that tells a moment
+-- the quiet time starts again with an act that reads a moment
 drained_anew : (since now : ℕ) (acts : List Act) (act : Act) → TellsMoment now act → IsDrained since acts → IsDrained now (acts ++ act ∷ [])
 drained_anew since now acts act tells d = since_now (Drains now) acts act (drained_clears since acts d, tells, tt)
 
--- the quiet time goes on where a read gave nothing
+-- the quiet time goes on if a read gave nothing
 drained_longer : (since : ℕ) (acts : List Act) (m : Moment) → IsDrained since acts → IsDrained since (acts ++ Silent m ∷ [])
 drained_longer since acts m d = since_on (Drains since) (Drains since) acts (Silent m ∷ []) (λ before start behind order h. (h.0, h.1, all_append IsSilent behind (Silent m ∷ []) h.2 (tt, tt))) d
 
--- where the quiet time is long enough, the connection was quiet
+-- if the quiet time is long enough, the connection was quiet
 quiet_now : (quiet since : ℕ) (acts : List Act) (m : Moment) → quiet ≤ m.elapsed - since → IsDrained since acts → WasQuiet quiet (acts ++ Silent m ∷ [])
 quiet_now quiet since acts m long d = since_now (Quiets quiet) acts (Silent m) (since, m, d, refl, long, tt)
 
 -- What each act leaves.
 
--- the quiet time begins with the moment told after the line feed
+-- the quiet time begins with the moment read after the line feed
 draining_told : (stale : Bool) (since : ℕ) (m : Moment) (acts : List Act) → stale ≡ true → IsDraining stale since acts → IsDrained m.elapsed (acts ++ Told m ∷ [])
 draining_told true since m acts old d = since_now (Drains m.elapsed) acts (Told m) (d, refl, tt)
 draining_told false since m acts old d = cc
 
--- where the moment was told, the quiet time goes on
+-- if the moment was read, the quiet time goes on
 draining_read : (stale : Bool) (since : ℕ) (acts : List Act) → stale ≡ false → IsDraining stale since acts → IsDrained since acts
 draining_read true since acts now d = cc
 draining_read false since acts now d = d
@@ -199,7 +200,7 @@ not_longer now since false e =
     let less : now ≤ since = omega (arith, low) in
     ap (λ n. now - n) (min-eq_right less) ∙ omega (arith, low)
 
--- where a read gave nothing the quiet time goes on, or begins anew if the clock went back
+-- if a read gave nothing the quiet time goes on, or starts again if the clock went back
 silent_on : (since : ℕ) (m : Moment) (acts : List Act) (b : Bool) → nat_le since m.elapsed ≡ b → IsDrained since acts → IsDrained (min since m.elapsed) (acts ++ Silent m ∷ [])
 silent_on since m acts true e d = subst (λ n. IsDrained n (acts ++ Silent m ∷ [])) (sym (min-eq_left (leb-true since m.elapsed e))) (drained_longer since acts m d)
 silent_on since m acts false e d =
@@ -216,21 +217,21 @@ module _ (plan : Plan) (commands : List Task) (scope : Scope) where
   abbrev HereAt : Progress → List Act → Type 0
   HereAt = StageAt plan commands scope
 
-  -- where no connection is in use, `Stage` says nothing
+  -- if no connection is in use, `Stage` says nothing
   stage_none : (begun stale : Bool) (since : ℕ) (at : Phase) (acts : List Act) → is_in_use at ≡ false → Here begun stale since at acts
   stage_none begun stale since phase.Clearing acts none = cc
   stage_none begun stale since phase.Draining acts none = cc
   stage_none begun stale since phase.Ready acts none = cc
   stage_none begun stale since at acts none = tt
 
-  -- a connection on which requests may go out (`WasCleared`) stays so, if the act keeps it
+  -- a connection on which requests may be sent (`WasCleared`) stays so, if the act keeps it
   more : (acts : List Act) (act : Act) → StaysConnected act → WasCleared plan commands scope acts → WasCleared plan commands scope (acts ++ act ∷ [])
   more acts act on (inl q) =
       inl (since_on (Quiets plan.quiet) (Quiets plan.quiet) acts (act ∷ []) (λ before start behind order h. (h.0, h.1, h.2, h.3, h.4, all_append StaysConnected behind (act ∷ []) h.5 (on, tt))) q)
   more acts act on (inr b) =
       inr (since_on (Begins plan commands scope) (Begins plan commands scope) acts (act ∷ []) (λ before start behind order h. (h.0, h.1, all_append StaysConnected behind (act ∷ []) h.2 (on, tt))) b)
 
-  -- `Stage` lasts over an act that tells a moment
+  -- `Stage` is preserved by an act that reads a moment
   stage_on : (begun begun' stale : Bool) (since now : ℕ) (at : Phase) (acts : List Act) (act : Act) → StaysConnected act
       → (at ≡ phase.Clearing → stale ≡ false → ⊥) → (IsDraining stale since acts → IsDrained now (acts ++ act ∷ []))
       → Here begun stale since at acts → Here begun' false now at (acts ++ act ∷ [])
@@ -245,7 +246,7 @@ module _ (plan : Plan) (commands : List Task) (scope : Scope) where
   stage_ready begun begun' stale stale' since since' at acts act stays is st =
       subst (λ (x : Phase). Here begun' stale' since' x (acts ++ act ∷ [])) (sym is) (more acts act stays (subst (λ (x : Phase). Here begun stale since x acts) is st))
 
-  -- `Stage` holds where a drain was long enough
+  -- `Stage` holds if a drain was long enough
   stage_drained : (until : Until) (m : Moment) (p : Progress) (acts : List Act) → is_quiet plan (time_passed until m p) ≡ true → IsDrained p.since acts
       → HereAt (drained (time_passed until m p)) (acts ++ Silent m ∷ [])
   stage_drained until m p acts past d =
@@ -254,7 +255,7 @@ module _ (plan : Plan) (commands : List Task) (scope : Scope) where
       let quiet : plan.quiet ≤ m.elapsed - p.since = omega (arith, long, same) in
       inl (quiet_now plan.quiet p.since acts m quiet d)
 
-  -- `Stage` holds where a line feed went out: the connection is drained next, or a beginning goes on with it
+  -- `Stage` holds if a line feed was sent: the connection is drained next, or a synchronization goes on with it
   stage_cleared : (begun : Bool) (since : ℕ) (acts : List Act) → IsOpenedSo plan commands scope begun acts
       → Here begun true since (if begun then phase.Draining else phase.Ready) (acts ++ Put (10 ∷ []) ∷ [])
   stage_cleared true since acts o = since_now Clears acts (Put (10 ∷ [])) ((o.0, o.1), refl, tt)
@@ -265,11 +266,11 @@ module _ (plan : Plan) (commands : List Task) (scope : Scope) where
   stage_in p at acts is st = subst (λ (x : Phase). Here (has_begun p) p.stale p.since x acts) is st
 
   -- what `Stage` says holds on after an act of any action that leaves a connection in use
-  stage_line : (next : Action) (s : Model) (acts : List Act) → has_begun (stood plan commands scope acts).progress ≡ has_begun s.progress
+  stage_line : (next : Action) (s : Model) (acts : List Act) → has_begun (state_after plan commands scope acts).progress ≡ has_begun s.progress
       → IsFor plan s.progress (waiting_of s) next → Timely s.progress next → HereAt s.progress acts → OnLine plan commands HereAt next (with_progress turned s) acts
   stage_line actions.ReadClock s acts there needs time st =
       let p = s.progress in
-      λ m. stage_on (has_begun p) (has_begun p) p.stale p.since m.elapsed p.phase acts (Told m) tt (λ is now. clash p.stale time now) (draining_told p.stale p.since m acts time) st
+      λ m. stage_on (has_begun p) (has_begun p) p.stale p.since m.elapsed p.phase acts (Told m) tt (λ is now. not_both p.stale time now) (draining_told p.stale p.since m acts time) st
   stage_line actions.Open s acts there needs time st = λ m. (time, (acts, refl, there))
   stage_line actions.Clear s acts there needs time st = λ m. stage_cleared (has_begun s.progress) s.progress.since acts (stage_in s.progress phase.Clearing acts needs st).1
   stage_line (actions.Read until) s acts there needs time st =
@@ -278,11 +279,11 @@ module _ (plan : Plan) (commands : List Task) (scope : Scope) where
       let heard = λ (later : Bool) (bytes : List ℕ) (m : Moment). stage_on begun later p.stale p.since m.elapsed p.phase acts (Gave bytes m) tt (λ is now. time.1 is)
       (λ d. drained_anew p.since m.elapsed acts (Gave bytes m) refl (draining_read p.stale p.since acts time.0 d)) st in (
         λ bytes m.
-            let mid = with_moment m (with_progress (told m) (with_progress turned s)) in
+            let mid = with_moment m (with_progress (moment_noted m) (with_progress turned s)) in
             let always = λ (later : Bool). heard later bytes m in
             came_along (λ (t : Model). HereAt t.progress (acts ++ Gave bytes m ∷ [])) (λ t line on. on) (is_heard p.phase) p.word bytes mid (always begun)
             ((asked_along (λ (q : Progress). (later : Bool) → Here later q.stale q.since q.phase (acts ++ Gave bytes m ∷ [])) (λ q line on. on) mid.progress
-            (lines_behind s.rest bytes) always) _) (always begun),
+            (lines_completed s.rest bytes) always) _) (always begun),
         λ m. (
           stage_on begun begun p.stale p.since (min p.since m.elapsed) p.phase acts (Silent m) tt (λ is now. time.1 is)
               (λ d. silent_on p.since m acts (nat_le p.since m.elapsed) refl (draining_read p.stale p.since acts time.0 d)) st,
@@ -294,9 +295,11 @@ module _ (plan : Plan) (commands : List Task) (scope : Scope) where
   stage_line actions.Ask s acts there needs time st = let p = s.progress in
       λ m. stage_ready (has_begun p) (has_begun p) p.stale true p.since p.since p.phase acts (Put (null_text p.word)) tt needs.0 st
   stage_line actions.Prepare s acts there needs time st =
-      let p = s.progress in λ m. stage_ready (has_begun p) (has_begun p) p.stale true p.since p.since p.phase acts (Put (text_or_null s.progress.moment.utc s.client (drop p.prepared commands))) tt needs.0 st
+      let p = s.progress in λ m. stage_ready (has_begun p) (has_begun p) p.stale true p.since p.since p.phase acts
+      (Put (text_or_null s.progress.moment.utc s.client (drop p.prepared commands))) tt needs.0 st
   stage_line actions.Send s acts there needs time st =
-      let p = s.progress in λ m. stage_ready (has_begun p) (has_begun p) p.stale true p.since p.since p.phase acts (Put (first_text s.progress.moment.utc s.client (drop (place_next commands p) commands))) tt needs.0 st
+      let p = s.progress in λ m. stage_ready (has_begun p) (has_begun p) p.stale true p.since p.since p.phase acts
+      (Put (first_text s.progress.moment.utc s.client (drop (place_next commands p) commands))) tt needs.0 st
   stage_line actions.Flush s acts there needs time st = let p = s.progress in
       λ m. stage_ready (has_begun p) (has_begun p) p.stale true p.since p.since p.phase acts (Put (request_text s.client (Table NullProc))) tt needs.0 st
   stage_line actions.Renew s acts there needs time st = let p = s.progress in λ m. stage_ready (has_begun p) false p.stale false p.since m.elapsed p.phase acts (Told m) tt needs.0 st
@@ -305,26 +308,26 @@ module _ (plan : Plan) (commands : List Task) (scope : Scope) where
   -- Whole runs.
 
   -- `Stage` holds after every run
-  stage_stood : (acts : List Act) → Runs plan commands (opening plan scope) acts → HereAt (stood plan commands scope acts).progress acts
+  stage_stood : (acts : List Act) → Runs plan commands (opening plan scope) acts → HereAt (state_after plan commands scope acts).progress acts
   stage_stood acts runs = always_far plan commands (opening plan scope) HereAt step tt acts runs where
-    -- one act of a run keeps `HereAt`
+    -- one act of a run preserves `HereAt`
     step : (done : List Act) (act : Act) → Runs plan commands (opening plan scope) done
-        → Performs commands (stood plan commands scope done) (action_at plan (stood plan commands scope done)) act
-        → HereAt (stood plan commands scope done).progress done
-        → HereAt (moved plan commands (action_at plan (stood plan commands scope done)) (with_progress turned (stood plan commands scope done)) act).progress (done ++ act ∷ [])
+        → Performs commands (state_after plan commands scope done) (action_at plan (state_after plan commands scope done)) act
+        → HereAt (state_after plan commands scope done).progress done
+        → HereAt (moved plan commands (action_at plan (state_after plan commands scope done)) (with_progress turned (state_after plan commands scope done)) act).progress (done ++ act ∷ [])
     step done act runs o st =
-        let s = stood plan commands scope done in
+        let s = state_after plan commands scope done in
         let p = s.progress in
         on_line plan commands HereAt (λ q acts none. stage_none (has_begun q) q.stale q.since q.phase acts none) (action_at plan s) s act done o
         (stage_line (action_at plan s) s done refl (action_for plan p (waiting_of s)) (order_timely plan p (waiting_of s)) st)
 
--- A request goes out where requests may.
+-- Requests are sent only in the phase for requests.
 
 -- a close is no request
 not_closing : (act : Act) → act ≡ Closed → IsRequest act → ⊥
 not_closing act o asks = subst IsRequest o asks
 
--- by any action but `Ask`, `Send`, `Flush` and `Prepare` no request goes out
+-- by any action but `Ask`, `Send`, `Flush` and `Prepare` no request is sent
 asks_not : (plan : Plan) (commands : List Task) (next : Action) (s : Model) (act : Act) → Performs commands s next act
     → (next ≡ actions.Ask → ⊥) × (next ≡ actions.Send → ⊥) × (next ≡ actions.Flush → ⊥) × (next ≡ actions.Prepare → ⊥) → IsRequest act → ⊥
 asks_not plan commands actions.Ask s act o other = absurd (other.0 refl)
@@ -338,16 +341,16 @@ asks_not plan commands (actions.Close why) s act o other = not_closing act o
 asks_not plan commands (actions.Stop why) s act o other = absurd o
 asks_not plan commands next s act o other = walk plan commands (λ a (t : Model). IsRequest a → ⊥) next s act o (λ m asks. asks, λ n asks. asks)
 
--- the only request that goes out while the station begins is that of `Ask`
+-- the only request that is sent while the station synchronizes is that of `Ask`
 pub asks_only : (plan : Plan) (commands : List Task) (next : Action) (s : Model) (act : Act) → Performs commands s next act → IsRequest act
     → IsFor plan s.progress (waiting_of s) next → has_begun s.progress ≡ false → next ≡ actions.Ask
 asks_only plan commands actions.Ask s act o asks needs begins = refl
-asks_only plan commands actions.Prepare s act o asks needs begins = absurd (clash (has_begun s.progress) needs.1 begins)
-asks_only plan commands actions.Send s act o asks needs begins = absurd (clash (has_begun s.progress) needs.1 begins)
-asks_only plan commands actions.Flush s act o asks needs begins = absurd (clash (has_begun s.progress) needs.1 begins)
+asks_only plan commands actions.Prepare s act o asks needs begins = absurd (not_both (has_begun s.progress) needs.1 begins)
+asks_only plan commands actions.Send s act o asks needs begins = absurd (not_both (has_begun s.progress) needs.1 begins)
+asks_only plan commands actions.Flush s act o asks needs begins = absurd (not_both (has_begun s.progress) needs.1 begins)
 asks_only plan commands next s act o asks needs begins = absurd (asks_not plan commands next s act o (λ is. cc, λ is. cc, λ is. cc, λ is. cc) asks)
 
--- where a request goes out, the phase is `Ready`
+-- if a request is sent, the phase is `Ready`
 asks_there : (plan : Plan) (commands : List Task) (next : Action) (s : Model) (act : Act) → Performs commands s next act → IsRequest act
     → IsFor plan s.progress (waiting_of s) next → s.progress.phase ≡ phase.Ready
 asks_there plan commands actions.Ask s act o asks needs = needs.0
@@ -356,11 +359,11 @@ asks_there plan commands actions.Send s act o asks needs = needs.0
 asks_there plan commands actions.Flush s act o asks needs = needs.0
 asks_there plan commands next s act o asks needs = absurd (asks_not plan commands next s act o (λ is. cc, λ is. cc, λ is. cc, λ is. cc) asks)
 
--- where a request goes out, its connection is as `IsClearedAndQuiet` says
+-- if a request is sent, its connection is as `IsClearedAndQuiet` says
 pub cleared_and_quiet : (plan : Plan) (commands : List Task) (scope : Scope) (earlier later : List Act) (act : Act)
     → Runs plan commands (opening plan scope) (earlier ++ act ∷ later) → IsRequest act → IsClearedAndQuiet plan commands scope earlier
 cleared_and_quiet plan commands scope earlier later act runs asks =
-    let s = stood plan commands scope earlier in
+    let s = state_after plan commands scope earlier in
     let split = runs_split plan commands (opening plan scope) earlier later act runs in
     let ready = asks_there plan commands (action_at plan s) s act split.1 asks (action_for plan s.progress (waiting_of s)) in
     was_cleared plan commands scope earlier (stage_in plan commands scope s.progress phase.Ready earlier ready (stage_stood plan commands scope earlier split.0))

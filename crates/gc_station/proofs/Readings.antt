@@ -1,4 +1,4 @@
--- No act changes what replies say. An act is one call of the link, with what came of it.
+-- No act changes what replies say. An act is one call on the link, with its result.
 use Rattle.std.proofs.Common.{◌≡◌, Bool, true, false, ℕ, List, [], ◌∷◌, Result, Ok, Err, refl, sym, ap, ◌∙◌, subst}
 use Rattle.gc_lines.specs.Replies.{ReplyFields}
 use Rattle.gc_lines.specs.Readers.{reply_at}
@@ -14,7 +14,7 @@ use Rattle.gc_station.specs.declared.plan.Plan.{Plan}
 use Rattle.gc_station.specs.declared.progress.Action.{Action}
 use Rattle.gc_links.specs.Acts.{Act}
 use Rattle.gc_station.specs.Progressing.{turned, loses_all}
-use Rattle.gc_station.specs.Runs.{stood}
+use Rattle.gc_station.specs.Runs.{state_after}
 use Rattle.gc_station.specs.Scopes.{Scope, AreReadings, OneReadingForALine, SomeReadings, ForReadings}
 use Rattle.gc_station.proofs.Walk.{lines_along, moved_changed}
 use Rattle.gc_station.specs.Model.{Model, opening, action_at, with_progress, lines_came, moved, losing, after, after_all}
@@ -23,11 +23,11 @@ use Rattle.gc_station.specs.Model.{Model, opening, action_at, with_progress, lin
 pub lines_reads : (s : Model) (lines : List (List ℕ)) → (lines_came s lines).reads ≡ s.reads
 lines_reads s lines = lines_along (λ (t : Model). t.reads ≡ s.reads) (λ t line e. e) s lines refl
 
--- an act, before what waits is lost, doesn't change what replies say
+-- an act, before what is outstanding is lost, doesn't change what replies say
 pub moved_reads : (plan : Plan) (commands : List Task) (action : Action) (s : Model) (act : Act) → (moved plan commands action s act).reads ≡ s.reads
 moved_reads plan commands action s act = ap (λ (x : Model). x.reads) (moved_changed plan commands action s act)
 
--- the loss of what waits doesn't change what replies say
+-- the loss of what is outstanding doesn't change what replies say
 pub ended_reads : (b : Bool) (s : Model) → (losing b s).reads ≡ s.reads
 ended_reads true s = refl
 ended_reads false s = refl
@@ -44,7 +44,7 @@ all_reads plan commands s [] = refl
 all_reads plan commands s (act ∷ acts) = all_reads plan commands (after plan commands s act) acts ∙ after_reads plan commands s act
 
 -- after any acts replies say what they say in the scope
-pub stood_reads : (plan : Plan) (commands : List Task) (scope : Scope) (acts : List Act) → (stood plan commands scope acts).reads ≡ scope.reads
+pub stood_reads : (plan : Plan) (commands : List Task) (scope : Scope) (acts : List Act) → (state_after plan commands scope acts).reads ≡ scope.reads
 stood_reads plan commands scope acts = all_reads plan commands (opening plan scope) acts
 
 -- a function that equals one that gives readings gives them, too
@@ -57,7 +57,7 @@ one_for_a_line call line x y p q =
     let same = reply_one line p.reply q.reply p.is_reply q.is_reply in
     one_asked_reading call q.reply x y (subst (λ (r : ReplyFields). IsAskedReading call r x) same p.is_reading) q.is_reading
 
--- the reading of a line for a call: that of its reply, and any where it is no reply
+-- the reading of a line for a call: that of its reply, and any if it is no reply
 said : Asked → Result ReplyFields LineFault → Reading
 said call (Ok reply) = (each_asked_reply call reply).0
 said call (Err fault) = Refused 0

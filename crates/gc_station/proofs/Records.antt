@@ -1,7 +1,7 @@
--- Records, written one after the other by the marks of requests. A mark says which command a waiting request is of, or `None`
--- of a null procedure; settlements are of the oldest requests that wait, and have their marks, one for one. `WritesPart text
--- before all old new`: a book that had taken `old` has taken the records `before` whole and broken off within the others of
--- `all`; `new` is what it has taken then.
+-- Records, written one after the other by the marks of requests. A mark says which command an outstanding request is of, or
+-- `None` of a null procedure; settlements are of the oldest outstanding requests, and have their marks, one for one.
+-- `WritesPart text before all old new`: a book that had taken `old` has taken the records `before` whole and broken off within
+-- the others of `all`; `new` is what it has taken then.
 use Rattle.std.proofs.Common.{◌≡◌, ℕ, zero, suc, ◌+◌, ◌<◌, Bool, true, false, List, [], ◌∷◌, ◌++◌, length, take, drop, map, get_or, Option, Some, None, is_some, if◌then◌else◌, refl, sym, ap, ◌∙◌, subst, arith, append_assoc, append-nil}
 use Rattle.std.specs.Prelude.{slice_get}
 use Rattle.std.proofs.lemmas.List.{length-map, length-take, map-append, map_more, take_more, take-append-drop}
@@ -14,8 +14,8 @@ use Rattle.gc_client.specs.Rule
 use Rattle.gc_client.specs.Settlements.{settlement_seen}
 use Rattle.gc_station.specs.declared.mark.Mark.{Mark}
 use Rattle.gc_texts.specs.Endings.{End}
-use Rattle.gc_station.specs.Attempts.{code_of, listed_behind, listed_by}
-use Rattle.gc_station.specs.Marks.{commands_in, command_of, end_of, record_of, records_of, is_well, last_well, fresh_behind}
+use Rattle.gc_station.specs.Attempts.{code_of, listed_after, listed_by}
+use Rattle.gc_station.specs.Marks.{commands_in, command_of, end_of, record_of, records_of, is_well, last_well, fresh_after}
 use Rattle.gc_station.specs.Records.{Record, texts_of, WritesPart}
 use Rattle.gc_station.specs.Tallies.{counted_in, tallied}
 use Rattle.gc_station.specs.declared.tally.Counts.{Counts}
@@ -41,7 +41,7 @@ got_there [] i d below = absurd (omega (arith, below))
 got_there (mark ∷ marks) zero d below = refl
 got_there (mark ∷ marks) (suc i) d below = let low : i < length marks = omega (arith, below) in got_there marks i d low
 
--- a mark that is the one at place i is a command's exactly where the one at place i is
+-- a mark that is the one at place i is a command's exactly if the one at place i is
 pub item_there : (marks : List (Option Mark)) (i : ℕ) (mark : Option Mark) → i < length marks → mark ≡ get_or marks i mark → is_some mark ≡ is_some (get_or marks i None)
 item_there marks i mark below is = ap is_some (is ∙ got_there marks i mark below)
 
@@ -65,13 +65,13 @@ mark_here : (reads : Asked → List ℕ → Reading) (utc : ℕ) (mark : Option 
 mark_here reads utc None marks x = records-none reads utc marks
 mark_here reads utc (Some mark) marks x = ap (λ rs. record_of reads utc mark x ∷ rs) (records-none reads utc marks)
 
--- the record of one settlement is made by the first mark alone, where that mark is given by its place, 0
+-- the record of one settlement is made by the first mark alone, if that mark is given by its place, 0
 pub mark_first : (reads : Asked → List ℕ → Reading) (utc : ℕ) (marks : List (Option Mark)) (mark : Option Mark) (x : Rule.Settlement Asked)
     → Some mark ≡ slice_get marks 0 → records_of reads utc marks (x ∷ []) ≡ records_of reads utc (mark ∷ []) (x ∷ [])
 mark_first reads utc [] mark x e = cc
 mark_first reads utc (m ∷ marks) mark x e = let same : m ≡ mark = cc in mark_here reads utc m marks x ∙ ap (λ k. records_of reads utc (k ∷ []) (x ∷ [])) same
 
--- the records of settlements and of others behind them are those of the first, and behind them those of the others by the marks
+-- the records of settlements and of others after them are those of the first, and after them those of the others by the marks
 -- that are left
 pub records-append : (reads : Asked → List ℕ → Reading) (utc : ℕ) (marks : List (Option Mark)) (xs ys : List (Rule.Settlement Asked))
     → records_of reads utc marks (xs ++ ys) ≡ records_of reads utc marks xs ++ records_of reads utc (drop (length xs) marks) ys
@@ -82,7 +82,8 @@ records-append reads utc (None ∷ marks) (x ∷ xs) ys = records-append reads u
 records-append reads utc (Some mark ∷ marks) (x ∷ xs) ys = ap (λ rs. record_of reads utc mark x ∷ rs) (records-append reads utc marks xs ys)
 
 -- the records of the first i + 1 settlements are those of the first i, and that of s, the one at place i, by its mark
-pub front_more : (reads : Asked → List ℕ → Reading) (utc : ℕ) (marks : List (Option Mark)) (ss : List (Settlement Asked)) (i : ℕ) (s : Settlement Asked) (mark : Option Mark) → i < length ss → s ≡ get_or ss i s
+pub front_more : (reads : Asked → List ℕ → Reading) (utc : ℕ) (marks : List (Option Mark)) (ss : List (Settlement Asked)) (i : ℕ) (s : Settlement Asked) (mark : Option Mark)
+    → i < length ss → s ≡ get_or ss i s
     → records_of reads utc (drop i marks) (settlement_seen s ∷ []) ≡ records_of reads utc (mark ∷ []) (settlement_seen s ∷ [])
     → records_of reads utc marks (map settlement_seen (take (i + 1) ss)) ≡ records_of reads utc marks (map settlement_seen (take i ss)) ++ records_of reads utc (mark ∷ []) (settlement_seen s ∷ [])
 front_more reads utc marks ss i s mark below is here =
@@ -113,13 +114,13 @@ listed_here : (reads : Asked → List ℕ → Reading) (b : Bool) (mark : Option
 listed_here reads b None marks x = listed-none reads b marks
 listed_here reads b (Some mark) marks x = listed-none reads _ marks
 
--- what one settlement of the oldest request lists hangs on the first mark alone, where that mark is given by its place, 0
+-- what one settlement of the oldest request lists hangs on the first mark alone, if that mark is given by its place, 0
 pub listed_first : (reads : Asked → List ℕ → Reading) (b : Bool) (marks : List (Option Mark)) (mark : Option Mark) (x : Rule.Settlement Asked)
     → Some mark ≡ slice_get marks 0 → listed_by reads b marks (x ∷ []) ≡ listed_by reads b (mark ∷ []) (x ∷ [])
 listed_first reads b [] mark x e = cc
 listed_first reads b (m ∷ marks) mark x e = let same : m ≡ mark = cc in listed_here reads b m marks x ∙ ap (λ k. listed_by reads b (k ∷ []) (x ∷ [])) same
 
--- what settlements and others behind them list is what the others do, behind the first, by the marks that are left
+-- what settlements and others after them list is what the others do, after the first, by the marks that are left
 listed-append : (reads : Asked → List ℕ → Reading) (marks : List (Option Mark)) (xs ys : List (Rule.Settlement Asked)) (b : Bool)
     → listed_by reads b marks (xs ++ ys) ≡ listed_by reads (listed_by reads b marks xs) (drop (length xs) marks) ys
 listed-append reads [] [] ys b = refl
@@ -127,9 +128,9 @@ listed-append reads [] (x ∷ xs) ys b = refl
 listed-append reads (mark ∷ marks) [] ys b = refl
 listed-append reads (None ∷ marks) (x ∷ xs) ys b = listed-append reads marks xs ys b
 listed-append reads (Some mark ∷ marks) (x ∷ xs) ys b =
-    listed-append reads marks xs ys (listed_behind b mark.expected (code_of reads x.call x.outcome) (end_of reads mark.expected x.call x.outcome))
+    listed-append reads marks xs ys (listed_after b mark.expected (code_of reads x.call x.outcome) (end_of reads mark.expected x.call x.outcome))
 
--- what the first i + 1 settlements list is what s does, the one at place i, behind the first i, by its mark
+-- what the first i + 1 settlements list is what s does, the one at place i, after the first i, by its mark
 pub listed_more : (reads : Asked → List ℕ → Reading) (a b c : Bool) (marks : List (Option Mark)) (ss : List (Settlement Asked)) (i : ℕ) (s : Settlement Asked) (mark : Option Mark)
     → i < length ss → s ≡ get_or ss i s → b ≡ listed_by reads a marks (map settlement_seen (take i ss)) → c ≡ listed_by reads b (mark ∷ []) (settlement_seen s ∷ [])
     → ((x : Bool) → listed_by reads x (drop i marks) (settlement_seen s ∷ []) ≡ listed_by reads x (mark ∷ []) (settlement_seen s ∷ []))
@@ -144,7 +145,7 @@ listed_more reads a b c marks ss i s mark below is so more here =
 
 -- Texts.
 
--- where `next` is `front` and `more` behind it, the texts are the same, whether `front` is joined to `more` first or to `before`
+-- where `next` is `front` and `more` after it, the texts are the same, whether `front` is joined to `more` first or to `before`
 pub texts_more : (text : Record → List ℕ) (before front next more : List Record) → next ≡ front ++ more → texts_of text (before ++ next) ≡ texts_of text ((before ++ front) ++ more)
 texts_more text before front next more is = ap (λ rs. texts_of text (before ++ rs)) is ∙ ap (texts_of text) (sym (append_assoc before front more))
 
@@ -162,7 +163,7 @@ grew_none rs = ([], sym (append-nil rs))
 pub grew_then : (a b c : List Record) → Grew a b → Grew b c → Grew a c
 grew_then a b c g h = (g.0 ++ h.0, h.1 ∙ ap (λ rs. rs ++ h.0) g.1 ∙ append_assoc a g.0 h.0)
 
--- where a book took the records `before`, and then a part of the record r alone, it broke off within r (`WritesPart`)
+-- if a book took the records `before`, and then a part of the record r alone, it broke off within r (`WritesPart`)
 pub part_one : (text : Record → List ℕ) (before : List Record) (r : Record) (start old new : Option (List ℕ)) (part : ℕ)
     → Appends start old (texts_of text before) → part < length (text r) → Appends old new (take part (text r))
     → WritesPart text before (before ++ r ∷ []) start new
@@ -189,7 +190,7 @@ part_more text before all more old new w = record {
   took = w.took;
 }
 
--- a write that took `before` and `front` whole, and then broke off, took `before` whole and broke off behind it
+-- a write that took `before` and `front` whole, and then broke off, took `before` whole and broke off after it
 pub part_since : (text : Record → List ℕ) (before front all : List Record) (old new : Option (List ℕ)) → WritesPart text (before ++ front) all old new → WritesPart text before all old new
 part_since text before front all old new w = record {
   earlier = front ++ w.earlier;
@@ -202,7 +203,7 @@ part_since text before front all old new w = record {
 }
 
 -- `mid` is `before` and more records: a write that took `mid` whole, and then broke off, took `before` whole and broke off
--- behind it
+-- after it
 pub part_grew : (text : Record → List ℕ) (before mid all : List Record) (old new : Option (List ℕ)) → Grew before mid → WritesPart text mid all old new → WritesPart text before all old new
 part_grew text before mid all old new g w = part_since text before g.0 all old new (subst (λ (rs : List Record). WritesPart text rs all old new) g.1 w)
 
@@ -229,28 +230,29 @@ tallied-append t (x ∷ xs) ys = tallied-append (counted_in x.cycle x.turn x.end
 pub tallied_more : (t u v : Counts) (front one next : List Record) → u ≡ tallied t front → v ≡ tallied u one → next ≡ front ++ one → v ≡ tallied t next
 tallied_more t u v front one next so more is = more ∙ ap (λ (x : Counts). tallied x one) so ∙ sym (tallied-append t front one) ∙ sym (ap (tallied t) is)
 
--- whether the last of two lists of records was answered well, is known from the second list or, where that is empty, from the
+-- whether the last of two lists of records was answered well, is known from the second list or, if that is empty, from the
 -- first
 pub last-append : (b : Bool) (xs ys : List Record) → last_well b (xs ++ ys) ≡ last_well (last_well b xs) ys
 last-append b [] ys = refl
 last-append b (x ∷ xs) ys = last-append (is_well x.end) xs ys
 
--- whether the last of the records `next` was answered well is known from those in front, and from those behind them (`one`)
+-- whether the last of the records `next` was answered well is known from those before it, and from those after them (`one`)
 pub last_more : (a b c : Bool) (front one next : List Record) → b ≡ last_well a front → c ≡ last_well b one
     → next ≡ front ++ one → c ≡ last_well a next
 last_more a b c front one next so more is = more ∙ ap (λ x. last_well x one) so ∙ sym (last-append a front one) ∙ sym (ap (last_well a) is)
 
--- when a command was answered well last, among two lists of records that are written down at one moment, is known from the first
+-- when a command was answered well last, among two lists of records that are recorded at one moment, is known from the first
 -- list, and then from the second
-pub fresh-append : (now fresh : ℕ) (xs ys : List Record) → fresh_behind now fresh (xs ++ ys) ≡ fresh_behind now (fresh_behind now fresh xs) ys
+pub fresh-append : (now fresh : ℕ) (xs ys : List Record) → fresh_after now fresh (xs ++ ys) ≡ fresh_after now (fresh_after now fresh xs) ys
 fresh-append now fresh [] ys = refl
 fresh-append now fresh (x ∷ xs) ys = fresh-append now (if is_well x.end then now else fresh) xs ys
 
--- when a command was answered well last, with the records `next`, is known from those in front, and from those behind them (`one`)
-pub fresh_more : (now a b c : ℕ) (front one next : List Record) → b ≡ fresh_behind now a front → c ≡ fresh_behind now b one
-    → next ≡ front ++ one → c ≡ fresh_behind now a next
+-- when a command was answered well last, with the records `next`, is known from those before it, and from those after them
+-- (`one`)
+pub fresh_more : (now a b c : ℕ) (front one next : List Record) → b ≡ fresh_after now a front → c ≡ fresh_after now b one
+    → next ≡ front ++ one → c ≡ fresh_after now a next
 fresh_more now a b c front one next so more is =
-    more ∙ ap (λ x. fresh_behind now x one) so ∙ sym (fresh-append now a front one) ∙ sym (ap (fresh_behind now a) is)
+    more ∙ ap (λ x. fresh_after now x one) so ∙ sym (fresh-append now a front one) ∙ sym (ap (fresh_after now a) is)
 
 -- the record of a settlement, with this ending in place of its own
 abbrev pub record_as : ℕ → Mark → Rule.Settlement Asked → End → Record

@@ -1,28 +1,21 @@
--- Further attempts of a chain go out for a cause: `listed` of a model is what its records say. An act is one call of the link, with what
--- came of it. A mark says which command a waiting request is of, and what is expected of its answer.
+-- Further attempts of a chain are sent for a cause: `listed` of a model is what its records say. An act is one call on the
+-- link, with its result. A mark says which command an outstanding request is of, and what is expected of its answer.
 use Rattle.std.proofs.Common.{◌≡◌, ◌⊎◌, inl, inr, ℕ, zero, suc, ◌+◌, ◌-◌, ◌<◌, ◌≤◌, ◌||◌, Bool, true, false, List, [], ◌∷◌, ◌++◌, length, drop, Option, Some, None, if◌then◌else◌, nat_eq, nat_lt, refl, sym, ap, ◌∙◌, subst, arith, append-nil}
 use Rattle.std.specs.List.{AllByRecursion}
 use Rattle.std.proofs.lemmas.Bool.{ltb-true, ltb-false}
 use Rattle.std.proofs.lemmas.Bool.Decides.{nat_tests}
 use Rattle.std.proofs.lemmas.List.{length-drop}
 use Rattle.gc_lines.specs.Frames.{rest_behind}
-use Rattle.gc_catalogue.specs.declared.answer.Answer.{Answer}
 use Rattle.gc_catalogue.specs.declared.answer.Reading.{Reading}
-use Rattle.gc_catalogue.specs.declared.answer.Reading.TheVariants as reading
 use Rattle.gc_catalogue.specs.declared.asked.Asked.{Asked}
 use Rattle.gc_catalogue.specs.declared.asked.Asked.TheVariants.{Table}
 use Rattle.gc_catalogue.specs.declared.call.Call.TheVariants.{NullProc}
 use Rattle.gc_client.specs.Rule
 use Rattle.gc_client.specs.Rule.{hears, heard, restarts}
-use Rattle.gc_texts.specs.Again.{is_named, has_code}
-use Rattle.gc_texts.specs.Codes.{are_accepted}
-use Rattle.gc_texts.specs.Endings.{End, Answered, Unreadable, Elsewhere, Late, Lost, Skipped, Missed}
-use Rattle.gc_texts.specs.Nears.{is_elsewhere}
-use Rattle.gc_texts.specs.Zeroed.{as_zero}
+use Rattle.gc_texts.specs.Again.{is_named}
+use Rattle.gc_texts.specs.Endings.{Skipped, Missed}
 use Rattle.gc_texts.specs.declared.again.Again.{Again}
 use Rattle.gc_texts.specs.declared.near.Expected.{Expected}
-use Rattle.gc_texts.specs.declared.near.Near.{Near}
-use Rattle.gc_texts.specs.declared.quality.Quality.{Quality}
 use Rattle.gc_texts.specs.Tasks.{call_at}
 use Rattle.gc_texts.specs.declared.tasks.Task.{Task}
 use Rattle.gc_links.specs.Acts.{Act, Told, Cut, Gave}
@@ -34,151 +27,24 @@ use Rattle.gc_station.specs.declared.progress.Waiting.{Waiting}
 use Rattle.gc_station.specs.declared.progress.Action.{Action}
 use Rattle.gc_station.specs.declared.progress.Action.TheVariants as actions
 use Rattle.gc_station.specs.declared.progress.Progress.{Progress}
-use Rattle.gc_station.specs.Attempts.{code_in, code_of, listed_behind, listed_by}
-use Rattle.gc_station.specs.Marks.{commands_in, end_of, value_as, warned_as, refused_as, answer_as, records_of}
-use Rattle.gc_station.specs.Model.{Model, Runs, opening, action_at, waiting_of, place_next, cycles_begun, cycle_length, mark_next, mark_setup, in_attempt, asks_or_null, asks_setup, expected_first, is_chained, others_in, others_behind_next, others_behind, requests_out, with_progress, with_moment, with_rest, asks, asks_first, line_came, lines_behind, is_heard, came, losing, skips_first, moved, after, after_all}
-use Rattle.gc_station.specs.Progressing.{turned, failing, told, loses_all}
+use Rattle.gc_station.specs.Attempts.{code_of, listed_after, listed_by}
+use Rattle.gc_station.specs.Marks.{commands_in, end_of, records_of}
+use Rattle.gc_station.specs.Model.{Model, Runs, opening, action_at, waiting_of, place_next, cycles_begun, cycle_length, mark_next, mark_setup, asks_or_null, asks_setup, expected_first, is_chained, others_in, others_after_next, others_after, requests_out, with_progress, with_moment, with_rest, asks, asks_first, line_came, lines_completed, is_heard, after_piece, losing, skips_first, moved, after, after_all}
+use Rattle.gc_station.specs.Progressing.{turned, failing, moment_noted, loses_all}
 use Rattle.gc_station.specs.Reasons.{IsFor}
 use Rattle.gc_station.specs.Records.{Record}
-use Rattle.gc_station.specs.Retries.{turn_at, turn_as, rule_at, rule_as, code_said, is_listed, HasListed, IsFurtherAttempt, GoesOutAgainForACause, TurnsAreTheTexts}
-use Rattle.gc_station.specs.Runs.{stood}
+use Rattle.gc_station.specs.Retries.{turn_at, rule_at, code_said, HasListed, IsFurtherAttempt, GoesOutAgainForACause, TurnsAreTheTexts}
+use Rattle.gc_station.specs.Runs.{state_after}
 use Rattle.gc_station.specs.Scopes.{Scope}
 use Rattle.gc_station.proofs.Always.{always_far}
 use Rattle.gc_station.proofs.Chaining.{bound_stood, none_behind}
 use Rattle.gc_station.proofs.Parted.{drop_past}
 use Rattle.gc_station.proofs.EachRun.{fine_after, fine_opening, fine_stood}
-use Rattle.gc_station.proofs.Facts.{action_for, or_true}
+use Rattle.gc_station.proofs.Facts.{action_for}
 use Rattle.gc_station.proofs.Invariant.{Invariant}
 use Rattle.gc_station.proofs.Lists.{all_append}
 use Rattle.gc_station.proofs.Walk.{lines_along, moved_changed, sending, is_sent}
-
--- What ends name.
-
--- an answered command ended by the line of its reply, where the answer was measured elsewhere (`true`) or not
-value_line : (b : Bool) (q q' : Quality) (a : Answer) (line l : List ℕ) (said : Option Answer) → value_as q b a line ≡ Answered q' said l → line ≡ l
-value_line true q q' a line l said e = cc
-value_line false q q' a line l said e = cc
-
--- an answered command ended by the line of its reply, where its return code is accepted
-warned_line : (near : Option Near) (x : Reading) (q : Quality) (line l : List ℕ) (said : Option Answer) → warned_as near x line ≡ Answered q said l → line ≡ l
-warned_line near (reading.Value answer) q line l said e = value_line (is_elsewhere near answer) _ q answer line l said e
-warned_line near (reading.Refused code) q line l said e = cc
-warned_line near (reading.ComFault code) q line l said e = cc
-warned_line near (reading.Unreadable fault) q line l said e = cc
-
--- an answered command ended by the line of its reply, whether its return code is accepted (`true`) or not
-refused_line : (b : Bool) (near : Option Near) (x : Reading) (q : Quality) (line l : List ℕ) (said : Option Answer) → refused_as b near x line ≡ Answered q said l → line ≡ l
-refused_line true near x q line l said e = warned_line near x q line l said e
-refused_line false near x q line l said e = cc
-
--- an answered command ended by the line of its reply
-answer_line : (expected : Expected) (x zeroed : Reading) (q : Quality) (line l : List ℕ) (said : Option Answer) → answer_as expected x zeroed line ≡ Answered q said l → line ≡ l
-answer_line expected (reading.Unreadable fault) zeroed q line l said e = cc
-answer_line expected (reading.Value answer) zeroed q line l said e = value_line (is_elsewhere expected.near answer) _ q answer line l said e
-answer_line expected (reading.Refused code) zeroed q line l said e = refused_line (are_accepted expected.accepted code) expected.near zeroed q line l said e
-answer_line expected (reading.ComFault code) zeroed q line l said e = cc
-
--- where a request's outcome makes it answered, its code is that of the line
-code_there : (reads : Asked → List ℕ → Reading) (expected : Expected) (call : Asked) (outcome : Rule.Outcome) (q : Quality) (said : Option Answer) (l : List ℕ)
-    → end_of reads expected call outcome ≡ Answered q said l → code_of reads call outcome ≡ code_in (reads call l)
-code_there reads expected call (Rule.Answered line) q said l e = ap (λ k. code_in (reads call k)) (answer_line expected (reads call line) (reads call (as_zero line)) q line l said e)
-code_there reads expected call Rule.Late q said l e = cc
-code_there reads expected call Rule.Lost q said l e = cc
-
--- whether an end is named hangs on its code only where it is answered
-named_by : (reads : Asked → List ℕ → Reading) (again : Again) (call : Asked) (code : Option ℕ) (end : End)
-    → ((q : Quality) (said : Option Answer) (l : List ℕ) → end ≡ Answered q said l → code ≡ code_in (reads call l)) → is_named again code end ≡ is_named again (code_said reads call end) end
-named_by reads again call code (Answered q said l) is = ap (has_code again.codes) (is q said l refl)
-named_by reads again call code (Unreadable line fault) is = refl
-named_by reads again call code (Elsewhere line) is = refl
-named_by reads again call code Late is = refl
-named_by reads again call code Lost is = refl
-named_by reads again call code Skipped is = refl
-named_by reads again call code Missed is = refl
-
--- What records list.
-
--- whether a command of the attempt that the last of these records is of ended as its rule names; where there is none, b
-abbrev any_listed : (Asked → List ℕ → Reading) → List Task → Bool → List Record → Bool
-any_listed reads commands b [] = b
-any_listed reads commands b (r ∷ rs) = any_listed reads commands ((if nat_eq r.turn.link 0 then false else b) || is_listed reads commands r) rs
-
--- what two lists of records list is what the second does behind the first
-any_append : (reads : Asked → List ℕ → Reading) (commands : List Task) (xs ys : List Record) (b : Bool) → any_listed reads commands b (xs ++ ys) ≡ any_listed reads commands (any_listed reads commands b xs) ys
-any_append reads commands [] ys b = refl
-any_append reads commands (x ∷ xs) ys b = any_append reads commands xs ys ((if nat_eq x.turn.link 0 then false else b) || is_listed reads commands x)
-
--- no attempt begins with these records
-abbrev GoOn : List Record → Type 0
-GoOn rs = AllByRecursion (λ (r : Record). r.turn.link ≡ 0 → ⊥) rs
-
--- where the records list, one of them is listed, or none begins an attempt and b is true
-has_of : (reads : Asked → List ℕ → Reading) (commands : List Task) (rs : List Record) (b : Bool) → any_listed reads commands b rs ≡ true → ((b ≡ true) × GoOn rs) ⊎ HasListed reads commands rs
-has_of reads commands [] b e = inl (e, tt)
-has_of reads commands (r ∷ rs) b e = by_rest (has_of reads commands rs ((if nat_eq r.turn.link 0 then false else b) || is_listed reads commands r) e) where
-  -- a link that isn't 0 by its test isn't 0
-  not_first : (n : ℕ) → nat_eq n 0 ≡ false → n ≡ 0 → ⊥
-  not_first n t is = grind (arith, nat_tests, t, is)
-
-  -- the lemma above for the first record, by its tests
-  by_tests : (first listed : Bool) → nat_eq r.turn.link 0 ≡ first → is_listed reads commands r ≡ listed → ((if first then false else b) || listed) ≡ true → GoOn rs
-      → ((b ≡ true) × GoOn (r ∷ rs)) ⊎ HasListed reads commands (r ∷ rs)
-  by_tests first true t l is all = inr (record { front = []; one = r; behind = rs; order = refl; listed = l; same = all })
-  by_tests true false t l is all = cc
-  by_tests false false t l is all = inl (left b is, (not_first r.turn.link t, all)) where
-    -- a disjunction with a false second part is its first
-    left : (b : Bool) → (b || false) ≡ true → b ≡ true
-    left true e = refl
-    left false e = cc
-
-  -- the lemma above, by what the others list
-  by_rest : ((((if nat_eq r.turn.link 0 then false else b) || is_listed reads commands r) ≡ true) × GoOn rs) ⊎ HasListed reads commands rs
-      → ((b ≡ true) × GoOn (r ∷ rs)) ⊎ HasListed reads commands (r ∷ rs)
-  by_rest (inl it) = by_tests (nat_eq r.turn.link 0) (is_listed reads commands r) refl refl it.0 it.1
-  by_rest (inr h) = inr (record { front = r ∷ h.front; one = h.one; behind = h.behind; order = ap (λ xs. r ∷ xs) h.order; listed = h.listed; same = h.same })
-
--- where records list from none on, one of them is listed
-listed_has : (reads : Asked → List ℕ → Reading) (commands : List Task) (rs : List Record) → any_listed reads commands false rs ≡ true → HasListed reads commands rs
-listed_has reads commands rs e = by_case (has_of reads commands rs false e) where
-  -- the lemma above, of which one case can't be
-  by_case : ((false ≡ true) × GoOn rs) ⊎ HasListed reads commands rs → HasListed reads commands rs
-  by_case (inl it) = cc
-  by_case (inr h) = h
-
--- what is listed stays so behind records that begin no attempt
-stays_listed : (reads : Asked → List ℕ → Reading) (commands : List Task) (rs : List Record) → GoOn rs → any_listed reads commands true rs ≡ true
-stays_listed reads commands [] all = refl
-stays_listed reads commands (r ∷ rs) all = by_test (λ b. stays_listed reads commands rs all.1) (nat_eq r.turn.link 0) refl where
-  -- a link that is 0 by its test is 0
-  is_first : (n : ℕ) → nat_eq n 0 ≡ true → n ≡ 0
-  is_first n t = grind (arith, nat_tests, t)
-
-  -- the lemma above, whether the first record begins an attempt
-  by_test : (Bool → any_listed reads commands true rs ≡ true) → (first : Bool) → nat_eq r.turn.link 0 ≡ first → any_listed reads commands ((if first then false else true) || is_listed reads commands r) rs ≡ true
-  by_test ih true t = absurd (all.0 (is_first r.turn.link t))
-  by_test ih false t = ih true
-
--- where one of the records is listed, they list
-has_listed : (reads : Asked → List ℕ → Reading) (commands : List Task) (rs : List Record) (b : Bool) → HasListed reads commands rs → any_listed reads commands b rs ≡ true
-has_listed reads commands rs b h =
-    ap (any_listed reads commands b) h.order ∙ any_append reads commands h.front (h.one ∷ h.behind) b
-    ∙ ap (λ x. any_listed reads commands ((if nat_eq h.one.turn.link 0 then false else any_listed reads commands b h.front) || x) h.behind) h.listed
-    ∙ ap (λ x. any_listed reads commands x h.behind) (or_true (if nat_eq h.one.turn.link 0 then false else any_listed reads commands b h.front)) ∙ stays_listed reads commands h.behind h.same
-
--- what is expected of a command's answer, of which the text says this; where it is of the set-up (`true`), in this attempt
-abbrev expected_as : Bool → ℕ → Expected → Expected
-expected_as true attempt expected = in_attempt attempt expected
-expected_as false attempt expected = expected
-
--- its turn is that of the command
-turn_expected : (b : Bool) (attempt : ℕ) (expected : Expected) → (expected_as b attempt expected).turn ≡ turn_as b attempt expected.turn
-turn_expected true attempt expected = refl
-turn_expected false attempt expected = refl
-
--- its rule is that of the command
-rule_expected : (b : Bool) (attempt : ℕ) (expected : Expected) → (expected_as b attempt expected).again ≡ rule_as b expected.again
-rule_expected true attempt expected = refl
-rule_expected false attempt expected = refl
+use Rattle.gc_station.proofs.Listed.{code_there, named_by, any_listed, any_append, listed_has, has_listed, expected_as, turn_expected, rule_expected}
 
 module _ (plan : Plan) (commands : List Task) (scope : Scope) where
   -- a mark has what is expected of its command's answer
@@ -237,20 +103,20 @@ module _ (plan : Plan) (commands : List Task) (scope : Scope) where
 
   -- a model reads replies as the scope does, each of its marks is `IsPlaced`, each of its records `IsSo`, and its `listed` is what its
   -- records say
-  record Keeps (s : Model) : Type 0 where
+  record KeepsTurns (s : Model) : Type 0 where
     reads : s.reads ≡ scope.reads
     marks : AllByRecursion IsPlaced s.marks
     records : AllByRecursion IsSo s.records
     listed : s.listed ≡ any_listed scope.reads commands false s.records
 
-  -- settlements that are written down keep all records `IsSo`
-  settles_so : (s : Model) (x : List (Rule.Settlement Asked)) → Keeps s → AllByRecursion IsSo (s.records ++ records_of s.reads s.progress.moment.utc s.marks x)
+  -- settlements that are recorded keep all records `IsSo`
+  settles_so : (s : Model) (x : List (Rule.Settlement Asked)) → KeepsTurns s → AllByRecursion IsSo (s.records ++ records_of s.reads s.progress.moment.utc s.marks x)
   settles_so s x k =
       all_append IsSo s.records _ k.records
       (subst (λ (reads : Asked → List ℕ → Reading). AllByRecursion IsSo (records_of reads s.progress.moment.utc s.marks x)) (sym k.reads) (records_so s.progress.moment.utc s.marks x k.marks))
 
-  -- settlements that are written down keep `listed` what the records say
-  settles_listed : (s : Model) (x : List (Rule.Settlement Asked)) → Keeps s
+  -- settlements that are recorded keep `listed` what the records say
+  settles_listed : (s : Model) (x : List (Rule.Settlement Asked)) → KeepsTurns s
       → listed_by s.reads s.listed s.marks x ≡ any_listed scope.reads commands false (s.records ++ records_of s.reads s.progress.moment.utc s.marks x)
   settles_listed s x k =
       let utc = s.progress.moment.utc in
@@ -260,48 +126,49 @@ module _ (plan : Plan) (commands : List Task) (scope : Scope) where
       ∙ sym (any_append scope.reads commands s.records (records_of scope.reads utc s.marks x) false)
       ∙ sym (ap (λ (reads : Asked → List ℕ → Reading). any_listed scope.reads commands false (s.records ++ records_of reads utc s.marks x)) k.reads)
 
-  -- `Keeps` lasts over a line that is heard
-  line_so : (s : Model) (line : List ℕ) → Keeps s → Keeps (line_came s line)
+  -- `KeepsTurns` is preserved by a line that is heard
+  line_so : (s : Model) (line : List ℕ) → KeepsTurns s → KeepsTurns (line_came s line)
   line_so s line k =
       let x = hears s.client line (heard line) in
       record { reads = k.reads; marks = all_drop _ s.marks k.marks; records = settles_so s x.settlements k; listed = settles_listed s x.settlements k }
 
-  -- `Keeps` lasts over a piece
-  came_so : (b : Bool) (word piece : List ℕ) (s : Model) → Keeps s → Keeps (came b word piece s)
+  -- `KeepsTurns` is preserved by a piece
+  came_so : (b : Bool) (word piece : List ℕ) (s : Model) → KeepsTurns s → KeepsTurns (after_piece b word piece s)
   came_so true (asked ∷ others) piece s k = record { reads = k.reads; marks = k.marks; records = k.records; listed = k.listed }
   came_so true [] piece s k =
-      lines_along Keeps line_so (with_rest (rest_behind s.rest piece) s) (lines_behind s.rest piece) (record { reads = k.reads; marks = k.marks; records = k.records; listed = k.listed })
+      lines_along KeepsTurns line_so (with_rest (rest_behind s.rest piece) s) (lines_completed s.rest piece) (record { reads = k.reads; marks = k.marks; records = k.records; listed = k.listed })
   came_so false word piece s k = k
 
-  -- `Keeps` lasts over the loss of what waits
-  losing_so : (b : Bool) (s : Model) → Keeps s → Keeps (losing b s)
+  -- `KeepsTurns` is preserved by the loss of what is outstanding
+  losing_so : (b : Bool) (s : Model) → KeepsTurns s → KeepsTurns (losing b s)
   losing_so true s k =
       let x = restarts s.client in record { reads = k.reads; marks = all_drop _ s.marks k.marks; records = settles_so s x.settlements k; listed = settles_listed s x.settlements k }
   losing_so false s k = k
 
-  -- `Keeps` lasts over a request that is sent, if its mark is `IsPlaced`
-  asks_so : (wait target : ℕ) (call : Asked) (mark : Option Mark) (s : Model) → IsPlaced mark → Keeps s → Keeps (asks wait target call mark s)
+  -- `KeepsTurns` is preserved by a request that is sent, if its mark is `IsPlaced`
+  asks_so : (wait target : ℕ) (call : Asked) (mark : Option Mark) (s : Model) → IsPlaced mark → KeepsTurns s → KeepsTurns (asks wait target call mark s)
   asks_so wait target call mark s placed k = record { reads = k.reads; marks = all_append IsPlaced s.marks _ k.marks (placed, tt); records = k.records; listed = k.listed }
 
-  -- `Keeps` lasts over the send of the first of these commands, if its mark is `IsPlaced`
-  first_so : (mark : Mark) (left : List Task) (s : Model) → IsPlaced (Some mark) → Keeps s → Keeps (asks_first mark left s)
+  -- `KeepsTurns` is preserved by the send of the first of these commands, if its mark is `IsPlaced`
+  first_so : (mark : Mark) (left : List Task) (s : Model) → IsPlaced (Some mark) → KeepsTurns s → KeepsTurns (asks_first mark left s)
   first_so mark [] s placed k = k
   first_so mark (task ∷ others) s placed k = asks_so task.deadline task.command.target (call_at task mark.sent) (Some mark) s placed k
 
-  -- `Keeps` lasts over the send of the next command
-  next_so : (s : Model) → 0 < cycles_begun plan s.progress → Keeps s → Keeps (asks_first (mark_next plan commands s.progress) (drop (place_next commands s.progress) commands) s)
+  -- `KeepsTurns` is preserved by the send of the next command
+  next_so : (s : Model) → 0 < cycles_begun plan s.progress → KeepsTurns s → KeepsTurns (asks_first (mark_next plan commands s.progress) (drop (place_next commands s.progress) commands) s)
   next_so s many k = first_so (mark_next plan commands s.progress) (drop (place_next commands s.progress) commands) s (next_placed s.progress many) k
 
-  -- `Keeps` lasts over the send of the next command of the set-up
-  setup_so : (s : Model) → Keeps s → Keeps (asks_setup plan commands s)
+  -- `KeepsTurns` is preserved by the send of the next command of the setup
+  setup_so : (s : Model) → KeepsTurns s → KeepsTurns (asks_setup plan commands s)
   setup_so s k = by_list (drop s.progress.prepared commands) where
     -- the lemma above, whether there is one or not
-    by_list : (left : List Task) → Keeps (asks_or_null plan (mark_setup commands s.progress) left s)
+    by_list : (left : List Task) → KeepsTurns (asks_or_null plan (mark_setup commands s.progress) left s)
     by_list [] = asks_so plan.deadline 0 (Table NullProc) None s tt k
     by_list (task ∷ others) = asks_so task.deadline task.command.target (call_at task s.progress.moment.utc) (Some (mark_setup commands s.progress)) s refl k
 
   -- the end of a command that isn't sent is named, whatever its code
-  unsent_named : (again : Again) (call : Asked) (b : Bool) → is_named again None (if b then Missed else Skipped) ≡ is_named again (code_said scope.reads call (if b then Missed else Skipped)) (if b then Missed else Skipped)
+  unsent_named : (again : Again) (call : Asked) (b : Bool)
+      → is_named again None (if b then Missed else Skipped) ≡ is_named again (code_said scope.reads call (if b then Missed else Skipped)) (if b then Missed else Skipped)
   unsent_named again call true = refl
   unsent_named again call false = refl
 
@@ -312,7 +179,7 @@ module _ (plan : Plan) (commands : List Task) (scope : Scope) where
 
   -- a command that isn't sent lists what its record does
   skips_listed : (b : Bool) (p : Progress) (m : Moment) (left : List Task) → 0 < cycles_begun plan p → 0 < length left
-      → listed_behind b (mark_next plan commands p).expected None (if p.missed then Missed else Skipped) ≡ any_listed scope.reads commands b (skips_first p m (mark_next plan commands p) left)
+      → listed_after b (mark_next plan commands p).expected None (if p.missed then Missed else Skipped) ≡ any_listed scope.reads commands b (skips_first p m (mark_next plan commands p) left)
   skips_listed b p m [] many some = absurd (omega (arith, some))
   skips_listed b p m (task ∷ others) many some =
       let mark = mark_next plan commands p in
@@ -320,19 +187,20 @@ module _ (plan : Plan) (commands : List Task) (scope : Scope) where
       ap (λ x. (if nat_eq mark.expected.turn.link 0 then false else b) || x)
       (unsent_named mark.expected.again task.command.call p.missed ∙ ap (λ (k : Again). is_named k (code_said scope.reads task.command.call end) end) (rule_so mark (next_placed p many)))
 
-  -- where the next command has its turn, a cycle has begun, and there is such a command
+  -- if the next command has its turn, a cycle has begun, and there is such a command
   abbrev IsThere : Action → Model → Type 0
   IsThere actions.Send s = (0 < cycles_begun plan s.progress) × (0 < length (drop (place_next commands s.progress) commands))
   IsThere actions.Skip s = (0 < cycles_begun plan s.progress) × (0 < length (drop (place_next commands s.progress) commands))
   IsThere next s = Unit {0}
 
-  -- `Keeps` lasts over an act of each action that is next, before what waits is lost
-  moved_so : (next : Action) (s : Model) (act : Act) → IsThere next s → Keeps s → Keeps (moved plan commands next s act)
+  -- `KeepsTurns` is preserved by an act of each action that is next, before what is outstanding is lost
+  moved_so : (next : Action) (s : Model) (act : Act) → IsThere next s → KeepsTurns s → KeepsTurns (moved plan commands next s act)
   moved_so actions.Prepare s (Cut bytes count) some k = let n = setup_so s k in record { reads = n.reads; marks = n.marks; records = n.records; listed = n.listed }
   moved_so actions.Prepare s act some k = let n = setup_so s k in record { reads = n.reads; marks = n.marks; records = n.records; listed = n.listed }
   moved_so actions.Send s (Cut bytes count) some k = let n = next_so s some.0 k in record { reads = n.reads; marks = n.marks; records = n.records; listed = n.listed }
   moved_so actions.Send s act some k = let n = next_so s some.0 k in record { reads = n.reads; marks = n.marks; records = n.records; listed = n.listed }
-  moved_so actions.Flush s (Cut bytes count) some k = let n = asks_so plan.deadline 0 (Table NullProc) None s tt k in record { reads = n.reads; marks = n.marks; records = n.records; listed = n.listed }
+  moved_so actions.Flush s (Cut bytes count) some k = let n = asks_so plan.deadline 0
+      (Table NullProc) None s tt k in record { reads = n.reads; marks = n.marks; records = n.records; listed = n.listed }
   moved_so actions.Flush s act some k = let n = asks_so plan.deadline 0 (Table NullProc) None s tt k in record { reads = n.reads; marks = n.marks; records = n.records; listed = n.listed }
   moved_so actions.Skip s (Told m) some k =
       let left = drop (place_next commands s.progress) commands in
@@ -351,59 +219,61 @@ module _ (plan : Plan) (commands : List Task) (scope : Scope) where
     listed = k.listed ∙ sym (ap (any_listed scope.reads commands false) (append-nil s.records));
   }
   moved_so (actions.Read until) s (Gave bytes m) some k =
-      let n = came_so (is_heard s.progress.phase) s.progress.word bytes (with_moment m (with_progress (told m) s)) (record { reads = k.reads; marks = k.marks; records = k.records; listed = k.listed }) in
+      let n = came_so (is_heard s.progress.phase) s.progress.word bytes (with_moment m (with_progress (moment_noted m) s))
+      (record { reads = k.reads; marks = k.marks; records = k.records; listed = k.listed }) in
       record { reads = n.reads; marks = n.marks; records = n.records; listed = n.listed }
   moved_so (actions.Read until) s act some k = record { reads = k.reads; marks = k.marks; records = k.records; listed = k.listed }
-  moved_so next s act some k = subst Keeps (sym (moved_changed plan commands next s act)) (record { reads = k.reads; marks = k.marks; records = k.records; listed = k.listed })
+  moved_so next s act some k = subst KeepsTurns (sym (moved_changed plan commands next s act)) (record { reads = k.reads; marks = k.marks; records = k.records; listed = k.listed })
 
-  -- `Keeps` lasts over an act
-  after_so : (s : Model) (act : Act) → Invariant plan commands s → Keeps s → Keeps (after plan commands s act)
+  -- `KeepsTurns` is preserved by an act
+  after_so : (s : Model) (act : Act) → Invariant plan commands s → KeepsTurns s → KeepsTurns (after plan commands s act)
   after_so s act fine k =
       let t = moved plan commands (action_at plan s) (with_progress turned s) act in
       losing_so (loses_all t.progress) t (moved_so (action_at plan s) (with_progress turned s) act (there (action_at plan s) (action_for plan s.progress (waiting_of s)))
       (record { reads = k.reads; marks = k.marks; records = k.records; listed = k.listed })) where
-        -- where one is left, a cycle has begun, and there is a next command
+        -- if one is left, a cycle has begun, and there is a next command
         one_left : 0 < s.progress.unsent → (0 < cycles_begun plan s.progress) × (0 < length (drop (place_next commands s.progress) commands))
         one_left unsent =
             let many = length-drop (place_next commands s.progress) commands in
             let within = fine.unsent in
             let below = fine.begun unsent in (omega (arith, below), omega (arith, many, unsent, within))
 
-        -- where the next command has its turn, there is one
+        -- if the next command has its turn, there is one
         there : (next : Action) → IsFor plan s.progress (waiting_of s) next → IsThere next (with_progress turned s)
         there actions.Send needs = one_left needs.2
         there actions.Skip needs = one_left needs.2
         there next needs = tt
 
-  -- `Keeps` lasts over acts
-  along : (s : Model) (acts : List Act) → Invariant plan commands s → Keeps s → Keeps (after_all plan commands s acts)
+  -- `KeepsTurns` is preserved by acts
+  along : (s : Model) (acts : List Act) → Invariant plan commands s → KeepsTurns s → KeepsTurns (after_all plan commands s acts)
   along s [] fine k = k
   along s (act ∷ acts) fine k = along (after plan commands s act) acts (fine_after plan commands s act fine) (after_so s act fine k)
 
-  -- `Keeps` holds after any acts
-  kept_all : (acts : List Act) → Keeps (stood plan commands scope acts)
+  -- `KeepsTurns` holds after any acts
+  kept_all : (acts : List Act) → KeepsTurns (state_after plan commands scope acts)
   kept_all acts = along (opening plan scope) acts (fine_opening plan commands scope) (record { reads = refl; marks = tt; records = tt; listed = refl })
 
   -- What a progress says of the next command.
 
-  -- `next_others` is what the text says of the next command, where that isn't the first of its cycle, and else 0
+  -- `next_others` is what the text says of the next command, if that isn't the first of its cycle, and else 0
   abbrev Follows : Progress → Type 0
   Follows p = (plan.setup < place_next commands p → p.next_others ≡ others_in (drop (place_next commands p) commands)) × (place_next commands p ≤ plan.setup → p.next_others ≡ 0)
 
-  -- `Follows` lasts where the next command stays the same
+  -- `Follows` is preserved if the next command stays the same
   follows_same : (p q : Progress) → q.unsent ≡ p.unsent → q.next_others ≡ p.next_others → Follows p → Follows q
   follows_same p q unsent others h =
       let at : place_next commands q ≡ place_next commands p = ap (λ (n : ℕ). length commands - n) unsent in
       (λ above. others ∙ h.0 (subst (λ (n : ℕ). plan.setup < n) at above) ∙ ap (λ (n : ℕ). others_in (drop n commands)) (sym at), λ none. others ∙ h.1 (subst (λ (n : ℕ). n ≤ plan.setup) at none))
 
   -- `Follows` holds after the next command
-  follows_next : (p q : Progress) → q.unsent ≡ p.unsent - 1 → q.next_others ≡ others_behind_next commands p → 0 < p.unsent → p.unsent ≤ length commands - plan.setup → Follows q
+  follows_next : (p q : Progress) → q.unsent ≡ p.unsent - 1 → q.next_others ≡ others_after_next commands p → 0 < p.unsent → p.unsent ≤ length commands - plan.setup → Follows q
   follows_next p q unsent others some within =
       let at : place_next commands p + 1 ≡ place_next commands q = omega (arith, unsent, some, within) in
       (λ above. others ∙ ap (λ (n : ℕ). others_in (drop n commands)) at, λ none. absurd (omega (arith, at, none, some, within)))
 
-  -- `Follows` holds after attempts that are passed over
-  follows_past : (p q : Progress) → q.unsent ≡ p.unsent - p.next_others → q.next_others ≡ others_behind p.next_others commands p → 0 < p.unsent → 0 < p.next_others → p.unsent ≤ length commands - plan.setup → Follows q
+  -- `Follows` holds after attempts that are left out
+  follows_past : (p q : Progress) → q.unsent ≡ p.unsent - p.next_others → q.next_others ≡ others_after p.next_others commands p → 0 < p.unsent → 0 < p.next_others
+      → p.unsent ≤ length commands - plan.setup → Follows q
   follows_past p q unsent others some more within =
       let at : drop (place_next commands p + p.next_others) commands ≡ drop (place_next commands q) commands =
       drop_past commands p.unsent p.next_others (omega (arith, within)) ∙ ap (λ (n : ℕ). drop (length commands - n) commands) (sym unsent) in
@@ -417,8 +287,9 @@ module _ (plan : Plan) (commands : List Task) (scope : Scope) where
   abbrev far : Action → Model → Act → Progress
   far next s act = (moved plan commands next (with_progress turned s) act).progress
 
-  -- `Follows` lasts over an act of each action
-  moved_follows : (next : Action) (s : Model) (w : Waiting) (act : Act) → IsFor plan s.progress w next → s.progress.unsent ≤ length commands - plan.setup → Follows s.progress → Follows (far next s act)
+  -- `Follows` is preserved by an act of each action
+  moved_follows : (next : Action) (s : Model) (w : Waiting) (act : Act) → IsFor plan s.progress w next → s.progress.unsent ≤ length commands - plan.setup → Follows s.progress
+      → Follows (far next s act)
   moved_follows actions.Begin s w (Told m) needs within h = follows_begun (far actions.Begin s (Told m)) refl refl
   moved_follows actions.Send s w (Cut bytes n) needs within h =
       let t = with_progress turned s in
@@ -437,28 +308,30 @@ module _ (plan : Plan) (commands : List Task) (scope : Scope) where
       follows_same s.progress (far next s act) (ap (λ (x : Model). x.progress.unsent) is) (ap (λ (x : Model). x.progress.next_others) is) h
 
   -- `Follows` holds after every run
-  follows_stood : (acts : List Act) → Runs plan commands (opening plan scope) acts → Follows (stood plan commands scope acts).progress
+  follows_stood : (acts : List Act) → Runs plan commands (opening plan scope) acts → Follows (state_after plan commands scope acts).progress
   follows_stood acts runs =
       always_far plan commands (opening plan scope) (λ (p : Progress) (done : List Act). Follows p)
       (λ done act runs' o h.
-      let s = stood plan commands scope done in
+      let s = state_after plan commands scope done in
       moved_follows (action_at plan s) s (waiting_of s) act (action_for plan s.progress (waiting_of s)) (fine_stood plan commands scope done).unsent h)
       (λ above. sym (ap others_in (none_behind commands)), λ none. refl) acts runs
 
-  -- what has to hold where this action is next holds of the station after these acts
-  needs_of : (acts : List Act) (next : Action) → action_at plan (stood plan commands scope acts) ≡ next → IsFor plan (stood plan commands scope acts).progress (waiting_of (stood plan commands scope acts)) next
+  -- what has to hold if this action is next holds of the station after these acts
+  needs_of : (acts : List Act) (next : Action) → action_at plan (state_after plan commands scope acts) ≡ next
+      → IsFor plan (state_after plan commands scope acts).progress (waiting_of (state_after plan commands scope acts)) next
   needs_of acts next is =
-      let s = stood plan commands scope acts in subst (λ (o : Action). IsFor plan s.progress (waiting_of s) o) is (action_for plan s.progress (waiting_of s))
+      let s = state_after plan commands scope acts in subst (λ (o : Action). IsFor plan s.progress (waiting_of s) o) is (action_for plan s.progress (waiting_of s))
 
-  -- the law of further attempts that go out
-  goes_again : (acts : List Act) → Runs plan commands (opening plan scope) acts → action_at plan (stood plan commands scope acts) ≡ actions.Send → IsFurtherAttempt plan commands (stood plan commands scope acts)
-      → (commands_in (stood plan commands scope acts).marks ≡ 0) × HasListed scope.reads commands (stood plan commands scope acts).records
+  -- the law of further attempts that are sent
+  goes_again : (acts : List Act) → Runs plan commands (opening plan scope) acts → action_at plan (state_after plan commands scope acts) ≡ actions.Send
+      → IsFurtherAttempt plan commands (state_after plan commands scope acts)
+      → (commands_in (state_after plan commands scope acts).marks ≡ 0) × HasListed scope.reads commands (state_after plan commands scope acts).records
   goes_again acts runs is further = by_may (needs_of acts actions.Send is).6 where
-    -- the station as it stands
+    -- the model after these acts
     s : Model
-    s = stood plan commands scope acts
+    s = state_after plan commands scope acts
 
-    -- the law above, by why the command may go out: it begins a further attempt
+    -- the law above, by why the command may be sent: it begins a further attempt
     by_may : ((s.progress.next_others ≡ 0) ⊎ ((commands_in s.marks ≡ 0) × (s.listed ≡ true))) → (commands_in s.marks ≡ 0) × HasListed scope.reads commands s.records
     by_may (inl none) = let others = (follows_stood acts runs).0 further.0 in let more = further.1 in absurd (omega (arith, none, others, more))
     by_may (inr may) = (may.0, listed_has scope.reads commands s.records (sym (kept_all acts).listed ∙ may.1))
@@ -467,17 +340,17 @@ module _ (plan : Plan) (commands : List Task) (scope : Scope) where
   not_both : (b : Bool) → b ≡ true → b ≡ false → ⊥
   not_both b e g = cc
 
-  -- the law of further attempts that are passed over
-  passes_over : (acts : List Act) → Runs plan commands (opening plan scope) acts → action_at plan (stood plan commands scope acts) ≡ actions.Pass
-      → IsFurtherAttempt plan commands (stood plan commands scope acts) × (commands_in (stood plan commands scope acts).marks ≡ 0)
-      × ((HasListed scope.reads commands (stood plan commands scope acts).records → ⊥)
-      ⊎ (((stood plan commands scope acts).progress.missed ≡ true) ⊎ (is_chained (drop (place_next commands (stood plan commands scope acts).progress) commands) ≡ true)))
+  -- the law of further attempts that are left out
+  passes_over : (acts : List Act) → Runs plan commands (opening plan scope) acts → action_at plan (state_after plan commands scope acts) ≡ actions.Pass
+      → IsFurtherAttempt plan commands (state_after plan commands scope acts) × (commands_in (state_after plan commands scope acts).marks ≡ 0)
+      × ((HasListed scope.reads commands (state_after plan commands scope acts).records → ⊥)
+      ⊎ (((state_after plan commands scope acts).progress.missed ≡ true) ⊎ (is_chained (drop (place_next commands (state_after plan commands scope acts).progress) commands) ≡ true)))
   passes_over acts runs is = ((above, further), needs.3, by_why needs.5) where
-    -- the station as it stands
+    -- the model after these acts
     s : Model
-    s = stood plan commands scope acts
+    s = state_after plan commands scope acts
 
-    -- what has to hold where attempts are passed over
+    -- what has to hold where attempts are left out
     needs : IsFor plan s.progress (waiting_of s) actions.Pass
     needs = needs_of acts actions.Pass is
 
@@ -494,7 +367,7 @@ module _ (plan : Plan) (commands : List Task) (scope : Scope) where
     above : plan.setup < place_next commands s.progress
     above = by_place (nat_lt plan.setup (place_next commands s.progress)) refl
 
-    -- it begins a further attempt
+    -- the next command begins a further attempt
     further : 0 < others_in (drop (place_next commands s.progress) commands)
     further = subst (λ (n : ℕ). 0 < n) (follows.0 above) needs.4
 
@@ -503,14 +376,14 @@ module _ (plan : Plan) (commands : List Task) (scope : Scope) where
     by_missed true c missed e = inl missed
     by_missed false c missed e = inr e
 
-    -- why the attempt is passed over
+    -- why the attempt is left out
     by_why : ((s.listed ≡ false) ⊎ (s.progress.next_is_chained ≡ true))
         → (HasListed scope.reads commands s.records → ⊥) ⊎ ((s.progress.missed ≡ true) ⊎ (is_chained (drop (place_next commands s.progress) commands) ≡ true))
     by_why (inl none) = inl (λ h. not_both s.listed ((kept_all acts).listed ∙ has_listed scope.reads commands s.records false h) none)
     by_why (inr bound) =
         inr (by_missed s.progress.missed (is_chained (drop (place_next commands s.progress) commands)) refl (sym (bound_stood plan commands scope acts runs above) ∙ bound))
 
--- the law: chains go out again for a cause
+-- the law: chains are sent again for a cause
 pub goes_out_again : GoesOutAgainForACause
 goes_out_again = record { goes = goes_again; passes = passes_over }
 

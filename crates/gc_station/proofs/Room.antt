@@ -1,4 +1,4 @@
--- Where a request goes out there is room for it.
+-- If a request is sent there is room for it.
 use Rattle.std.proofs.Common.{◌≡◌, ◌⊎◌, inl, inr, ◌<◌, arith}
 use Rattle.std.proofs.lemmas.Bool.Decides.{leb_tells}
 use Rattle.gc_station.specs.declared.plan.Plan.{Plan}
@@ -9,27 +9,27 @@ use Rattle.gc_station.specs.declared.progress.Waiting.{Waiting}
 use Rattle.gc_station.specs.Reasons.{IsFor, HasRoom}
 use Rattle.gc_station.specs.Quiet.{IsAsking}
 use Rattle.gc_station.specs.Room.{RequestsHaveRoom}
-use Rattle.gc_station.specs.Runs.{stood}
+use Rattle.gc_station.specs.Runs.{state_after}
 use Rattle.gc_station.specs.Model.{action_at, waiting_of}
 use Rattle.gc_station.proofs.Facts.{action_for}
 
--- where a request of the client is next, there is room
+-- if a request of the client is next, there is room
 room_of : (plan : Plan) (p : Progress) (w : Waiting) (next : Action) → IsAsking next → IsFor plan p w next → HasRoom plan w
 room_of plan p w actions.Prepare puts is = is.3
 room_of plan p w actions.Send puts is = is.3
 room_of plan p w actions.Flush puts is = is.4
 room_of plan p w next puts is = absurd puts
 
--- where there is room, none is under way, or fewer than the plan's width
+-- if there is room, none is in flight, or fewer than the plan's width
 few : (plan : Plan) (w : Waiting) → HasRoom plan w → (w.current ≡ 0) ⊎ (w.current < plan.width)
 few plan w room = elim (leb_tells plan.width 0) as (λ _. (w.current ≡ 0) ⊎ (w.current < plan.width)) [
   | inl none ↦ let least = none.1 in let here = room.0 in inl (omega (arith, least, here))
   | inr some ↦ let least = some.1 in let here = room.0 in inr (omega (arith, least, here))
 ]
 
--- the law: a request of the client goes out only where there is room
+-- the law: a request of the client is sent only if there is room
 pub have_room : RequestsHaveRoom
 have_room plan commands scope acts puts =
-    let s = stood plan commands scope acts in
+    let s = state_after plan commands scope acts in
     let room = room_of plan s.progress (waiting_of s) (action_at plan s) puts (action_for plan s.progress (waiting_of s)) in
     (few plan (waiting_of s) room, room.1)

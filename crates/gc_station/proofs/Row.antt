@@ -1,5 +1,6 @@
--- The row of a station: the requests of its records, and behind them those of the commands that wait. An act leaves it, or adds the request of
--- the command that goes out or is passed over. Where a chain is unbroken, the last request is of a cycle, not of the set-up.
+-- The row of a station: the requests of its records, and after them those of the outstanding commands. An act leaves it, or
+-- adds the request of the command that is sent or is left out. If a chain is unbroken, the last request is of a cycle, not of
+-- the setup.
 use Rattle.std.proofs.Common.{◌≡◌, ℕ, ◌-◌, ◌<◌, Bool, true, false, List, [], ◌∷◌, ◌++◌, length, drop, map, Some, None, refl, sym, ap, ◌∙◌, subst, arith, append_assoc, append-nil, nat_eq}
 use Rattle.std.proofs.lemmas.Bool.Decides.{nat_tests}
 use Rattle.std.proofs.lemmas.List.{length-drop, map-append}
@@ -21,18 +22,19 @@ use Rattle.gc_station.specs.declared.progress.Until.{Until}
 use Rattle.gc_station.specs.Deciding.{later}
 use Rattle.gc_station.specs.EachOnce.{Request, of_record, of_cycles, cycle_with, of_text, in_text}
 use Rattle.gc_station.specs.Marks.{commands_in}
-use Rattle.gc_station.specs.Progressing.{told, turned, loses_all}
+use Rattle.gc_station.specs.Progressing.{moment_noted, turned, loses_all}
 use Rattle.gc_station.specs.Reasons.{IsFor}
-use Rattle.gc_station.specs.Runs.{stood}
+use Rattle.gc_station.specs.Runs.{state_after}
 use Rattle.gc_station.specs.Scopes.{Scope}
-use Rattle.gc_station.specs.Model.{Model, opening, action_at, waiting_of, cycles_begun, place_next, mark_next, Performs, Puts, ReadsClock, IsOpening, Runs, is_heard, asks_first, asks_null, came, line_came, losing, moved, piece_at, with_progress, with_moment, null_text, text_or_null, first_text, request_text}
+use Rattle.gc_station.specs.Model.{Model, opening, action_at, waiting_of, cycles_begun, place_next, mark_next, Performs, Puts, ReadsClock, IsOpening, Runs, is_heard, asks_first, asks_null, after_piece, line_came, losing, moved, piece_at, with_progress, with_moment, null_text, text_or_null, first_text, request_text}
 use Rattle.gc_station.proofs.Always.{always}
 use Rattle.gc_station.proofs.Each.{row, row_moment, row_settles, more_waiting, marked_none, waiting_marked, cycles_append}
 use Rattle.gc_station.proofs.EachRun.{fine_stood}
 use Rattle.gc_station.proofs.Facts.{action_for}
 use Rattle.gc_station.proofs.Invariant.{Invariant}
-use Rattle.gc_station.proofs.Midway.{client_behind, clash}
+use Rattle.gc_station.proofs.Midway.{client_behind}
 use Rattle.gc_station.proofs.Walk.{came_along, closed_along, moved_changed, walk}
+use Rattle.gc_station.proofs.Ticking.{not_both}
 
 -- the row of a model
 abbrev pub row_of : Model → List Request
@@ -45,19 +47,19 @@ row_line s line =
     row_settles s.reads s.progress.moment.utc s.marks s.client.waiting x.client.waiting x.settlements s.records (heard_parts s.client line (heard line))
 
 -- a piece leaves the row, heard or not
-row_came : (h : Bool) (word piece : List ℕ) (s : Model) → row_of (came h word piece s) ≡ row_of s
+row_came : (h : Bool) (word piece : List ℕ) (s : Model) → row_of (after_piece h word piece s) ≡ row_of s
 row_came h word piece s = came_along (λ (t : Model). row_of t ≡ row_of s) (λ t line e. row_line t line ∙ e) h word piece s refl refl refl
 
 -- a read that gave bytes leaves the row
 pub row_gave : (plan : Plan) (until : Until) (s : Model) (bytes : List ℕ) (m : Moment) → row_of (piece_at plan until bytes m s) ≡ row_of s
 row_gave plan until s bytes m =
-    row_came (is_heard s.progress.phase) s.progress.word bytes (with_moment m (with_progress (told m) s)) ∙ row_moment s.marks s.client.waiting s.records m.elapsed
+    row_came (is_heard s.progress.phase) s.progress.word bytes (with_moment m (with_progress (moment_noted m) s)) ∙ row_moment s.marks s.client.waiting s.records m.elapsed
 
--- the loss of what waits leaves the row
+-- the loss of what is outstanding leaves the row
 pub row_losing : (b : Bool) (s : Model) → row_of (losing b s) ≡ row_of s
 row_losing true s =
     row_settles s.reads s.progress.moment.utc s.marks s.client.waiting [] (map lost s.client.waiting) s.records (none (map of_settled (map lost s.client.waiting)) ∙ lost_parts s.client.waiting) where
-      -- nothing appended changes no list
+      -- a list with nothing appended is itself
       none : {A : Type 0} (xs : List A) → xs ++ [] ≡ xs
       none xs = append-nil xs
 row_losing false s = refl
@@ -80,27 +82,27 @@ row_read plan commands action.Flush s act bytes m o is = absurd (subst (λ (a : 
 row_read plan commands (action.Close why) s act bytes m o is = cc
 row_read plan commands (action.Stop why) s act bytes m o is = absurd o
 
--- Where a chain is unbroken, the last request of the row is of a cycle.
+-- If a chain is unbroken, the last request of the row is of a cycle.
 
--- the cycle of the last of these requests; `n` where there is none
+-- the cycle of the last of these requests; `n` if there is none
 abbrev pub last_cycle : ℕ → List Request → ℕ
 last_cycle n [] = n
 last_cycle n (x ∷ xs) = last_cycle x.cycle xs
 
--- the cycle of the last request is that of the one behind the others
+-- the cycle of the last request is that of the one after the others
 last_behind : (n : ℕ) (xs : List Request) (x : Request) → last_cycle n (xs ++ x ∷ []) ≡ x.cycle
 last_behind n [] x = refl
 last_behind n (y ∷ xs) x = last_behind y.cycle xs x
 
--- where a chain is unbroken, the last request of the row is of a cycle
+-- if a chain is unbroken, the last request of the row is of a cycle
 abbrev LastIsOfCycle : Model → Type 0
 LastIsOfCycle s = s.progress.chain_unbroken ≡ true → 0 < last_cycle 0 (row_of s)
 
--- it lasts where the row stays
+-- `LastIsOfCycle` is preserved if the row stays
 kept : {xs ys : List Request} {b : Bool} → ys ≡ xs → (b ≡ true → 0 < last_cycle 0 xs) → b ≡ true → 0 < last_cycle 0 ys
 kept same h e = subst (λ (zs : List Request). 0 < last_cycle 0 zs) (sym same) (h e)
 
--- the first of these commands, where it is sent with a mark of a cycle, is the last request of the row
+-- the first of these commands, if it is sent with a mark of a cycle, is the last request of the row
 sent_last : (mark : Mark) (left : List Task) (s : Model) → length s.marks ≡ length s.client.waiting → length s.client.waiting < 7 → 0 < length left → 0 < mark.cycle
     → 0 < last_cycle 0 (row (asks_first mark left s).marks (asks_first mark left s).client.waiting s.records)
 sent_last mark [] s paired room some many = absurd (omega (arith, some))
@@ -115,7 +117,7 @@ sent_last mark (task ∷ others) s paired room some many =
     (subst (λ (xs : List Request). 0 < last_cycle 0 xs) (sym is) last)
 
 module _ (plan : Plan) (commands : List Task) where
-  -- an act of each action keeps it
+  -- `LastIsOfCycle` is preserved by an act of each action
   last_moved : (o : Action) (s : Model) (act : Act) → Invariant plan commands s → IsFor plan s.progress (waiting_of s) o → Performs commands s o act → LastIsOfCycle (with_progress turned s)
       → LastIsOfCycle (moved plan commands o (with_progress turned s) act)
   last_moved action.Send s act fine is o h =
@@ -160,29 +162,29 @@ module _ (plan : Plan) (commands : List Task) where
       )
   last_moved (action.Close why) s act fine is o h =
       walk plan commands (λ a (u : Model). LastIsOfCycle u) (action.Close why) (with_progress turned s) act o
-      (λ e. absurd (clash _ e (closed_along (λ (q : Progress). q.chain_unbroken ≡ false) plan (waiting_of s) why (turned s.progress) refl refl)))
+      (λ e. absurd (not_both _ e (closed_along (λ (q : Progress). q.chain_unbroken ≡ false) plan (waiting_of s) why (turned s.progress) refl refl)))
   last_moved (action.Stop why) s act fine is o h = absurd o
 
-  -- it holds after every run
-  last_stood : (scope : Scope) (acts : List Act) → Runs plan commands (opening plan scope) acts → LastIsOfCycle (stood plan commands scope acts)
+  -- `LastIsOfCycle` holds after every run
+  last_stood : (scope : Scope) (acts : List Act) → Runs plan commands (opening plan scope) acts → LastIsOfCycle (state_after plan commands scope acts)
   last_stood scope acts runs =
       always plan commands (opening plan scope) (λ (xs : List Act) (t : Model). LastIsOfCycle t)
       (λ done act before obeys h.
-      let s = stood plan commands scope done in
+      let s = state_after plan commands scope done in
       let t = moved plan commands (action_at plan s) (with_progress turned s) act in
       let one = last_moved (action_at plan s) s act (fine_stood plan commands scope done) (action_for plan s.progress (waiting_of s)) obeys h in
       kept (row_losing (loses_all t.progress) t) (λ e. one (by_loss (loses_all t.progress) t e))) (λ e. cc) acts runs where
-        -- the loss of what waits mends no chain
+        -- the loss of what is outstanding mends no chain
         by_loss : (b : Bool) (t : Model) → (losing b t).progress.chain_unbroken ≡ true → t.progress.chain_unbroken ≡ true
         by_loss true t e = e
         by_loss false t e = e
 
--- where no command waits and a chain is unbroken, the last record is of a cycle
+-- if no command is outstanding and a chain is unbroken, the last record is of a cycle
 pub last_of_cycle : (plan : Plan) (commands : List Task) (scope : Scope) (acts : List Act) → Runs plan commands (opening plan scope) acts
-    → commands_in (stood plan commands scope acts).marks ≡ 0 → (stood plan commands scope acts).progress.chain_unbroken ≡ true → (xs : List Request) (x : Request)
-    → map of_record (stood plan commands scope acts).records ≡ xs ++ x ∷ [] → 0 < x.cycle
+    → commands_in (state_after plan commands scope acts).marks ≡ 0 → (state_after plan commands scope acts).progress.chain_unbroken ≡ true → (xs : List Request) (x : Request)
+    → map of_record (state_after plan commands scope acts).records ≡ xs ++ x ∷ [] → 0 < x.cycle
 last_of_cycle plan commands scope acts runs none whole xs x is =
-    let s = stood plan commands scope acts in
+    let s = state_after plan commands scope acts in
     let all : row_of s ≡ xs ++ x ∷ [] =
     ap (λ ys. map of_record s.records ++ ys) (waiting_marked s.marks s.client.waiting ∙ marked_none s.marks (map of_pending s.client.waiting) none) ∙ append-nil (map of_record s.records) ∙ is in
     subst (λ (n : ℕ). 0 < n) (ap (last_cycle 0) all ∙ last_behind 0 xs x) (last_stood plan commands scope acts runs whole)

@@ -1,6 +1,6 @@
--- Where a request of a command goes out, and that what is written down stays. An act is one call of the link, with what came of
--- it. A part reaches from one beginning of the station to the next. A mark says which command a request is of, or `None` of a
--- null procedure.
+-- Which act sends the request of a command; and that records stay. An act is one call on the link, with its result. A part
+-- reaches from one synchronization of the station to the next. A mark says which command a request is of, or `None` of a null
+-- procedure.
 use Rattle.std.proofs.Common.{◌≡◌, ◌⊎◌, inl, inr, ℕ, zero, suc, ◌+◌, Bool, true, false, List, [], ◌∷◌, ◌++◌, length, drop, Some, None, refl, sym, ◌∙◌, ap, subst, arith, append_assoc}
 use Rattle.std.specs.Prelude.{slice_get}
 use Rattle.std.proofs.lemmas.List.{length-append}
@@ -15,13 +15,13 @@ use Rattle.gc_station.specs.Links.{RecordsStay}
 use Rattle.gc_station.specs.Parts.{Part, nothing, joined, asking_first, putting, doing, beginning, acting, ends_part, in_front, parts_of, asking_or_null}
 use Rattle.gc_station.specs.Progressing.{turned, loses_all}
 use Rattle.gc_station.specs.Records.{Record}
-use Rattle.gc_station.specs.Runs.{stood}
+use Rattle.gc_station.specs.Runs.{state_after}
 use Rattle.gc_station.proofs.Outs.{SendsIt}
 use Rattle.gc_station.specs.Model.{Model, opening, action_at, place_next, mark_next, with_progress, moved, after, after_all, mark_setup}
 use Rattle.gc_station.proofs.Facts.{either}
 use Rattle.gc_station.proofs.Going.{after_all-append}
 use Rattle.gc_station.proofs.Growing.{losing_records, moved_grew}
-use Rattle.gc_station.proofs.Records.{Grew, grew_none}
+use Rattle.gc_station.proofs.Records.{Grew, grew_none, grew_then}
 
 -- Lists.
 
@@ -43,7 +43,7 @@ get_split (y ∷ xs) ys (suc n) x e =
       | inr r ↦ (let at : n ≡ length xs + r.0 = r.1 in inr (r.0, omega (arith, at), r.2))
     ]
 
--- what is at place i of the second list is, in both in a row, at place i behind the first list
+-- what is at place i of the second list is, in both in a row, at place i after the first list
 pub get_behind : {A : Type 0} (xs ys : List A) (i j : ℕ) (x : A) → j ≡ length xs + i → slice_get ys i ≡ Some x → slice_get (xs ++ ys) j ≡ Some x
 get_behind [] ys i j x e got = let same : i ≡ j = omega (arith, e) in subst (λ k. slice_get ys k ≡ Some x) same got
 get_behind (y ∷ xs) ys i zero x e got = absurd (omega (arith, e))
@@ -53,7 +53,7 @@ get_behind (y ∷ xs) ys i (suc j) x e got = get_behind xs ys i j x (omega (arit
 pub act_head : (x y : Act) (xs ys : List Act) → x ∷ xs ≡ y ∷ ys → x ≡ y
 act_head x y xs ys e = cc
 
--- equal lists of acts have the same acts behind the first
+-- equal lists of acts have the same acts after the first
 pub act_tail : (x y : Act) (xs ys : List Act) → x ∷ xs ≡ y ∷ ys → xs ≡ ys
 act_tail x y xs ys e = cc
 
@@ -68,33 +68,29 @@ fronts (x ∷ xs) ys (f ∷ fs) gs e =
       | inr h ↦ inr (h.0, ap (λ y. y ∷ xs) head ∙ ap (λ l. f ∷ l) h.1)
     ]
 
--- What is written down stays.
-
--- a front of a front is a front
-pub grew_both : (xs ys zs : List Record) → Grew xs ys → Grew ys zs → Grew xs zs
-grew_both xs ys zs g h = (g.0 ++ h.0, h.1 ∙ ap (λ l. l ++ h.0) g.1 ∙ append_assoc xs g.0 h.0)
+-- What is recorded stays.
 
 -- the records before an act are the first of those after it
 pub after_grew : (plan : Plan) (commands : List Task) (s : Model) (act : Act) → Grew s.records (after plan commands s act).records
 after_grew plan commands s act =
     let t = moved plan commands (action_at plan s) (with_progress turned s) act in
-    grew_both s.records t.records (after plan commands s act).records (moved_grew plan commands (action_at plan s) (with_progress turned s) act) (losing_records (loses_all t.progress) t)
+    grew_then s.records t.records (after plan commands s act).records (moved_grew plan commands (action_at plan s) (with_progress turned s) act) (losing_records (loses_all t.progress) t)
 
 -- the records before acts are the first of those after them
 pub all_grew : (plan : Plan) (commands : List Task) (s : Model) (acts : List Act) → Grew s.records (after_all plan commands s acts).records
 all_grew plan commands s [] = grew_none s.records
 all_grew plan commands s (act ∷ acts) =
-    grew_both s.records (after plan commands s act).records (after_all plan commands s (act ∷ acts)).records (after_grew plan commands s act) (all_grew plan commands (after plan commands s act) acts)
+    grew_then s.records (after plan commands s act).records (after_all plan commands s (act ∷ acts)).records (after_grew plan commands s act) (all_grew plan commands (after plan commands s act) acts)
 
--- the law: the records after some acts stay, in front of those of the acts that follow
+-- the law: the records after some acts stay, before those of the acts that follow
 pub records_stay : RecordsStay
 records_stay plan commands scope before rest =
-    let g = all_grew plan commands (stood plan commands scope before) rest in
+    let g = all_grew plan commands (state_after plan commands scope before) rest in
     (g.0, ap (λ (s : Model). s.records) (after_all-append plan commands (opening plan scope) before rest) ∙ g.1)
 
--- Where a request of a command goes out.
+-- Which act sends the request of a command.
 
--- the part of the first of some commands has no mark but that command's, in front
+-- the part of the first of some commands has no mark but that command's, before it
 pub put_mark : (now : ℕ) (its : Mark) (left : List Task) (n : ℕ) (mark : Mark) → slice_get (asking_first now its left).marks n ≡ Some (Some mark) → (n ≡ 0) × (mark ≡ its)
 put_mark now its [] n mark e = absurd (none_is_not (Some mark) e)
 put_mark now its (task ∷ others) zero mark e = (refl, sym (some_is its mark (some_is (Some its) (Some mark) e)))
@@ -105,7 +101,7 @@ pub null_mark : (n : ℕ) (mark : Mark) → slice_get (None ∷ []) n ≡ Some (
 null_mark zero mark e = cc
 null_mark (suc n) mark e = none_is_not (Some mark) e
 
--- the part of the next command of the set-up has no mark but that command's, in front
+-- the part of the next command of the setup has no mark but that command's, before it
 pub setup_mark : (plan : Plan) (now : ℕ) (its : Mark) (left : List Task) (n : ℕ) (mark : Mark) → slice_get (asking_or_null plan now its left).marks n ≡ Some (Some mark) → (n ≡ 0) × (mark ≡ its)
 setup_mark plan now its [] n mark e = absurd (null_mark n mark e)
 setup_mark plan now its (task ∷ others) zero mark e = (refl, sym (some_is its mark (some_is (Some its) (Some mark) e)))
@@ -125,14 +121,14 @@ putting_mark plan commands s Send n mark e =
 putting_mark plan commands s Flush n mark e = absurd (null_mark n mark e)
 putting_mark plan commands s o n mark e = absurd (none_is_not (Some mark) e)
 
--- a mark in the part of an act is of a command that is sent, once the station has begun
+-- a mark in the part of an act is of a command that is sent, once the station has synchronized
 pub doing_mark : (plan : Plan) (commands : List Task) (s : Model) (o : Action) (act : Act) (n : ℕ) (mark : Mark)
     → slice_get (doing plan commands s o act).marks n ≡ Some (Some mark) → IsSend plan commands s o n mark
 doing_mark plan commands s o (Put bytes) n mark e = putting_mark plan commands s o n mark e
 doing_mark plan commands s o (Cut bytes count) n mark e = putting_mark plan commands s o n mark e
 doing_mark plan commands s o act n mark e = absurd (none_is_not (Some mark) e)
 
--- while the station begins no request is a command's
+-- while the station synchronizes no request is a command's
 pub beginning_mark : (s : Model) (o : Action) (act : Act) (n : ℕ) (mark : Mark) → slice_get (beginning s o act).marks n ≡ Some (Some mark) → ⊥
 beginning_mark s Ask (Put bytes) n mark e = none_is_not (Some mark) e
 beginning_mark s Ask (Cut bytes count) n mark e = none_is_not (Some mark) e
@@ -166,18 +162,18 @@ pub joined_at : (p : Part) (ps : List Part) (q : Part) → slice_get ps 0 ≡ So
 joined_at p [] q e = absurd (none_is_not q e)
 joined_at p (x ∷ ps) q e = ap (λ y. Some (joined p y)) (some_is x q e)
 
--- the parts behind the first stay at their places where a part is joined to the first
+-- the parts after the first stay at their places where a part is joined to the first
 pub joined_on : (p : Part) (ps : List Part) (i : ℕ) (q : Part) → slice_get ps (suc i) ≡ Some q → slice_get (in_front p false ps) (suc i) ≡ Some q
 joined_on p [] i q e = absurd (none_is_not q e)
 joined_on p (x ∷ ps) i q e = e
 
--- there are as many parts where a part is joined to the first
+-- there are as many parts if a part is joined to the first
 pub joined_length : (p : Part) (ps : List Part) (i : ℕ) → length ps ≡ suc i → length (in_front p false ps) ≡ suc i
 joined_length p [] i e = absurd (omega (arith, e))
 joined_length p (x ∷ ps) i e = e
 
 module _ (plan : Plan) (commands : List Task) where
-  -- where the part of the first act has the mark of a command, the first act sends the command
+  -- if the part of the first act has the mark of a command, the first act sends the command
   pub sent_here : (s : Model) (act : Act) (acts : List Act) (n : ℕ) (mark : Mark)
       → slice_get (acting plan commands s (action_at plan s) act).marks n ≡ Some (Some mark) → SentAt plan commands s (act ∷ acts) 0 n mark
   sent_here s act acts n mark e =

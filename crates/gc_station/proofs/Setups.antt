@@ -1,5 +1,6 @@
--- Each command of the set-up that went out has one record, or waits; and its attempts count over the run. The row of a station has its records and,
--- behind them, the commands that wait. An act leaves the row, or adds the command that goes out or isn't sent.
+-- Each command of the setup that was sent has one record, or is outstanding; and its attempts count over the run. The row of a
+-- station has its records and, after them, the outstanding commands. An act leaves the row, or adds the command that is sent or
+-- isn't sent.
 use Rattle.std.proofs.Common.{◌≡◌, ◌⊎◌, inl, inr, ℕ, ◌+◌, ◌-◌, ◌<◌, ◌≤◌, Bool, true, false, if◌then◌else◌, nat_eq, min, List, [], ◌∷◌, ◌++◌, length, drop, map, Option, Some, None, refl, sym, ap, ◌∙◌, subst, arith, append_assoc, append-nil}
 use Rattle.std.proofs.lemmas.Bool.Decides.{nat_tests}
 use Rattle.std.proofs.lemmas.List.{length-drop, map-append}
@@ -17,13 +18,13 @@ use Rattle.gc_station.specs.declared.progress.Progress.{Progress}
 use Rattle.gc_station.specs.declared.progress.Until.{Until}
 use Rattle.gc_station.specs.Deciding.{later}
 use Rattle.gc_station.specs.Marks.{commands_in, records_of}
-use Rattle.gc_station.specs.Progressing.{told, turned, loses_all, next_attempt}
+use Rattle.gc_station.specs.Progressing.{moment_noted, turned, loses_all, next_attempt}
 use Rattle.gc_station.specs.Reasons.{IsFor}
 use Rattle.gc_station.specs.Records.{Record}
-use Rattle.gc_station.specs.Runs.{stood}
+use Rattle.gc_station.specs.Runs.{state_after}
 use Rattle.gc_station.specs.Scopes.{Scope}
-use Rattle.gc_station.specs.Model.{Model, opening, action_at, waiting_of, cycles_begun, place_next, mark_next, mark_setup, is_heard, asks_first, asks_or_null, came, line_came, losing, moved, piece_at, skips_first, with_progress, with_moment, with_rest, after, after_all}
-use Rattle.gc_station.specs.Setups.{Dispatch, of_record, of_mark, of_marks, setup_with, of_setup, sent_first, sent_as, setup_sent_by, EachSetUpOnce, GoOn, AreInOrder, SetUpsGoOn}
+use Rattle.gc_station.specs.Model.{Model, opening, action_at, waiting_of, cycles_begun, place_next, mark_next, mark_setup, is_heard, asks_first, asks_or_null, after_piece, line_came, losing, moved, piece_at, skips_first, with_progress, with_moment, with_rest, after, after_all}
+use Rattle.gc_station.specs.Setups.{Dispatch, dispatch_of_record, dispatch_of_mark, dispatches_of, setup_with, of_setup, sent_first, sent_as, setup_sent_by, EachSetUpOnce, GoOn, AreInOrder, SetUpsGoOn}
 use Rattle.gc_station.proofs.Counts.{ended_progress}
 use Rattle.gc_station.proofs.EachRun.{fine_all, fine_opening, fine_stood, stopped}
 use Rattle.gc_station.proofs.Facts.{action_for}
@@ -32,67 +33,69 @@ use Rattle.gc_station.proofs.Walk.{came_along, closed_along, is_prepared, moved_
 
 -- The row.
 
--- the row of a model: its records and, behind them, the commands that wait
+-- the row of a model: its records and, after them, the outstanding commands
 abbrev pub row_of : Model → List Dispatch
-row_of s = map of_record s.records ++ of_marks s.marks
+row_of s = map dispatch_of_record s.records ++ dispatches_of s.marks
 
 -- settlements of the oldest requests leave their commands, as records
 settled_row : (reads : Asked → List ℕ → Reading) (utc : ℕ) (ms : List (Option Mark)) (ss : List (Settlement Asked))
-    → map of_record (records_of reads utc ms ss) ++ of_marks (drop (length ss) ms) ≡ of_marks ms
+    → map dispatch_of_record (records_of reads utc ms ss) ++ dispatches_of (drop (length ss) ms) ≡ dispatches_of ms
 settled_row reads utc [] [] = refl
 settled_row reads utc [] (x ∷ ss) = refl
 settled_row reads utc (None ∷ ms) [] = refl
 settled_row reads utc (Some mark ∷ ms) [] = refl
 settled_row reads utc (None ∷ ms) (x ∷ ss) = settled_row reads utc ms ss
-settled_row reads utc (Some mark ∷ ms) (x ∷ ss) = ap (λ xs. of_mark mark ∷ xs) (settled_row reads utc ms ss)
+settled_row reads utc (Some mark ∷ ms) (x ∷ ss) = ap (λ xs. dispatch_of_mark mark ∷ xs) (settled_row reads utc ms ss)
 
--- they leave the row: their records take the place of the requests
+-- settlements leave the row: their records take the place of the requests
 row_settles : (reads : Asked → List ℕ → Reading) (utc : ℕ) (ms : List (Option Mark)) (ss : List (Settlement Asked)) (rs : List Record)
-    → map of_record (rs ++ records_of reads utc ms ss) ++ of_marks (drop (length ss) ms) ≡ map of_record rs ++ of_marks ms
+    → map dispatch_of_record (rs ++ records_of reads utc ms ss) ++ dispatches_of (drop (length ss) ms) ≡ map dispatch_of_record rs ++ dispatches_of ms
 row_settles reads utc ms ss rs =
-    let left = of_marks (drop (length ss) ms) in
+    let left = dispatches_of (drop (length ss) ms) in
     let news = records_of reads utc ms ss in
-    ap (λ xs. xs ++ left) (map-append of_record rs news) ∙ append_assoc (map of_record rs) (map of_record news) left ∙ ap (λ xs. map of_record rs ++ xs) (settled_row reads utc ms ss)
+    ap (λ xs. xs ++ left) (map-append dispatch_of_record rs news) ∙ append_assoc (map dispatch_of_record rs) (map dispatch_of_record news) left ∙ ap
+    (λ xs. map dispatch_of_record rs ++ xs) (settled_row reads utc ms ss)
 
 -- a line that is heard leaves the row
 row_line : (s : Model) (line : List ℕ) → row_of (line_came s line) ≡ row_of s
 row_line s line = let x = hears s.client line (heard line) in row_settles s.reads s.progress.moment.utc s.marks x.settlements s.records
 
 -- a piece leaves the row, heard or not
-row_came : (h : Bool) (word piece : List ℕ) (s : Model) → row_of (came h word piece s) ≡ row_of s
+row_came : (h : Bool) (word piece : List ℕ) (s : Model) → row_of (after_piece h word piece s) ≡ row_of s
 row_came h word piece s = came_along (λ (t : Model). row_of t ≡ row_of s) (λ t line e. row_line t line ∙ e) h word piece s refl refl refl
 
 -- a read that gave bytes leaves the row
 row_gave : (plan : Plan) (until : Until) (s : Model) (bytes : List ℕ) (m : Moment) → row_of (piece_at plan until bytes m s) ≡ row_of s
-row_gave plan until s bytes m = row_came (is_heard s.progress.phase) s.progress.word bytes (with_moment m (with_progress (told m) s))
+row_gave plan until s bytes m = row_came (is_heard s.progress.phase) s.progress.word bytes (with_moment m (with_progress (moment_noted m) s))
 
--- the loss of what waits leaves the row
+-- the loss of what is outstanding leaves the row
 pub row_losing : (b : Bool) (s : Model) → row_of (losing b s) ≡ row_of s
 row_losing true s = row_settles s.reads s.progress.moment.utc s.marks (map lost s.client.waiting) s.records
 row_losing false s = refl
 
--- the commands of two lists of marks are those of the first list, and behind them those of the second
-marks_append : (xs ys : List (Option Mark)) → of_marks (xs ++ ys) ≡ of_marks xs ++ of_marks ys
+-- the commands of two lists of marks are those of the first list, and after them those of the second
+marks_append : (xs ys : List (Option Mark)) → dispatches_of (xs ++ ys) ≡ dispatches_of xs ++ dispatches_of ys
 marks_append [] ys = refl
 marks_append (None ∷ xs) ys = marks_append xs ys
-marks_append (Some mark ∷ xs) ys = ap (λ zs. of_mark mark ∷ zs) (marks_append xs ys)
+marks_append (Some mark ∷ xs) ys = ap (λ zs. dispatch_of_mark mark ∷ zs) (marks_append xs ys)
 
--- one mark more adds its command to the row, behind the others
-row_more : (rs : List Record) (ms : List (Option Mark)) (m : Option Mark) → map of_record rs ++ of_marks (ms ++ m ∷ []) ≡ (map of_record rs ++ of_marks ms) ++ of_marks (m ∷ [])
-row_more rs ms m = ap (λ xs. map of_record rs ++ xs) (marks_append ms (m ∷ [])) ∙ sym (append_assoc (map of_record rs) (of_marks ms) (of_marks (m ∷ [])))
+-- one mark more adds its command to the row, after the others
+row_more : (rs : List Record) (ms : List (Option Mark)) (m : Option Mark)
+    → map dispatch_of_record rs ++ dispatches_of (ms ++ m ∷ []) ≡ (map dispatch_of_record rs ++ dispatches_of ms) ++ dispatches_of (m ∷ [])
+row_more rs ms m = ap (λ xs. map dispatch_of_record rs ++ xs) (marks_append ms (m ∷ [])) ∙ sym (append_assoc (map dispatch_of_record rs) (dispatches_of ms) (dispatches_of (m ∷ [])))
 
--- the first of these commands adds itself to the row where it is sent
+-- the first of these commands adds itself to the row if it is sent
 first_row : (mark : Mark) (left : List Task) (s : Model) → row_of (asks_first mark left s) ≡ row_of s ++ sent_first mark left
 first_row mark [] s = sym (append-nil (row_of s))
 first_row mark (task ∷ others) s = row_more s.records s.marks (Some mark)
 
--- so does the first of these commands of the set-up
+-- the first of these commands of the setup adds itself to the row if it is sent; a null procedure adds nothing
 null_row : (plan : Plan) (mark : Mark) (left : List Task) (s : Model) → row_of (asks_or_null plan mark left s) ≡ row_of s ++ sent_first mark left
 null_row plan mark [] s = row_more s.records s.marks None
 null_row plan mark (task ∷ others) s = row_more s.records s.marks (Some mark)
 
 module _ (plan : Plan) (commands : List Task) where
-  -- an act that sends the next command of the set-up adds it to the row
+  -- an act that sends the next command of the setup adds it to the row
   pub row_prepared : (s : Model) (act : Act) → row_of (moved plan commands action.Prepare s act) ≡ row_of s ++ sent_as action.Prepare commands s
   row_prepared s (Cut bytes n) = null_row plan (mark_setup commands s.progress) (drop s.progress.prepared commands) s
   row_prepared s act = null_row plan (mark_setup commands s.progress) (drop s.progress.prepared commands) s
@@ -119,58 +122,60 @@ module _ (plan : Plan) (commands : List Task) where
   row_kept (action.Read until) s act other = refl
   row_kept o s act other = ap row_of (moved_changed plan commands o s act)
 
--- Those of the set-up.
+-- Those of the setup.
 
--- those of two lists that are of the set-up are those of the first list, and behind them those of the second
+-- the commands of the setup in two joined lists are those of the first list, and after them those of the second
 setup_append : (xs ys : List Dispatch) → of_setup (xs ++ ys) ≡ of_setup xs ++ of_setup ys
 setup_append [] ys = refl
 setup_append (x ∷ xs) ys = by_cycle (nat_eq x.cycle 0) (setup_append xs ys) where
-  -- the lemma above, whether the first one is of the set-up (`true`) or of a cycle
+  -- the lemma above, whether the first one is of the setup (`true`) or of a cycle
   by_cycle : (b : Bool) → of_setup (xs ++ ys) ≡ of_setup xs ++ of_setup ys → setup_with b x (of_setup (xs ++ ys)) ≡ setup_with b x (of_setup xs) ++ of_setup ys
   by_cycle true others = ap (λ zs. x ∷ zs) others
   by_cycle false others = others
 
--- one of a cycle is none of the set-up
+-- a command of a cycle isn't one of the setup
 none_one : (x : Dispatch) → 0 < x.cycle → of_setup (x ∷ []) ≡ []
 none_one x many = ap (λ b. setup_with b x []) (not_none x.cycle many) where
   -- a number above 0 isn't 0
   not_none : (n : ℕ) → 0 < n → nat_eq n 0 ≡ false
   not_none n some = grind (arith, nat_tests, some)
 
--- a command of a cycle that is sent is none of the set-up
+-- a command of a cycle that is sent isn't one of the setup
 none_sent : (mark : Mark) (left : List Task) → 0 < mark.cycle → of_setup (sent_first mark left) ≡ []
 none_sent mark [] many = refl
-none_sent mark (task ∷ others) many = none_one (of_mark mark) many
+none_sent mark (task ∷ others) many = none_one (dispatch_of_mark mark) many
 
--- nor is the record of one that isn't sent
-none_skipped : (p : Progress) (m : Moment) (mark : Mark) (left : List Task) → 0 < mark.cycle → of_setup (map of_record (skips_first p m mark left)) ≡ []
+-- the record of a command of a cycle that isn't sent isn't one of the setup
+none_skipped : (p : Progress) (m : Moment) (mark : Mark) (left : List Task) → 0 < mark.cycle → of_setup (map dispatch_of_record (skips_first p m mark left)) ≡ []
 none_skipped p m mark [] many = refl
 none_skipped p m mark (task ∷ others) many = none_one (record { cycle = mark.cycle; place = mark.place; attempt = mark.expected.turn.attempt; sent = None }) many
 
--- a command of the set-up that is sent is of the set-up
+-- a command of the setup that is sent is of the setup
 all_sent : (commands : List Task) (p : Progress) (left : List Task) → of_setup (sent_first (mark_setup commands p) left) ≡ sent_first (mark_setup commands p) left
 all_sent commands p [] = refl
 all_sent commands p (task ∷ others) = refl
 
--- records that are of no set-up, between others and the commands that wait, add none
-between_none : (rs news : List Record) (ms : List (Option Mark)) → of_setup (map of_record news) ≡ [] → of_setup (map of_record (rs ++ news) ++ of_marks ms) ≡ of_setup (map of_record rs ++ of_marks ms)
+-- records that are of no setup, between others and the outstanding commands, add none
+between_none : (rs news : List Record) (ms : List (Option Mark)) → of_setup (map dispatch_of_record news) ≡ []
+    → of_setup (map dispatch_of_record (rs ++ news) ++ dispatches_of ms) ≡ of_setup (map dispatch_of_record rs ++ dispatches_of ms)
 between_none rs news ms none =
-    ap (λ xs. of_setup (xs ++ of_marks ms)) (map-append of_record rs news) ∙ setup_append (map of_record rs ++ map of_record news) (of_marks ms)
-    ∙ ap (λ xs. xs ++ of_setup (of_marks ms)) (setup_append (map of_record rs) (map of_record news) ∙ ap (λ xs. of_setup (map of_record rs) ++ xs) none ∙ append-nil (of_setup (map of_record rs)))
-    ∙ sym (setup_append (map of_record rs) (of_marks ms))
+    ap (λ xs. of_setup (xs ++ dispatches_of ms)) (map-append dispatch_of_record rs news) ∙ setup_append (map dispatch_of_record rs ++ map dispatch_of_record news) (dispatches_of ms)
+    ∙ ap (λ xs. xs ++ of_setup (dispatches_of ms))
+    (setup_append (map dispatch_of_record rs) (map dispatch_of_record news) ∙ ap (λ xs. of_setup (map dispatch_of_record rs) ++ xs) none ∙ append-nil (of_setup (map dispatch_of_record rs)))
+    ∙ sym (setup_append (map dispatch_of_record rs) (dispatches_of ms))
 
--- where no mark is of a command, none waits
-pub none_marked : (ms : List (Option Mark)) → commands_in ms ≡ 0 → of_marks ms ≡ []
+-- if no mark is of a command, none is outstanding
+pub none_marked : (ms : List (Option Mark)) → commands_in ms ≡ 0 → dispatches_of ms ≡ []
 none_marked [] e = refl
 none_marked (None ∷ ms) e = none_marked ms e
 none_marked (Some mark ∷ ms) e = absurd (omega (arith, e))
 
 module _ (plan : Plan) (commands : List Task) where
-  -- where some command of the cycle isn't sent, a cycle has begun
+  -- if some command of the cycle isn't sent, a cycle has begun
   some_cycle : (s : Model) → Invariant plan commands s → 0 < s.progress.unsent → 0 < cycles_begun plan s.progress
   some_cycle s fine some = let below = fine.begun some in omega (arith, below)
 
-  -- an act adds to the set-up's part of the row the command of the set-up that it sends, if it sends one
+  -- an act adds to the setup's part of the row the command of the setup that it sends, if it sends one
   setup_moved : (o : Action) (s : Model) (act : Act) → Invariant plan commands s → IsFor plan s.progress (waiting_of s) o
       → of_setup (row_of (moved plan commands o (with_progress turned s) act)) ≡ of_setup (row_of s) ++ sent_as o commands s
   setup_moved action.Prepare s act fine is =
@@ -185,7 +190,8 @@ module _ (plan : Plan) (commands : List Task) where
   setup_moved action.Skip s (Told m) fine is =
       let p = turned s.progress in
       let left = drop (place_next commands p) commands in
-      between_none s.records (skips_first p m (mark_next plan commands p) left) s.marks (none_skipped p m (mark_next plan commands p) left (some_cycle s fine is.2)) ∙ sym (append-nil (of_setup (row_of s)))
+      between_none s.records (skips_first p m (mark_next plan commands p) left) s.marks (none_skipped p m (mark_next plan commands p) left (some_cycle s fine is.2)) ∙ sym
+      (append-nil (of_setup (row_of s)))
   setup_moved action.Skip s act fine is = between_none s.records [] s.marks refl ∙ sym (append-nil (of_setup (row_of s)))
   setup_moved action.ReadClock s act fine is = ap of_setup (row_kept plan commands action.ReadClock (with_progress turned s) act tt) ∙ sym (append-nil (of_setup (row_of s)))
   setup_moved action.Renew s act fine is = ap of_setup (row_kept plan commands action.Renew (with_progress turned s) act tt) ∙ sym (append-nil (of_setup (row_of s)))
@@ -199,7 +205,7 @@ module _ (plan : Plan) (commands : List Task) where
   setup_moved (action.Close why) s act fine is = ap of_setup (row_kept plan commands (action.Close why) (with_progress turned s) act tt) ∙ sym (append-nil (of_setup (row_of s)))
   setup_moved (action.Stop why) s act fine is = ap of_setup (row_kept plan commands (action.Stop why) (with_progress turned s) act tt) ∙ sym (append-nil (of_setup (row_of s)))
 
-  -- acts add those that they send
+  -- acts add to the setup's part of the row the commands of the setup that they send
   setup_from : (s : Model) (acts : List Act) → Invariant plan commands s → of_setup (row_of (after_all plan commands s acts)) ≡ of_setup (row_of s) ++ setup_sent_by plan commands s acts
   setup_from s [] fine = sym (append-nil (of_setup (row_of s)))
   setup_from s (act ∷ acts) fine =
@@ -210,10 +216,11 @@ module _ (plan : Plan) (commands : List Task) where
       setup_from u acts (fine_all plan commands s (act ∷ []) fine) ∙ ap (λ xs. xs ++ setup_sent_by plan commands u acts) one
       ∙ append_assoc (of_setup (row_of s)) (sent_as o commands s) (setup_sent_by plan commands u acts)
 
--- the law: each command of the set-up that went out has one record, or waits; and where the run stopped, none waits
+-- the law: each command of the setup that was sent has one record, or is outstanding; and if the run stopped, none is
+-- outstanding
 pub each_set_up_once : (plan : Plan) (commands : List Task) (scope : Scope) (acts : List Act) → EachSetUpOnce plan commands scope acts
 each_set_up_once plan commands scope acts =
-    let s = stood plan commands scope acts in
+    let s = state_after plan commands scope acts in
     let all = setup_from plan commands (opening plan scope) acts (fine_opening plan commands scope) in
     let fine = fine_stood plan commands scope acts in
     record {
@@ -221,20 +228,20 @@ each_set_up_once plan commands scope acts =
       settled = λ why stop.
           let paired : length s.marks ≡ length s.client.waiting = fine.paired in
           let empty : length s.client.waiting ≡ 0 = ap length (stopped plan commands s why fine stop).0 in
-          ap of_setup (sym (append-nil (map of_record s.records)) ∙ ap (λ xs. map of_record s.records ++ xs) (sym (none_left s.marks (omega (arith, paired, empty))))) ∙ all;
+          ap of_setup (sym (append-nil (map dispatch_of_record s.records)) ∙ ap (λ xs. map dispatch_of_record s.records ++ xs) (sym (none_left s.marks (omega (arith, paired, empty))))) ∙ all;
     } where
-      -- no mark is of no command
-      none_left : (ms : List (Option Mark)) → length ms ≡ 0 → of_marks ms ≡ []
+      -- if there are no marks, no command is outstanding
+      none_left : (ms : List (Option Mark)) → length ms ≡ 0 → dispatches_of ms ≡ []
       none_left [] e = refl
       none_left (m ∷ ms) e = absurd (omega (arith, e))
 
 -- Attempts.
 
--- from p to q the set-up's next command and attempt stay; or the set-up goes out again
+-- from p to q the setup's next command and attempt stay; or the setup is sent again
 abbrev pub Resets : Progress → Progress → Type 0
 Resets p q = ((q.attempt ≡ p.attempt) × (q.prepared ≡ p.prepared)) ⊎ ((q.attempt ≡ next_attempt p) × (q.prepared ≡ 0))
 
--- an act that sends no command of the set-up leaves them, or begins the set-up anew
+-- an act that sends no command of the setup leaves its next command and attempt, or restarts the setup
 resets : (plan : Plan) (commands : List Task) (o : Action) (s : Model) (act : Act) → (o ≡ action.Prepare → ⊥) → Resets s.progress (moved plan commands o s act).progress
 resets plan commands action.Prepare s act other = absurd (other refl)
 resets plan commands action.Renew s (Told m) other = inr (refl, refl)
@@ -246,7 +253,7 @@ resets plan commands o s act other =
     let is = moved_changed plan commands o s act in
     inl (ap (λ (x : Model). x.progress.attempt) is, ap (λ (x : Model). x.progress.prepared) is)
 
--- an act that sends a command of the set-up goes on to the next one, in the same attempt
+-- an act that sends a command of the setup goes on to the next one, in the same attempt
 pub prepares : (plan : Plan) (commands : List Task) (s : Model) (act : Act)
     → ((moved plan commands action.Prepare s act).progress.attempt ≡ s.progress.attempt) × ((moved plan commands action.Prepare s act).progress.prepared ≡ min (s.progress.prepared + 1) plan.setup)
 prepares plan commands s (Cut bytes n) =
@@ -254,69 +261,69 @@ prepares plan commands s (Cut bytes n) =
 prepares plan commands s act =
     subst (λ (x : Model). (x.progress.attempt ≡ s.progress.attempt) × (x.progress.prepared ≡ min (s.progress.prepared + 1) plan.setup)) (is_prepared plan commands s) (refl, refl)
 
--- where the last command of the set-up that went out is x, the next one goes behind it
+-- if the last command of the setup that was sent is x, the next one goes after it
 abbrev IsNext : Dispatch → Progress → Type 0
 IsNext x p = ((p.attempt ≡ x.attempt) × (p.prepared ≡ x.place + 1)) ⊎ ((p.attempt ≡ later x.attempt 1) × (p.prepared ≡ 0))
 
--- where the set-up begins anew, its first command is next
-anew_next : (x : Dispatch) (p q : Progress) → q.attempt ≡ next_attempt p → q.prepared ≡ 0 → IsNext x p → IsNext x q
-anew_next x p q a k (inl is) = inr (a ∙ ap (λ (b : Bool). if b then p.attempt else later p.attempt 1) (not_none p.prepared (let at : p.prepared ≡ x.place + 1 = is.1 in omega (arith, at))) ∙ ap (λ n. later n 1) is.0, k) where
+-- if the setup starts again, its first command is next
+restarted_next : (x : Dispatch) (p q : Progress) → q.attempt ≡ next_attempt p → q.prepared ≡ 0 → IsNext x p → IsNext x q
+restarted_next x p q a k (inl is) = inr (a ∙ ap (λ (b : Bool). if b then p.attempt else later p.attempt 1) (not_none p.prepared (let at : p.prepared ≡ x.place + 1 = is.1 in omega (arith, at))) ∙ ap (λ n. later n 1) is.0, k) where
   -- a number above 0 isn't 0
   not_none : (n : ℕ) → 0 < n → nat_eq n 0 ≡ false
   not_none n some = grind (arith, nat_tests, some)
-anew_next x p q a k (inr is) = inr (a ∙ ap (λ (n : ℕ). if nat_eq n 0 then p.attempt else later p.attempt 1) is.1 ∙ is.0, k)
+restarted_next x p q a k (inr is) = inr (a ∙ ap (λ (n : ℕ). if nat_eq n 0 then p.attempt else later p.attempt 1) is.1 ∙ is.0, k)
 
--- an act that sends no command of the set-up leaves the next one behind x
+-- an act that sends no command of the setup leaves the next one after x
 next_kept : (x : Dispatch) (p q : Progress) → Resets p q → IsNext x p → IsNext x q
 next_kept x p q (inl same) (inl is) = inl (same.0 ∙ is.0, same.1 ∙ is.1)
 next_kept x p q (inl same) (inr is) = inr (same.0 ∙ is.0, same.1 ∙ is.1)
-next_kept x p q (inr anew) is = anew_next x p q anew.0 anew.1 is
+next_kept x p q (inr anew) is = restarted_next x p q anew.0 anew.1 is
 
--- whether an action sends a command of the set-up
-kind : (o : Action) → (o ≡ action.Prepare) ⊎ (o ≡ action.Prepare → ⊥)
-kind action.Prepare = inl refl
-kind action.ReadClock = inr (λ e. cc)
-kind action.Renew = inr (λ e. cc)
-kind action.Begin = inr (λ e. cc)
-kind action.Open = inr (λ e. cc)
-kind action.Clear = inr (λ e. cc)
-kind action.Ask = inr (λ e. cc)
-kind action.Send = inr (λ e. cc)
-kind action.Skip = inr (λ e. cc)
-kind action.Pass = inr (λ e. cc)
-kind action.Flush = inr (λ e. cc)
-kind (action.Read until) = inr (λ e. cc)
-kind (action.Close why) = inr (λ e. cc)
-kind (action.Stop why) = inr (λ e. cc)
+-- whether an action sends a command of the setup
+is_prepare_or_not : (o : Action) → (o ≡ action.Prepare) ⊎ (o ≡ action.Prepare → ⊥)
+is_prepare_or_not action.Prepare = inl refl
+is_prepare_or_not action.ReadClock = inr (λ e. cc)
+is_prepare_or_not action.Renew = inr (λ e. cc)
+is_prepare_or_not action.Begin = inr (λ e. cc)
+is_prepare_or_not action.Open = inr (λ e. cc)
+is_prepare_or_not action.Clear = inr (λ e. cc)
+is_prepare_or_not action.Ask = inr (λ e. cc)
+is_prepare_or_not action.Send = inr (λ e. cc)
+is_prepare_or_not action.Skip = inr (λ e. cc)
+is_prepare_or_not action.Pass = inr (λ e. cc)
+is_prepare_or_not action.Flush = inr (λ e. cc)
+is_prepare_or_not (action.Read until) = inr (λ e. cc)
+is_prepare_or_not (action.Close why) = inr (λ e. cc)
+is_prepare_or_not (action.Stop why) = inr (λ e. cc)
 
--- no other action sends one
-none_as : (o : Action) (commands : List Task) (s : Model) → (o ≡ action.Prepare → ⊥) → sent_as o commands s ≡ []
-none_as action.Prepare commands s other = absurd (other refl)
-none_as o commands s other = refl
+-- an action other than `Prepare` sends no command of the setup
+others_send_none : (o : Action) (commands : List Task) (s : Model) → (o ≡ action.Prepare → ⊥) → sent_as o commands s ≡ []
+others_send_none action.Prepare commands s other = absurd (other refl)
+others_send_none o commands s other = refl
 
--- where there is a command, it is sent
-pub sent_some : (mark : Mark) (left : List Task) → 0 < length left → sent_first mark left ≡ of_mark mark ∷ []
+-- if there is a command, it is sent
+pub sent_some : (mark : Mark) (left : List Task) → 0 < length left → sent_first mark left ≡ dispatch_of_mark mark ∷ []
 sent_some mark [] some = absurd (omega (arith, some))
 sent_some mark (task ∷ others) some = refl
 
 module _ (plan : Plan) (commands : List Task) (within : plan.setup ≤ length commands) where
-  -- the command of the set-up that is next, as it goes out
-  abbrev its : Model → Dispatch
-  its s = of_mark (mark_setup commands s.progress)
+  -- the dispatch of the next command of the setup
+  abbrev next_dispatch : Model → Dispatch
+  next_dispatch s = dispatch_of_mark (mark_setup commands s.progress)
 
-  -- where a command of the set-up is next, it is in the set-up
+  -- if a command of the setup is next, it is in the setup
   below : (s : Model) → action_at plan s ≡ action.Prepare → s.progress.prepared < plan.setup
   below s is = let needs = subst (λ (o : Action). IsFor plan s.progress (waiting_of s) o) is (action_for plan s.progress (waiting_of s)) in needs.2.1
 
-  -- where a command of the set-up is next, it is sent
-  pub sends_it : (s : Model) → action_at plan s ≡ action.Prepare → sent_as (action_at plan s) commands s ≡ its s ∷ []
+  -- if a command of the setup is next, it is sent
+  pub sends_it : (s : Model) → action_at plan s ≡ action.Prepare → sent_as (action_at plan s) commands s ≡ next_dispatch s ∷ []
   sends_it s is =
       let some = below s is in
       let many : length (drop s.progress.prepared commands) ≡ length commands - s.progress.prepared = length-drop s.progress.prepared commands in
       ap (λ (o : Action). sent_as o commands s) is ∙ sent_some (mark_setup commands s.progress) (drop s.progress.prepared commands) (omega (arith, many, some, within))
 
-  -- behind it, the one behind it is next
-  next_sent : (s : Model) (act : Act) → action_at plan s ≡ action.Prepare → IsNext (its s) (after plan commands s act).progress
+  -- after a command of the setup was sent, the one after it is next
+  next_sent : (s : Model) (act : Act) → action_at plan s ≡ action.Prepare → IsNext (next_dispatch s) (after plan commands s act).progress
   next_sent s act is =
       let t = with_progress turned s in
       let far : (after plan commands s act).progress ≡ (moved plan commands action.Prepare t act).progress =
@@ -326,46 +333,46 @@ module _ (plan : Plan) (commands : List Task) (within : plan.setup ≤ length co
       let some = below s is in
       inl (ap (λ (p : Progress). p.attempt) far ∙ it.0, ap (λ (p : Progress). p.prepared) far ∙ omega (arith, prepared, some))
 
-  -- another act leaves the next one behind x
+  -- an act that sends no command of the setup leaves the next one after x
   next_other : (x : Dispatch) (s : Model) (act : Act) → (action_at plan s ≡ action.Prepare → ⊥) → IsNext x s.progress → IsNext x (after plan commands s act).progress
   next_other x s act other is =
       let t = moved plan commands (action_at plan s) (with_progress turned s) act in
       subst (λ (q : Progress). IsNext x q) (sym (ended_progress t)) (next_kept x (turned s.progress) t.progress (resets plan commands (action_at plan s) (with_progress turned s) act other) is)
 
-  -- what these acts send goes on behind x
+  -- the commands of the setup that these acts send continue after x
   go_on_from : (x : Dispatch) (s : Model) (acts : List Act) → IsNext x s.progress → GoOn x (setup_sent_by plan commands s acts)
   go_on_from x s [] is = tt
   go_on_from x s (act ∷ acts) is =
       let u = after plan commands s act in
       let rest = setup_sent_by plan commands u acts in
-      elim (kind (action_at plan s)) [
-        | inl sends ↦ subst (λ xs. GoOn x (xs ++ rest)) (sym (sends_it s sends)) (is, go_on_from (its s) u acts (next_sent s act sends))
-        | inr other ↦ subst (λ xs. GoOn x (xs ++ rest)) (sym (none_as (action_at plan s) commands s other)) (go_on_from x u acts (next_other x s act other is))
+      elim (is_prepare_or_not (action_at plan s)) [
+        | inl sends ↦ subst (λ xs. GoOn x (xs ++ rest)) (sym (sends_it s sends)) (is, go_on_from (next_dispatch s) u acts (next_sent s act sends))
+        | inr other ↦ subst (λ xs. GoOn x (xs ++ rest)) (sym (others_send_none (action_at plan s) commands s other)) (go_on_from x u acts (next_other x s act other is))
       ]
 
-  -- nothing of the set-up went out
+  -- nothing of the setup was sent yet: its first command is next, in attempt 1
   abbrev IsFresh : Progress → Type 0
   IsFresh p = (p.attempt ≡ 1) × (p.prepared ≡ 0)
 
-  -- an act that sends no command of the set-up keeps that
+  -- if nothing of the setup was sent, that stays so after an act that sends no command of it
   fresh_kept : (p q : Progress) → Resets p q → IsFresh p → IsFresh q
   fresh_kept p q (inl same) is = (same.0 ∙ is.0, same.1 ∙ is.1)
   fresh_kept p q (inr anew) is = (anew.0 ∙ ap (λ (n : ℕ). if nat_eq n 0 then p.attempt else later p.attempt 1) is.1 ∙ is.0, anew.1)
 
-  -- what these acts send is in order, where nothing of the set-up went out before
+  -- the commands of the setup that these acts send are in order, if none was sent before
   in_order_from : (s : Model) (acts : List Act) → IsFresh s.progress → AreInOrder (setup_sent_by plan commands s acts)
   in_order_from s [] is = tt
   in_order_from s (act ∷ acts) is =
       let u = after plan commands s act in
       let rest = setup_sent_by plan commands u acts in
       let t = moved plan commands (action_at plan s) (with_progress turned s) act in
-      elim (kind (action_at plan s)) [
-        | inl sends ↦ subst (λ xs. AreInOrder (xs ++ rest)) (sym (sends_it s sends)) (is.0, is.1, go_on_from (its s) u acts (next_sent s act sends))
+      elim (is_prepare_or_not (action_at plan s)) [
+        | inl sends ↦ subst (λ xs. AreInOrder (xs ++ rest)) (sym (sends_it s sends)) (is.0, is.1, go_on_from (next_dispatch s) u acts (next_sent s act sends))
         | inr other ↦
-            subst (λ xs. AreInOrder (xs ++ rest)) (sym (none_as (action_at plan s) commands s other))
+            subst (λ xs. AreInOrder (xs ++ rest)) (sym (others_send_none (action_at plan s) commands s other))
             (in_order_from u acts (subst (λ (q : Progress). IsFresh q) (sym (ended_progress t)) (fresh_kept (turned s.progress) t.progress (resets plan commands (action_at plan s) (with_progress turned s) act other) is)))
       ]
 
--- the law: attempts of the set-up count over the run, and each goes from the first command on, one by one
+-- the law: attempts of the setup count over the run, and each goes from the first command on, one by one
 pub set_ups_go_on : SetUpsGoOn
 set_ups_go_on plan commands scope acts within = in_order_from plan commands within (opening plan scope) acts (refl, refl)

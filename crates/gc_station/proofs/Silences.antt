@@ -1,5 +1,5 @@
--- Which act told the last moment; and that a close is decided only when it is made, unless an act shows its cause. An act is
--- one call of the link, with what came of it. `Fresh` says that the last act told the moment, unless the moment is out of date.
+-- Which act read the last moment; and that a close is decided only when it is made, unless an act shows its cause. An act is
+-- one call on the link, with its result. `Fresh` says that the last act read the moment, unless the moment is out of date.
 use Rattle.std.proofs.Common.{◌≡◌, ℕ, ◌⊎◌, inl, inr, ◌&&◌, Bool, true, false, not, List, [], ◌∷◌, ◌++◌, if◌then◌else◌, refl, ap, subst}
 use Rattle.gc_texts.specs.declared.tasks.Task.{Task}
 use Rattle.gc_station.specs.declared.plan.Plan.{Plan}
@@ -12,22 +12,22 @@ use Rattle.gc_station.specs.declared.progress.Progress.{Progress}
 use Rattle.gc_links.specs.Acts.{Act, Told, Gave, Silent}
 use Rattle.gc_station.specs.Closing.{Shows}
 use Rattle.gc_station.specs.Deciding.{is_up, is_past, is_quiet}
-use Rattle.gc_station.specs.Progressing.{turned, told, cleared, quieted, is_idle, drained}
+use Rattle.gc_station.specs.Progressing.{turned, moment_noted, cleared, quieted, is_idle, drained}
 use Rattle.gc_station.specs.Quiet.{TellsMoment}
 use Rattle.gc_station.specs.Reasons.{IsAtItsEnd}
-use Rattle.gc_station.specs.Runs.{stood}
+use Rattle.gc_station.specs.Runs.{state_after}
 use Rattle.gc_station.specs.Scopes.{Scope}
 use Rattle.gc_station.specs.Silences.{latest}
-use Rattle.gc_station.specs.Model.{Model, opening, action_at, waiting_of, with_progress, with_moment, lines_behind, is_heard, Performs, moved, Runs}
+use Rattle.gc_station.specs.Model.{Model, opening, action_at, waiting_of, with_progress, with_moment, lines_completed, is_heard, Performs, moved, Runs}
 use Rattle.gc_station.proofs.Closings.{closing_shown, needs_of}
 use Rattle.gc_station.proofs.Always.{always_far}
 use Rattle.gc_station.proofs.Connected.{is_in_use, OnLine, on_line}
 use Rattle.gc_station.proofs.Facts.{Awake}
 use Rattle.gc_station.proofs.Walk.{asked_along, came_along}
 
--- The moment that was told last, after one act more.
+-- The moment that was read last, after one act more.
 
--- with one act more, the moment told last is the act's or, if it tells none, the one told last before it
+-- with one act more, the moment read last is the act's or, if it reads none, the one read last before it
 pub latest_more : (now : ℕ) (acts : List Act) (act : Act) → latest now (acts ++ act ∷ []) ≡ latest (latest now acts) (act ∷ [])
 latest_more now [] act = refl
 latest_more now (Told m ∷ acts) act = latest_more m.elapsed acts act
@@ -35,12 +35,12 @@ latest_more now (Gave bytes m ∷ acts) act = latest_more m.elapsed acts act
 latest_more now (Silent m ∷ acts) act = latest_more m.elapsed acts act
 latest_more now (x ∷ acts) act = latest_more now acts act
 
--- where a drain ends or goes on, there is a connection
+-- if a drain ends or goes on, there is a connection
 drained_up : (b : Bool) (p : Progress) → p.phase ≡ phase.Draining → is_up (if b then drained p else p).phase ≡ true
 drained_up true p is = refl
 drained_up false p is = ap is_up is
 
--- where a pause ends or goes on, there is no connection
+-- if a pause ends or goes on, there is no connection
 paused_up : (b : Bool) (at : Phase) → at ≡ phase.Pausing → is_up (if b then phase.Down else at) ≡ false
 paused_up true at is = refl
 paused_up false at is = ap is_up is
@@ -51,13 +51,13 @@ quieted_up plan phase.Pausing p is = paused_up (is_past p.pause p && not (is_idl
 quieted_up plan phase.Draining p is = drained_up (is_quiet plan p) p is
 quieted_up plan at p is = ap is_up is
 
--- The act that told the last moment.
+-- The act that read the last moment.
 
--- the last of these acts tells this moment
+-- the last of these acts read this moment
 abbrev pub LastTells : ℕ → List Act → Type 0
 LastTells now acts = (front : List Act) × (last : Act) × (acts ≡ front ++ last ∷ []) × TellsMoment now last
 
--- while a connection is drained, and where requests may go out: the last act told the moment `now`, if the moment told last
+-- while a connection is drained, and where requests may be sent: the last act read the moment `now`, if the moment read last
 -- isn't out of date (the first argument, `stale`)
 abbrev Fresh : Bool → ℕ → Phase → List Act → Type 0
 Fresh stale now phase.Draining acts = stale ≡ false → LastTells now acts
@@ -68,26 +68,26 @@ Fresh stale now at acts = Unit {0}
 abbrev FreshAt : Progress → List Act → Type 0
 FreshAt p acts = Fresh p.stale p.moment.elapsed p.phase acts
 
--- where no connection is in use, `Fresh` says nothing
+-- if no connection is in use, `Fresh` says nothing
 fresh_none : (stale : Bool) (now : ℕ) (at : Phase) (acts : List Act) → is_in_use at ≡ false → Fresh stale now at acts
 fresh_none stale now phase.Draining acts none = cc
 fresh_none stale now phase.Ready acts none = cc
 fresh_none stale now at acts none = tt
 
--- `Fresh` holds after an act that tells the moment
+-- `Fresh` holds after an act that reads the moment
 fresh_told : (stale : Bool) (now : ℕ) (at : Phase) (acts : List Act) (act : Act) → TellsMoment now act → Fresh stale now at (acts ++ act ∷ [])
 fresh_told stale now phase.Draining acts act tells = λ e. (acts, act, refl, tells)
 fresh_told stale now phase.Ready acts act tells = λ e. (acts, act, refl, tells)
 fresh_told stale now at acts act tells = tt
 
--- where the moment wasn't told, `Fresh` says nothing
+-- if the moment wasn't read, `Fresh` says nothing
 fresh_stale : (now : ℕ) (at : Phase) (acts : List Act) → Fresh true now at acts
 fresh_stale now phase.Draining acts = λ e. cc
 fresh_stale now phase.Ready acts = λ e. cc
 fresh_stale now at acts = tt
 
 module _ (plan : Plan) (commands : List Task) where
-  -- `Fresh` lasts over an act of any action
+  -- `Fresh` is preserved by an act of any action
   fresh_line : (next : Action) (s : Model) (acts : List Act) → OnLine plan commands FreshAt next (with_progress turned s) acts
   fresh_line actions.Open s acts = λ m. tt
   fresh_line actions.Clear s acts = λ m. fresh_stale s.progress.moment.elapsed (cleared s.progress).phase _
@@ -98,10 +98,10 @@ module _ (plan : Plan) (commands : List Task) where
   fresh_line (actions.Read until) s acts =
       let at = s.progress.phase in (
         λ bytes m.
-            let mid = with_moment m (with_progress (told m) (with_progress turned s)) in
+            let mid = with_moment m (with_progress (moment_noted m) (with_progress turned s)) in
             let here = fresh_told false m.elapsed at acts (Gave bytes m) refl in
             came_along (λ (t : Model). FreshAt t.progress (acts ++ Gave bytes m ∷ [])) (λ t line on. on) (is_heard at) s.progress.word bytes mid here
-            (asked_along (λ (q : Progress). FreshAt q (acts ++ Gave bytes m ∷ [])) (λ q line on. on) mid.progress (lines_behind s.rest bytes) here) here,
+            (asked_along (λ (q : Progress). FreshAt q (acts ++ Gave bytes m ∷ [])) (λ q line on. on) mid.progress (lines_completed s.rest bytes) here) here,
         λ m. (fresh_told false m.elapsed at acts (Silent m) refl, λ draining past. fresh_told false m.elapsed phase.Ready acts (Silent m) refl),
       )
   fresh_line (actions.Close why) s acts = tt
@@ -109,29 +109,29 @@ module _ (plan : Plan) (commands : List Task) where
   fresh_line next s acts = λ m. fresh_told false m.elapsed s.progress.phase acts (Told m) refl
 
   -- `Fresh` holds after every run
-  fresh_stood : (scope : Scope) (acts : List Act) → Runs plan commands (opening plan scope) acts → FreshAt (stood plan commands scope acts).progress acts
+  fresh_stood : (scope : Scope) (acts : List Act) → Runs plan commands (opening plan scope) acts → FreshAt (state_after plan commands scope acts).progress acts
   fresh_stood scope acts runs = always_far plan commands (opening plan scope) FreshAt step tt acts runs where
-    -- one act of a run keeps `FreshAt`
+    -- one act of a run preserves `FreshAt`
     step : (done : List Act) (act : Act) → Runs plan commands (opening plan scope) done
-        → Performs commands (stood plan commands scope done) (action_at plan (stood plan commands scope done)) act
-        → FreshAt (stood plan commands scope done).progress done
-        → FreshAt (moved plan commands (action_at plan (stood plan commands scope done)) (with_progress turned (stood plan commands scope done)) act).progress (done ++ act ∷ [])
+        → Performs commands (state_after plan commands scope done) (action_at plan (state_after plan commands scope done)) act
+        → FreshAt (state_after plan commands scope done).progress done
+        → FreshAt (moved plan commands (action_at plan (state_after plan commands scope done)) (with_progress turned (state_after plan commands scope done)) act).progress (done ++ act ∷ [])
     step done act runs o h =
-        let s = stood plan commands scope done in
+        let s = state_after plan commands scope done in
         on_line plan commands FreshAt (λ p acts none. fresh_none p.stale p.moment.elapsed p.phase acts none) (action_at plan s) s act done o (fresh_line (action_at plan s) s done)
 
-  -- where requests may go out, and the moment was told, the last act told it
-  pub awake_last : (scope : Scope) (acts : List Act) → Runs plan commands (opening plan scope) acts → Awake (stood plan commands scope acts).progress
-      → LastTells (stood plan commands scope acts).progress.moment.elapsed acts
+  -- where requests may be sent, and the moment was read, the last act read it
+  pub awake_last : (scope : Scope) (acts : List Act) → Runs plan commands (opening plan scope) acts → Awake (state_after plan commands scope acts).progress
+      → LastTells (state_after plan commands scope acts).progress.moment.elapsed acts
   awake_last scope acts runs awake =
-      let p = (stood plan commands scope acts).progress in
+      let p = (state_after plan commands scope acts).progress in
       (subst (λ (x : Phase). Fresh p.stale p.moment.elapsed x acts) awake.1 (fresh_stood scope acts runs)) awake.0
 
--- A close that no act shows is decided where it is made.
+-- A close that no act shows is decided if it is made.
 
--- where no act can show the cause of a close, the phase hasn't decided that close
+-- if no act can show the cause of a close, the phase hasn't decided that close
 pub not_closing : (plan : Plan) (commands : List Task) (scope : Scope) (acts : List Act) (why : Cause) → Runs plan commands (opening plan scope) acts
-    → ((act : Act) → Shows why act → ⊥) → (stood plan commands scope acts).progress.phase ≡ phase.Closing why → ⊥
+    → ((act : Act) → Shows why act → ⊥) → (state_after plan commands scope acts).progress.phase ≡ phase.Closing why → ⊥
 not_closing plan commands scope acts why runs none is = let shown = closing_shown plan commands scope acts why runs is in none shown.1 shown.3
 
 -- a close that the phase hasn't decided is made because the run is at its end (`IsAtItsEnd`)
@@ -142,7 +142,7 @@ end_here plan s why is never = by_needs (needs_of plan s (actions.Close why) is)
   by_needs (inl closing) = absurd (never closing)
   by_needs (inr end) = end
 
--- where the phase hasn't decided the close, requests may go out, and the moment was told
+-- if the phase hasn't decided the close, requests may be sent, and the moment was read
 pub awake_here : (p : Progress) (why : Cause) → (p.phase ≡ phase.Closing why) ⊎ Awake p → (p.phase ≡ phase.Closing why → ⊥) → Awake p
 awake_here p why (inl closing) never = absurd (never closing)
 awake_here p why (inr a) never = a

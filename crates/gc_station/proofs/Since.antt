@@ -1,7 +1,7 @@
 -- Facts of the past: what has held since an element of a growing list, as since an act of a run.
 use Rattle.std.proofs.Common.{◌≡◌, List, [], ◌∷◌, ◌++◌, refl, ap, ◌∙◌, append_assoc}
 
--- among all these elements there is one, `start`, with P of the elements before it, of `start`, and of those behind it
+-- among all these elements there is one, `start`, with P of the elements before it, of `start`, and of those after it
 pub record Since {A : Type 0} (P : List A → A → List A → Type 0) (all : List A) : Type 0 where
   pub before : List A
   pub start : A
@@ -9,11 +9,11 @@ pub record Since {A : Type 0} (P : List A → A → List A → Type 0) (all : Li
   pub order : all ≡ before ++ start ∷ behind
   pub holds : P before start behind
 
--- where P holds of the last element, with nothing behind it, P holds since that element
+-- where P holds of the last element, with nothing after it, P holds since that element
 pub since_now : {A : Type 0} (P : List A → A → List A → Type 0) (all : List A) (last : A) → P all last [] → Since P (all ++ last ∷ [])
 since_now P all last p = record { before = all; start = last; behind = []; order = refl; holds = p }
 
--- where P has held since an element, Q has held since it with more elements behind, if P gives Q over them
+-- where P has held since an element, Q has held since it with more elements after, if P gives Q over them
 pub since_on : {A : Type 0} (P Q : List A → A → List A → Type 0) (all more : List A)
     → ((before : List A) (start : A) (behind : List A) → all ≡ before ++ start ∷ behind → P before start behind → Q before start (behind ++ more))
     → Since P all → Since Q (all ++ more)

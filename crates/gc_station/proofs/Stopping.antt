@@ -1,5 +1,5 @@
--- How a run ends that is stale, and one whose end was asked for. `Freshly` says of an act which records it wrote down, and what became of
--- the moment from which on the run may become stale. An act is one call of the link, with what came of it.
+-- How a run ends that is stale, and one whose end was asked for. `Freshly` says of an act which records it recorded, and what
+-- became of the moment from which on the run may become stale. An act is one call on the link, with its result.
 use Rattle.std.proofs.Common.{◌≡◌, inl, inr, ◌⊎◌, ℕ, ◌-◌, ◌<◌, ◌≤◌, ◌||◌, min, Bool, true, false, List, [], ◌∷◌, ◌++◌, drop, map, Option, Some, None, nat_lt, nat_le, nat_eq, refl, sym, ap, ◌∙◌, subst, append-nil, append_assoc, arith}
 use Rattle.std.proofs.lemmas.Bool.{ltb-true, leb-true}
 use Rattle.std.proofs.lemmas.Bool.Decides.{nat_tests}
@@ -22,15 +22,15 @@ use Rattle.gc_station.specs.declared.progress.Phase.TheVariants as phase
 use Rattle.gc_station.specs.declared.progress.Progress.{Progress}
 use Rattle.gc_station.specs.declared.progress.Until.{Until}
 use Rattle.gc_station.specs.declared.progress.Waiting.{Waiting}
-use Rattle.gc_station.specs.Closing.{Shows, EndsBehind, Ends}
+use Rattle.gc_station.specs.Closing.{Shows, EndsAfter, Ends}
 use Rattle.gc_station.specs.Deciding.{is_stale, action_of, action_in, action_on}
-use Rattle.gc_station.specs.Marks.{records_of, is_well, fresh_behind}
-use Rattle.gc_station.specs.Model.{Model, opening, action_at, waiting_of, place_next, mark_next, skips, skips_first, with_progress, with_moment, with_rest, is_heard, line_came, lines_behind, came, piece_at, Performs, moved, losing, after, after_all, Runs}
-use Rattle.gc_station.specs.Progressing.{turned, told, quieted, time_passed, loses_all}
+use Rattle.gc_station.specs.Marks.{records_of, is_well, fresh_after}
+use Rattle.gc_station.specs.Model.{Model, opening, action_at, waiting_of, place_next, mark_next, skips, skips_first, with_progress, with_moment, with_rest, is_heard, line_came, lines_completed, after_piece, piece_at, Performs, moved, losing, after, after_all, Runs}
+use Rattle.gc_station.specs.Progressing.{turned, moment_noted, quieted, time_passed, loses_all}
 use Rattle.gc_station.specs.Records.{Record}
-use Rattle.gc_station.specs.Runs.{stood}
+use Rattle.gc_station.specs.Runs.{state_after}
 use Rattle.gc_station.specs.Scopes.{Scope}
-use Rattle.gc_station.specs.Stopping.{IsTelling, least_told, asked_behind, IsUnwell, UnwellSince, ClosesStale, StopsAtItsClose, EndsOnceStale, GoesOnInItsChain, ClosesBetweenChains}
+use Rattle.gc_station.specs.Stopping.{IsTelling, least_told, asked_after, IsUnwell, UnwellSince, ClosesStale, StopsAtItsClose, EndsOnceStale, GoesOnInItsChain, ClosesBetweenChains}
 use Rattle.gc_station.proofs.Always.{always, always_far}
 use Rattle.gc_station.proofs.Closings.{end_of, Decided, after_decided, runs_split, stopped_for, needs_of, done_sent}
 use Rattle.gc_station.proofs.Counts.{ended_progress}
@@ -51,32 +51,33 @@ abbrev HasWell : List Record → Type 0
 HasWell rs = (front : List Record) × (r : Record) × (later : List Record) × (rs ≡ front ++ r ∷ later) × (is_well r.end ≡ true)
 
 -- records of which none is of a command that was answered well leave the moment
-unwell_same : (now fresh : ℕ) (rs : List Record) → AllByRecursion IsUnwell rs → fresh_behind now fresh rs ≡ fresh
+unwell_same : (now fresh : ℕ) (rs : List Record) → AllByRecursion IsUnwell rs → fresh_after now fresh rs ≡ fresh
 unwell_same now fresh [] all = refl
 unwell_same now fresh (r ∷ rs) all =
-    ap (λ x. fresh_behind now x rs) (picks_other (is_well r.end) now fresh all.0) ∙ unwell_same now fresh rs all.1
+    ap (λ x. fresh_after now x rs) (picks_other (is_well r.end) now fresh all.0) ∙ unwell_same now fresh rs all.1
 
--- of records that are written down at one moment none is of a command that was answered well, and they leave the moment that was; or one is
-fresh_cases : (now fresh : ℕ) (rs : List Record) → (AllByRecursion IsUnwell rs × (fresh_behind now fresh rs ≡ fresh)) ⊎ (HasWell rs × (fresh_behind now fresh rs ≡ now))
+-- of records that are recorded at one moment none is of a command that was answered well, and they leave the moment that was;
+-- or one is
+fresh_cases : (now fresh : ℕ) (rs : List Record) → (AllByRecursion IsUnwell rs × (fresh_after now fresh rs ≡ fresh)) ⊎ (HasWell rs × (fresh_after now fresh rs ≡ now))
 fresh_cases now fresh [] = inl (tt, refl)
 fresh_cases now fresh (r ∷ rs) = by_first (fresh_cases now now rs) (fresh_cases now fresh rs) (is_well r.end) refl where
   -- the lemma above, by whether the first record is of such a command
-  by_first : (AllByRecursion IsUnwell rs × (fresh_behind now now rs ≡ now)) ⊎ (HasWell rs × (fresh_behind now now rs ≡ now))
-      → (AllByRecursion IsUnwell rs × (fresh_behind now fresh rs ≡ fresh)) ⊎ (HasWell rs × (fresh_behind now fresh rs ≡ now)) → (b : Bool) → is_well r.end ≡ b
-      → (AllByRecursion IsUnwell (r ∷ rs) × (fresh_behind now fresh (r ∷ rs) ≡ fresh)) ⊎ (HasWell (r ∷ rs) × (fresh_behind now fresh (r ∷ rs) ≡ now))
+  by_first : (AllByRecursion IsUnwell rs × (fresh_after now now rs ≡ now)) ⊎ (HasWell rs × (fresh_after now now rs ≡ now))
+      → (AllByRecursion IsUnwell rs × (fresh_after now fresh rs ≡ fresh)) ⊎ (HasWell rs × (fresh_after now fresh rs ≡ now)) → (b : Bool) → is_well r.end ≡ b
+      → (AllByRecursion IsUnwell (r ∷ rs) × (fresh_after now fresh (r ∷ rs) ≡ fresh)) ⊎ (HasWell (r ∷ rs) × (fresh_after now fresh (r ∷ rs) ≡ now))
   by_first here there true well = on_well here where
-    -- what is left of the records behind one that is of such a command
-    on_well : ((AllByRecursion IsUnwell rs × (fresh_behind now now rs ≡ now)) ⊎ (HasWell rs × (fresh_behind now now rs ≡ now)))
-        → (AllByRecursion IsUnwell (r ∷ rs) × (fresh_behind now fresh (r ∷ rs) ≡ fresh)) ⊎ (HasWell (r ∷ rs) × (fresh_behind now fresh (r ∷ rs) ≡ now))
-    on_well (inl none) = inr (([], r, rs, refl, well), ap (λ x. fresh_behind now x rs) (picks (is_well r.end) now fresh well) ∙ none.1)
-    on_well (inr some) = inr (([], r, rs, refl, well), ap (λ x. fresh_behind now x rs) (picks (is_well r.end) now fresh well) ∙ some.1)
+    -- what is left of the records after one that is of such a command
+    on_well : ((AllByRecursion IsUnwell rs × (fresh_after now now rs ≡ now)) ⊎ (HasWell rs × (fresh_after now now rs ≡ now)))
+        → (AllByRecursion IsUnwell (r ∷ rs) × (fresh_after now fresh (r ∷ rs) ≡ fresh)) ⊎ (HasWell (r ∷ rs) × (fresh_after now fresh (r ∷ rs) ≡ now))
+    on_well (inl none) = inr (([], r, rs, refl, well), ap (λ x. fresh_after now x rs) (picks (is_well r.end) now fresh well) ∙ none.1)
+    on_well (inr some) = inr (([], r, rs, refl, well), ap (λ x. fresh_after now x rs) (picks (is_well r.end) now fresh well) ∙ some.1)
   by_first here there false unwell = on_unwell there where
-    -- what is left of the records behind one that isn't of such a command
-    on_unwell : ((AllByRecursion IsUnwell rs × (fresh_behind now fresh rs ≡ fresh)) ⊎ (HasWell rs × (fresh_behind now fresh rs ≡ now)))
-        → (AllByRecursion IsUnwell (r ∷ rs) × (fresh_behind now fresh (r ∷ rs) ≡ fresh)) ⊎ (HasWell (r ∷ rs) × (fresh_behind now fresh (r ∷ rs) ≡ now))
-    on_unwell (inl none) = inl ((unwell, none.0), ap (λ x. fresh_behind now x rs) (picks_other (is_well r.end) now fresh unwell) ∙ none.1)
+    -- what is left of the records after one that isn't of such a command
+    on_unwell : ((AllByRecursion IsUnwell rs × (fresh_after now fresh rs ≡ fresh)) ⊎ (HasWell rs × (fresh_after now fresh rs ≡ now)))
+        → (AllByRecursion IsUnwell (r ∷ rs) × (fresh_after now fresh (r ∷ rs) ≡ fresh)) ⊎ (HasWell (r ∷ rs) × (fresh_after now fresh (r ∷ rs) ≡ now))
+    on_unwell (inl none) = inl ((unwell, none.0), ap (λ x. fresh_after now x rs) (picks_other (is_well r.end) now fresh unwell) ∙ none.1)
     on_unwell (inr ((front, x, later, order, well), e)) =
-        inr ((r ∷ front, x, later, ap (λ xs. r ∷ xs) order, well), ap (λ x. fresh_behind now x rs) (picks_other (is_well r.end) now fresh unwell) ∙ e)
+        inr ((r ∷ front, x, later, ap (λ xs. r ∷ xs) order, well), ap (λ x. fresh_after now x rs) (picks_other (is_well r.end) now fresh unwell) ∙ e)
 
 -- a command that isn't sent wasn't answered well
 skips_unwell : (p : Progress) (m : Moment) (mark : Mark) (list : List Task) → AllByRecursion IsUnwell (skips_first p m mark list)
@@ -94,58 +95,58 @@ lost_unwell reads utc (mark ∷ marks) [] = tt
 lost_unwell reads utc (None ∷ marks) (p ∷ ps) = lost_unwell reads utc marks ps
 lost_unwell reads utc (Some mark ∷ marks) (p ∷ ps) = (refl, lost_unwell reads utc marks ps)
 
--- What an act writes down.
+-- What an act records.
 
--- an act wrote down records of which none is of a command that was answered well
+-- an act wrote records of which none is of a command that was answered well
 abbrev Plainly : Model → Act → Model → Type 0
 Plainly s act t = (rs : List Record) × (t.records ≡ s.records ++ rs) × AllByRecursion IsUnwell rs × (t.fresh ≡ least_told s.fresh (act ∷ []))
 
--- an act is a read that gave bytes, and wrote down records of which one is of a command that was answered well
+-- an act is a read that gave bytes, and wrote records of which one is of a command that was answered well
 abbrev Well : Model → Act → Model → Type 0
 Well s act t = (rs : List Record) × (t.records ≡ s.records ++ rs) × HasWell rs × (bytes : List ℕ) × (m : Moment) × (act ≡ Gave bytes m) × (t.fresh ≡ m.elapsed)
 
--- an act wrote down records, as `Plainly` or `Well` says
+-- an act wrote records, as `Plainly` or `Well` says
 abbrev Freshly : Model → Act → Model → Type 0
 Freshly s act t = Plainly s act t ⊎ Well s act t
 
--- a model of the lines so far of a piece, at this moment, behind the model `mid`
+-- a model of the lines so far of a piece, at this moment, after the model `mid`
 abbrev Heard : Model → ℕ → Model → Type 0
-Heard mid now t = (rs : List Record) × (t.records ≡ mid.records ++ rs) × (t.fresh ≡ fresh_behind now mid.fresh rs) × (t.progress.moment.elapsed ≡ now)
+Heard mid now t = (rs : List Record) × (t.records ≡ mid.records ++ rs) × (t.fresh ≡ fresh_after now mid.fresh rs) × (t.progress.moment.elapsed ≡ now)
 
--- one line more keeps `Heard`
+-- one line more preserves `Heard`
 heard_line : (mid : Model) (now : ℕ) (t : Model) (line : List ℕ) → Heard mid now t → Heard mid now (line_came t line)
 heard_line mid now t line (rs, order, fresh, at) =
     let added = records_of t.reads t.progress.moment.utc t.marks (hears t.client line (heard line)).settlements in (
       rs ++ added,
       ap (λ xs. xs ++ added) order ∙ append_assoc mid.records rs added,
-      ap (λ n. fresh_behind n t.fresh added) at ∙ ap (λ f. fresh_behind now f added) fresh ∙ sym (fresh-append now mid.fresh rs added),
+      ap (λ n. fresh_after n t.fresh added) at ∙ ap (λ f. fresh_after now f added) fresh ∙ sym (fresh-append now mid.fresh rs added),
       at,
     )
 
--- a piece keeps `Heard`
-heard_piece : (is_heard : Bool) (word piece : List ℕ) (mid : Model) → Heard mid mid.progress.moment.elapsed (came is_heard word piece mid)
+-- a piece preserves `Heard`
+heard_piece : (is_heard : Bool) (word piece : List ℕ) (mid : Model) → Heard mid mid.progress.moment.elapsed (after_piece is_heard word piece mid)
 heard_piece is_heard word piece mid =
     let now = mid.progress.moment.elapsed in
     let none = sym (append-nil mid.records) in
     came_along (Heard mid now) (λ t line h. heard_line mid now t line h) is_heard word piece mid ([], none, refl, refl)
-    ([], none, refl, asked_along (λ (q : Progress). q.moment.elapsed ≡ now) (λ q line e. e) mid.progress (lines_behind mid.rest piece) refl) ([], none, refl, refl)
+    ([], none, refl, asked_along (λ (q : Progress). q.moment.elapsed ≡ now) (λ q line e. e) mid.progress (lines_completed mid.rest piece) refl) ([], none, refl, refl)
 
--- a read that gave bytes wrote down records as `Freshly` says
+-- a read that gave bytes wrote records as `Freshly` says
 gave_fresh : (plan : Plan) (until : Until) (s : Model) (bytes : List ℕ) (m : Moment) → Freshly s (Gave bytes m) (piece_at plan until bytes m s)
 gave_fresh plan until s bytes m =
-    let mid = with_moment m (with_progress (told m) s) in
+    let mid = with_moment m (with_progress (moment_noted m) s) in
     by_case (heard_piece (is_heard s.progress.phase) s.progress.word bytes mid) where
-      -- the lemma above, by the records that the piece wrote down
-      by_case : Heard (with_moment m (with_progress (told m) s)) m.elapsed (came (is_heard s.progress.phase) s.progress.word bytes (with_moment m (with_progress (told m) s)))
+      -- the lemma above, by the records that the piece recorded
+      by_case : Heard (with_moment m (with_progress (moment_noted m) s)) m.elapsed (after_piece (is_heard s.progress.phase) s.progress.word bytes (with_moment m (with_progress (moment_noted m) s)))
           → Freshly s (Gave bytes m) (piece_at plan until bytes m s)
       by_case (rs, order, fresh, at) = by_records (fresh_cases m.elapsed (min s.fresh m.elapsed) rs) where
         -- the lemma above, by whether one of them is of a command that was answered well
-        by_records : ((AllByRecursion IsUnwell rs × (fresh_behind m.elapsed (min s.fresh m.elapsed) rs ≡ min s.fresh m.elapsed))
-            ⊎ (HasWell rs × (fresh_behind m.elapsed (min s.fresh m.elapsed) rs ≡ m.elapsed))) → Freshly s (Gave bytes m) (piece_at plan until bytes m s)
+        by_records : ((AllByRecursion IsUnwell rs × (fresh_after m.elapsed (min s.fresh m.elapsed) rs ≡ min s.fresh m.elapsed))
+            ⊎ (HasWell rs × (fresh_after m.elapsed (min s.fresh m.elapsed) rs ≡ m.elapsed))) → Freshly s (Gave bytes m) (piece_at plan until bytes m s)
         by_records (inl none) = inl (rs, order, none.0, fresh ∙ none.1)
         by_records (inr some) = inr (rs, order, some.0, bytes, m, refl, fresh ∙ some.1)
 
--- an act of each action wrote down records as `Freshly` says, before what waits is lost
+-- an act of each action wrote records as `Freshly` says, before what is outstanding is lost
 moved_fresh : (plan : Plan) (commands : List Task) (next : Action) (s : Model) (act : Act) → Performs commands s next act → Freshly s act (moved plan commands next (with_progress turned s) act)
 moved_fresh plan commands actions.Skip s act o =
     walk plan commands (Freshly s) actions.Skip (with_progress turned s) act o (
@@ -191,7 +192,7 @@ losing_fresh s act true t (inr (rs, order, (front, r, later, split, well), bytes
       unwell_same t.progress.moment.elapsed t.fresh more none ∙ fresh,
     )
 
--- a whole act wrote down records as `Freshly` says
+-- a whole act wrote records as `Freshly` says
 after_fresh : (plan : Plan) (commands : List Task) (s : Model) (act : Act) → Performs commands s (action_at plan s) act → Freshly s act (after plan commands s act)
 after_fresh plan commands s act o =
     let t = moved plan commands (action_at plan s) (with_progress turned s) act in
@@ -208,7 +209,7 @@ least-append n (Silent m ∷ xs) ys = least-append (min n m.elapsed) xs ys
 least-append n (x ∷ xs) ys = least-append n xs ys
 
 -- whether the end was asked for in two lists of acts is known from the second list, and from that of the first
-asked-append : (b : Bool) (xs ys : List Act) → asked_behind b (xs ++ ys) ≡ asked_behind (asked_behind b xs) ys
+asked-append : (b : Bool) (xs ys : List Act) → asked_after b (xs ++ ys) ≡ asked_after (asked_after b xs) ys
 asked-append b [] ys = refl
 asked-append b (Told m ∷ xs) ys = asked-append (b || m.stops) xs ys
 asked-append b (Gave bytes m ∷ xs) ys = asked-append (b || m.stops) xs ys
@@ -217,12 +218,12 @@ asked-append b (x ∷ xs) ys = asked-append b xs ys
 
 -- the model after one act more is the one after that act
 behind_one : (plan : Plan) (commands : List Task) (scope : Scope) (done : List Act) (act : Act)
-    → stood plan commands scope (done ++ act ∷ []) ≡ after plan commands (stood plan commands scope done) act
+    → state_after plan commands scope (done ++ act ∷ []) ≡ after plan commands (state_after plan commands scope done) act
 behind_one plan commands scope done act = after_all-append plan commands (opening plan scope) done (act ∷ [])
 
--- one act more keeps `UnwellSince`
+-- one act more preserves `UnwellSince`
 since_more : (plan : Plan) (commands : List Task) (scope : Scope) (done : List Act) (act : Act) → UnwellSince plan commands scope done
-    → Freshly (stood plan commands scope done) act (stood plan commands scope (done ++ act ∷ [])) → UnwellSince plan commands scope (done ++ act ∷ [])
+    → Freshly (state_after plan commands scope done) act (state_after plan commands scope (done ++ act ∷ [])) → UnwellSince plan commands scope (done ++ act ∷ [])
 since_more plan commands scope done act u (inl (rs, order, unwell, fresh)) = record {
   before = u.before;
   behind = u.behind ++ act ∷ [];
@@ -230,7 +231,7 @@ since_more plan commands scope done act u (inl (rs, order, unwell, fresh)) = rec
   from = u.from;
   start = u.start;
   records = u.records ++ rs;
-  written = order ∙ ap (λ xs. xs ++ rs) u.written ∙ append_assoc (stood plan commands scope u.before).records u.records rs;
+  written = order ∙ ap (λ xs. xs ++ rs) u.written ∙ append_assoc (state_after plan commands scope u.before).records u.records rs;
   unwell = all_append IsUnwell u.records rs u.unwell unwell;
   fresh = fresh ∙ ap (λ n. least_told n (act ∷ [])) u.fresh ∙ sym (least-append u.from u.behind (act ∷ []));
 }
@@ -250,11 +251,11 @@ since_more plan commands scope done act u (inr (rs, order, (front, r, later, spl
         front = front;
         answer = r;
         later = later;
-        written = order ∙ ap (λ xs. (stood plan commands scope done).records ++ xs) split;
+        written = order ∙ ap (λ xs. (state_after plan commands scope done).records ++ xs) split;
         well = well;
       });
       records = [];
-      written = sym (append-nil (stood plan commands scope all).records);
+      written = sym (append-nil (state_after plan commands scope all).records);
       unwell = tt;
       fresh = fresh;
     }
@@ -263,14 +264,14 @@ since_more plan commands scope done act u (inr (rs, order, (front, r, later, spl
 since_stood : (plan : Plan) (commands : List Task) (scope : Scope) (acts : List Act) → Runs plan commands (opening plan scope) acts → UnwellSince plan commands scope acts
 since_stood plan commands scope acts runs =
     always plan commands (opening plan scope) (λ (done : List Act) (t : Model). UnwellSince plan commands scope done) (λ done act runs' o u.
-    since_more plan commands scope done act u (subst (λ (t : Model). Freshly (stood plan commands scope done) act t) (sym (behind_one plan commands scope done act))
-    (after_fresh plan commands (stood plan commands scope done) act o)))
+    since_more plan commands scope done act u (subst (λ (t : Model). Freshly (state_after plan commands scope done) act t) (sym (behind_one plan commands scope done act))
+    (after_fresh plan commands (state_after plan commands scope done) act o)))
     (record { before = []; behind = []; order = refl; from = 0; start = inl (refl, refl); records = []; written = refl; unwell = tt; fresh = refl }) acts runs
 
--- where a connection is closed, or a run ends, because it is stale, it is
+-- if a connection is closed, or a run ends, because it is stale, it is
 pub closes_stale : ClosesStale
 closes_stale plan commands scope acts runs is =
-    let s = stood plan commands scope acts in
+    let s = state_after plan commands scope acts in
     let u = since_stood plan commands scope acts runs in
     let stale = end_here plan s cause.Stale is (not_closing plan commands scope acts cause.Stale runs (λ act shows. shows)) in
     let it = both_true (nat_lt 0 plan.stale) (nat_le plan.stale (s.progress.moment.elapsed - s.fresh)) stale in
@@ -280,10 +281,10 @@ closes_stale plan commands scope acts runs is =
       long = subst (λ n. plan.stale ≤ s.progress.moment.elapsed - n) u.fresh (leb-true plan.stale (s.progress.moment.elapsed - s.fresh) it.1);
     }
 
--- Where a run stops.
+-- If a run stops.
 
--- a run ends for `Stale` or `Stopped` only where the connection was closed for that
-quits_only : (plan : Plan) (p : Progress) (n : ℕ) (other why : Cause) → (why ≡ cause.Stale) ⊎ (why ≡ cause.Stopped) → EndsBehind plan p n other why → other ≡ why
+-- a run ends for `Stale` or `Stopped` only if the connection was closed for that
+quits_only : (plan : Plan) (p : Progress) (n : ℕ) (other why : Cause) → (why ≡ cause.Stale) ⊎ (why ≡ cause.Stopped) → EndsAfter plan p n other why → other ≡ why
 quits_only plan p n cause.Done why (inl is) ends = let done = ends.0 in cc
 quits_only plan p n cause.Done why (inr is) ends = let done = ends.0 in cc
 quits_only plan p n cause.Clock why is ends = sym ends
@@ -304,21 +305,21 @@ no_turns : (why : Cause) → (why ≡ cause.Stale) ⊎ (why ≡ cause.Stopped) �
 no_turns why (inl is) e = let other : cause.Stale ≡ cause.Turns = sym is ∙ e in cc
 no_turns why (inr is) e = let other : cause.Stopped ≡ cause.Turns = sym is ∙ e in cc
 
--- where a run stops for one of the two, its last act is the close that was next for that
+-- if a run stops for one of the two, its last act is the close that was next for that
 stops_at : (why : Cause) → (why ≡ cause.Stale) ⊎ (why ≡ cause.Stopped) → StopsAtItsClose why
 stops_at why is plan commands scope acts runs stop = by_shown (stopped_for plan commands scope acts why runs stop).shown where
   -- what is claimed
   Claim : Type 0
-  Claim = (earlier : List Act) × (acts ≡ earlier ++ Closed ∷ []) × (action_at plan (stood plan commands scope earlier) ≡ actions.Close why)
+  Claim = (earlier : List Act) × (acts ≡ earlier ++ Closed ∷ []) × (action_at plan (state_after plan commands scope earlier) ≡ actions.Close why)
 
   -- the last act ended the run: it closed a connection for that, as no failed call and no failed attempt ends a run for it
-  by_end : (earlier : List Act) (last : Act) → acts ≡ earlier ++ last ∷ [] → Ends plan (stood plan commands scope earlier) why last → Claim
+  by_end : (earlier : List Act) (last : Act) → acts ≡ earlier ++ last ∷ [] → Ends plan (state_after plan commands scope earlier) why last → Claim
   by_end earlier last order (inl failed) = absurd (shows_none why last is failed.1)
   by_end earlier last order (inr (inl (other, is_close, next, ends))) =
-      let s = stood plan commands scope earlier in
+      let s = state_after plan commands scope earlier in
       (earlier, order ∙ ap (λ a. earlier ++ a ∷ []) is_close, next ∙ ap actions.Close (quits_only plan s.progress (waiting_of s).commands other why is ends))
   by_end earlier last order (inr (inr (unopened, ends))) =
-      let s = stood plan commands scope earlier in
+      let s = state_after plan commands scope earlier in
       absurd (never_open why is (quits_only plan s.progress (waiting_of s).commands cause.Open why is ends)) where
         -- neither of them is that no connection could be made
         never_open : (why : Cause) → (why ≡ cause.Stale) ⊎ (why ≡ cause.Stopped) → cause.Open ≡ why → ⊥
@@ -326,22 +327,22 @@ stops_at why is plan commands scope acts runs stop = by_shown (stopped_for plan 
         never_open why (inr is) e = let other : cause.Open ≡ cause.Stopped = e ∙ is in cc
 
   -- the lemma above, by why the run stopped
-  by_shown : ((why ≡ cause.Turns) × ((stood plan commands scope acts).progress.turns ≡ 0))
-      ⊎ ((earlier : List Act) × (last : Act) × (acts ≡ earlier ++ last ∷ []) × Ends plan (stood plan commands scope earlier) why last) → Claim
+  by_shown : ((why ≡ cause.Turns) × ((state_after plan commands scope acts).progress.turns ≡ 0))
+      ⊎ ((earlier : List Act) × (last : Act) × (acts ≡ earlier ++ last ∷ []) × Ends plan (state_after plan commands scope earlier) why last) → Claim
   by_shown (inl turns) = absurd (no_turns why is turns.0)
   by_shown (inr (earlier, last, order, ends)) = by_end earlier last order ends
 
--- where a run stops because it is stale, its last act is the close for that
+-- if a run stops because it is stale, its last act is the close for that
 pub stops_stale : StopsAtItsClose cause.Stale
 stops_stale = stops_at cause.Stale (inl refl)
 
--- where a run stops because that was asked for, its last act is the close for that
+-- if a run stops because that was asked for, its last act is the close for that
 pub stops_stopped : StopsAtItsClose cause.Stopped
 stops_stopped = stops_at cause.Stopped (inr refl)
 
 -- What follows a moment at which the run is stale.
 
--- an act that tells a moment shows no cause
+-- an act that reads a moment shows no cause
 telling_shows : (act : Act) (why : Cause) → IsTelling act → Shows why act → ⊥
 telling_shows act cause.End o shows = subst IsTelling shows o
 telling_shows act cause.Read o shows = subst IsTelling shows o
@@ -349,20 +350,20 @@ telling_shows act cause.Clock o shows = subst IsTelling shows o
 telling_shows act (cause.Write requests bytes) o shows = subst IsTelling shows.1 o
 telling_shows act why o shows = shows
 
--- an act that tells a moment decides no end
+-- an act that reads a moment decides no end
 telling_not : (plan : Plan) (commands : List Task) (s : Model) (act : Act) (at : Phase) (why : Cause) → IsTelling act → Decided plan s at why act → ⊥
 telling_not plan commands s act at why o (inl failed) = telling_shows act why o failed.1
 telling_not plan commands s act at why o (inr (down, inl (other, is, next, ends))) = subst IsTelling is o
 telling_not plan commands s act at why o (inr (down, inr (is, ends))) = subst IsTelling is o
 
--- where the end isn't decided, turns are left, and the run is stale, the next action closes for that
+-- if the end isn't decided, turns are left, and the run is stale, the next action closes for that
 stale_next : (plan : Plan) (p : Progress) (w : Waiting) (at : Phase) → p.phase ≡ at → end_of at ≡ None → 0 < p.turns → is_stale plan p w ≡ true → action_of plan p w ≡ actions.Close cause.Stale
 stale_next plan p w at is none some stale = ap (λ x. action_in x plan p w) is ∙ by_phase at none where
   -- turns are left, by their test
   turns : nat_eq p.turns 0 ≡ false
   turns = grind (arith, nat_tests, some)
 
-  -- the action where the end isn't decided yet
+  -- the action if the end isn't decided yet
   on : action_on plan p w ≡ actions.Close cause.Stale
   on = picks_other (nat_eq p.turns 0) _ _ turns ∙ picks (is_stale plan p w) _ _ stale
 
@@ -376,7 +377,7 @@ stale_next plan p w at is none some stale = ap (λ x. action_in x plan p w) is �
   by_phase (phase.Closing why) e = cc
   by_phase (phase.Over why) e = cc
 
--- where the close for a stale run is next, no act follows but it
+-- if the close for a stale run is next, no act follows but it
 nothing_behind : (plan : Plan) (commands : List Task) (t : Model) (behind : List Act) → action_at plan t ≡ actions.Close cause.Stale → Runs plan commands t behind
     → (behind ≡ []) ⊎ (behind ≡ Closed ∷ [])
 nothing_behind plan commands t [] is runs = inl refl
@@ -385,54 +386,54 @@ nothing_behind plan commands t (act ∷ others) is runs = inr (by_rest others ru
   closes : act ≡ Closed
   closes = subst (λ (o : Action). Performs commands t o act) is runs.0
 
-  -- the run is over behind it
+  -- the run is over after it
   over : (after plan commands t act).progress.phase ≡ phase.Over cause.Stale
   over =
       let u = moved plan commands (action_at plan t) (with_progress turned t) act in
       ap (λ (p : Progress). p.phase) (ended_progress u) ∙ ap (λ (o : Action). (moved plan commands o (with_progress turned t) act).progress.phase) is
 
-  -- the lemma above, by the acts behind that one
+  -- the lemma above, by the acts after that one
   by_rest : (rest : List Act) → Runs plan commands (after plan commands t act) rest → act ∷ rest ≡ Closed ∷ []
   by_rest [] more = ap (λ a. a ∷ []) closes
   by_rest (x ∷ xs) more = absurd (over_stops plan commands (after plan commands t act) x more.0 cause.Stale over)
 
--- the acts of a run behind a front of it are a run from there on
+-- the acts of a run after a front of it are a run from there on
 runs_behind : (plan : Plan) (commands : List Task) (s : Model) (front later : List Act) → Runs plan commands s (front ++ later) → Runs plan commands (after_all plan commands s front) later
 runs_behind plan commands s [] later runs = runs
 runs_behind plan commands s (act ∷ front) later runs = runs_behind plan commands (after plan commands s act) front later runs.1
 
--- the first moment told at which a run with turns left is stale ends it
+-- the first moment read at which a run with turns left is stale ends it
 pub ends_once_stale : EndsOnceStale
 ends_once_stale plan commands scope earlier behind telling runs tells turns stale =
-    let s = stood plan commands scope earlier in
+    let s = state_after plan commands scope earlier in
     let all = earlier ++ telling ∷ [] in
-    let t = stood plan commands scope all in
+    let t = state_after plan commands scope all in
     let split = runs_split plan commands (opening plan scope) earlier behind telling runs in
     let later = runs_behind plan commands (opening plan scope) all behind
     (subst (λ (xs : List Act). Runs plan commands (opening plan scope) xs) (sym (append_assoc earlier (telling ∷ []) behind)) runs) in
     nothing_behind plan commands t behind (stale_next plan t.progress (waiting_of t) t.progress.phase refl (by_end (end_of t.progress.phase) refl) turns stale) later where
       -- the moment decides no end
-      by_end : (e : Option Cause) → end_of (stood plan commands scope (earlier ++ telling ∷ [])).progress.phase ≡ e
-          → end_of (stood plan commands scope (earlier ++ telling ∷ [])).progress.phase ≡ None
+      by_end : (e : Option Cause) → end_of (state_after plan commands scope (earlier ++ telling ∷ [])).progress.phase ≡ e
+          → end_of (state_after plan commands scope (earlier ++ telling ∷ [])).progress.phase ≡ None
       by_end None is = is
       by_end (Some why) is =
-          let s = stood plan commands scope earlier in
+          let s = state_after plan commands scope earlier in
           let next = behind_one plan commands scope earlier telling in
           let split = runs_split plan commands (opening plan scope) earlier behind telling runs in
           absurd (telling_not plan commands s telling _ why tells
           (after_decided plan commands s telling why split.1 (done_sent plan commands scope earlier) (sym (ap (λ (x : Model). end_of x.progress.phase) next) ∙ is)))
 
--- Where the end of the run was asked for.
+-- If the end of the run was asked for.
 
 -- what an act leaves of whether the end was asked for
 moved_asked : (plan : Plan) (commands : List Task) (next : Action) (s : Model) (act : Act) → Performs commands s next act
-    → (moved plan commands next (with_progress turned s) act).progress.stops ≡ asked_behind s.progress.stops (act ∷ [])
+    → (moved plan commands next (with_progress turned s) act).progress.stops ≡ asked_after s.progress.stops (act ∷ [])
 moved_asked plan commands (actions.Read until) s act o =
-    let P : Act → Model → Type 0 = λ (a : Act) (t : Model). t.progress.stops ≡ asked_behind s.progress.stops (a ∷ []) in
+    let P : Act → Model → Type 0 = λ (a : Act) (t : Model). t.progress.stops ≡ asked_after s.progress.stops (a ∷ []) in
     walk plan commands P (actions.Read until) (with_progress turned s) act o (
-      λ bytes m. let mid = with_moment m (with_progress (told m) (with_progress turned s)) in
+      λ bytes m. let mid = with_moment m (with_progress (moment_noted m) (with_progress turned s)) in
           came_along (λ (t : Model). t.progress.stops ≡ (s.progress.stops || m.stops)) (λ t line e. e) (is_heard s.progress.phase) s.progress.word bytes mid refl
-          (asked_along (λ (q : Progress). q.stops ≡ (s.progress.stops || m.stops)) (λ q line e. e) mid.progress (lines_behind mid.rest bytes) refl) refl,
+          (asked_along (λ (q : Progress). q.stops ≡ (s.progress.stops || m.stops)) (λ q line e. e) mid.progress (lines_completed mid.rest bytes) refl) refl,
       λ m. quieted_asked plan s.progress.phase (time_passed until m (turned s.progress)),
       refl,
       refl,
@@ -442,34 +443,34 @@ moved_asked plan commands (actions.Read until) s act o =
       quieted_asked : (plan : Plan) (at : Phase) (p : Progress) → (quieted plan at p).stops ≡ p.stops
       quieted_asked plan at p = quieted_along (λ (q : Progress). q.stops ≡ p.stops) plan at p refl (refl) refl
 moved_asked plan commands (actions.Close why) s act o =
-    walk plan commands (λ (a : Act) (t : Model). t.progress.stops ≡ asked_behind s.progress.stops (a ∷ [])) (actions.Close why) (with_progress turned s) act o
+    walk plan commands (λ (a : Act) (t : Model). t.progress.stops ≡ asked_after s.progress.stops (a ∷ [])) (actions.Close why) (with_progress turned s) act o
     (closed_along (λ (q : Progress). q.stops ≡ s.progress.stops) plan (waiting_of (with_rest [] (with_progress turned s))) why (turned s.progress) refl refl)
 moved_asked plan commands (actions.Stop why) s act o = absurd o
 moved_asked plan commands next s act o =
-    walk plan commands (λ (a : Act) (t : Model). t.progress.stops ≡ asked_behind s.progress.stops (a ∷ [])) next (with_progress turned s) act o (λ m. refl, λ n. refl)
+    walk plan commands (λ (a : Act) (t : Model). t.progress.stops ≡ asked_after s.progress.stops (a ∷ [])) next (with_progress turned s) act o (λ m. refl, λ n. refl)
 
 -- after each run, whether the end was asked for is what its moments say
 asked_stood : (plan : Plan) (commands : List Task) (scope : Scope) (acts : List Act) → Runs plan commands (opening plan scope) acts
-    → (stood plan commands scope acts).progress.stops ≡ asked_behind false acts
+    → (state_after plan commands scope acts).progress.stops ≡ asked_after false acts
 asked_stood plan commands scope acts runs =
-    always_far plan commands (opening plan scope) (λ (p : Progress) (done : List Act). p.stops ≡ asked_behind false done) (λ done act runs' o e.
+    always_far plan commands (opening plan scope) (λ (p : Progress) (done : List Act). p.stops ≡ asked_after false done) (λ done act runs' o e.
     let s = after_all plan commands (opening plan scope) done in
-    moved_asked plan commands (action_at plan s) s act o ∙ ap (λ b. asked_behind b (act ∷ [])) e ∙ sym (asked-append false done (act ∷ []))) refl acts runs
+    moved_asked plan commands (action_at plan s) s act o ∙ ap (λ b. asked_after b (act ∷ [])) e ∙ sym (asked-append false done (act ∷ []))) refl acts runs
 
--- once the end was asked for, no cycle begins, no command of the set-up goes out, and each command that goes out goes on with a chain that
--- has begun
+-- once the end was asked for, no cycle begins, no command of the setup is sent, and each command that is sent goes on with a
+-- chain that has begun
 pub goes_on_in_its_chain : GoesOnInItsChain
 goes_on_in_its_chain plan commands scope acts runs asked =
-    let s = stood plan commands scope acts in
+    let s = state_after plan commands scope acts in
     let stops : s.progress.stops ≡ true = asked_stood plan commands scope acts runs ∙ asked in (
       λ is. let needs = needs_of plan s actions.Send is in needs.7 stops,
       λ is. let needs = needs_of plan s actions.Begin is in let never : true ≡ false = sym stops ∙ needs.5 in cc,
       λ is. let needs = needs_of plan s actions.Prepare is in let never : true ≡ false = sym stops ∙ needs.5 in cc,
     )
 
--- where a connection is closed, or a run ends, because that was asked for, it was, and the run may end there
+-- if a connection is closed, or a run ends, because that was asked for, it was, and the run may end there
 pub closes_between_chains : ClosesBetweenChains
 closes_between_chains plan commands scope acts runs is =
-    let s = stood plan commands scope acts in
+    let s = state_after plan commands scope acts in
     let it = end_here plan s cause.Stopped is (not_closing plan commands scope acts cause.Stopped runs (λ act shows. shows)) in
     (sym (asked_stood plan commands scope acts runs) ∙ it.0, it.1, resting_none s.progress (waiting_of s) (on_line_stood plan commands scope acts runs) it.1)

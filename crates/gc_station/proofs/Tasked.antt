@@ -1,5 +1,5 @@
--- Each record is of the task at its place, and its command is what that task asks at the moment at which its request went out. A mark says
--- which command a waiting request is of, and when that went out.
+-- Each record is of the task at its place, and its command is what that task asks at the moment at which its request was sent.
+-- A mark says which command an outstanding request is of, and when that was sent.
 use Rattle.std.proofs.Common.{◌≡◌, ℕ, zero, suc, Bool, true, false, List, [], ◌∷◌, ◌++◌, length, drop, map, Option, Some, None, if◌then◌else◌, refl, sym, ap, subst}
 use Rattle.std.specs.Prelude.{slice_get}
 use Rattle.std.specs.List.{AllByRecursion}
@@ -19,7 +19,7 @@ use Rattle.gc_station.specs.Tasked.{IsOfItsTask}
 use Rattle.gc_station.specs.declared.mark.Mark.{Mark}
 use Rattle.gc_station.proofs.Booking.{ended_sent, of_append}
 
--- the first command behind the first n is the one at place n
+-- the first command after the first n is the one at place n
 pub at_place : (n : ℕ) (xs : List Task) (command : Task) (others : List Task) → drop n xs ≡ command ∷ others → slice_get xs n ≡ Some command
 at_place zero [] command others e = cc
 at_place zero (x ∷ xs) command others e = same x command xs others e where
@@ -29,18 +29,18 @@ at_place zero (x ∷ xs) command others e = same x command xs others e where
 at_place (suc n) [] command others e = cc
 at_place (suc n) (x ∷ xs) command others e = at_place n xs command others e
 
--- where requests are those of their marks, the later ones are those of the marks behind
+-- where requests are those of their marks, the later ones are those of the marks after
 own_left : (commands : List Task) (ms : List (Option Mark)) (xs ys : List (Wanted Asked)) → AreOf commands ms (xs ++ ys) → AreOf commands (drop (length xs) ms) ys
 own_left commands ms [] ys h = h
 own_left commands [] (x ∷ xs) ys h = absurd h
 own_left commands (m ∷ ms) (x ∷ xs) ys h = own_left commands ms xs ys h.1
 
--- what waits behind settlements of the oldest requests is of its marks
+-- what is outstanding after settlements of the oldest requests is of its marks
 pub own_settled : (commands : List Task) (ms : List (Option Mark)) (ss : List (Settlement Asked)) (ys : List (Wanted Asked)) → AreOf commands ms (map of_settled ss ++ ys)
     → AreOf commands (drop (length ss) ms) ys
 own_settled commands ms ss ys h = subst (λ (n : ℕ). AreOf commands (drop n ms) ys) (length-map ss of_settled) (own_left commands ms (map of_settled ss) ys h)
 
--- what waits with one request more is of its marks, if that is of its mark
+-- what is outstanding with one request more is of its marks, if that is of its mark
 pub own_more : (commands : List Task) (ms : List (Option Mark)) (ws : List (Pending Asked)) (m : Option Mark) (p : Pending Asked) → AreOf commands ms (map of_pending ws)
     → IsOf commands m (of_pending p) → AreOf commands (ms ++ m ∷ []) (map of_pending (ws ++ p ∷ []))
 own_more commands ms ws m p own is =
@@ -66,7 +66,7 @@ settled_told reads commands utc (m ∷ ms) [] ys h = tt
 settled_told reads commands utc (None ∷ ms) (s ∷ ss) ys h = settled_told reads commands utc ms ss ys h.1
 settled_told reads commands utc (Some mark ∷ ms) (s ∷ ss) ys h = (record_told reads commands utc mark s h.0, settled_told reads commands utc ms ss ys h.1)
 
--- a command that isn't sent didn't go out
+-- a command that isn't sent wasn't sent
 pub unsent_end : (b : Bool) → went_out (if b then Missed else Skipped) ≡ false
 unsent_end true = refl
 unsent_end false = refl

@@ -1,9 +1,9 @@
--- Tests of numbers, and a clock that goes on from act to act. An act is one call of the link, with what came of it.
+-- Tests of numbers, and a clock that goes on from act to act. An act is one call on the link, with its result.
 use Rattle.std.proofs.Common.{◌≡◌, inl, inr, ℕ, ◌<◌, ◌≤◌, ◌&&◌, ◌||◌, Bool, true, false, List, [], ◌∷◌, ◌++◌, min, nat_le, if◌then◌else◌, refl, sym, ap, ◌∙◌, arith}
 use Rattle.std.proofs.lemmas.Bool.Decides.{leb_tells}
 use Rattle.gc_links.specs.Acts.{Act, Told, Gave, Silent}
 use Rattle.gc_links.specs.declared.link.Moment.{Moment}
-use Rattle.gc_station.specs.Cycles.{Rises}
+use Rattle.gc_station.specs.Cycles.{ClockRises}
 use Rattle.gc_station.specs.declared.progress.Progress.{Progress}
 
 -- Tests of numbers.
@@ -20,46 +20,46 @@ lt_of a b e = elim (leb_tells a b) as (λ _. b < a) [ inl is ↦ let bad : true 
 pub due_since : (first due : Bool) → first ≡ false → (if first then true else due) ≡ true → due ≡ true
 due_since first due e d = sym (ap (λ (b : Bool). if b then true else due) e) ∙ d
 
--- where the test b holds, the first of two values is chosen
+-- if the test b holds, the first of two values is chosen
 pub picks : {A : Type 0} (b : Bool) (x y : A) → b ≡ true → (if b then x else y) ≡ x
 picks b x y e = ap (λ (c : Bool). if c then x else y) e
 
--- where the test b doesn't hold, the second of two values is chosen
+-- if the test b doesn't hold, the second of two values is chosen
 pub picks_other : {A : Type 0} (b : Bool) (x y : A) → b ≡ false → (if b then x else y) ≡ y
 picks_other b x y e = ap (λ (c : Bool). if c then x else y) e
 
--- where neither of two tests holds, the test for at least one fails
+-- if neither of two tests holds, the test for at least one fails
 pub or_none : (a b : Bool) → a ≡ false → b ≡ false → (a || b) ≡ false
 or_none a b e f = ap (λ (c : Bool). c || b) e ∙ f
 
--- where the first of two tests holds, the test for at least one holds
+-- if the first of two tests holds, the test for at least one holds
 pub or_some : (a b : Bool) → a ≡ true → (a || b) ≡ true
 or_some a b e = ap (λ (c : Bool). c || b) e
 
--- where one of two tests holds, and the first doesn't, the second does
+-- if one of two tests holds, and the first doesn't, the second does
 pub or_second : (a b : Bool) → (a || b) ≡ true → a ≡ false → b ≡ true
 or_second true b e none = cc
 or_second false b e none = e
 
--- where the first of two tests holds, both do exactly if the second does
+-- if the first of two tests holds, both do exactly if the second does
 pub and_second : (a b : Bool) → a ≡ true → (a && b) ≡ b
 and_second a b e = ap (λ (c : Bool). c && b) e
 
 -- a test isn't true and false
-pub clash : (b : Bool) → b ≡ true → b ≡ false → ⊥
-clash b e f = let bad : true ≡ false = sym e ∙ f in cc
+pub not_both : (b : Bool) → b ≡ true → b ≡ false → ⊥
+not_both b e f = let bad : true ≡ false = sym e ∙ f in cc
 
 -- Clocks.
 
--- what an act does to the moment told last, and to the one that counts as the beginning of the cycle: an act that tells a moment
--- sets the former, and bounds the latter by it; any other leaves both
+-- what an act does to the moment read last, and to the one that counts as the beginning of the cycle: an act that reads a
+-- moment sets the former, and bounds the latter by it; any other leaves both
 abbrev pub Ticks : Progress → Act → Progress → Type 0
 Ticks p (Told m) q = (q.moment ≡ m) × (q.began ≡ min p.began m.elapsed)
 Ticks p (Gave bytes m) q = (q.moment ≡ m) × (q.began ≡ min p.began m.elapsed)
 Ticks p (Silent m) q = (q.moment ≡ m) × (q.began ≡ min p.began m.elapsed)
 Ticks p act q = (q.moment ≡ p.moment) × (q.began ≡ p.began)
 
--- where the clock doesn't go back at a moment, the beginning of the cycle stays, and isn't later than the moment
+-- if the clock doesn't go back at a moment, the beginning of the cycle stays, and isn't later than the moment
 pub ticked_at : (p q : Progress) (m : Moment) → (q.moment ≡ m) × (q.began ≡ min p.began m.elapsed) → p.moment.elapsed ≤ m.elapsed → p.began ≤ p.moment.elapsed
     → (q.began ≡ p.began) × (q.began ≤ q.moment.elapsed)
 ticked_at p q m t rises past =
@@ -74,22 +74,22 @@ ticked_not p q t past =
     let now : q.moment.elapsed ≡ p.moment.elapsed = ap (λ (x : Moment). x.elapsed) t.0 in
     (same, omega (arith, same, now, past))
 
--- where the clock doesn't go back at an act, the beginning of the cycle stays
-pub ticked : (p q : Progress) (act : Act) → Ticks p act q → Rises p.moment.elapsed (act ∷ []) → p.began ≤ p.moment.elapsed → (q.began ≡ p.began) × (q.began ≤ q.moment.elapsed)
+-- if the clock doesn't go back at an act, the beginning of the cycle stays
+pub ticked : (p q : Progress) (act : Act) → Ticks p act q → ClockRises p.moment.elapsed (act ∷ []) → p.began ≤ p.moment.elapsed → (q.began ≡ p.began) × (q.began ≤ q.moment.elapsed)
 ticked p q (Told m) t rises past = ticked_at p q m t rises.0 past
 ticked p q (Gave bytes m) t rises past = ticked_at p q m t rises.0 past
 ticked p q (Silent m) t rises past = ticked_at p q m t rises.0 past
 ticked p q act t rises past = ticked_not p q t past
 
--- where the clock doesn't go back in acts, it doesn't in the acts before the last
-pub rises_front : (now : ℕ) (xs : List Act) (act : Act) → Rises now (xs ++ act ∷ []) → Rises now xs
+-- if the clock doesn't go back in acts, it doesn't in the acts before the last
+pub rises_front : (now : ℕ) (xs : List Act) (act : Act) → ClockRises now (xs ++ act ∷ []) → ClockRises now xs
 rises_front now [] act h = tt
 rises_front now (Told m ∷ xs) act h = (h.0, h.1, rises_front m.elapsed xs act h.2)
 rises_front now (Gave bytes m ∷ xs) act h = (h.0, h.1, rises_front m.elapsed xs act h.2)
 rises_front now (Silent m ∷ xs) act h = (h.0, h.1, rises_front m.elapsed xs act h.2)
 rises_front now (x ∷ xs) act h = rises_front now xs act h
 
--- the moment that these acts tell last; where they tell none, `now`
+-- the moment that these acts read last; if they read none, `now`
 abbrev pub last_of : ℕ → List Act → ℕ
 last_of now [] = now
 last_of now (Told m ∷ acts) = last_of m.elapsed acts
@@ -97,15 +97,15 @@ last_of now (Gave bytes m ∷ acts) = last_of m.elapsed acts
 last_of now (Silent m ∷ acts) = last_of m.elapsed acts
 last_of now (act ∷ acts) = last_of now acts
 
--- where the clock doesn't go back in acts, it doesn't at the last of them
-pub rises_last : (now : ℕ) (xs : List Act) (act : Act) → Rises now (xs ++ act ∷ []) → Rises (last_of now xs) (act ∷ [])
+-- if the clock doesn't go back in acts, it doesn't at the last of them
+pub rises_last : (now : ℕ) (xs : List Act) (act : Act) → ClockRises now (xs ++ act ∷ []) → ClockRises (last_of now xs) (act ∷ [])
 rises_last now [] act h = h
 rises_last now (Told m ∷ xs) act h = rises_last m.elapsed xs act h.2
 rises_last now (Gave bytes m ∷ xs) act h = rises_last m.elapsed xs act h.2
 rises_last now (Silent m ∷ xs) act h = rises_last m.elapsed xs act h.2
 rises_last now (x ∷ xs) act h = rises_last now xs act h
 
--- with one act more, the moment told last is the act's or, if it tells none, the one told last before it
+-- with one act more, the moment read last is the act's or, if it reads none, the one read last before it
 pub last_more : (now : ℕ) (xs : List Act) (act : Act) → last_of now (xs ++ act ∷ []) ≡ last_of (last_of now xs) (act ∷ [])
 last_more now [] act = refl
 last_more now (Told m ∷ xs) act = last_more m.elapsed xs act
@@ -113,7 +113,7 @@ last_more now (Gave bytes m ∷ xs) act = last_more m.elapsed xs act
 last_more now (Silent m ∷ xs) act = last_more m.elapsed xs act
 last_more now (x ∷ xs) act = last_more now xs act
 
--- the moment after an act is the one told last
+-- the moment after an act is the one read last
 pub last_ticks : (p q : Progress) (act : Act) → Ticks p act q → q.moment.elapsed ≡ last_of p.moment.elapsed (act ∷ [])
 last_ticks p q (Told m) t = ap (λ (x : Moment). x.elapsed) t.0
 last_ticks p q (Gave bytes m) t = ap (λ (x : Moment). x.elapsed) t.0

@@ -1,5 +1,5 @@
--- A command that sets the clock asks for the moment at which its request goes out. As the text has it, it asks for none, whenever it goes
--- out; and so the requests of a run can be compared with the text.
+-- A command that sets the clock asks for the moment at which its request is sent. As the text has it, it asks for none,
+-- whenever it is sent; and so the requests of a run can be compared with the text.
 use Rattle.std.proofs.Common.{◌≡◌, ℕ, Bool, true, false, List, ◌∷◌, drop, if◌then◌else◌, refl, ap, ◌∙◌}
 use Rattle.gc_catalogue.specs.declared.asked.Asked.{Asked}
 use Rattle.gc_catalogue.specs.declared.asked.Asked.TheVariants.{Table}
@@ -17,7 +17,7 @@ untimed_at task utc = by_clock task.now where
   by_clock true = refl
   by_clock false = refl
 
--- the request for the command at a place, as the text has it, is that of the command's task, whenever it goes out
+-- the request for the command at a place, as the text has it, is that of the command's task, whenever it is sent
 pub asked_text : (commands : List Task) (cycle place utc : ℕ) (task : Task) (others : List Task) → drop place commands ≡ task ∷ others
     → in_text commands (record { cycle = cycle; place = place; asked = asked_at utc task }) ≡ record { cycle = cycle; place = place; asked = of_task task }
 asked_text commands cycle place utc task others at =

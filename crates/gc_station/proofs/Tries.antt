@@ -1,10 +1,9 @@
 -- A run stops for want of tries only where enough connections ended, or couldn't be made, since a read settled a command.
--- `up_count` is 1 where there is a connection, and 0 where there is none. An act is one call of the link, with what came of it.
--- A piece is the bytes that one read gave. `Trying` says how many tries are left, by the connections that ended since the last
--- read that settled a command. `Hears` says what a piece does to the tries: they are all given back where it settles a command,
--- and stay where it doesn't; `Settling` says the same of a whole read, by the records.
-use Rattle.std.proofs.Common.{◌≡◌, ◌≢◌, ◌⊎◌, inl, inr, ℕ, suc, ◌+◌, ◌-◌, ◌<◌, ◌≤◌, Bool, true, false, not, List, [], ◌∷◌, ◌++◌, length, map, Option, Some, None, if◌then◌else◌, nat_lt, refl, sym, ap, ◌∙◌, subst, arith, append_assoc, append-nil, ◌&&◌}
-use Rattle.std.proofs.lemmas.Bool.{ltb-true, ltb-false}
+-- `up_count` is 1 if there is a connection, and 0 if there is none. An act is one call on the link, with its result. A piece is
+-- the bytes that one read gave. `Trying` says how many tries are left, by the connections that ended since the last read that
+-- settled a command. `Hears` says what a piece does to the tries: they are all given back if it settles a command, and stay if
+-- it doesn't; `Settling` says the same of a whole read, by the records.
+use Rattle.std.proofs.Common.{◌≡◌, ◌≢◌, ◌⊎◌, inl, inr, ℕ, suc, ◌+◌, ◌-◌, ◌<◌, ◌≤◌, Bool, true, false, not, List, [], ◌∷◌, ◌++◌, length, map, Option, Some, None, refl, sym, ap, ◌∙◌, subst, arith, append_assoc, append-nil}
 use Rattle.std.proofs.lemmas.List.{length-map, length-append, nil_from_length}
 use Rattle.gc_catalogue.specs.declared.asked.Asked.{Asked}
 use Rattle.gc_client.specs.declared.pending.Pending.{Pending}
@@ -15,22 +14,19 @@ use Rattle.gc_station.specs.declared.mark.Mark.{Mark}
 use Rattle.gc_station.specs.declared.plan.Plan.{Plan}
 use Rattle.gc_station.specs.declared.cause.Cause.{Cause}
 use Rattle.gc_station.specs.declared.cause.Cause.TheVariants as cause
-use Rattle.gc_station.specs.declared.progress.Phase.{Phase}
 use Rattle.gc_station.specs.declared.progress.Phase.TheVariants as phase
 use Rattle.gc_station.specs.declared.progress.Action.{Action}
 use Rattle.gc_station.specs.declared.progress.Action.TheVariants as actions
 use Rattle.gc_station.specs.declared.progress.Progress.{Progress}
-use Rattle.gc_station.specs.declared.progress.Until.{Until}
-use Rattle.gc_station.specs.declared.progress.Waiting.{Waiting}
 use Rattle.gc_links.specs.Acts.{Told, Untold, Act, Gave, Closed, Opened, Unopened}
-use Rattle.gc_station.specs.Closing.{Shows, EndsDone, EndsBehind}
+use Rattle.gc_station.specs.Closing.{Shows, EndsDone, EndsAfter}
 use Rattle.gc_station.specs.Deciding.{has_begun, is_up}
 use Rattle.gc_station.specs.EachOnce.{still_waiting, of_record}
 use Rattle.gc_station.specs.Marks.{commands_in}
-use Rattle.gc_station.specs.Progressing.{is_spared, turned, told, time_passed, quieted, closed, is_over, loses_all}
+use Rattle.gc_station.specs.Progressing.{turned, is_over, loses_all}
 use Rattle.gc_station.specs.Records.{Record}
-use Rattle.gc_station.specs.Runs.{stood}
-use Rattle.gc_station.specs.Model.{Model, opening, action_at, waiting_of, with_progress, with_moment, lines_behind, came, is_heard, piece_at, Performs, moved, losing, after, after_all, Runs}
+use Rattle.gc_station.specs.Runs.{state_after}
+use Rattle.gc_station.specs.Model.{Model, opening, action_at, waiting_of, with_progress, Performs, moved, losing, after, after_all, Runs}
 use Rattle.gc_station.specs.Tries.{IsTried, IsEnding, ends_in, opens_in, SettlesNone, NoneSettled, EndsSettled, AllTried}
 use Rattle.gc_station.proofs.Closings.{runs_split, needs_of, end_of, Decided, after_decided, done_sent}
 use Rattle.gc_station.proofs.Counts.{ended_progress}
@@ -41,94 +37,17 @@ use Rattle.gc_station.proofs.Invariant.{Invariant}
 use Rattle.gc_station.proofs.Going.{after_all-append}
 use Rattle.gc_station.proofs.Growing.{losing_records, moved_grew}
 use Rattle.gc_station.proofs.Opens.{Counted, Quits, counted_moved}
-use Rattle.gc_station.proofs.Ticking.{clash}
+use Rattle.gc_station.proofs.Ticking.{not_both}
 use Rattle.gc_station.proofs.Records.{Grew}
 use Rattle.gc_station.proofs.Row.{row_of, row_losing, row_read}
 use Rattle.gc_station.proofs.Turns.{over_stays, up_count}
-use Rattle.gc_station.proofs.Words.{begins_before}
-use Rattle.gc_station.proofs.Walk.{asked_along, came_along, closed_along, moved_changed, quieted_along, walk}
+use Rattle.gc_station.proofs.Walk.{moved_changed}
 use Rattle.gc_station.specs.Scopes.{Scope}
-
--- Each end of a connection takes a try at most, and only a read gives tries back.
-
--- what a piece does, from s to t: as many commands had their turn; the station doesn't begin anew by it; and either fewer
--- commands wait, the set-up is done, and all tries are left, or as many wait or more, or the set-up isn't done, and the tries stay
-record Hears (plan : Plan) (s t : Model) : Type 0 where
-  left : t.progress.left ≡ s.progress.left
-  unsent : t.progress.unsent ≡ s.progress.unsent
-  begins : has_begun t.progress ≡ false → has_begun s.progress ≡ false
-  tries : ((commands_in t.marks < commands_in s.marks) × (t.progress.preparing ≡ false) × (t.progress.tries ≡ plan.retries))
-      ⊎ (((commands_in s.marks ≤ commands_in t.marks) ⊎ (t.progress.preparing ≡ true)) × (t.progress.tries ≡ s.progress.tries))
-
--- what an act does to the tries, from s to t: a read that gave bytes does what `Hears` says; any other act takes at most one
--- try for each connection that ends by it or couldn't be made
-abbrev Took : Plan → Model → Act → Model → Type 0
-Took plan s (Gave bytes m) t = Hears plan s t
-Took plan s act t = s.progress.tries ≤ t.progress.tries + ends_in (act ∷ [])
-
--- after a read either fewer commands wait, the set-up is done, and all tries are left; or as many or more wait (`b`: fewer do), or the set-up isn't
--- done (`on`), and the tries stay
-given_back : (b on : Bool) (after before retries new old : ℕ) → nat_lt after before ≡ b → new ≡ old
-    → ((after < before) × (on ≡ false) × ((if b && not on then retries else new) ≡ retries)) ⊎ (((before ≤ after) ⊎ (on ≡ true)) × ((if b && not on then retries else new) ≡ old))
-given_back true false after before retries new old e same = inl (ltb-true after before e, refl, refl)
-given_back true true after before retries new old e same = inr (inr refl, same)
-given_back false on after before retries new old e same = inr (inl (ltb-false after before e), same)
-
--- a read that gave bytes does to the tries what `Hears` says
-gave_took : (plan : Plan) (until : Until) (s : Model) (bytes : List ℕ) (m : Moment) → Hears plan s (piece_at plan until bytes m s)
-gave_took plan until s bytes m =
-    let heard = is_heard s.progress.phase in
-    let mid = with_moment m (with_progress (told m) s) in
-    let is = moved_changed plan [] (actions.Read until) s (Gave bytes m) in
-    let t = came heard s.progress.word bytes mid in
-    record {
-      left = ap (λ (x : Model). x.progress.left) is;
-      unsent = ap (λ (x : Model). x.progress.unsent) is;
-      begins = λ e. begins_before heard s.progress.word bytes mid refl e;
-      tries = given_back (nat_lt (commands_in t.marks) (commands_in s.marks)) t.progress.preparing (commands_in t.marks) (commands_in s.marks) plan.retries t.progress.tries s.progress.tries refl
-          (came_along (λ (x : Model). x.progress.tries ≡ s.progress.tries) (λ x line e. e) heard s.progress.word bytes mid refl
-          (asked_along (λ (q : Progress). q.tries ≡ s.progress.tries) (λ q line e. e) mid.progress (lines_behind s.rest bytes) refl) refl);
-    }
-
--- a read that gave nothing leaves the tries
-silent_took : (plan : Plan) (at : Phase) (p : Progress) → (quieted plan at p).tries ≡ p.tries
-silent_took plan at p = quieted_along (λ (q : Progress). q.tries ≡ p.tries) plan at p refl refl refl
-
--- at most one try is taken, whether it is spared (b) or not
-one_less : (b : Bool) (n : ℕ) → n ≤ (if b then n else n - 1) + 1
-one_less true n = omega arith
-one_less false n = omega arith
-
--- a close takes at most one try
-close_took : (plan : Plan) (w : Waiting) (why : Cause) (p : Progress) → p.tries ≤ (closed plan w why p).tries + 1
-close_took plan w why p =
-    closed_along (λ (q : Progress). p.tries ≤ q.tries + 1) plan w why p (omega arith) (one_less (is_spared plan why p) p.tries)
-
--- an act of each action does to the tries what `Took` says
-took_moved : (plan : Plan) (commands : List Task) (next : Action) (s : Model) (act : Act) → Performs commands s next act
-    → Took plan (with_progress turned s) act (moved plan commands next (with_progress turned s) act)
-took_moved plan commands (actions.Read until) s act o =
-    walk plan commands (Took plan (with_progress turned s)) (actions.Read until) (with_progress turned s) act o (
-      λ bytes m. gave_took plan until (with_progress turned s) bytes m,
-      λ m. let same =
-          silent_took plan s.progress.phase (time_passed until m (turned s.progress)) in omega (arith, same),
-      omega arith,
-      omega arith,
-      omega arith,
-    )
-took_moved plan commands (actions.Close why) s act o = walk plan commands (Took plan (with_progress turned s)) (actions.Close why)
-    (with_progress turned s) act o (close_took plan (waiting_of s) why (turned s.progress))
-took_moved plan commands (actions.Stop why) s act o = absurd o
-took_moved plan commands next s act o = walk plan commands (Took plan (with_progress turned s)) next (with_progress turned s) act o (λ m. omega arith, λ n. omega arith)
-
--- the turn that an act takes takes no try
-untook : (plan : Plan) (s t : Model) (act : Act) → Took plan (with_progress turned s) act t → Took plan s act t
-untook plan s t (Gave bytes m) h = record { left = h.left; unsent = h.unsent; begins = h.begins; tries = h.tries }
-untook plan s t act h = h
+use Rattle.gc_station.proofs.TriesTaken.{Hears, Took, took_moved, untook}
 
 -- A read gives tries back where, and only where, it settled a command.
 
--- as many commands wait as marks are of commands
+-- as many commands are outstanding as marks are of commands
 waiting_count : (marks : List (Option Mark)) (waits : List (Pending Asked)) → length marks ≡ length waits → length (still_waiting marks waits) ≡ commands_in marks
 waiting_count [] [] e = refl
 waiting_count [] (w ∷ waits) e = refl
@@ -136,7 +55,7 @@ waiting_count (mark ∷ marks) [] e = absurd (omega (arith, e))
 waiting_count (None ∷ marks) (w ∷ waits) e = waiting_count marks waits (omega (arith, e))
 waiting_count (Some mark ∷ marks) (w ∷ waits) e = ap suc (waiting_count marks waits (omega (arith, e)))
 
--- the records and the commands that wait are as many as the row has
+-- the records and the outstanding commands are as many as the row has
 counted_out : (plan : Plan) (commands : List Task) (s : Model) → Invariant plan commands s → length s.records + commands_in s.marks ≡ length (row_of s)
 counted_out plan commands s fine =
     let a = length-append (map of_record s.records) (still_waiting s.marks s.client.waiting) in
@@ -144,7 +63,7 @@ counted_out plan commands s fine =
     let c = waiting_count s.marks s.client.waiting fine.paired in
     omega (arith, a, b, c)
 
--- where two models have the same row, the records and the commands that wait are as many in both
+-- where two models have the same row, the records and the outstanding commands are as many in both
 same_out : (plan : Plan) (commands : List Task) (s t : Model) → Invariant plan commands s → Invariant plan commands t → row_of t ≡ row_of s
     → length t.records + commands_in t.marks ≡ length s.records + commands_in s.marks
 same_out plan commands s t fine fine' same = counted_out plan commands t fine' ∙ ap length same ∙ sym (counted_out plan commands s fine)
@@ -157,20 +76,20 @@ grew_none old new more is few =
     let none : length more ≡ 0 = omega (arith, a, b, few) in
     is ∙ ap (λ xs. old ++ xs) (nil_from_length more none) ∙ append-nil old
 
--- from s to t a read settled a command, which added a record, the set-up is done, and all tries are left; or it settled none, or the set-up isn't
--- done, and the tries stay
+-- from s to t a read settled a command, which added a record, the setup is done, and all tries are left; or it settled none, or
+-- the setup isn't done, and the tries stay
 abbrev Settling : Plan → Model → Model → Type 0
 Settling plan s t =
     ((t.records ≢ s.records) × (t.progress.preparing ≡ false) × (t.progress.tries ≡ plan.retries))
     ⊎ (((t.records ≡ s.records) ⊎ (t.progress.preparing ≡ true)) × (t.progress.tries ≡ s.progress.tries))
 
--- a read does what `Settling` says, whatever is lost at its end. `old` commands waited before it, and `mid` after its lines
--- were heard, before anything was lost
+-- a read does what `Settling` says, whatever is lost at its end. `old` commands were outstanding before it, and `mid` after its
+-- lines were heard, before anything was lost
 settling_by : (plan : Plan) (s t : Model) (mid old : ℕ) → Grew s.records t.records → length t.records + commands_in t.marks ≡ length s.records + old → (commands_in t.marks ≡ mid) ⊎ (old ≡ 0)
     → ((mid < old) × (t.progress.preparing ≡ false) × (t.progress.tries ≡ plan.retries)) ⊎ (((old ≤ mid) ⊎ (t.progress.preparing ≡ true)) × (t.progress.tries ≡ s.progress.tries))
     → Settling plan s t
 settling_by plan s t mid old grew same kept (inl fewer) = inl (λ e. by_kept kept (ap length e), fewer.1, fewer.2) where
-  -- the records became more, as fewer commands wait; or no command waited before, and none can be fewer
+  -- the records became more, as fewer commands are outstanding; or no command waited before, and none can be fewer
   by_kept : ((commands_in t.marks ≡ mid) ⊎ (old ≡ 0)) → length t.records ≡ length s.records → ⊥
   by_kept (inl stay) e = let few = fewer.0 in omega (arith, stay, e, few, same)
   by_kept (inr none) e = let few = fewer.0 in omega (arith, none, few)
@@ -181,8 +100,8 @@ settling_by plan s t mid old grew same kept (inr (inl least, tries)) = inr (inl 
   by_kept (inl stay) = omega (arith, stay, least, same)
   by_kept (inr none) = omega (arith, none, same)
 
--- after a read that doesn't end the run, a loss takes no command away: as many commands wait as before the loss, or none waited
--- before the read
+-- after a read that doesn't end the run, a loss takes no command away: as many commands are outstanding as before the loss, or
+-- none waited before the read
 kept_marks : (plan : Plan) (commands : List Task) (s t : Model) (b : Bool) → loses_all t.progress ≡ b → is_over t.progress ≡ false
     → (has_begun t.progress ≡ false → has_begun s.progress ≡ false) → Invariant plan commands s
     → (commands_in (losing b t).marks ≡ commands_in t.marks) ⊎ (commands_in s.marks ≡ 0)
@@ -197,7 +116,8 @@ kept_marks plan commands s t true e goes begins fine =
       negated false e = refl
 
 -- a read that gave bytes does what `Settling` says
-gave_settles : (plan : Plan) (commands : List Task) (s t u : Model) → Invariant plan commands s → Invariant plan commands u → Hears plan s t → Grew s.records u.records → u.progress ≡ t.progress → row_of u ≡ row_of s
+gave_settles : (plan : Plan) (commands : List Task) (s t u : Model) → Invariant plan commands s → Invariant plan commands u → Hears plan s t → Grew s.records u.records
+    → u.progress ≡ t.progress → row_of u ≡ row_of s
     → (commands_in u.marks ≡ commands_in t.marks) ⊎ (commands_in s.marks ≡ 0) → Settling plan s u
 gave_settles plan commands s t u fine fine' h grew same row kept =
     settling_by plan s u (commands_in t.marks) (commands_in s.marks) grew (same_out plan commands s u fine fine' row) kept
@@ -222,7 +142,7 @@ opens_more (Opened ∷ xs) act = let e = opens_more xs act in omega (arith, e)
 opens_more (Unopened ∷ xs) act = let e = opens_more xs act in omega (arith, e)
 opens_more (x ∷ xs) act = opens_more xs act
 
--- where no read among acts settled a command, and one act more settles none, none among all of them did
+-- if no read among acts settled a command, and one act more settles none, none among all of them did
 none_more : (plan : Plan) (commands : List Task) (s : Model) (xs : List Act) (act : Act) → NoneSettled plan commands s xs
     → SettlesNone (after_all plan commands s xs) act (after plan commands (after_all plan commands s xs) act)
     → NoneSettled plan commands s (xs ++ act ∷ [])
@@ -239,21 +159,21 @@ record Trying (plan : Plan) (commands : List Task) (scope : Scope) (tries : ℕ)
   held : ℕ
   order : acts ≡ before ++ behind
   since : (before ≡ []) ⊎ EndsSettled plan commands scope before
-  none : NoneSettled plan commands (stood plan commands scope before) behind
+  none : NoneSettled plan commands (state_after plan commands scope before) behind
   left : plan.retries ≤ tries + ends_in behind
   most : held ≤ 1
   first : before ≡ [] → held ≡ 0
   opens : opens_in behind + held ≡ ends_in behind + up_count up
 
--- `Trying` lasts over an act at which no command was settled
+-- `Trying` is preserved by an act at which no command was settled
 abbrev trying_on : (plan : Plan) (commands : List Task) (scope : Scope) (tries tries' : ℕ) (up up' : Bool) (acts : List Act) (act : Act) → tries ≤ tries' + ends_in (act ∷ []) → Counted up act up'
-    → SettlesNone (stood plan commands scope acts) act (after plan commands (stood plan commands scope acts) act)
+    → SettlesNone (state_after plan commands scope acts) act (after plan commands (state_after plan commands scope acts) act)
     → Trying plan commands scope tries up acts → Trying plan commands scope tries' up' (acts ++ act ∷ [])
 trying_on plan commands scope tries tries' up up' acts act took counted settles t =
     let ends = ends_more t.behind act in
     let opens = opens_more t.behind act in
-    let there : stood plan commands scope acts ≡ after_all plan commands (stood plan commands scope t.before) t.behind =
-    ap (stood plan commands scope) t.order ∙ after_all-append plan commands (opening plan scope) t.before t.behind in
+    let there : state_after plan commands scope acts ≡ after_all plan commands (state_after plan commands scope t.before) t.behind =
+    ap (state_after plan commands scope) t.order ∙ after_all-append plan commands (opening plan scope) t.before t.behind in
     let enough = t.left in
     let even = t.opens in
     let least : plan.retries ≤ tries' + ends_in (t.behind ++ act ∷ []) = omega (arith, ends, took, enough) in
@@ -264,16 +184,17 @@ trying_on plan commands scope tries tries' up up' acts act took counted settles 
       held = t.held;
       order = ap (λ xs. xs ++ act ∷ []) t.order ∙ append_assoc t.before t.behind (act ∷ []);
       since = t.since;
-      none = none_more plan commands (stood plan commands scope t.before) t.behind act t.none (subst (λ (x : Model). SettlesNone x act (after plan commands x act)) there settles);
+      none = none_more plan commands (state_after plan commands scope t.before) t.behind act t.none (subst (λ (x : Model). SettlesNone x act (after plan commands x act)) there settles);
       left = least;
       most = t.most;
       first = t.first;
       opens = level;
     }
 
--- `Trying` begins anew with a read that settled a command, which gives all tries back
-trying_anew : (plan : Plan) (commands : List Task) (scope : Scope) (tries : ℕ) (up : Bool) (acts : List Act) (bytes : List ℕ) (m : Moment) → tries ≡ plan.retries → (stood plan commands scope (acts ++ Gave bytes m ∷ [])).progress.preparing ≡ false
-    → (stood plan commands scope (acts ++ Gave bytes m ∷ [])).records ≢ (stood plan commands scope acts).records → Trying plan commands scope tries up (acts ++ Gave bytes m ∷ [])
+-- `Trying` starts again with a read that settled a command, which gives all tries back
+trying_anew : (plan : Plan) (commands : List Task) (scope : Scope) (tries : ℕ) (up : Bool) (acts : List Act) (bytes : List ℕ) (m : Moment) → tries ≡ plan.retries
+    → (state_after plan commands scope (acts ++ Gave bytes m ∷ [])).progress.preparing ≡ false
+    → (state_after plan commands scope (acts ++ Gave bytes m ∷ [])).records ≢ (state_after plan commands scope acts).records → Trying plan commands scope tries up (acts ++ Gave bytes m ∷ [])
 trying_anew plan commands scope tries up acts bytes m all done settled = record {
   before = acts ++ Gave bytes m ∷ [];
   behind = [];
@@ -313,14 +234,14 @@ after_grew plan commands s act =
     let b = losing_records (loses_all t.progress) t in
     (a.0 ++ b.0, b.1 ∙ ap (λ xs. xs ++ b.0) a.1 ∙ append_assoc s.records a.0 b.0)
 
--- `Trying` lasts over one act, from the model s to u; t is the model before what waits is lost
-try_step : (plan : Plan) (commands : List Task) (scope : Scope) (acts : List Act) (act : Act) (s u : Model) (t : Model) → stood plan commands scope acts ≡ s
-    → stood plan commands scope (acts ++ act ∷ []) ≡ u → u ≡ after plan commands s act
+-- `Trying` is preserved by one act, from the model s to u; t is the model before what is outstanding is lost
+try_step : (plan : Plan) (commands : List Task) (scope : Scope) (acts : List Act) (act : Act) (s u : Model) (t : Model) → state_after plan commands scope acts ≡ s
+    → state_after plan commands scope (acts ++ act ∷ []) ≡ u → u ≡ after plan commands s act
     → u.progress ≡ t.progress → Took plan s act t → Counted (is_up s.progress.phase) act (is_up t.progress.phase)
     → (((bytes : List ℕ) × (m : Moment) × (act ≡ Gave bytes m)) → Hears plan s t → Settling plan s u)
     → Trying plan commands scope s.progress.tries (is_up s.progress.phase) acts → Trying plan commands scope u.progress.tries (is_up u.progress.phase) (acts ++ act ∷ [])
 try_step plan commands scope acts (Gave bytes m) s u t before behind does same took counted settling trying = by_settling (settling (bytes, m, refl) took) where
-  -- the loss of what waits changes nothing of the connection
+  -- the loss of what is outstanding changes nothing of the connection
   up_same : Counted (is_up s.progress.phase) (Gave bytes m) (is_up u.progress.phase)
   up_same = subst (λ (p : Progress). Counted (is_up s.progress.phase) (Gave bytes m) (is_up p.phase)) (sym same) counted
 
@@ -348,7 +269,7 @@ gave_passes plan commands action s act o gave = ap (λ (x : Model). x.passes) (m
 
 -- the model after one act more is the one after that act
 behind_one : (plan : Plan) (commands : List Task) (scope : Scope) (done : List Act) (act : Act)
-    → stood plan commands scope (done ++ act ∷ []) ≡ after plan commands (stood plan commands scope done) act
+    → state_after plan commands scope (done ++ act ∷ []) ≡ after plan commands (state_after plan commands scope done) act
 behind_one plan commands scope done act = after_all-append plan commands (opening plan scope) done (act ∷ [])
 
 -- after an act that ends a run whether there is a connection or not, the run is over
@@ -357,13 +278,13 @@ quits_over plan commands (actions.Close cause.Stale) s act quits = refl
 quits_over plan commands (actions.Close cause.Stopped) s act quits = refl
 quits_over plan commands next s act quits = absurd quits
 
--- `Try` lasts over one act of a run more
+-- `Try` is preserved by one act of a run more
 try_after : (plan : Plan) (commands : List Task) (scope : Scope) (done : List Act) (act : Act)
-    → Performs commands (stood plan commands scope done) (action_at plan (stood plan commands scope done)) act
-    → Try plan commands scope done (stood plan commands scope done)
-    → Try plan commands scope (done ++ act ∷ []) (after plan commands (stood plan commands scope done) act)
+    → Performs commands (state_after plan commands scope done) (action_at plan (state_after plan commands scope done)) act
+    → Try plan commands scope done (state_after plan commands scope done)
+    → Try plan commands scope (done ++ act ∷ []) (after plan commands (state_after plan commands scope done) act)
 try_after plan commands scope done act o trying not_over =
-    let s = stood plan commands scope done in
+    let s = state_after plan commands scope done in
     let u = after plan commands s act in
     let t = moved plan commands (action_at plan s) (with_progress turned s) act in
     let same = ended_progress t in
@@ -372,14 +293,14 @@ try_after plan commands scope done act o trying not_over =
     let not_over_mid : is_over t.progress ≡ false = sym (ap is_over same) ∙ not_over in
     try_step plan commands scope done act s u t refl (behind_one plan commands scope done act) refl same (untook plan s t act (took_moved plan commands (action_at plan s) s act o))
     (counted_moved plan commands (action_at plan s) s act o (action_for plan s.progress (waiting_of s))
-    (λ quits. absurd (clash (is_over t.progress) (quits_over plan commands (action_at plan s) s act quits) not_over_mid)))
+    (λ quits. absurd (not_both (is_over t.progress) (quits_over plan commands (action_at plan s) s act quits) not_over_mid)))
     (λ gave h. gave_settles plan commands s t u fine (fine_after plan commands s act fine) h (after_grew plan commands s act) same
     (row_losing (loses_all t.progress) t ∙ row_read plan commands (action_at plan s) (with_progress turned s) act gave.0 gave.1 o gave.2)
     (kept_marks plan commands s t (loses_all t.progress) refl not_over_mid h.begins fine))
     (trying goes)
 
 -- `Try` holds after every run
-try_stood : (plan : Plan) (commands : List Task) (scope : Scope) (acts : List Act) → Runs plan commands (opening plan scope) acts → Try plan commands scope acts (stood plan commands scope acts)
+try_stood : (plan : Plan) (commands : List Task) (scope : Scope) (acts : List Act) → Runs plan commands (opening plan scope) acts → Try plan commands scope acts (state_after plan commands scope acts)
 try_stood plan commands scope acts runs =
     always plan commands (opening plan scope) (Try plan commands scope) (λ done act runs' o. try_after plan commands scope done act o)
     (λ not_over. record {
@@ -409,8 +330,8 @@ ending_shows why act o shows = shows
 not_done : (p : Progress) (n : ℕ) (why : Cause) → IsTried why → EndsDone p n why → ⊥
 not_done p n why tried done = subst IsTried done.0 tried
 
--- where a run ends for a cause that is one of `IsTried`, no try is left
-no_try : (plan : Plan) (p : Progress) (n : ℕ) (other why : Cause) → IsTried why → EndsBehind plan p n other why → p.tries ≡ 0
+-- if a run ends for a cause that is one of `IsTried`, no try is left
+no_try : (plan : Plan) (p : Progress) (n : ℕ) (other why : Cause) → IsTried why → EndsAfter plan p n other why → p.tries ≡ 0
 no_try plan p n cause.Done why tried ends = absurd (not_done p n why tried ends)
 no_try plan p n cause.Clock why tried ends = absurd (subst IsTried ends tried)
 no_try plan p n cause.Turns why tried ends = absurd (subst IsTried ends tried)
@@ -420,7 +341,7 @@ no_try plan p n other why tried (inl done) = absurd (not_done p n why tried done
 no_try plan p n other why tried (inr used) = used.3
 
 -- an action that ends a run whether there is a connection or not is for a cause that isn't one of `IsTried`
-quits_not : (plan : Plan) (p : Progress) (n : ℕ) (other why : Cause) → IsTried why → EndsBehind plan p n other why → Quits (actions.Close other) → ⊥
+quits_not : (plan : Plan) (p : Progress) (n : ℕ) (other why : Cause) → IsTried why → EndsAfter plan p n other why → Quits (actions.Close other) → ⊥
 quits_not plan p n cause.Stale why tried ends quits = absurd (subst IsTried ends tried)
 quits_not plan p n cause.Stopped why tried ends quits = absurd (subst IsTried ends tried)
 quits_not plan p n other why tried ends quits = quits
@@ -443,12 +364,11 @@ one_end Closed o = refl
 one_end Unopened o = refl
 one_end act o = absurd o
 
--- where no try is left (`Trying`), and the last act ends one more connection, all tries are used up as the law says
--- (`AllTried`)
-all_tried : (plan : Plan) (commands : List Task) (scope : Scope) (acts : List Act) (last : Act) → IsEnding last → Counted (is_up (stood plan commands scope acts).progress.phase) last false
-    → Trying plan commands scope 0 (is_up (stood plan commands scope acts).progress.phase) acts → AllTried plan commands scope (acts ++ last ∷ [])
+-- if no try is left (`Trying`), and the last act ends one more connection, all tries are used up as the law says (`AllTried`)
+all_tried : (plan : Plan) (commands : List Task) (scope : Scope) (acts : List Act) (last : Act) → IsEnding last → Counted (is_up (state_after plan commands scope acts).progress.phase) last false
+    → Trying plan commands scope 0 (is_up (state_after plan commands scope acts).progress.phase) acts → AllTried plan commands scope (acts ++ last ∷ [])
 all_tried plan commands scope acts last ending counted t =
-    let s = stood plan commands scope acts in
+    let s = state_after plan commands scope acts in
     let one = one_end last ending in
     let more : 0 ≤ 0 + ends_in (last ∷ []) = omega arith in
     let u = trying_on plan commands scope 0 0 (is_up s.progress.phase) false acts last more counted (settles_none s (after plan commands s last) last ending) t in
@@ -469,16 +389,16 @@ all_tried plan commands scope acts last ending counted t =
       first = λ e. let start : t.held ≡ 0 = t.first e in let all : plan.retries < opens_in (t.behind ++ last ∷ []) = omega (arith, over, even, start) in all;
     }
 
--- where a run stops for a cause that is one of `IsTried`, which needs all tries used up, at an act that ends a connection, all
+-- if a run stops for a cause that is one of `IsTried`, which needs all tries used up, at an act that ends a connection, all
 -- tries were used up
 pub stop_tried : (plan : Plan) (commands : List Task) (scope : Scope) (acts : List Act) (last : Act) (why : Cause) → Runs plan commands (opening plan scope) (acts ++ last ∷ [])
-    → action_at plan (stood plan commands scope (acts ++ last ∷ [])) ≡ actions.Stop why → IsTried why → IsEnding last → AllTried plan commands scope (acts ++ last ∷ [])
+    → action_at plan (state_after plan commands scope (acts ++ last ∷ [])) ≡ actions.Stop why → IsTried why → IsEnding last → AllTried plan commands scope (acts ++ last ∷ [])
 stop_tried plan commands scope acts last why runs stop tried ending = by_decided decided where
   -- the model before the last act
   s : Model
-  s = stood plan commands scope acts
+  s = state_after plan commands scope acts
 
-  -- the model after the last act, before what waits is lost
+  -- the model after the last act, before what is outstanding is lost
   t : Model
   t = moved plan commands (action_at plan s) (with_progress turned s) last
 
@@ -487,11 +407,12 @@ stop_tried plan commands scope acts last why runs stop tried ending = by_decided
   split = runs_split plan commands (opening plan scope) acts [] last runs
 
   -- the run is over, and not for its turns
-  over : (stood plan commands scope (acts ++ last ∷ [])).progress.phase ≡ phase.Over why
-  over = by_needs (needs_of plan (stood plan commands scope (acts ++ last ∷ [])) (actions.Stop why) stop).1 where
+  over : (state_after plan commands scope (acts ++ last ∷ [])).progress.phase ≡ phase.Over why
+  over = by_needs (needs_of plan (state_after plan commands scope (acts ++ last ∷ [])) (actions.Stop why) stop).1 where
     -- the phase says that the run is over, or all turns are used up, for which no such run stops
-    by_needs : ((stood plan commands scope (acts ++ last ∷ [])).progress.phase ≡ phase.Over why) ⊎ ((why ≡ cause.Turns) × ((stood plan commands scope (acts ++ last ∷ [])).progress.turns ≡ 0))
-        → (stood plan commands scope (acts ++ last ∷ [])).progress.phase ≡ phase.Over why
+    by_needs : ((state_after plan commands scope (acts ++ last ∷ [])).progress.phase ≡ phase.Over why)
+        ⊎ ((why ≡ cause.Turns) × ((state_after plan commands scope (acts ++ last ∷ [])).progress.turns ≡ 0))
+        → (state_after plan commands scope (acts ++ last ∷ [])).progress.phase ≡ phase.Over why
     by_needs (inl is) = is
     by_needs (inr turns) = absurd (subst IsTried turns.0 tried)
 
@@ -516,9 +437,10 @@ stop_tried plan commands scope acts last why runs stop tried ending = by_decided
   counted never = subst (λ (b : Bool). Counted (is_up s.progress.phase) last b) down
       (counted_moved plan commands (action_at plan s) s last split.1 (action_for plan s.progress (waiting_of s)) never)
 
-  -- where no try was left before the last act, all tries are used up
+  -- if no try was left before the last act, all tries are used up
   used : (Quits (action_at plan s) → ⊥) → s.progress.tries ≡ 0 → AllTried plan commands scope (acts ++ last ∷ [])
-  used never none = all_tried plan commands scope acts last ending (counted never) (subst (λ n. Trying plan commands scope n (is_up s.progress.phase) acts) none (try_stood plan commands scope acts split.0 goes))
+  used never none = all_tried plan commands scope acts last ending (counted never)
+      (subst (λ n. Trying plan commands scope n (is_up s.progress.phase) acts) none (try_stood plan commands scope acts split.0 goes))
 
   -- the last act ended a connection or could make none, so no try was left
   by_decided : Decided plan s (after plan commands s last).progress.phase why last → AllTried plan commands scope (acts ++ last ∷ [])

@@ -1,5 +1,5 @@
--- Each act takes a turn or, once none is left, closes the connection: so a run ends. An act is one call of the link, with what
--- came of it.
+-- Each act takes a turn or, once none is left, closes the connection: so a run ends. An act is one call on the link, with its
+-- result.
 use Rattle.std.proofs.Common.{◌≡◌, ℕ, zero, suc, ◌+◌, ◌*◌, ◌-◌, ◌<◌, ◌≤◌, ◌&&◌, ◌||◌, Bool, true, false, not, List, if◌then◌else◌, nat_lt, nat_eq, refl, sym, ap, ◌∙◌, subst, arith}
 use Rattle.gc_texts.specs.declared.tasks.Task.{Task}
 use Rattle.gc_station.specs.declared.plan.Plan.{Plan}
@@ -13,13 +13,13 @@ use Rattle.gc_station.specs.declared.progress.Progress.{Progress}
 use Rattle.gc_station.specs.declared.progress.Waiting.{Waiting}
 use Rattle.gc_links.specs.Acts.{Act}
 use Rattle.gc_station.specs.Deciding.{is_up, action_in, action_on, action_of, action_up}
-use Rattle.gc_station.specs.Progressing.{turned, is_finished, is_spared, again, closed, is_over_in, is_over}
+use Rattle.gc_station.specs.Progressing.{turned, is_finished, is_spared, after_failure, closed, is_over_in, is_over}
 use Rattle.gc_station.specs.Model.{Model, waiting_of, action_at, Performs, moved, with_progress}
 use Rattle.gc_station.specs.Stations.{stepped}
 use Rattle.gc_station.proofs.Counts.{turns_kept, ended_progress}
 use Rattle.gc_station.proofs.Walk.{closed_along}
 
--- 1 where there is a connection, and 0 where there is none
+-- 1 if there is a connection, and 0 if there is none
 abbrev pub up_count : Bool → ℕ
 up_count true = 1
 up_count false = 0
@@ -40,7 +40,7 @@ phase_down false true why = refl
 phase_down false false why = refl
 
 -- in the progress after a connection that ended or couldn't be made, there is none
-pub again_down : (plan : Plan) (commands : ℕ) (why : Cause) (p : Progress) → is_up (again plan commands why p).phase ≡ false
+pub again_down : (plan : Plan) (commands : ℕ) (why : Cause) (p : Progress) → is_up (after_failure plan commands why p).phase ≡ false
 again_down plan commands why p = phase_down (is_finished commands p) (is_spared plan why p || nat_lt 0 p.tries) why
 
 -- after a close there is no connection
@@ -53,7 +53,7 @@ up_closes : (plan : Plan) (commands : List Task) (s t : Model) (up : Bool) (act 
 up_closes plan commands s t true act obeys = (refl, refl)
 up_closes plan commands s t false act obeys = absurd obeys
 
--- once all turns are used up (z), an act closes the connection, where the end isn't decided yet
+-- once all turns are used up (z), an act closes the connection, if the end isn't decided yet
 on_closes : (plan : Plan) (commands : List Task) (s t : Model) (p : Progress) (z : Bool) (act : Act) (other : Action) → z ≡ true
     → Performs commands t (if z then action_up (is_up p.phase) else other) act
     → (is_up p.phase ≡ true) × (is_up (moved plan commands (if z then action_up (is_up p.phase) else other) s act).progress.phase ≡ false)
@@ -67,7 +67,7 @@ phase_closes plan commands s t p (phase.Closing cause) w act none is obeys = (re
 phase_closes plan commands s t p (phase.Over cause) w act none is obeys = absurd obeys
 phase_closes plan commands s t p phase w act none is obeys = let c = on_closes plan commands s t p (nat_eq p.turns 0) act _ none obeys in (ap is_up (sym is) ∙ c.0, c.1)
 
--- less is left to be done with one turn fewer (t', of t) or, where no turn was left, without the connection that there was (u
+-- less is left to be done with one turn fewer (t', of t) or, if no turn was left, without the connection that there was (u
 -- before, u' after)
 less : (t t' : ℕ) (u u' : Bool) → t' ≡ t - 1 → (nat_eq t 0 ≡ true → (u ≡ true) × (u' ≡ false)) → 2 * t' + up_count u' < 2 * t + up_count u
 less zero t' u u' e closes =
@@ -91,14 +91,14 @@ less_stepped plan commands s w act obeys =
     let e : left_to_do (stepped plan commands action s act).progress ≡ left_to_do mid.progress = ap left_to_do same in
     omega (arith, e, fewer)
 
--- Where it is over no act follows.
+-- If it is over no act follows.
 
 module _ (plan : Plan) (commands : List Task) where
   -- no act is performed in the phase `Over`
   pub over_stops : (s : Model) (act : Act) → Performs commands s (action_at plan s) act → (why : Cause) → s.progress.phase ≡ phase.Over why → ⊥
   over_stops s act o why is = subst (λ (at : Phase). Performs commands s (action_in at plan s.progress (waiting_of s)) act) is o
 
-  -- no act is performed where the run is over
+  -- no act is performed if the run is over
   pub over_stays : (s : Model) (act : Act) → is_over s.progress ≡ true → Performs commands s (action_at plan s) act → ⊥
   over_stays s act over obeys = by_phase s.progress.phase refl over where
     -- without a connection and a turn, the next action is to stop
@@ -108,11 +108,11 @@ module _ (plan : Plan) (commands : List Task) where
     none_left false false e f both = cc
     none_left false true e f both = rw (f, e) refl
 
-    -- without a connection and a turn no act is made, where the phase hasn't decided the end
+    -- without a connection and a turn no act is made, if the phase hasn't decided the end
     stops : action_at plan s ≡ action_on plan s.progress (waiting_of s) → (not (is_up s.progress.phase) && nat_eq s.progress.turns 0) ≡ true → ⊥
     stops e both = subst (λ (o : Action). Performs commands s o act) (e ∙ none_left (is_up s.progress.phase) (nat_eq s.progress.turns 0) refl refl both) obeys
 
-    -- no act is made where the run is over, in each phase
+    -- no act is made if the run is over, in each phase
     by_phase : (at : Phase) → s.progress.phase ≡ at → (is_over_in s.progress.phase || (not (is_up s.progress.phase) && nat_eq s.progress.turns 0)) ≡ true → ⊥
     by_phase (phase.Closing why) is o = let never : false ≡ true = sym (ap (λ at. is_over_in at || (not (is_up at) && nat_eq s.progress.turns 0)) is) ∙ o in cc
     by_phase (phase.Over why) is o = over_stops s act obeys why is

@@ -1,4 +1,5 @@
--- A chain that isn't broken goes on over a connection, once the station has begun. An act is one call of the link, with what came of it.
+-- A chain that isn't broken goes on over a connection, once the station has synchronized. An act is one call on the link, with
+-- its result.
 use Rattle.std.proofs.Common.{◌≡◌, ◌<◌, ◌&&◌, Bool, true, false, List, [], inl, inr, ◌⊎◌, if◌then◌else◌, refl, sym, ap, ◌∙◌, subst, arith}
 use Rattle.gc_texts.specs.declared.tasks.Task.{Task}
 use Rattle.gc_links.specs.Acts.{Act, Told, Cut, Opened}
@@ -11,20 +12,20 @@ use Rattle.gc_station.specs.declared.progress.Phase.TheVariants as phase
 use Rattle.gc_station.specs.declared.progress.Progress.{Progress}
 use Rattle.gc_station.specs.declared.progress.Waiting.{Waiting}
 use Rattle.gc_station.specs.Deciding.{has_begun, is_up, may_go}
-use Rattle.gc_station.specs.Model.{Model, opening, action_at, requests_out, waiting_of, is_heard, lines_behind, with_progress, with_moment, with_rest, Performs, moved, after_all, Runs}
-use Rattle.gc_station.specs.Progressing.{turned, told, failing, cleared, time_passed}
+use Rattle.gc_station.specs.Model.{Model, opening, action_at, requests_out, waiting_of, is_heard, lines_completed, with_progress, with_moment, with_rest, Performs, moved, after_all, Runs}
+use Rattle.gc_station.specs.Progressing.{turned, moment_noted, failing, cleared, time_passed}
 use Rattle.gc_station.specs.Reasons.{IsFor, IsResting}
-use Rattle.gc_station.specs.Runs.{stood}
+use Rattle.gc_station.specs.Runs.{state_after}
 use Rattle.gc_station.specs.Scopes.{Scope}
 use Rattle.gc_station.proofs.Always.{always_far}
 use Rattle.gc_station.proofs.Closings.{came_phase}
-use Rattle.gc_station.proofs.Facts.{action_for}
+use Rattle.gc_station.proofs.Facts.{action_for, never_true}
 use Rattle.gc_station.proofs.Silences.{quieted_up}
-use Rattle.gc_station.proofs.Ticking.{clash}
+use Rattle.gc_station.proofs.Ticking.{not_both}
 use Rattle.gc_station.proofs.Walk.{asked_along, came_along, quieted_along, closed_along, is_sent, moved_changed, walk}
 use Rattle.gc_station.proofs.Words.{begun_kept}
 
--- where a chain isn't broken there is a connection, the station has begun, and no set-up comes first
+-- if a chain isn't broken there is a connection, the station has synchronized, and no setup comes first
 abbrev pub OnLine : Progress → Type 0
 OnLine p = p.chain_unbroken ≡ true → (is_up p.phase ≡ true) × (has_begun p ≡ true) × (p.preparing ≡ false)
 
@@ -33,7 +34,7 @@ fails : (up : Bool) (why : Cause) → is_up (if up then phase.Closing why else p
 fails true why = refl
 fails false why = refl
 
--- after a line feed that went out there is a connection
+-- after a line feed that was sent there is a connection
 cleared_up : (begun : Bool) → is_up (if begun then phase.Draining else phase.Ready) ≡ true
 cleared_up true = refl
 cleared_up false = refl
@@ -43,17 +44,12 @@ both_second : (a b : Bool) → (a && b) ≡ true → b ≡ true
 both_second true b e = e
 both_second false b e = cc
 
--- where a test isn't true, it is false
-never_true : (b : Bool) → (b ≡ true → ⊥) → b ≡ false
-never_true true never = absurd (never refl)
-never_true false never = refl
-
 module _ (plan : Plan) (commands : List Task) where
   -- a chain that isn't broken after an act of the model s wasn't before
   abbrev Was : Model → Act → Model → Type 0
   Was s a t = t.progress.chain_unbroken ≡ true → s.progress.chain_unbroken ≡ true
 
-  -- where a chain isn't broken after an act, the act sends the next command, or it wasn't before
+  -- if a chain isn't broken after an act, the act sends the next command, or it wasn't before
   unbroken_before : (s : Model) (o : Action) (act : Act) → Performs commands s o act → (moved plan commands o (with_progress turned s) act).progress.chain_unbroken ≡ true
       → (o ≡ actions.Send) ⊎ (s.progress.chain_unbroken ≡ true)
   unbroken_before s actions.Send act obeys c = inl refl
@@ -66,9 +62,9 @@ module _ (plan : Plan) (commands : List Task) where
   unbroken_before s (actions.Read until) act obeys c =
       let P : Progress → Type 0 = λ (q : Progress). q.chain_unbroken ≡ true → s.progress.chain_unbroken ≡ true in
       inr (walk plan commands (Was s) (actions.Read until) (with_progress turned s) act obeys (
-        λ bytes m. let mid = with_moment m (with_progress (told m) (with_progress turned s)) in
+        λ bytes m. let mid = with_moment m (with_progress (moment_noted m) (with_progress turned s)) in
             came_along (λ (t : Model). P t.progress) (λ t line e. e) (is_heard s.progress.phase) s.progress.word bytes mid (λ d. d)
-            (asked_along P (λ q line e. e) mid.progress (lines_behind mid.rest bytes) (λ d. d)) (λ d. d),
+            (asked_along P (λ q line e. e) mid.progress (lines_completed mid.rest bytes) (λ d. d)) (λ d. d),
         λ m. quieted_along P plan s.progress.phase (time_passed until m (turned s.progress)) (λ d. d) (λ d. d) (λ d. d),
         λ d. d,
         λ d. d,
@@ -80,15 +76,15 @@ module _ (plan : Plan) (commands : List Task) where
   unbroken_before s (actions.Stop why) act obeys c = absurd obeys
   unbroken_before s next act obeys c = inr (walk plan commands (Was s) next (with_progress turned s) act obeys (λ m d. d, λ n d. d) c)
 
-  -- after an act of the model s, where a chain isn't broken, there is a connection
+  -- after an act of the model s, if a chain isn't broken, there is a connection
   abbrev Up : Act → Model → Type 0
   Up a t = t.progress.chain_unbroken ≡ true → is_up t.progress.phase ≡ true
 
-  -- a failure keeps `Up`
+  -- a failure preserves `Up`
   failed_up : (s : Model) (why : Cause) → is_up s.progress.phase ≡ true → is_up (with_progress (failing why) s).progress.phase ≡ true
   failed_up s why up = fails (is_up s.progress.phase) why ∙ up
 
-  -- an act keeps that there is a connection where a chain isn't broken: there is one, as it wasn't broken before, or the act sends
+  -- an act keeps that there is a connection if a chain isn't broken: there is one, as it wasn't broken before, or the act sends
   unbroken_up : (s : Model) (o : Action) (act : Act) → Performs commands s o act → is_up s.progress.phase ≡ true
       → (moved plan commands o (with_progress turned s) act).progress.chain_unbroken ≡ true → is_up (moved plan commands o (with_progress turned s) act).progress.phase ≡ true
   unbroken_up s actions.Open act obeys up = walk plan commands Up actions.Open (with_progress turned s) act obeys (λ m c. refl, λ n c. cc)
@@ -97,7 +93,7 @@ module _ (plan : Plan) (commands : List Task) where
       (λ m c. cleared_up (has_begun s.progress), λ n c. fails (is_up (cleared (turned s.progress)).phase) (cause.Write (requests_out plan commands (turned s.progress)) n) ∙ cleared_up (has_begun s.progress))
   unbroken_up s (actions.Read until) act obeys up =
       walk plan commands Up (actions.Read until) (with_progress turned s) act obeys (
-        λ bytes m c. ap is_up (came_phase (is_heard s.progress.phase) s.progress.word bytes (with_moment m (with_progress (told m) (with_progress turned s)))) ∙ up,
+        λ bytes m c. ap is_up (came_phase (is_heard s.progress.phase) s.progress.word bytes (with_moment m (with_progress (moment_noted m) (with_progress turned s)))) ∙ up,
         λ m c. quieted_up plan s.progress.phase (time_passed until m (turned s.progress)) refl ∙ up,
         λ c. failed_up s cause.End up,
         λ c. failed_up s cause.Read up,
@@ -116,12 +112,12 @@ module _ (plan : Plan) (commands : List Task) where
       walk plan commands Up actions.Flush (with_progress turned s) act obeys (λ m c. up, λ n c. failed_up s (cause.Write (requests_out plan commands (turned s.progress)) n) up)
   unbroken_up s next act obeys up = walk plan commands Up next (with_progress turned s) act obeys (λ m c. up, λ n c. failed_up s cause.Clock up)
 
-  -- a command of a cycle that is sent ends the set-up's turn
+  -- a command of a cycle that is sent ends the setup's turn
   sent_preparing : (s : Model) (act : Act) → (moved plan commands actions.Send s act).progress.preparing ≡ false
   sent_preparing s (Cut bytes n) = subst (λ (x : Model). x.progress.preparing ≡ false) (is_sent plan commands s) refl
   sent_preparing s act = subst (λ (x : Model). x.progress.preparing ≡ false) (is_sent plan commands s) refl
 
-  -- an act after which a chain isn't broken makes no set-up come first
+  -- an act after which a chain isn't broken makes no setup come first
   unprepared_kept : (s : Model) (o : Action) (act : Act) → (moved plan commands o (with_progress turned s) act).progress.chain_unbroken ≡ true → s.progress.preparing ≡ false
       → (moved plan commands o (with_progress turned s) act).progress.preparing ≡ false
   unprepared_kept s actions.Send act c was = sent_preparing (with_progress turned s) act
@@ -139,7 +135,7 @@ module _ (plan : Plan) (commands : List Task) where
       closed_along (λ (q : Progress). q.chain_unbroken ≡ true → q.preparing ≡ false) plan (waiting_of (with_rest [] (with_progress turned s))) why (turned s.progress) (λ d. cc) (λ d. cc) c
   unprepared_kept s o act c was = ap (λ (x : Model). x.progress.preparing) (moved_changed plan commands o (with_progress turned s) act) ∙ was
 
-  -- an act keeps `OnLine`
+  -- an act preserves `OnLine`
   on_line_moved : (s : Model) (o : Action) (act : Act) → Performs commands s o act → IsFor plan s.progress (waiting_of s) o → OnLine s.progress
       → OnLine (moved plan commands o (with_progress turned s) act).progress
   on_line_moved s o act obeys needs on c = by_before (unbroken_before s o act obeys c) where
@@ -155,20 +151,20 @@ module _ (plan : Plan) (commands : List Task) where
         )
     by_before (inr was) = let it = on was in (unbroken_up s o act obeys it.0 c, begun_kept plan commands s o act obeys it.1 c, unprepared_kept s o act c it.2)
 
--- after each run, where a chain isn't broken there is a connection, the station has begun, and no set-up comes first
-pub on_line_stood : (plan : Plan) (commands : List Task) (scope : Scope) (acts : List Act) → Runs plan commands (opening plan scope) acts → OnLine (stood plan commands scope acts).progress
+-- after each run, if a chain isn't broken there is a connection, the station has synchronized, and no setup comes first
+pub on_line_stood : (plan : Plan) (commands : List Task) (scope : Scope) (acts : List Act) → Runs plan commands (opening plan scope) acts → OnLine (state_after plan commands scope acts).progress
 on_line_stood plan commands scope acts runs =
     always_far plan commands (opening plan scope) (λ (p : Progress) (done : List Act). OnLine p) (λ done act runs' o on.
     let s = after_all plan commands (opening plan scope) done in
     on_line_moved plan commands s (action_at plan s) act o (action_for plan s.progress (waiting_of s)) on) (λ c. cc) acts runs
 
--- where the run may end (`IsResting`), no command of a chain that has begun is left that may go out
+-- if the run may end (`IsResting`), no command of a chain that has begun is left that may be sent
 pub resting_none : (p : Progress) (w : Waiting) → OnLine p → IsResting p w → 0 < p.unsent → p.next_is_chained ≡ true → may_go p w ≡ false
 resting_none p w on rests some chained = never_true (may_go p w) (λ may. by_rest (both_second w.well p.chain_unbroken may) rests) where
   -- the lemma above, by why the run may end there
   by_rest : p.chain_unbroken ≡ true → IsResting p w → ⊥
-  by_rest c (inl down) = clash (is_up p.phase) (on c).0 down
-  by_rest c (inr (inl begins)) = clash (has_begun p) (on c).1 begins
+  by_rest c (inl down) = not_both (is_up p.phase) (on c).0 down
+  by_rest c (inr (inl begins)) = not_both (has_begun p) (on c).1 begins
   by_rest c (inr (inr (none, inl all))) = omega (arith, all, some)
-  by_rest c (inr (inr (none, inr (inl free)))) = clash p.next_is_chained chained free
-  by_rest c (inr (inr (none, inr (inr prepares)))) = clash p.preparing prepares (on c).2
+  by_rest c (inr (inr (none, inr (inl free)))) = not_both p.next_is_chained chained free
+  by_rest c (inr (inr (none, inr (inr prepares)))) = not_both p.preparing prepares (on c).2

@@ -1,6 +1,6 @@
 -- Each record of a missed or a skipped command is of one that was missed or skipped for its cause, where cycles have due
--- moments and the clock doesn't go back. An act is one call of the link, with what came of it. A piece is the bytes that one
--- read gave.
+-- moments and the clock doesn't go back. An act is one call on the link, with its result. A piece is the bytes that one read
+-- gave.
 use Rattle.std.proofs.Common.{◌≡◌, ◌⊎◌, inl, inr, ℕ, ◌<◌, Bool, true, false, List, [], ◌∷◌, ◌++◌, drop, Option, Some, None, if◌then◌else◌, refl, sym, ap, ◌∙◌, subst, arith, append_assoc}
 use Rattle.std.specs.List.{AllByRecursion}
 use Rattle.gc_lines.specs.Frames.{rest_behind}
@@ -12,14 +12,14 @@ use Rattle.gc_texts.specs.Endings.{Skipped, Missed}
 use Rattle.gc_texts.specs.declared.tasks.Task.{Task}
 use Rattle.gc_links.specs.Acts.{Act, Told, Gave}
 use Rattle.gc_links.specs.declared.link.Moment.{Moment}
-use Rattle.gc_station.specs.Cycles.{Rises, IsMissedIn, IsSkippedIn, IsTrulyUnsent, UnsentForACause}
+use Rattle.gc_station.specs.Cycles.{ClockRises, IsMissedIn, IsSkippedIn, UnsentIsJustified, UnsentForACause}
 use Rattle.gc_station.specs.Marks.{records_of}
 use Rattle.gc_station.specs.Parts.{went_out}
-use Rattle.gc_station.specs.Progressing.{turned, told, begun, skipped_at, loses_all}
+use Rattle.gc_station.specs.Progressing.{turned, moment_noted, cycle_begun, skipped_at, loses_all}
 use Rattle.gc_station.specs.Records.{Record}
-use Rattle.gc_station.specs.Runs.{stood}
+use Rattle.gc_station.specs.Runs.{state_after}
 use Rattle.gc_station.specs.Scopes.{Scope}
-use Rattle.gc_station.specs.Model.{Model, opening, action_at, cycles_begun, place_next, mark_next, is_chained, is_heard, with_progress, with_moment, with_rest, skips_first, lines_came, lines_behind, came, moved, losing, Performs, Runs}
+use Rattle.gc_station.specs.Model.{Model, opening, action_at, cycles_begun, place_next, mark_next, is_chained, is_heard, with_progress, with_moment, with_rest, skips_first, lines_came, lines_completed, after_piece, moved, losing, Performs, Runs}
 use Rattle.gc_station.specs.declared.mark.Mark.{Mark}
 use Rattle.gc_station.specs.declared.plan.Plan.{Plan}
 use Rattle.gc_station.specs.declared.progress.Action.{Action}
@@ -31,13 +31,13 @@ use Rattle.gc_station.proofs.Always.{always}
 use Rattle.gc_station.proofs.Going.{after_all-append}
 use Rattle.gc_station.proofs.Lists.{all_append, all_on}
 use Rattle.gc_station.proofs.Walk.{lines_along, moved_changed}
-use Rattle.gc_station.proofs.Ticking.{le_of, picks, picks_other, clash, rises_front}
+use Rattle.gc_station.proofs.Ticking.{le_of, picks, picks_other, not_both, rises_front}
 use Rattle.gc_station.proofs.Cycles.{Begun, late_more, kept_stood, last_began}
 
 module _ (plan : Plan) (commands : List Task) (scope : Scope) (some : 0 < plan.every) where
   -- the record is justified by these acts: if it says that its command was missed or skipped, that was for its cause
   abbrev Truly : List Act → Record → Type 0
-  Truly acts r = IsTrulyUnsent plan commands scope acts r
+  Truly acts r = UnsentIsJustified plan commands scope acts r
 
   -- a record that is justified by these acts is justified by these and more
   truly_more : (acts more : List Act) (r : Record) → Truly acts r → Truly (acts ++ more) r
@@ -79,9 +79,9 @@ module _ (plan : Plan) (commands : List Task) (scope : Scope) (some : 0 < plan.e
           utc = x.utc;
         }
 
-  -- the record of a command that went out says nothing of being missed or skipped, so it is justified (`Truly`)
+  -- the record of a command that was sent says nothing of being missed or skipped, so it is justified (`Truly`)
   sent_truly : (acts : List Act) (r : Record) → went_out r.end ≡ true → Truly acts r
-  sent_truly acts r out = (λ e. absurd (clash (went_out r.end) out (ap went_out e)), λ e. absurd (clash (went_out r.end) out (ap went_out e)))
+  sent_truly acts r out = (λ e. absurd (not_both (went_out r.end) out (ap went_out e)), λ e. absurd (not_both (went_out r.end) out (ap went_out e)))
 
   -- the records of settlements say nothing of being missed or skipped
   settled_truly : (acts : List Act) (reads : Asked → List ℕ → Reading) (utc : ℕ) (marks : List (Option Mark)) (settlements : List (Rule.Settlement Asked))
@@ -98,12 +98,12 @@ module _ (plan : Plan) (commands : List Task) (scope : Scope) (some : 0 < plan.e
       (λ x line all. all_append (Truly acts) x.records _ all (settled_truly acts x.reads x.progress.moment.utc x.marks (hears x.client line (heard line)).settlements)) s lines h
 
   -- a piece adds records that say nothing of being missed or skipped
-  came_truly : (acts : List Act) (b : Bool) (word piece : List ℕ) (s : Model) → AllByRecursion (Truly acts) s.records → AllByRecursion (Truly acts) (came b word piece s).records
+  came_truly : (acts : List Act) (b : Bool) (word piece : List ℕ) (s : Model) → AllByRecursion (Truly acts) s.records → AllByRecursion (Truly acts) (after_piece b word piece s).records
   came_truly acts true (asked ∷ others) piece s h = h
-  came_truly acts true [] piece s h = lines_truly acts (with_rest (rest_behind s.rest piece) s) (lines_behind s.rest piece) h
+  came_truly acts true [] piece s h = lines_truly acts (with_rest (rest_behind s.rest piece) s) (lines_completed s.rest piece) h
   came_truly acts false word piece s h = h
 
-  -- the loss of what waits adds records that say nothing of being missed or skipped
+  -- the loss of what is outstanding adds records that say nothing of being missed or skipped
   losing_truly : (acts : List Act) (b : Bool) (s : Model) → AllByRecursion (Truly acts) s.records → AllByRecursion (Truly acts) (losing b s).records
   losing_truly acts true s h = all_append (Truly acts) s.records _ h (settled_truly acts s.reads s.progress.moment.utc s.marks (restarts s.client).settlements)
   losing_truly acts false s h = h
@@ -113,7 +113,7 @@ module _ (plan : Plan) (commands : List Task) (scope : Scope) (some : 0 < plan.e
   unsent_end true = (λ e. refl, λ e. cc)
   unsent_end false = (λ e. cc, λ e. refl)
 
-  -- a command of a missed cycle, which is passed over, is missed for its cause
+  -- a command of a missed cycle, which is left out, is missed for its cause
   skip_missed : (acts : List Act) (m : Moment) (p : Progress) (r : Record) → (Begun plan commands scope some) acts p → 0 < p.unsent → r.cycle ≡ cycles_begun plan p → r.sent ≡ None
       → r.utc ≡ skipped_at m p → p.missed ≡ true → IsMissedIn plan commands scope (acts ++ Told m ∷ []) r
   skip_missed acts m p r (inl none) here cycle sent utc missed = let nothing = none.1 in absurd (omega (arith, nothing, here))
@@ -128,30 +128,30 @@ module _ (plan : Plan) (commands : List Task) (scope : Scope) (some : 0 < plan.e
     due = utc ∙ picks p.missed p.due m.utc missed ∙ c.due;
   }
 
-  -- in a cycle that isn't missed, a command that is passed over is of a chain, and not its first
+  -- in a cycle that isn't missed, a command that is left out is of a chain, and not its first
   chain_of : (p : Progress) → ((p.missed ≡ true) ⊎ ((plan.setup < place_next commands p) × (is_chained (drop (place_next commands p) commands) ≡ true))) → p.missed ≡ false
       → (plan.setup < place_next commands p) × (is_chained (drop (place_next commands p) commands) ≡ true)
-  chain_of p (inl missed) free = absurd (clash p.missed missed free)
+  chain_of p (inl missed) free = absurd (not_both p.missed missed free)
   chain_of p (inr chain) free = chain
 
-  -- a command that is passed over in a cycle that isn't missed is skipped for its cause
-  skip_skipped : (acts : List Act) (m : Moment) (r : Record) → (Begun plan commands scope some) acts (stood plan commands scope acts).progress
-      → action_at plan (stood plan commands scope acts) ≡ actions.Skip
-      → r.cycle ≡ cycles_begun plan (stood plan commands scope acts).progress → r.place ≡ place_next commands (stood plan commands scope acts).progress
-      → r.sent ≡ None → r.utc ≡ skipped_at m (stood plan commands scope acts).progress
-      → (stood plan commands scope acts).progress.missed ≡ false → IsSkippedIn plan commands scope (acts ++ Told m ∷ []) r
-  skip_skipped acts m r begun is cycle place sent utc free = by_begun begun where
+  -- a command that is left out in a cycle that isn't missed is skipped for its cause
+  skip_skipped : (acts : List Act) (m : Moment) (r : Record) → (Begun plan commands scope some) acts (state_after plan commands scope acts).progress
+      → action_at plan (state_after plan commands scope acts) ≡ actions.Skip
+      → r.cycle ≡ cycles_begun plan (state_after plan commands scope acts).progress → r.place ≡ place_next commands (state_after plan commands scope acts).progress
+      → r.sent ≡ None → r.utc ≡ skipped_at m (state_after plan commands scope acts).progress
+      → (state_after plan commands scope acts).progress.missed ≡ false → IsSkippedIn plan commands scope (acts ++ Told m ∷ []) r
+  skip_skipped acts m r cycle_begun is cycle place sent utc free = by_begun cycle_begun where
     -- the model before the act
     s : Model
-    s = stood plan commands scope acts
+    s = state_after plan commands scope acts
 
     -- a cycle has begun, as a command is unsent
-    by_begun : (Begun plan commands scope some) acts (stood plan commands scope acts).progress → IsSkippedIn plan commands scope (acts ++ Told m ∷ []) r
+    by_begun : (Begun plan commands scope some) acts (state_after plan commands scope acts).progress → IsSkippedIn plan commands scope (acts ++ Told m ∷ []) r
     by_begun (inl none) = let here = (needs_of plan s actions.Skip is).2 in let nothing = none.1 in absurd (omega (arith, nothing, here))
     by_begun (inr c) =
-        let needs = needs_of plan (stood plan commands scope acts) actions.Skip is in
-        let chain = chain_of (stood plan commands scope acts).progress (c.chained needs.4) free in
-        let last = (last_began plan commands scope some) acts (stood plan commands scope acts).progress refl c free in
+        let needs = needs_of plan (state_after plan commands scope acts) actions.Skip is in
+        let chain = chain_of (state_after plan commands scope acts).progress (c.chained needs.4) free in
+        let last = (last_began plan commands scope some) acts (state_after plan commands scope acts).progress refl c free in
         record {
           before = acts;
           moment = m;
@@ -166,52 +166,53 @@ module _ (plan : Plan) (commands : List Task) (scope : Scope) (some : 0 < plan.e
           last = last.0;
           in_time = last.1;
           sent = sent;
-          utc = utc ∙ picks_other (stood plan commands scope acts).progress.missed (stood plan commands scope acts).progress.due m.utc free;
+          utc = utc ∙ picks_other (state_after plan commands scope acts).progress.missed (state_after plan commands scope acts).progress.due m.utc free;
         }
 
-  -- the record of a command that is passed over is justified
-  skips_truly : (acts : List Act) (m : Moment) (left : List Task) → (Begun plan commands scope some) acts (stood plan commands scope acts).progress
-      → action_at plan (stood plan commands scope acts) ≡ actions.Skip
-      → AllByRecursion (Truly (acts ++ Told m ∷ [])) (skips_first (turned (stood plan commands scope acts).progress) m
-      (mark_next plan commands (turned (stood plan commands scope acts).progress)) left)
-  skips_truly acts m [] begun is = tt
-  skips_truly acts m (task ∷ others) begun is =
-      let p = (stood plan commands scope acts).progress in
-      let here = (needs_of plan (stood plan commands scope acts) actions.Skip is).2 in
+  -- the record of a command that is left out is justified
+  skips_truly : (acts : List Act) (m : Moment) (left : List Task) → (Begun plan commands scope some) acts (state_after plan commands scope acts).progress
+      → action_at plan (state_after plan commands scope acts) ≡ actions.Skip
+      → AllByRecursion (Truly (acts ++ Told m ∷ [])) (skips_first (turned (state_after plan commands scope acts).progress) m
+      (mark_next plan commands (turned (state_after plan commands scope acts).progress)) left)
+  skips_truly acts m [] cycle_begun is = tt
+  skips_truly acts m (task ∷ others) cycle_begun is =
+      let p = (state_after plan commands scope acts).progress in
+      let here = (needs_of plan (state_after plan commands scope acts) actions.Skip is).2 in
       let ends = unsent_end p.missed in
-      ((λ e. skip_missed acts m p _ begun here refl refl refl (ends.0 e), λ e. skip_skipped acts m _ begun is refl refl refl refl (ends.1 e)), tt)
+      ((λ e. skip_missed acts m p _ cycle_begun here refl refl refl (ends.0 e), λ e. skip_skipped acts m _ cycle_begun is refl refl refl refl (ends.1 e)), tt)
 
-  -- the records after an act, before what waits is lost, are justified
-  moved_truly : (acts : List Act) (next : Action) (act : Act) → (Begun plan commands scope some) acts (stood plan commands scope acts).progress → action_at plan (stood plan commands scope acts) ≡ next
-      → AllByRecursion (Truly (acts ++ act ∷ [])) (stood plan commands scope acts).records
-      → AllByRecursion (Truly (acts ++ act ∷ [])) (moved plan commands next (with_progress turned (stood plan commands scope acts)) act).records
-  moved_truly acts actions.Skip (Told m) begun is all =
-      let s = stood plan commands scope acts in
-      all_append (Truly (acts ++ Told m ∷ [])) s.records _ all (skips_truly acts m (drop (place_next commands (turned s.progress)) commands) begun is)
-  moved_truly acts actions.Skip act begun is all = all_append (Truly (acts ++ act ∷ [])) (stood plan commands scope acts).records [] all tt
-  moved_truly acts (actions.Read until) (Gave bytes m) begun is all =
-      let s = with_progress turned (stood plan commands scope acts) in
-      came_truly (acts ++ Gave bytes m ∷ []) (is_heard s.progress.phase) s.progress.word bytes (with_moment m (with_progress (told m) s)) all
-  moved_truly acts (actions.Read until) act begun is all = all
-  moved_truly acts next act begun is all =
-      let t = with_progress turned (stood plan commands scope acts) in
+  -- the records after an act, before what is outstanding is lost, are justified
+  moved_truly : (acts : List Act) (next : Action) (act : Act) → (Begun plan commands scope some) acts (state_after plan commands scope acts).progress
+      → action_at plan (state_after plan commands scope acts) ≡ next
+      → AllByRecursion (Truly (acts ++ act ∷ [])) (state_after plan commands scope acts).records
+      → AllByRecursion (Truly (acts ++ act ∷ [])) (moved plan commands next (with_progress turned (state_after plan commands scope acts)) act).records
+  moved_truly acts actions.Skip (Told m) cycle_begun is all =
+      let s = state_after plan commands scope acts in
+      all_append (Truly (acts ++ Told m ∷ [])) s.records _ all (skips_truly acts m (drop (place_next commands (turned s.progress)) commands) cycle_begun is)
+  moved_truly acts actions.Skip act cycle_begun is all = all_append (Truly (acts ++ act ∷ [])) (state_after plan commands scope acts).records [] all tt
+  moved_truly acts (actions.Read until) (Gave bytes m) cycle_begun is all =
+      let s = with_progress turned (state_after plan commands scope acts) in
+      came_truly (acts ++ Gave bytes m ∷ []) (is_heard s.progress.phase) s.progress.word bytes (with_moment m (with_progress (moment_noted m) s)) all
+  moved_truly acts (actions.Read until) act cycle_begun is all = all
+  moved_truly acts next act cycle_begun is all =
+      let t = with_progress turned (state_after plan commands scope acts) in
       subst (λ (x : Model). AllByRecursion (Truly (acts ++ act ∷ [])) x.records) (sym (moved_changed plan commands next t act)) all
 
-  -- where the clock doesn't go back in these acts, each record after them is justified
+  -- if the clock doesn't go back in these acts, each record after them is justified
   abbrev Written : List Act → Type 0
-  Written acts = Rises 0 acts → AllByRecursion (Truly acts) (stood plan commands scope acts).records
+  Written acts = ClockRises 0 acts → AllByRecursion (Truly acts) (state_after plan commands scope acts).records
 
-  -- one act of a run more keeps `Written`
+  -- one act of a run more preserves `Written`
   written_step : (done : List Act) (act : Act) → Runs plan commands (opening plan scope) done
-      → Performs commands (stood plan commands scope done) (action_at plan (stood plan commands scope done)) act → Written done → Written (done ++ act ∷ [])
+      → Performs commands (state_after plan commands scope done) (action_at plan (state_after plan commands scope done)) act → Written done → Written (done ++ act ∷ [])
   written_step done act runs o h rises =
-      let s = stood plan commands scope done in
+      let s = state_after plan commands scope done in
       let front = rises_front 0 done act rises in
-      let begun = ((kept_stood plan commands scope some) done runs front).1 in
+      let cycle_begun = ((kept_stood plan commands scope some) done runs front).1 in
       let old = all_on (Truly done) (Truly (done ++ act ∷ [])) s.records (λ r x. truly_more done (act ∷ []) r x) (h front) in
       let t = moved plan commands (action_at plan s) (with_progress turned s) act in
       subst (λ (x : Model). AllByRecursion (Truly (done ++ act ∷ [])) x.records) (sym (after_all-append plan commands (opening plan scope) done (act ∷ [])))
-      (losing_truly (done ++ act ∷ []) (loses_all t.progress) t (moved_truly done (action_at plan s) act begun refl old))
+      (losing_truly (done ++ act ∷ []) (loses_all t.progress) t (moved_truly done (action_at plan s) act cycle_begun refl old))
 
   -- `Written` holds after every run
   written_stood : (acts : List Act) → Runs plan commands (opening plan scope) acts → Written acts

@@ -1,6 +1,6 @@
--- The requests that wait: each was put among the acts, in order; and since then no moment at or past its deadline was told, or
--- one was and the request is given up. What every run keeps of this, and of the truth of its records, is `Honest`. An act is
--- one call of the link, with what came of it.
+-- The outstanding requests: each was put among the acts, in order; and since then no moment at or past its deadline was read,
+-- or one was and the request has timed out. What every run keeps of this, and of the truth of its records, is `Honest`. An act
+-- is one call on the link, with its result.
 use Rattle.std.proofs.Common.{◌≡◌, ◌⊎◌, inl, inr, ℕ, ◌+◌, ◌<◌, ◌≤◌, ◌||◌, Bool, true, false, List, [], ◌∷◌, ◌++◌, length, map, Option, Some, nat_le, refl, sym, ap, ◌∙◌, subst, arith, append_assoc, length-append}
 use Rattle.std.specs.List.{AllByRecursion}
 use Rattle.std.proofs.lemmas.Bool.Decides.{nat_tests}
@@ -16,49 +16,51 @@ use Rattle.gc_station.specs.declared.plan.Plan.{Plan}
 use Rattle.gc_station.specs.declared.progress.Action.{Action}
 use Rattle.gc_station.specs.declared.progress.Action.TheVariants as actions
 use Rattle.gc_links.specs.Acts.{Act, Gave}
-use Rattle.gc_station.specs.Answers.{IsBefore, deadline_behind, IsTrueRecord}
-use Rattle.gc_station.specs.Ends.{IsPast, TellsPast, IsTrulyLate, IsTrulyLost, IsOvertaken, BeginsAnew, IsLast, IsLostIn}
+use Rattle.gc_station.specs.Answers.{ReadsBefore, deadline_after, AnswerIsJustified}
+use Rattle.gc_station.specs.Ends.{ReadsAtOrPast, OneReadsPast, LateIsJustified, LostIsJustified, IsOvertaken, Resynchronizes, IsLast, IsLostIn}
 use Rattle.gc_station.specs.Quiet.{IsAsking}
 use Rattle.gc_station.specs.Records.{Record}
-use Rattle.gc_station.specs.Runs.{stood}
+use Rattle.gc_station.specs.Runs.{state_after}
 use Rattle.gc_station.specs.Model.{Model, IsSending, action_at, cycle_out, place_out, request_text, Puts, Performs}
 use Rattle.gc_station.proofs.Lists.{all_append, all_on, Rows, rows_same, rows_map}
 use Rattle.gc_station.specs.Scopes.{Scope}
 
--- after these acts, the command with this mark goes out
+-- after these acts, the command with this mark is sent
 pub record Marked (plan : Plan) (commands : List Task) (scope : Scope) (acts : List Act) (mark : Mark) : Type 0 where
-  pub sends : IsSending plan (stood plan commands scope acts)
-  pub cycle : mark.cycle ≡ cycle_out plan (stood plan commands scope acts)
-  pub place : mark.place ≡ place_out plan commands (stood plan commands scope acts)
-  pub sent : mark.sent ≡ (stood plan commands scope acts).progress.moment.utc
+  pub sends : IsSending plan (state_after plan commands scope acts)
+  pub cycle : mark.cycle ≡ cycle_out plan (state_after plan commands scope acts)
+  pub place : mark.place ≡ place_out plan commands (state_after plan commands scope acts)
+  pub sent : mark.sent ≡ (state_after plan commands scope acts).progress.moment.utc
 
--- the request p that waits at the place `at`, with this id and mark, was put among these acts; `number` acts came before it, and
--- `Stays` holds of the acts after it, by whether p is given up and its deadline
-pub record WasAsked (plan : Plan) (commands : List Task) (scope : Scope) (acts : List Act) (Stays : Bool → ℕ → List Act → Type 0) (number at with_id : ℕ) (p : Pending Asked) (mark : Option Mark) : Type 0 where
+-- the request p that waits at the place `at`, with this id and mark, was put among these acts; `number` acts came before it,
+-- and `Stays` holds of the acts after it, by whether p has timed out and its deadline
+pub record WasAsked (plan : Plan) (commands : List Task) (scope : Scope) (acts : List Act) (Stays : Bool → ℕ → List Act → Type 0) (number at with_id : ℕ) (p : Pending Asked)
+    (mark : Option Mark) : Type 0 where
   pub before : List Act
   pub request : Act
   pub between : List Act
   pub order : acts ≡ before ++ request ∷ between
   pub many : length before ≡ number
-  pub asks : 0 < at → IsAsking (action_at plan (stood plan commands scope before))
+  pub asks : 0 < at → IsAsking (action_at plan (state_after plan commands scope before))
   pub its : (m : Mark) → mark ≡ Some m → Marked plan commands scope before m
-  pub id : with_id ≡ (stood plan commands scope before).client.next
-  pub put : Puts (request_text (stood plan commands scope before).client p.call) request
-  pub deadline : (m : Mark) → mark ≡ Some m → p.deadline ≡ deadline_behind plan commands scope before
+  pub id : with_id ≡ (state_after plan commands scope before).client.next
+  pub put : Puts (request_text (state_after plan commands scope before).client p.call) request
+  pub deadline : (m : Mark) → mark ≡ Some m → p.deadline ≡ deadline_after plan commands scope before
   pub stays : Stays p.given_up p.deadline between
 
--- of a request that is given up (`true`), a moment at or past its deadline was told in these acts; of one that isn't, none was
+-- of a request that has timed out (`true`), a moment at or past its deadline was read in these acts; of one that hasn't, none
+-- was
 abbrev pub Stayed : Bool → ℕ → List Act → Type 0
-Stayed true deadline acts = TellsPast deadline acts
-Stayed false deadline acts = AllByRecursion (IsBefore deadline) acts
+Stayed true deadline acts = OneReadsPast deadline acts
+Stayed false deadline acts = AllByRecursion (ReadsBefore deadline) acts
 
--- as `Stayed`, where besides the acts the moment `now` was told, which isn't among them yet
+-- as `Stayed`, where besides the acts the moment `now` was read, which isn't among them yet
 abbrev pub StayedAt : ℕ → Bool → ℕ → List Act → Type 0
-StayedAt now true deadline acts = TellsPast deadline acts ⊎ (deadline ≤ now)
-StayedAt now false deadline acts = AllByRecursion (IsBefore deadline) acts × (now < deadline)
+StayedAt now true deadline acts = OneReadsPast deadline acts ⊎ (deadline ≤ now)
+StayedAt now false deadline acts = AllByRecursion (ReadsBefore deadline) acts × (now < deadline)
 
--- a request that waits at the place `at` was put among these acts, with the id of that place, and `Stayed` holds of it since. The
--- client's next id is `next`, and `count` requests wait
+-- an outstanding request at the place `at` was put among these acts, with the id of that place, and `Stayed` holds of it since.
+-- The client's next id is `next`, and `count` requests wait
 abbrev pub Waits : Plan → List Task → Scope → List Act → (next count : ℕ) → (number at : ℕ) → Pending Asked → Option Mark → Type 0
 Waits plan commands scope acts next count number at p mark = WasAsked plan commands scope acts Stayed number at (id_at next count at) p mark
 
@@ -69,16 +71,16 @@ WaitsAt plan commands scope acts client now next count number at p mark =
     WasAsked plan commands scope acts (StayedAt now) number at (id_at next count at) p mark × Ids.Waits client (id_at next count at)
 
 -- a record is true: if it is of a reply in time, late or lost, it came about as the law on such records says
-pub record IsTrue (plan : Plan) (commands : List Task) (scope : Scope) (acts : List Act) (r : Record) : Type 0 where
-  pub answered : IsTrueRecord plan commands scope acts r
-  pub late : IsTrulyLate plan commands scope acts r
-  pub lost : IsTrulyLost plan commands scope acts r
+pub record IsJustified (plan : Plan) (commands : List Task) (scope : Scope) (acts : List Act) (r : Record) : Type 0 where
+  pub answered : AnswerIsJustified plan commands scope acts r
+  pub late : LateIsJustified plan commands scope acts r
+  pub lost : LostIsJustified plan commands scope acts r
 
--- what every run keeps: the requests that wait at the client c, with these marks, were put among the acts, in order (`Waits`);
--- and the records are true by `all` acts
+-- what every run keeps: the outstanding requests at the client c, with these marks, were put among the acts, in order
+-- (`Waits`); and the records are true by `all` acts
 pub record Honest (plan : Plan) (commands : List Task) (scope : Scope) (acts all : List Act) (c : ById Asked) (marks : List (Option Mark)) (records : List Record) : Type 0 where
   pub waiting : Rows (Waits plan commands scope acts c.next (length c.waiting)) 0 0 c.waiting marks
-  pub written : AllByRecursion (IsTrue plan commands scope all) records
+  pub written : AllByRecursion (IsJustified plan commands scope all) records
 
 -- `Honest`, of the parts of a model
 abbrev pub IsHonest : Plan → List Task → Scope → List Act → List Act → Model → Type 0
@@ -130,19 +132,19 @@ asked_among plan commands scope acts S number at id p mark s =
     let many = s.many in
     omega (arith, whole, many)
 
--- a moment at or past d that was told among acts was told among them and more
-pub past_more : (d : ℕ) (xs ys : List Act) → TellsPast d xs → TellsPast d (xs ++ ys)
+-- a moment at or past d that was read among acts was read among them and more
+pub past_more : (d : ℕ) (xs ys : List Act) → OneReadsPast d xs → OneReadsPast d (xs ++ ys)
 past_more d xs ys t = record { earlier = t.earlier; telling = t.telling; later = t.later ++ ys; at = ap (λ zs. zs ++ ys) t.at ∙ append_assoc t.earlier (t.telling ∷ t.later) ys; past = t.past }
 
--- a moment at or past d that the last act tells was told
-pub past_here : (d : ℕ) (xs : List Act) (act : Act) → IsPast d act → TellsPast d (xs ++ act ∷ [])
+-- a moment at or past d that the last act reads was read
+pub past_here : (d : ℕ) (xs : List Act) (act : Act) → ReadsAtOrPast d act → OneReadsPast d (xs ++ act ∷ [])
 past_here d xs act on = record { earlier = xs; telling = act; later = []; at = refl; past = on }
 
 -- a record that is true by the acts so far is true by one act more: one that is lost because the run stopped would be the last
 -- act's, after which no act is made
 true_more : (plan : Plan) (commands : List Task) (scope : Scope) (acts : List Act) (act : Act) (r : Record)
-    → Performs commands (stood plan commands scope acts) (action_at plan (stood plan commands scope acts)) act
-    → IsTrue plan commands scope acts r → IsTrue plan commands scope (acts ++ act ∷ []) r
+    → Performs commands (state_after plan commands scope acts) (action_at plan (state_after plan commands scope acts)) act
+    → IsJustified plan commands scope acts r → IsJustified plan commands scope (acts ++ act ∷ []) r
 true_more plan commands scope acts act r obeys is = record { answered = answered_more; late = late_more; lost = lost_more } where
   -- with one act more at their end, the acts are cut at the same places
   longer : (before : List Act) (request : Act) (between : List Act) (then : Act) (behind : List Act) → acts ≡ before ++ request ∷ (between ++ then ∷ behind)
@@ -151,7 +153,7 @@ true_more plan commands scope acts act r obeys is = record { answered = answered
       ∙ ap (λ xs. before ++ request ∷ xs) (append_assoc between (then ∷ behind) (act ∷ []))
 
   -- a record of a reply in time is true by one act more
-  answered_more : IsTrueRecord plan commands scope (acts ++ act ∷ []) r
+  answered_more : AnswerIsJustified plan commands scope (acts ++ act ∷ []) r
   answered_more line e =
       let a = is.answered line e in
       record {
@@ -179,7 +181,7 @@ true_more plan commands scope acts act r obeys is = record { answered = answered
       }
 
   -- a late record is true by one act more
-  late_more : IsTrulyLate plan commands scope (acts ++ act ∷ []) r
+  late_more : LateIsJustified plan commands scope (acts ++ act ∷ []) r
   late_more e =
       let a = is.late e in
       record {
@@ -202,11 +204,11 @@ true_more plan commands scope acts act r obeys is = record { answered = answered
   not_last before request between then behind action last =
       let whole : acts ≡ (before ++ request ∷ between) ++ then ∷ [] =
       action ∙ ap (λ xs. before ++ request ∷ (between ++ then ∷ xs)) last.none ∙ sym (append_assoc before (request ∷ between) (then ∷ [])) in
-      let stopped : action_at plan (stood plan commands scope acts) ≡ actions.Stop last.why = ap (λ xs. action_at plan (stood plan commands scope xs)) whole ∙ last.stops in
-      subst (λ (o : Action). Performs commands (stood plan commands scope acts) o act) stopped obeys
+      let stopped : action_at plan (state_after plan commands scope acts) ≡ actions.Stop last.why = ap (λ xs. action_at plan (state_after plan commands scope xs)) whole ∙ last.stops in
+      subst (λ (o : Action). Performs commands (state_after plan commands scope acts) o act) stopped obeys
 
   -- a lost record is true by one act more
-  lost_more : IsTrulyLost plan commands scope (acts ++ act ∷ []) r
+  lost_more : LostIsJustified plan commands scope (acts ++ act ∷ []) r
   lost_more e =
       let a = is.lost e in
       record {
@@ -220,30 +222,30 @@ true_more plan commands scope acts act r obeys is = record { answered = answered
         written = a.written;
         shown = on a a.shown;
       } where
-        -- why a request is lost holds with one act more: a later request's reply came, or the station began anew; it isn't that
-        -- the run stopped
+        -- why a request is lost holds after one more act: a later request's reply came, or the station resynchronized; it isn't
+        -- that the run stopped
         on : (a : IsLostIn plan commands scope acts r) → IsOvertaken plan commands scope a.before a.request a.between a.act
-            ⊎ (BeginsAnew plan commands scope (a.before ++ a.request ∷ a.between) a.act ⊎ IsLast plan commands scope (a.before ++ a.request ∷ a.between) a.act a.behind)
+            ⊎ (Resynchronizes plan commands scope (a.before ++ a.request ∷ a.between) a.act ⊎ IsLast plan commands scope (a.before ++ a.request ∷ a.between) a.act a.behind)
             → IsOvertaken plan commands scope a.before a.request a.between a.act
-            ⊎ (BeginsAnew plan commands scope (a.before ++ a.request ∷ a.between) a.act ⊎ IsLast plan commands scope (a.before ++ a.request ∷ a.between) a.act (a.behind ++ act ∷ []))
+            ⊎ (Resynchronizes plan commands scope (a.before ++ a.request ∷ a.between) a.act ⊎ IsLast plan commands scope (a.before ++ a.request ∷ a.between) a.act (a.behind ++ act ∷ []))
         on a (inl over) = inl over
         on a (inr (inl anew)) = inr (inl anew)
         on a (inr (inr last)) = absurd (not_last a.before a.request a.between a.act a.behind a.order last)
 
 -- records that are true by the acts so far are true by one more
 pub more_true : (plan : Plan) (commands : List Task) (scope : Scope) (acts : List Act) (act : Act) (rs : List Record)
-    → Performs commands (stood plan commands scope acts) (action_at plan (stood plan commands scope acts)) act
-    → AllByRecursion (IsTrue plan commands scope acts) rs → AllByRecursion (IsTrue plan commands scope (acts ++ act ∷ [])) rs
-more_true plan commands scope acts act rs obeys all = all_on (IsTrue plan commands scope acts) (IsTrue plan commands scope (acts ++ act ∷ [])) rs
+    → Performs commands (state_after plan commands scope acts) (action_at plan (state_after plan commands scope acts)) act
+    → AllByRecursion (IsJustified plan commands scope acts) rs → AllByRecursion (IsJustified plan commands scope (acts ++ act ∷ [])) rs
+more_true plan commands scope acts act rs obeys all = all_on (IsJustified plan commands scope acts) (IsJustified plan commands scope (acts ++ act ∷ [])) rs
     (λ r is. true_more plan commands scope acts act r obeys is) all
 
--- an act that tells no moment keeps `Stayed`
-pub stays_still : (act : Act) → ((d : ℕ) → IsBefore d act) → (b : Bool) (d : ℕ) (xs : List Act) → Stayed b d xs → Stayed b d (xs ++ act ∷ [])
+-- an act that reads no moment preserves `Stayed`
+pub stays_still : (act : Act) → ((d : ℕ) → ReadsBefore d act) → (b : Bool) (d : ℕ) (xs : List Act) → Stayed b d xs → Stayed b d (xs ++ act ∷ [])
 stays_still act on true d xs told = past_more d xs (act ∷ []) told
-stays_still act on false d xs all = all_append (IsBefore d) xs (act ∷ []) all (on d, tt)
+stays_still act on false d xs all = all_append (ReadsBefore d) xs (act ∷ []) all (on d, tt)
 
--- an act that changes nothing of the client, and tells no moment, keeps `Honest`
-pub still : (plan : Plan) (commands : List Task) (scope : Scope) (acts : List Act) (act : Act) (c : ById Asked) (marks : List (Option Mark)) (rs : List Record) → ((d : ℕ) → IsBefore d act)
+-- an act that changes nothing of the client, and reads no moment, preserves `Honest`
+pub still : (plan : Plan) (commands : List Task) (scope : Scope) (acts : List Act) (act : Act) (c : ById Asked) (marks : List (Option Mark)) (rs : List Record) → ((d : ℕ) → ReadsBefore d act)
     → Honest plan commands scope acts (acts ++ act ∷ []) c marks rs → Honest plan commands scope (acts ++ act ∷ []) (acts ++ act ∷ []) c marks rs
 still plan commands scope acts act c marks rs on h = record {
   waiting = rows_same (Waits plan commands scope acts c.next (length c.waiting)) (Waits plan commands scope (acts ++ act ∷ []) c.next (length c.waiting)) 0 0 c.waiting marks
@@ -279,11 +281,11 @@ at_moment plan commands scope acts now number at id p mark s = record {
   stays = stays_at now p.given_up p.deadline s.between s.stays;
 }
 
--- the client once the requests whose deadline has come at this moment are given up
+-- the client once the requests whose deadline has come at this moment have timed out
 abbrev pub at_expired : ById Asked → ℕ → ById Asked
 at_expired c now = record { next = c.next; waiting = map (expired now) c.waiting }
 
--- once the moment `now` has given up the requests whose deadline has come, the same requests wait, as `WaitsAt` says
+-- once the moment `now` has timed out the requests whose deadline has come, the same requests wait, as `WaitsAt` says
 pub expired_waits : (plan : Plan) (commands : List Task) (scope : Scope) (acts : List Act) (now : ℕ) (c : ById Asked) (marks : List (Option Mark))
     → Rows (Waits plan commands scope acts c.next (length c.waiting)) 0 0 c.waiting marks
     → Rows (WaitsAt plan commands scope acts c now c.next (length (map (expired now) c.waiting))) 0 0 (map (expired now) c.waiting) marks
@@ -296,24 +298,25 @@ expired_waits plan commands scope acts now c marks all =
 pub expired_window : (c : ById Asked) (now : ℕ) → IsWindow c → IsWindow (at_expired c now)
 expired_window c now w = record { digit = w.digit; few = let n : length (map (expired now) c.waiting) ≡ length c.waiting = length-map c.waiting (expired now) in omega (arith, n, w.few) }
 
--- once the act that tells the moment `now` is among the acts, `StayedAt` becomes `Stayed`
-stays_behind : (act : Act) (now : ℕ) → ((d : ℕ) → now < d → IsBefore d act) → ((d : ℕ) → d ≤ now → IsPast d act) → (b : Bool) (d : ℕ) (xs : List Act)
+-- once the act that reads the moment `now` is among the acts, `StayedAt` becomes `Stayed`
+stays_behind : (act : Act) (now : ℕ) → ((d : ℕ) → now < d → ReadsBefore d act) → ((d : ℕ) → d ≤ now → ReadsAtOrPast d act) → (b : Bool) (d : ℕ) (xs : List Act)
     → StayedAt now b d xs → Stayed b d (xs ++ act ∷ [])
 stays_behind act now on past true d xs (inl told) = past_more d xs (act ∷ []) told
 stays_behind act now on past true d xs (inr reached) = past_here d xs act (past d reached)
-stays_behind act now on past false d xs both = all_append (IsBefore d) xs (act ∷ []) both.0 (on d both.1, tt)
+stays_behind act now on past false d xs both = all_append (ReadsBefore d) xs (act ∷ []) both.0 (on d both.1, tt)
 
--- the requests that wait as `WaitsAt` says wait as `Waits` says after the act that tells the moment
-pub behind_moment : (plan : Plan) (commands : List Task) (scope : Scope) (acts : List Act) (act : Act) (client : ById Asked) (now next count : ℕ) (ps : List (Pending Asked)) (marks : List (Option Mark))
-    → ((d : ℕ) → now < d → IsBefore d act) → ((d : ℕ) → d ≤ now → IsPast d act)
+-- the outstanding requests as `WaitsAt` says wait as `Waits` says after the act that reads the moment
+pub behind_moment : (plan : Plan) (commands : List Task) (scope : Scope) (acts : List Act) (act : Act) (client : ById Asked) (now next count : ℕ) (ps : List (Pending Asked))
+    (marks : List (Option Mark))
+    → ((d : ℕ) → now < d → ReadsBefore d act) → ((d : ℕ) → d ≤ now → ReadsAtOrPast d act)
     → Rows (WaitsAt plan commands scope acts client now next count) 0 0 ps marks → Rows (Waits plan commands scope (acts ++ act ∷ []) next count) 0 0 ps marks
 behind_moment plan commands scope acts act client now next count ps marks on past all =
     rows_same (WaitsAt plan commands scope acts client now next count) (Waits plan commands scope (acts ++ act ∷ []) next count) 0 0 ps marks
     (λ n j p mark w. asked_more plan commands scope acts act (StayedAt now) Stayed n j _ p mark (stays_behind act now on past) w.0) all
 
--- an act that tells a moment, and so gives requests up, keeps `Honest`
+-- an act that reads a moment, and so times requests out, preserves `Honest`
 pub moment_told : (plan : Plan) (commands : List Task) (scope : Scope) (acts : List Act) (act : Act) (now : ℕ) (c : ById Asked) (marks : List (Option Mark))
-    (rs : List Record) → ((d : ℕ) → now < d → IsBefore d act) → ((d : ℕ) → d ≤ now → IsPast d act)
+    (rs : List Record) → ((d : ℕ) → now < d → ReadsBefore d act) → ((d : ℕ) → d ≤ now → ReadsAtOrPast d act)
     → Honest plan commands scope acts (acts ++ act ∷ []) c marks rs → Honest plan commands scope (acts ++ act ∷ []) (acts ++ act ∷ []) (at_expired c now) marks rs
 moment_told plan commands scope acts act now c marks rs on past h = record {
   waiting = behind_moment plan commands scope acts act c now _ _ (map (expired now) c.waiting) marks on past (expired_waits plan commands scope acts now c marks h.waiting);

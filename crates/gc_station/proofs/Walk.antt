@@ -1,6 +1,6 @@
 -- One walk over the actions: which fields an act of each action changes (`changed`), and what has to hold for a fact to hold
 -- after it (`Behind`). A new action is a row in each of these tables; a fact about all actions is an instance. An act is one
--- call of the link, with what came of it.
+-- call on the link, with its result.
 use Rattle.std.proofs.Common.{◌≡◌, ℕ, Bool, true, false, List, [], ◌∷◌, drop, if◌then◌else◌, refl, sym, subst}
 use Rattle.gc_lines.specs.Frames.{rest_behind}
 use Rattle.gc_catalogue.specs.declared.asked.Asked.TheVariants.{Table}
@@ -21,8 +21,8 @@ use Rattle.gc_station.specs.declared.progress.Waiting.{Waiting}
 use Rattle.gc_links.specs.Acts.{Act, Told, Untold, Put, Cut, Gave, Silent, Ended, Broke, Closed, Opened, Unopened}
 use Rattle.gc_station.specs.Deciding.{is_quiet}
 use Rattle.gc_station.specs.Marks.{commands_in}
-use Rattle.gc_station.specs.Progressing.{told, begun, skipped, failing, opened, again, cleared, asking, null_sent, renewed, sent, line_asked, lines_asked, pause_ended, drained, quieted, time_passed, reckoned_early, ended_for, closed, setup_sent}
-use Rattle.gc_station.specs.Model.{Model, waiting_of, place_next, mark_next, requests_out, request_text, null_text, first_text, is_chained_behind_next, others_behind_next, skip_listed, with_listed, after_pass, Puts, Performs, is_heard, with_progress, with_moment, with_rest, with_records, asks_null, asks_first, asks_next, skips, line_came, lines_came, lines_behind, piece_asked, came, reckoned, piece_at, after_read, after_put, after_close, moved, cycle_length, mark_setup, text_or_null, asks_or_null, asks_setup}
+use Rattle.gc_station.specs.Progressing.{moment_noted, cycle_begun, skipped, failing, opened, after_failure, cleared, asking, null_sent, renewed, sent, line_asked, lines_asked, pause_ended, drained, quieted, time_passed, reckoned_early, ended_for, closed, setup_sent}
+use Rattle.gc_station.specs.Model.{Model, waiting_of, place_next, mark_next, requests_out, request_text, null_text, first_text, is_chained_after_next, others_after_next, skip_listed, with_listed, after_pass, Puts, Performs, is_heard, with_progress, with_moment, with_rest, with_records, asks_null, asks_first, asks_next, skips, line_came, lines_came, lines_completed, piece_asked, after_piece, reckoned, piece_at, after_read, after_put, after_close, moved, cycle_length, mark_setup, text_or_null, asks_or_null, asks_setup}
 
 -- Parts of an act.
 
@@ -31,20 +31,20 @@ pub lines_along : (P : Model → Type 0) → ((t : Model) (line : List ℕ) → 
 lines_along P step s [] p = p
 lines_along P step s (line ∷ others) p = lines_along P step (line_came s line) others (step s line p)
 
--- a fact of progresses that each line heard while a station begins keeps is kept by all of them
+-- a fact of progresses that each line heard while a station synchronizes keeps is kept by all of them
 pub asked_along : (P : Progress → Type 0) → ((q : Progress) (line : List ℕ) → P q → P (line_asked q line)) → (p : Progress) (lines : List (List ℕ)) → P p → P (lines_asked p lines)
 asked_along P step p [] h = h
 asked_along P step p (line ∷ others) h = asked_along P step (line_asked p line) others (step p line h)
 
--- a fact of models that each line keeps is kept by a piece, if it is also where the piece is heard while the station begins, or
--- dropped
+-- a fact of models that each line keeps is kept by a piece, if it is also if the piece is heard while the station synchronizes,
+-- or discarded
 pub came_along : (P : Model → Type 0) → ((t : Model) (line : List ℕ) → P t → P (line_came t line)) → (heard : Bool) (word piece : List ℕ) (s : Model)
-    → P (with_rest (rest_behind s.rest piece) s) → P (piece_asked piece s) → P s → P (came heard word piece s)
-came_along P step true [] piece s hears begins drops = lines_along P step (with_rest (rest_behind s.rest piece) s) (lines_behind s.rest piece) hears
+    → P (with_rest (rest_behind s.rest piece) s) → P (piece_asked piece s) → P s → P (after_piece heard word piece s)
+came_along P step true [] piece s hears begins drops = lines_along P step (with_rest (rest_behind s.rest piece) s) (lines_completed s.rest piece) hears
 came_along P step true (asked ∷ others) piece s hears begins drops = begins
 came_along P step false word piece s hears begins drops = drops
 
--- a fact of progresses is kept where a read gave nothing, if it is where a pause ends, where a drain ends, and where neither does
+-- a fact of progresses is kept if a read gave nothing, if it is if a pause ends, if a drain ends, and if neither does
 pub quieted_along : (P : Progress → Type 0) (plan : Plan) (at : Phase) (p : Progress) → P (pause_ended plan p) → P (drained p) → P p → P (quieted plan at p)
 quieted_along P plan Pausing p paused quiet same = paused
 quieted_along P plan Draining p paused quiet same = by_test (is_quiet plan p) where
@@ -54,8 +54,8 @@ quieted_along P plan Draining p paused quiet same = by_test (is_quiet plan p) wh
   by_test false = same
 quieted_along P plan at p paused quiet same = same
 
--- a fact of progresses is kept by a close, if it is where the run ends, and where another connection may be made
-pub closed_along : (P : Progress → Type 0) (plan : Plan) (w : Waiting) (why : Cause) (p : Progress) → P (ended_for why p) → P (again plan w.commands why p) → P (closed plan w why p)
+-- a fact of progresses is kept by a close, if it is if the run ends, and if another connection may be made
+pub closed_along : (P : Progress → Type 0) (plan : Plan) (w : Waiting) (why : Cause) (p : Progress) → P (ended_for why p) → P (after_failure plan w.commands why p) → P (closed plan w why p)
 closed_along P plan w cause.Done p ends on = ends
 closed_along P plan w cause.Clock p ends on = ends
 closed_along P plan w cause.Turns p ends on = ends
@@ -67,7 +67,7 @@ closed_along P plan w why p ends on = on
 
 -- the model that sent the next command, by its fields
 abbrev pub sending : Plan → List Task → Model → Model
-sending plan commands s = record s { progress = sent (is_chained_behind_next commands s.progress) (others_behind_next commands s.progress) s.progress; client = (asks_next plan commands s).client; marks = (asks_next plan commands s).marks }
+sending plan commands s = record s { progress = sent (is_chained_after_next commands s.progress) (others_after_next commands s.progress) s.progress; client = (asks_next plan commands s).client; marks = (asks_next plan commands s).marks }
 
 -- the model that sent the first of these commands, by its fields, is that after the send
 first_sent : (next_is_chained : Bool) (behind : ℕ) (mark : Mark) (left : List Task) (s : Model)
@@ -77,21 +77,23 @@ first_sent next_is_chained behind mark [] s = refl
 first_sent next_is_chained behind mark (task ∷ others) s = refl
 
 -- the model that sent the next command, by its fields (`sending`), is that after the act that sends
-pub is_sent : (plan : Plan) (commands : List Task) (s : Model) → sending plan commands s ≡ with_progress (sent (is_chained_behind_next commands s.progress) (others_behind_next commands s.progress)) (asks_next plan commands s)
-is_sent plan commands s = first_sent (is_chained_behind_next commands s.progress) (others_behind_next commands s.progress) (mark_next plan commands s.progress) (drop (place_next commands s.progress) commands) s
+pub is_sent : (plan : Plan) (commands : List Task) (s : Model)
+    → sending plan commands s ≡ with_progress (sent (is_chained_after_next commands s.progress) (others_after_next commands s.progress)) (asks_next plan commands s)
+is_sent plan commands s = first_sent (is_chained_after_next commands s.progress) (others_after_next commands s.progress) (mark_next plan commands s.progress)
+    (drop (place_next commands s.progress) commands) s
 
--- the model that sent the next command of the set-up, by its fields
+-- the model that sent the next command of the setup, by its fields
 abbrev pub preparing : Plan → List Task → Model → Model
 preparing plan commands s = record s { progress = setup_sent plan s.progress; client = (asks_setup plan commands s).client; marks = (asks_setup plan commands s).marks }
 
--- the model that sent the first of these commands of the set-up, by its fields, is that after the send
+-- the model that sent the first of these commands of the setup, by its fields, is that after the send
 first_prepared : (plan : Plan) (mark : Mark) (left : List Task) (s : Model)
     → record s { progress = setup_sent plan s.progress; client = (asks_or_null plan mark left s).client; marks = (asks_or_null plan mark left s).marks }
     ≡ with_progress (setup_sent plan) (asks_or_null plan mark left s)
 first_prepared plan mark [] s = refl
 first_prepared plan mark (task ∷ others) s = refl
 
--- the model that sent the next command of the set-up, by its fields (`preparing`), is that after the act that sends
+-- the model that sent the next command of the setup, by its fields (`preparing`), is that after the act that sends
 pub is_prepared : (plan : Plan) (commands : List Task) (s : Model) → preparing plan commands s ≡ with_progress (setup_sent plan) (asks_setup plan commands s)
 is_prepared plan commands s = first_prepared plan (mark_setup commands s.progress) (drop s.progress.prepared commands) s
 
@@ -144,11 +146,11 @@ changed_by (Stop why) s t = s
 abbrev pub changed : Action → Model → Model → Model
 changed action s t = record (changed_by action s t) { progress = record (progress_of action s.progress t.progress) { turns = s.progress.turns }; reads = s.reads }
 
--- the progress p with those fields of q that lines change which are heard while the station begins
+-- the progress p with those fields of q that lines change which are heard while the station synchronizes
 abbrev asked_of : Progress → Progress → Progress
 asked_of p q = record p { word = q.word; again = q.again; alive = q.alive; asked = q.asked; behind = q.behind }
 
--- lines that are heard while the station begins change what `asked_of` says
+-- lines that are heard while the station synchronizes change what `asked_of` says
 lines_changed : (p : Progress) (lines : List (List ℕ)) → lines_asked p lines ≡ asked_of p (lines_asked p lines)
 lines_changed p lines = asked_along (λ (q : Progress). q ≡ asked_of p q) (λ q line e. subst (λ (r : Progress). line_asked r line ≡ asked_of p (line_asked r line)) (sym e) refl) p lines refl
 
@@ -159,13 +161,13 @@ piece_of s t = record s { progress = asked_of s.progress t.progress; rest = t.re
 -- a read that gave bytes changes what `changed` says
 gave_changed : (plan : Plan) (until : Until) (s : Model) (bytes : List ℕ) (m : Moment) → piece_at plan until bytes m s ≡ changed (Read until) s (piece_at plan until bytes m s)
 gave_changed plan until s bytes m =
-    let mid = with_moment m (with_progress (told m) s) in
+    let mid = with_moment m (with_progress (moment_noted m) s) in
     let heard = is_heard s.progress.phase in
     let n = commands_in s.marks in
     let is = came_along (λ (t : Model). t ≡ piece_of mid t) (λ t line e. subst (λ (u : Model). line_came u line ≡ piece_of mid (line_came u line))
-    (sym e) refl) heard s.progress.word bytes mid refl (begins mid (lines_behind s.rest bytes) (rest_behind s.rest bytes)) refl in
+    (sym e) refl) heard s.progress.word bytes mid refl (begins mid (lines_completed s.rest bytes) (rest_behind s.rest bytes)) refl in
     subst (λ (u : Model). reckoned plan until n u ≡ changed (Read until) s (reckoned plan until n u)) (sym is) refl where
-      -- the lemma above for a piece that is heard while the station begins
+      -- the lemma above for a piece that is heard while the station synchronizes
       begins : (t : Model) (lines : List (List ℕ)) (rest : List ℕ) → record t { progress = lines_asked t.progress lines; rest = rest } ≡ piece_of t
           (record t { progress = lines_asked t.progress lines; rest = rest })
       begins t lines rest = subst (λ (q : Progress). record t { progress = q; rest = rest } ≡ piece_of t (record t { progress = q; rest = rest })) (sym (lines_changed t.progress lines)) refl
@@ -215,8 +217,8 @@ moved_changed plan commands (Read until) s act = refl
 moved_changed plan commands (Close why) s act = closed_changed plan why s
 moved_changed plan commands (Stop why) s act = refl
 
--- What has to hold for a fact to hold after an act of an action: where it goes well, and where it doesn't. The former is given
--- a moment and the latter a number, also where no clock is read and no bytes are cut, so that one row serves many actions.
+-- What has to hold for a fact to hold after an act of an action: if it goes well, and if it doesn't. The former is given a
+-- moment and the latter a number, also if no clock is read and no bytes are cut, so that one row serves many actions.
 
 -- what has to hold for P to hold after an act that puts these bytes: P after a whole write, and P after one that is cut. The
 -- number is how many requests the bytes have
@@ -226,18 +228,20 @@ Putting P requests bytes t = ((m : Moment) → P (Put bytes) t) × ((n : ℕ) �
 -- what has to hold for P to hold after an act of this action: P in each case that there may be
 abbrev pub Behind : Plan → List Task → (Act → Model → Type 0) → Action → Model → Type 0
 Behind plan commands P ReadClock s =
-    ((m : Moment) → P (Told m) (with_moment m (with_progress (λ p. reckoned_early plan (commands_in s.marks) (told m p)) s))) × ((n : ℕ) → P Untold (with_progress (failing cause.Clock) s))
+    ((m : Moment) → P (Told m) (with_moment m (with_progress (λ p. reckoned_early plan (commands_in s.marks) (moment_noted m p)) s))) × ((n : ℕ) → P Untold (with_progress (failing cause.Clock) s))
 Behind plan commands P Renew s = ((m : Moment) → P (Told m) (with_moment m
     (with_progress (λ p. reckoned_early plan 0 (renewed plan m p)) s))) × ((n : ℕ) → P Untold (with_progress (failing cause.Clock) s))
-Behind plan commands P Begin s = ((m : Moment) → P (Told m) (with_moment m (with_progress (begun plan (cycle_length plan commands) m) s))) × ((n : ℕ) → P Untold (with_progress (failing cause.Clock) s))
-Behind plan commands P Open s = ((m : Moment) → P Opened (with_progress opened s)) × ((n : ℕ) → P Unopened (with_progress (again plan (commands_in s.marks) cause.Open) s))
+Behind plan commands P Begin s = ((m : Moment) → P (Told m) (with_moment m (with_progress (cycle_begun plan (cycle_length plan commands) m) s)))
+    × ((n : ℕ) → P Untold (with_progress (failing cause.Clock) s))
+Behind plan commands P Open s = ((m : Moment) → P Opened (with_progress opened s)) × ((n : ℕ) → P Unopened (with_progress (after_failure plan (commands_in s.marks) cause.Open) s))
 Behind plan commands P Clear s = Putting P (requests_out plan commands s.progress) (10 ∷ []) (with_progress cleared s)
 Behind plan commands P Ask s = Putting P (requests_out plan commands s.progress) (null_text s.progress.word) (with_progress (null_sent plan) s)
 Behind plan commands P Prepare s = Putting P (requests_out plan commands s.progress) (text_or_null s.progress.moment.utc s.client (drop s.progress.prepared commands)) (preparing plan commands s)
 Behind plan commands P Send s = Putting P (requests_out plan commands s.progress) (first_text s.progress.moment.utc s.client (drop (place_next commands s.progress) commands)) (sending plan commands s)
 Behind plan commands P Skip s =
     ((m : Moment) → P (Told m) (with_moment m (with_progress (λ p. reckoned_early plan (commands_in s.marks)
-    (skipped (is_chained_behind_next commands s.progress) (others_behind_next commands s.progress) m p)) (with_listed (skip_listed plan commands s (Told m)) (with_records (skips plan commands s.progress (Told m)) s)))))
+    (skipped (is_chained_after_next commands s.progress) (others_after_next commands s.progress) m p)) (with_listed (skip_listed plan commands s (Told m))
+    (with_records (skips plan commands s.progress (Told m)) s)))))
     × ((n : ℕ) → P Untold (with_progress (failing cause.Clock) (with_records [] s)))
 Behind plan commands P Pass s = ((m : Moment) → P (Told m) (after_pass plan commands s (Told m))) × ((n : ℕ) → P Untold (with_progress (failing cause.Clock) s))
 Behind plan commands P Flush s = Putting P (requests_out plan commands s.progress) (request_text s.client (Table NullProc)) (with_progress asking (asks_null plan s))
@@ -277,7 +281,7 @@ walk plan commands P Prepare s act o h =
 walk plan commands P Send s act o h =
     let requests = requests_out plan commands s.progress in
     let text = first_text s.progress.moment.utc s.client (drop (place_next commands s.progress) commands) in
-    put_walk P requests text (λ (x : Model). with_progress (sent (is_chained_behind_next commands s.progress) (others_behind_next commands s.progress)) (asks_next plan commands x)) s act o
+    put_walk P requests text (λ (x : Model). with_progress (sent (is_chained_after_next commands s.progress) (others_after_next commands s.progress)) (asks_next plan commands x)) s act o
     (subst (λ (u : Model). Putting P requests text u) (is_sent plan commands s) h)
 walk plan commands P Skip s (Told m) o h = h.0 m
 walk plan commands P Skip s Untold o h = h.1 0

@@ -1,6 +1,6 @@
--- What an act leaves of a station's word, the ids of its beginning that aren't answered: what the lines that the act brings
--- leave, unless the station begins anew. An act is one call of the link, with what came of it. A piece is the bytes that one
--- read gave.
+-- What an act leaves of a station's word, the ids of its synchronization that aren't answered: what the lines that the act
+-- brings leave, unless the station resynchronizes. An act is one call on the link, with its result. A piece is the bytes that
+-- one read gave.
 use Rattle.std.proofs.Common.{◌≡◌, ℕ, Bool, true, false, List, [], ◌∷◌, length, if◌then◌else◌, refl, sym, ap, ◌∙◌, subst, arith}
 use Rattle.std.proofs.lemmas.List.{nil_from_length}
 use Rattle.gc_lines.specs.Frames.{rest_behind}
@@ -13,50 +13,50 @@ use Rattle.gc_station.specs.declared.plan.Plan.{Plan}
 use Rattle.gc_station.specs.declared.progress.Action.{Action}
 use Rattle.gc_station.specs.declared.progress.Action.TheVariants as actions
 use Rattle.gc_station.specs.declared.progress.Progress.{Progress}
-use Rattle.gc_station.specs.Beginnings.{heard_at, left_behind}
+use Rattle.gc_station.specs.Beginnings.{lines_heard_at, unanswered_after}
 use Rattle.gc_station.specs.Deciding.{has_begun, is_none_left}
-use Rattle.gc_station.specs.Progressing.{turned, told, line_asked, lines_asked, time_passed}
+use Rattle.gc_station.specs.Progressing.{turned, moment_noted, line_asked, lines_asked, time_passed}
 use Rattle.gc_station.specs.Reasons.{IsFor}
-use Rattle.gc_station.specs.Model.{Model, waiting_of, with_progress, with_moment, with_rest, lines_behind, is_heard, came, Performs, moved}
+use Rattle.gc_station.specs.Model.{Model, waiting_of, with_progress, with_moment, with_rest, lines_completed, is_heard, after_piece, Performs, moved}
 use Rattle.gc_station.proofs.Invariant.{Invariant}
-use Rattle.gc_station.proofs.Midway.{clash}
 use Rattle.gc_station.proofs.Walk.{lines_along, quieted_along, closed_along, walk}
+use Rattle.gc_station.proofs.Ticking.{not_both}
 
--- where all ids are answered, lines leave none
-pub left_none : (lines : List (List ℕ)) → left_behind [] lines ≡ []
+-- if all ids are answered, lines leave none
+pub left_none : (lines : List (List ℕ)) → unanswered_after [] lines ≡ []
 left_none [] = refl
 left_none (line ∷ others) = left_none others
 
--- lines that are heard while the station begins leave of the ids what `left_behind` says
-word_asked : (p : Progress) (lines : List (List ℕ)) → (lines_asked p lines).word ≡ left_behind p.word lines
+-- lines that are heard while the station synchronizes leave of the ids what `unanswered_after` says
+word_asked : (p : Progress) (lines : List (List ℕ)) → (lines_asked p lines).word ≡ unanswered_after p.word lines
 word_asked p [] = refl
 word_asked p (line ∷ others) = word_asked (line_asked p line) others
 
--- a piece leaves of the ids what its lines leave, where they are heard
-word_came : (h : Bool) (word piece : List ℕ) (s : Model) → s.progress.word ≡ word → (came h word piece s).progress.word ≡ left_behind word (if h then lines_behind s.rest piece else [])
+-- a piece leaves of the ids what its lines leave, if they are heard
+word_came : (h : Bool) (word piece : List ℕ) (s : Model) → s.progress.word ≡ word → (after_piece h word piece s).progress.word ≡ unanswered_after word (if h then lines_completed s.rest piece else [])
 word_came true [] piece s e =
-    lines_along (λ (t : Model). t.progress.word ≡ []) (λ t line same. same) (with_rest (rest_behind s.rest piece) s) (lines_behind s.rest piece) e ∙ sym (left_none (lines_behind s.rest piece))
-word_came true (asked ∷ others) piece s e = word_asked s.progress (lines_behind s.rest piece) ∙ ap (λ (w : List ℕ). left_behind w (lines_behind s.rest piece)) e
+    lines_along (λ (t : Model). t.progress.word ≡ []) (λ t line same. same) (with_rest (rest_behind s.rest piece) s) (lines_completed s.rest piece) e ∙ sym (left_none (lines_completed s.rest piece))
+word_came true (asked ∷ others) piece s e = word_asked s.progress (lines_completed s.rest piece) ∙ ap (λ (w : List ℕ). unanswered_after w (lines_completed s.rest piece)) e
 word_came false word piece s e = e
 
--- where a station begins after a piece, it began before it
-pub begins_before : (h : Bool) (word piece : List ℕ) (s : Model) → s.progress.word ≡ word → has_begun (came h word piece s).progress ≡ false → is_none_left word ≡ false
+-- if a station synchronizes after a piece, it was synchronizing before it
+pub begins_before : (h : Bool) (word piece : List ℕ) (s : Model) → s.progress.word ≡ word → has_begun (after_piece h word piece s).progress ≡ false → is_none_left word ≡ false
 begins_before h [] piece s e f =
-    let lines = if h then lines_behind s.rest piece else [] in absurd (clash (has_begun (came h [] piece s).progress) (ap is_none_left (word_came h [] piece s e ∙ left_none lines)) f)
+    let lines = if h then lines_completed s.rest piece else [] in absurd (not_both (has_begun (after_piece h [] piece s).progress) (ap is_none_left (word_came h [] piece s e ∙ left_none lines)) f)
 begins_before h (asked ∷ others) piece s e f = refl
 
 module _ (plan : Plan) (commands : List Task) where
   -- from the model s to t an act leaves of the ids what its lines leave
   abbrev Leaves : Model → Act → Model → Type 0
-  Leaves s act t = t.progress.word ≡ left_behind s.progress.word (heard_at s act)
+  Leaves s act t = t.progress.word ≡ unanswered_after s.progress.word (lines_heard_at s act)
 
   -- an act of each action but `Renew` leaves of the ids what its lines leave
   pub word_moved : (s : Model) (o : Action) (act : Act) → Performs commands s o act → (o ≡ actions.Renew → ⊥)
-      → (moved plan commands o (with_progress turned s) act).progress.word ≡ left_behind s.progress.word (heard_at s act)
+      → (moved plan commands o (with_progress turned s) act).progress.word ≡ unanswered_after s.progress.word (lines_heard_at s act)
   word_moved s actions.Renew act obeys other = absurd (other refl)
   word_moved s (actions.Read until) act obeys other =
       walk plan commands (Leaves s) (actions.Read until) (with_progress turned s) act obeys (
-        λ bytes m. word_came (is_heard s.progress.phase) s.progress.word bytes (with_moment m (with_progress (told m) (with_progress turned s))) refl,
+        λ bytes m. word_came (is_heard s.progress.phase) s.progress.word bytes (with_moment m (with_progress (moment_noted m) (with_progress turned s))) refl,
         λ m. quieted_along (λ (q : Progress). q.word ≡ s.progress.word) plan s.progress.phase (time_passed until m (turned s.progress)) refl refl refl,
         refl,
         refl,
@@ -68,30 +68,30 @@ module _ (plan : Plan) (commands : List Task) where
   word_moved s (actions.Stop why) act obeys other = absurd obeys
   word_moved s o act obeys other = walk plan commands (Leaves s) o (with_progress turned s) act obeys (λ m. refl, λ n. refl)
 
-  -- an act of any action but `Renew` leaves a station begun
+  -- an act of any action but `Renew` leaves a synchronized station synchronized
   pub begun_other : (s : Model) (o : Action) (act : Act) → Performs commands s o act → (o ≡ actions.Renew → ⊥) → has_begun s.progress ≡ true
       → has_begun (moved plan commands o (with_progress turned s) act).progress ≡ true
   begun_other s o act obeys other begun = by_word s.progress.word refl begun where
     -- the lemma above, by the word: no id is left
     by_word : (word : List ℕ) → s.progress.word ≡ word → is_none_left word ≡ true → has_begun (moved plan commands o (with_progress turned s) act).progress ≡ true
-    by_word [] e b = ap is_none_left (word_moved s o act obeys other ∙ ap (λ (w : List ℕ). left_behind w (heard_at s act)) e ∙ left_none (heard_at s act))
+    by_word [] e b = ap is_none_left (word_moved s o act obeys other ∙ ap (λ (w : List ℕ). unanswered_after w (lines_heard_at s act)) e ∙ left_none (lines_heard_at s act))
     by_word (asked ∷ others) e b = cc
 
-  -- where a chain goes on, the station doesn't begin anew
+  -- if a chain goes on, the station doesn't resynchronize
   pub begun_kept : (s : Model) (o : Action) (act : Act) → Performs commands s o act → has_begun s.progress ≡ true → (moved plan commands o (with_progress turned s) act).progress.chain_unbroken ≡ true
       → has_begun (moved plan commands o (with_progress turned s) act).progress ≡ true
   begun_kept s actions.Renew (Told m) obeys begun whole = cc
   begun_kept s actions.Renew act obeys begun whole = begun
   begun_kept s o act obeys begun whole = begun_other s o act obeys (λ e. cc) begun
 
-  -- a station begins anew only where it reads the clock for that
+  -- a station resynchronizes only if it reads the clock for that
   pub renews_only : (s : Model) (o : Action) (act : Act) → Performs commands s o act → has_begun s.progress ≡ true → has_begun (moved plan commands o (with_progress turned s) act).progress ≡ false
       → (o ≡ actions.Renew) × (m : Moment) × (act ≡ Told m)
   renews_only s actions.Renew (Told m) obeys begun begins = (refl, m, refl)
-  renews_only s actions.Renew act obeys begun begins = absurd (clash (has_begun s.progress) begun begins)
-  renews_only s o act obeys begun begins = absurd (clash (has_begun (moved plan commands o (with_progress turned s) act).progress) (begun_other s o act obeys (λ e. cc) begun) begins)
+  renews_only s actions.Renew act obeys begun begins = absurd (not_both (has_begun s.progress) begun begins)
+  renews_only s o act obeys begun begins = absurd (not_both (has_begun (moved plan commands o (with_progress turned s) act).progress) (begun_other s o act obeys (λ e. cc) begun) begins)
 
--- where a station begins anew, seven wait, which are all given up
+-- if a station resynchronizes, seven are outstanding, which have all timed out
 pub renews_needs : (plan : Plan) (commands : List Task) (s : Model) (o : Action) → Invariant plan commands s → o ≡ actions.Renew
     → IsFor plan s.progress (waiting_of s) o → (length s.client.waiting ≡ WINDOW) × (deadlines s.client.waiting ≡ [])
 renews_needs plan commands s o fine is needs =

@@ -1,5 +1,5 @@
--- Where an answer comes from, in an operator's words, this project's own: its own request went out, and the line came after it,
--- with its id, before a moment at or past its deadline was told. An act is one call of the link, with what came of it.
+-- Where an answer comes from, in an operator's words, this project's own: its own request was sent, and the line came after it,
+-- with its id, before a moment at or past its deadline was read. An act is one call on the link, with its result.
 use Rattle.std.specs.Prelude.{◌≡◌, ℕ, ◌<◌, List, [], ◌∷◌, ◌++◌, drop, Option, Some, None}
 use Rattle.std.specs.List.{AllByRecursion}
 use Rattle.gc_client.specs.Rule.{heard}
@@ -10,31 +10,32 @@ use Rattle.gc_station.specs.declared.plan.Plan.{Plan}
 use Rattle.gc_links.specs.Acts.{Act, Told, Gave, Silent}
 use Rattle.gc_station.specs.Deciding.{later}
 use Rattle.gc_station.specs.Records.{Record}
-use Rattle.gc_station.specs.Runs.{stood}
-use Rattle.gc_station.specs.Model.{Puts, IsSending, cycle_out, place_out, request_text, lines_behind}
+use Rattle.gc_station.specs.Runs.{state_after}
+use Rattle.gc_station.specs.Model.{Puts, IsSending, cycle_out, place_out, request_text, lines_completed}
 use Rattle.gc_station.specs.Scopes.{Scope}
 
--- an act tells no moment at or past this deadline
-abbrev pub IsBefore : ℕ → Act → Type 0
-IsBefore deadline (Told m) = m.elapsed < deadline
-IsBefore deadline (Gave bytes m) = m.elapsed < deadline
-IsBefore deadline (Silent m) = m.elapsed < deadline
-IsBefore deadline _ = Unit {0}
+-- an act reads no moment at or past this deadline
+abbrev pub ReadsBefore : ℕ → Act → Type 0
+ReadsBefore deadline (Told m) = m.elapsed < deadline
+ReadsBefore deadline (Gave bytes m) = m.elapsed < deadline
+ReadsBefore deadline (Silent m) = m.elapsed < deadline
+ReadsBefore deadline _ = Unit {0}
 
--- how long the first of these commands waits; 0 where there is none
+-- how long the first of these commands waits; 0 if there is none
 abbrev pub first_deadline : List Task → ℕ
 first_deadline [] = 0
 first_deadline (task ∷ others) = task.deadline
 
--- the deadline of the next command, if its request goes out directly after these acts
-abbrev pub deadline_behind : Plan → List Task → Scope → List Act → ℕ
-deadline_behind plan commands scope acts =
-    let s = stood plan commands scope acts in
+-- the deadline of the next command, if its request is sent directly after these acts
+abbrev pub deadline_after : Plan → List Task → Scope → List Act → ℕ
+deadline_after plan commands scope acts =
+    let s = state_after plan commands scope acts in
     later s.progress.moment.elapsed (first_deadline (drop (place_out plan commands s) commands))
 
--- the acts are, in this order: `before`; `request`, which puts the request of the record r, of its cycle and place, where the moment
--- told last is the one that the record has for it; `between`, in which no moment at or past the request's deadline is told; a read
--- before that deadline, whose piece completes `line`, with the request's id; and `behind`. At that read r is written down
+-- the acts are, in this order: `before`; `request`, which puts the request of the record r, of its cycle and place, where the
+-- moment read last is the one that the record has for it; `between`, in which no moment at or past the request's deadline is
+-- read; a read before that deadline, whose piece completes `line`, with the request's id; and `behind`. At that read r is
+-- recorded
 pub record IsAnsweredIn (plan : Plan) (commands : List Task) (scope : Scope) (acts : List Act) (r : Record) (line : List ℕ) : Type 0 where
   pub before : List Act
   pub request : Act
@@ -43,21 +44,21 @@ pub record IsAnsweredIn (plan : Plan) (commands : List Task) (scope : Scope) (ac
   pub moment : Moment
   pub behind : List Act
   pub order : acts ≡ before ++ request ∷ (between ++ Gave piece moment ∷ behind)
-  pub sends : IsSending plan (stood plan commands scope before)
-  pub cycle : r.cycle ≡ cycle_out plan (stood plan commands scope before)
-  pub place : r.place ≡ place_out plan commands (stood plan commands scope before)
-  pub sent : r.sent ≡ Some (stood plan commands scope before).progress.moment.utc
-  pub put : Puts (request_text (stood plan commands scope before).client r.command.call) request
-  pub waits : AllByRecursion (IsBefore (deadline_behind plan commands scope before)) between
-  pub in_time : moment.elapsed < deadline_behind plan commands scope before
+  pub sends : IsSending plan (state_after plan commands scope before)
+  pub cycle : r.cycle ≡ cycle_out plan (state_after plan commands scope before)
+  pub place : r.place ≡ place_out plan commands (state_after plan commands scope before)
+  pub sent : r.sent ≡ Some (state_after plan commands scope before).progress.moment.utc
+  pub put : Puts (request_text (state_after plan commands scope before).client r.command.call) request
+  pub waits : AllByRecursion (ReadsBefore (deadline_after plan commands scope before)) between
+  pub in_time : moment.elapsed < deadline_after plan commands scope before
   pub front : List (List ℕ)
   pub others : List (List ℕ)
-  pub came : lines_behind (stood plan commands scope (before ++ request ∷ between)).rest piece ≡ front ++ line ∷ others
-  pub id : heard line ≡ Some (stood plan commands scope before).client.next
+  pub came : lines_completed (state_after plan commands scope (before ++ request ∷ between)).rest piece ≡ front ++ line ∷ others
+  pub id : heard line ≡ Some (state_after plan commands scope before).client.next
   pub earlier : List Record
   pub later : List Record
-  pub written : (stood plan commands scope (before ++ request ∷ (between ++ Gave piece moment ∷ []))).records
-      ≡ (stood plan commands scope (before ++ request ∷ between)).records ++ (earlier ++ r ∷ later)
+  pub written : (state_after plan commands scope (before ++ request ∷ (between ++ Gave piece moment ∷ []))).records
+      ≡ (state_after plan commands scope (before ++ request ∷ between)).records ++ (earlier ++ r ∷ later)
 
 -- the line of the reply, for a command that a reply in time ended: as answered, unreadable or elsewhere. None for any other
 -- ending
@@ -71,5 +72,5 @@ answer_of Skipped = None
 answer_of Missed = None
 
 -- if a record is of a reply in time (answered, unreadable or elsewhere), the reply's line came as `IsAnsweredIn` says
-abbrev pub IsTrueRecord : Plan → List Task → Scope → List Act → Record → Type 0
-IsTrueRecord plan commands scope acts r = (line : List ℕ) → answer_of r.end ≡ Some line → IsAnsweredIn plan commands scope acts r line
+abbrev pub AnswerIsJustified : Plan → List Task → Scope → List Act → Record → Type 0
+AnswerIsJustified plan commands scope acts r = (line : List ℕ) → answer_of r.end ≡ Some line → IsAnsweredIn plan commands scope acts r line

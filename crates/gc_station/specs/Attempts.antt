@@ -1,5 +1,5 @@
--- Further attempts of a chain, this project's own: whether a command of an attempt ended as its rule names, so that the chain goes
--- out again. An attempt begins with a command whose link is 0.
+-- Further attempts of a chain, this project's own: whether a command of an attempt ended as its rule names, so that the chain
+-- is sent again. An attempt begins with a command whose link is 0.
 use Rattle.std.specs.Prelude.{ℕ, ◌||◌, Bool, false, List, [], ◌∷◌, Option, Some, None, if◌then◌else◌, nat_eq}
 use Rattle.gc_catalogue.specs.declared.answer.Reading.{Reading}
 use Rattle.gc_catalogue.specs.declared.answer.Reading.TheVariants as reading
@@ -22,10 +22,10 @@ code_of reads call (Answered line) = code_in (reads call line)
 code_of reads call Late = None
 code_of reads call Lost = None
 
--- whether a command of an attempt ended as its rule names, where this is the one that ended last: it did, or one before it, unless
+-- whether a command of an attempt ended as its rule names, if this is the one that ended last: it did, or one before it, unless
 -- the attempt begins with it
-abbrev pub listed_behind : Bool → Expected → Option ℕ → End → Bool
-listed_behind listed expected code end = (if nat_eq expected.turn.link 0 then false else listed) || is_named expected.again code end
+abbrev pub listed_after : Bool → Expected → Option ℕ → End → Bool
+listed_after listed expected code end = (if nat_eq expected.turn.link 0 then false else listed) || is_named expected.again code end
 
 -- whether a command of an attempt ended as its rule names, after these settlements of the requests with these marks, the oldest first
 abbrev pub listed_by : (Asked → List ℕ → Reading) → Bool → List (Option Mark) → List (Settlement Asked) → Bool
@@ -33,4 +33,4 @@ listed_by reads listed [] settlements = listed
 listed_by reads listed (mark ∷ marks) [] = listed
 listed_by reads listed (None ∷ marks) (settlement ∷ others) = listed_by reads listed marks others
 listed_by reads listed (Some mark ∷ marks) (x ∷ others) =
-    listed_by reads (listed_behind listed mark.expected (code_of reads x.call x.outcome) (end_of reads mark.expected x.call x.outcome)) marks others
+    listed_by reads (listed_after listed mark.expected (code_of reads x.call x.outcome) (end_of reads mark.expected x.call x.outcome)) marks others

@@ -1,8 +1,8 @@
--- Beginnings, this project's own. A station begins by eight null procedures, which go out one after the other: each is sent
--- again until a reply with its id has come. Commands go out after that. Each new connection is cleared by a lone line feed;
--- where the station had begun before it was made, the connection is drained, too, until it is quiet. The `word` of a station is
--- the list of the ids of the null procedures that aren't answered yet, in order. An act is one call of the link, with what came
--- of it.
+-- Synchronizations, this project's own. A station synchronizes by eight null procedures, which are sent one after the other:
+-- each is sent again until a reply with its id has come. Commands are sent after that. Each new connection is cleared by a lone
+-- line feed; if the station had synchronized before it was made, the connection is drained, too, until it is quiet. The `word`
+-- of a station is the list of the ids of the null procedures that aren't answered yet, in order. An act is one call on the
+-- link, with its result.
 use Rattle.std.specs.Prelude.{◌≡◌, ℕ, true, false, List, [], ◌∷◌, ◌++◌, length, if◌then◌else◌}
 use Rattle.std.specs.List.{AllByRecursion, filter_map}
 use Rattle.gc_client.specs.Beginning.{IsSubsequence, the_word, left_by}
@@ -15,70 +15,70 @@ use Rattle.gc_links.specs.declared.link.Moment.{Moment}
 use Rattle.gc_links.specs.Acts.{Act, Told, Put, Gave, Opened}
 use Rattle.gc_station.specs.Deciding.{has_begun}
 use Rattle.gc_station.specs.Quiet.{IsAsking, IsRequest, IsQuietFirst, StaysConnected}
-use Rattle.gc_station.specs.Runs.{stood}
+use Rattle.gc_station.specs.Runs.{state_after}
 use Rattle.gc_station.specs.Scopes.{Scope}
-use Rattle.gc_station.specs.Model.{Model, Puts, Runs, after, is_heard, lines_behind, null_text, opening, action_at}
+use Rattle.gc_station.specs.Model.{Model, Puts, Runs, after, is_heard, lines_completed, null_text, opening, action_at}
 
--- the lines that this act completes, where the station is at this model before it; none in a phase in which what comes is
--- dropped
-abbrev pub heard_at : Model → Act → List (List ℕ)
-heard_at s (Gave piece m) = if is_heard s.progress.phase then lines_behind s.rest piece else []
-heard_at s act = []
+-- the lines that this act completes, if the station is at this model before it; none in a phase in which what comes is
+-- discarded
+abbrev pub lines_heard_at : Model → Act → List (List ℕ)
+lines_heard_at s (Gave piece m) = if is_heard s.progress.phase then lines_completed s.rest piece else []
+lines_heard_at s act = []
 
 -- the lines that are heard among these acts, in order, from this model on
-abbrev pub heard_behind : Plan → List Task → Model → List Act → List (List ℕ)
-heard_behind plan commands s [] = []
-heard_behind plan commands s (act ∷ acts) = heard_at s act ++ heard_behind plan commands (after plan commands s act) acts
+abbrev pub lines_heard : Plan → List Task → Model → List Act → List (List ℕ)
+lines_heard plan commands s [] = []
+lines_heard plan commands s (act ∷ acts) = lines_heard_at s act ++ lines_heard plan commands (after plan commands s act) acts
 
 -- which of these ids of null procedures are still unanswered after these lines
-abbrev pub left_behind : List ℕ → List (List ℕ) → List ℕ
-left_behind word [] = word
-left_behind word (line ∷ others) = left_behind (left_by word (heard line)) others
+abbrev pub unanswered_after : List ℕ → List (List ℕ) → List ℕ
+unanswered_after word [] = word
+unanswered_after word (line ∷ others) = unanswered_after (left_by word (heard line)) others
 
--- where, after the acts `earlier` and then `between`, a command goes out, or the null procedure that follows commands which are
--- all given up: the ids that weren't answered after `earlier` are, in order, among the ids of the lines that were heard in
--- `between`. So where `earlier` ends at the start of a run, or where the station begins anew, all eight ids were heard in
+-- where, after the acts `earlier` and then `between`, a command is sent, or the null procedure that follows commands which have
+-- all timed out: the ids that weren't answered after `earlier` are, in order, among the ids of the lines that were heard in
+-- `between`. So where `earlier` ends at the start of a run, or if the station resynchronizes, all eight ids were heard in
 -- `between`
 abbrev pub NoneBeforeTheLastAnswer : Type 0
 NoneBeforeTheLastAnswer =
     (plan : Plan) (commands : List Task) (scope : Scope) (earlier between : List Act) → Runs plan commands (opening plan scope) (earlier ++ between)
-    → IsAsking (action_at plan (stood plan commands scope (earlier ++ between)))
-    → IsSubsequence (stood plan commands scope earlier).progress.word (filter_map heard (heard_behind plan commands (stood plan commands scope earlier) between))
+    → IsAsking (action_at plan (state_after plan commands scope (earlier ++ between)))
+    → IsSubsequence (state_after plan commands scope earlier).progress.word (filter_map heard (lines_heard plan commands (state_after plan commands scope earlier) between))
 
--- an act while the station begins: no request waits, and the client is new; a request that goes out is the null procedure of
--- the first id that isn't answered; and each line that the act brings, in order, answers the first id that is left if it has
--- that id, and else answers none
-pub record IsOfBeginning (plan : Plan) (commands : List Task) (scope : Scope) (acts : List Act) (act : Act) : Type 0 where
-  pub client : (stood plan commands scope acts).client ≡ fresh
-  pub marks : (stood plan commands scope acts).marks ≡ []
-  pub asks : IsRequest act → Puts (null_text (stood plan commands scope acts).progress.word) act
-  pub left : (stood plan commands scope (acts ++ act ∷ [])).progress.word
-      ≡ left_behind (stood plan commands scope acts).progress.word (heard_at (stood plan commands scope acts) act)
+-- an act while the station synchronizes: no request is outstanding, and the client is new; a request that is sent is the null
+-- procedure of the first id that isn't answered; and each line that the act brings, in order, answers the first id that is left
+-- if it has that id, and else answers none
+pub record IsSynchronizing (plan : Plan) (commands : List Task) (scope : Scope) (acts : List Act) (act : Act) : Type 0 where
+  pub client : (state_after plan commands scope acts).client ≡ fresh
+  pub marks : (state_after plan commands scope acts).marks ≡ []
+  pub asks : IsRequest act → Puts (null_text (state_after plan commands scope acts).progress.word) act
+  pub left : (state_after plan commands scope (acts ++ act ∷ [])).progress.word
+      ≡ unanswered_after (state_after plan commands scope acts).progress.word (lines_heard_at (state_after plan commands scope acts) act)
 
--- at an act a station begins anew: it reads the clock where seven wait, all of them given up; then nothing waits, and no null procedure is
--- answered
-pub record IsAnew (plan : Plan) (commands : List Task) (scope : Scope) (acts : List Act) (act : Act) : Type 0 where
-  pub renews : action_at plan (stood plan commands scope acts) ≡ Renew
+-- at an act a station resynchronizes: it reads the clock where seven are outstanding, all of them timed out; then nothing is
+-- outstanding, and no null procedure is answered
+pub record IsResynchronizing (plan : Plan) (commands : List Task) (scope : Scope) (acts : List Act) (act : Act) : Type 0 where
+  pub renews : action_at plan (state_after plan commands scope acts) ≡ Renew
   pub moment : Moment
   pub told : act ≡ Told moment
-  pub seven : length (stood plan commands scope acts).client.waiting ≡ WINDOW
-  pub given_up : deadlines (stood plan commands scope acts).client.waiting ≡ []
-  pub word : (stood plan commands scope (acts ++ act ∷ [])).progress.word ≡ the_word
-  pub client : (stood plan commands scope (acts ++ act ∷ [])).client ≡ fresh
+  pub seven : length (state_after plan commands scope acts).client.waiting ≡ WINDOW
+  pub given_up : deadlines (state_after plan commands scope acts).client.waiting ≡ []
+  pub word : (state_after plan commands scope (acts ++ act ∷ [])).progress.word ≡ the_word
+  pub client : (state_after plan commands scope (acts ++ act ∷ [])).client ≡ fresh
 
--- a run begins with all eight null procedures; each act while the station begins is `IsOfBeginning`; and where the station begins
--- anew, the act is `IsAnew`
-pub record BeginsSo (plan : Plan) (commands : List Task) (scope : Scope) (acts : List Act) (act : Act) : Type 0 where
-  pub starts : (stood plan commands scope []).progress.word ≡ the_word
-  pub begins : has_begun (stood plan commands scope acts).progress ≡ false → IsOfBeginning plan commands scope acts act
-  pub anew : has_begun (stood plan commands scope acts).progress ≡ true → has_begun (stood plan commands scope (acts ++ act ∷ [])).progress ≡ false
-      → IsAnew plan commands scope acts act
+-- a run begins with all eight null procedures; each act while the station synchronizes is `IsSynchronizing`; and if the station
+-- resynchronizes, the act is `IsResynchronizing`
+pub record SynchronizesInOrder (plan : Plan) (commands : List Task) (scope : Scope) (acts : List Act) (act : Act) : Type 0 where
+  pub starts : (state_after plan commands scope []).progress.word ≡ the_word
+  pub begins : has_begun (state_after plan commands scope acts).progress ≡ false → IsSynchronizing plan commands scope acts act
+  pub anew : has_begun (state_after plan commands scope acts).progress ≡ true → has_begun (state_after plan commands scope (acts ++ act ∷ [])).progress ≡ false
+      → IsResynchronizing plan commands scope acts act
 
--- after these acts there is a connection that was cleared: as soon as it was made, a lone line feed went out whole. Where the
--- station had begun by then, the connection was quiet before anything else went out on it
+-- after these acts there is a connection that was cleared: as soon as it was made, a lone line feed was sent whole. If the
+-- station had synchronized by then, the connection was quiet before anything else was sent on it
 pub record IsClearedAndQuiet (plan : Plan) (commands : List Task) (scope : Scope) (acts : List Act) : Type 0 where
   pub before : List Act
   pub behind : List Act
   pub order : acts ≡ before ++ Opened ∷ Put (10 ∷ []) ∷ behind
   pub stays : AllByRecursion StaysConnected behind
-  pub quiet : has_begun (stood plan commands scope before).progress ≡ true → IsQuietFirst plan.quiet behind
+  pub quiet : has_begun (state_after plan commands scope before).progress ≡ true → IsQuietFirst plan.quiet behind

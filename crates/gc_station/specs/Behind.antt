@@ -1,7 +1,7 @@
--- Where commands go out behind calls of the table, this project's own. An instrument may keep its reply to a request, and send it
--- again for a later one with the same id; of eight requests in a row no two have one id. Procedures that aren't in the table may
--- leave what it keeps. So no command goes out unless one of the seven requests before it is a call of the table that a reply
--- ended, or the last null procedure of the beginning. A part reaches from one beginning to the next (`Parts`).
+-- Where commands are sent after calls of the table, this project's own. An instrument may keep its reply to a request, and send
+-- it again for a later one with the same id; of eight requests in a row no two have one id. Procedures that aren't in the table
+-- may leave what it keeps. So no command is sent unless one of the seven requests before it is a call of the table that a reply
+-- ended, or the last null procedure of the synchronization. A part reaches from one synchronization to the next (`Parts`).
 use Rattle.std.specs.Prelude.{◌≡◌, ◌⊎◌, ℕ, ◌+◌, ◌<◌, ◌≤◌, true, false, List, ◌∷◌, ◌++◌, length, Some, slice_get}
 use Rattle.std.specs.List.{AllByRecursion}
 use Rattle.gc_catalogue.specs.Asked.{is_of_table}
@@ -19,23 +19,23 @@ use Rattle.gc_station.specs.Links.{parts}
 use Rattle.gc_station.specs.Model.{opening, waiting_of, Runs}
 use Rattle.gc_station.specs.Parts.{Part}
 use Rattle.gc_station.specs.Progressing.{is_over}
-use Rattle.gc_station.specs.Runs.{stood}
+use Rattle.gc_station.specs.Runs.{state_after}
 use Rattle.gc_station.specs.Scopes.{Scope}
 
 -- a request was a call of the table, and a reply ended it: it was answered, or late
 abbrev pub IsReplied : Settlement Asked → Type 0
 IsReplied x = (is_of_table x.call ≡ true) × (x.outcome ≡ Lost → ⊥)
 
--- of the requests that a client sent since its beginning, one of the last seven is a call of the table that a reply ended; or
--- fewer than seven went out, so that the last null procedure of the beginning is one of the last seven. Settlement k is that of
--- request k
+-- of the requests that a client sent since its synchronization, one of the last seven is a call of the table that a reply
+-- ended; or fewer than seven were sent, so that the last null procedure of the synchronization is one of the last seven.
+-- Settlement k is that of request k
 abbrev pub IsNearTheTable : Course Asked → Type 0
 IsNearTheTable x =
     (length x.sent < WINDOW)
     ⊎ ((k : ℕ) × (s : Settlement Asked) × (slice_get x.settlements k ≡ Some s) × IsReplied s × (length x.sent ≤ k + WINDOW))
 
--- wherever a command goes out, one of the seven requests before it is a call of the table that a reply ended, or the last null
--- procedure of its part's beginning (`IsNearTheTable`)
+-- wherever a command is sent, one of the seven requests before it is a call of the table that a reply ended, or the last null
+-- procedure of its part's synchronization (`IsNearTheTable`)
 abbrev pub CommandsGoOutBehindTheTable : Type 0
 CommandsGoOutBehindTheTable =
     (plan : Plan) (commands : List Task) (scope : Scope) (acts : List Act) → Runs plan commands (opening plan scope) acts
@@ -47,12 +47,12 @@ CommandsGoOutBehindTheTable =
 abbrev pub AreOfTable : List Task → Type 0
 AreOfTable tasks = AllByRecursion (λ task. is_of_table task.command.call ≡ true) tasks
 
--- where all commands are calls of the table, and a run has begun and isn't over, as many requests are behind the last call of the table that a
--- reply ended as wait; so a command that may go out does, as soon as there is room
+-- if all commands are calls of the table, and a run has synchronized and isn't over, the outstanding requests are those sent
+-- after the last call of the table that a reply ended; so a command that may be sent is sent as soon as there is room
 abbrev pub TheTableIsNeverHeldUp : Type 0
 TheTableIsNeverHeldUp =
     (plan : Plan) (commands : List Task) (scope : Scope) (acts : List Act) → Runs plan commands (opening plan scope) acts → AreOfTable commands
-    → let s = stood plan commands scope acts in has_begun s.progress ≡ true → is_over s.progress ≡ false
+    → let s = state_after plan commands scope acts in has_begun s.progress ≡ true → is_over s.progress ≡ false
     → (s.progress.behind ≡ length s.client.waiting)
     × (action_next plan s.progress (waiting_of s) ≡ action_room plan s.progress (waiting_of s) action.Send)
     × (action_prepare plan s.progress (waiting_of s) ≡ action_room plan s.progress (waiting_of s) action.Prepare)

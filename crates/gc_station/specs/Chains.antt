@@ -1,5 +1,5 @@
--- Chains, this project's own: a command of a chain goes out only once the one before it in its cycle was answered well, on the
--- connection on which that went out. An act is one call of the link, with what came of it.
+-- Chains, this project's own: a command of a chain is sent only once the one before it in its cycle was answered well, on the
+-- connection on which that was sent. An act is one call on the link, with its result.
 use Rattle.std.specs.Prelude.{◌≡◌, ℕ, ◌+◌, ◌<◌, true, List, [], ◌∷◌, ◌++◌, drop, Option}
 use Rattle.std.specs.List.{AllByRecursion}
 use Rattle.gc_catalogue.specs.declared.answer.Answer.{Answer}
@@ -14,15 +14,16 @@ use Rattle.gc_station.specs.Answers.{IsAnsweredIn}
 use Rattle.gc_station.specs.Qualities.{IsOfQuality, accepted_at}
 use Rattle.gc_station.specs.Quiet.{KeepsOpen}
 use Rattle.gc_station.specs.Records.{Record}
-use Rattle.gc_station.specs.Runs.{stood}
+use Rattle.gc_station.specs.Runs.{state_after}
 use Rattle.gc_station.specs.Scopes.{Scope}
 use Rattle.gc_station.specs.Model.{Model, action_at, cycles_begun, place_next, is_chained}
 
--- the next command isn't the first of its cycle, which stands behind the set-up, and goes out only once the one before it was answered well
+-- the next command isn't the first of its cycle, which comes after the setup, and is sent only once the one before it was
+-- answered well
 abbrev pub IsChained : Plan → List Task → Model → Type 0
 IsChained plan commands s = (plan.setup < place_next commands s.progress) × (is_chained (drop (place_next commands s.progress) commands) ≡ true)
 
--- after these acts the command before the next one, of the same cycle, went out, and no connection was closed since. Its record
+-- after these acts the command before the next one, of the same cycle, was sent, and no connection was closed since. Its record
 -- is the last one. That is an answer which came in time, with the id of that very request, and of a good quality: with both
 -- codes 0 and values that read, or with a return code that is accepted of that command
 pub record IsLinked (plan : Plan) (commands : List Task) (scope : Scope) (acts : List Act) : Type 0 where
@@ -30,15 +31,15 @@ pub record IsLinked (plan : Plan) (commands : List Task) (scope : Scope) (acts :
   pub request : Act
   pub between : List Act
   pub order : acts ≡ before ++ request ∷ between
-  pub sends : action_at plan (stood plan commands scope before) ≡ Send
-  pub cycle : cycles_begun plan (stood plan commands scope acts).progress ≡ cycles_begun plan (stood plan commands scope before).progress
-  pub place : place_next commands (stood plan commands scope acts).progress ≡ place_next commands (stood plan commands scope before).progress + 1
+  pub sends : action_at plan (state_after plan commands scope before) ≡ Send
+  pub cycle : cycles_begun plan (state_after plan commands scope acts).progress ≡ cycles_begun plan (state_after plan commands scope before).progress
+  pub place : place_next commands (state_after plan commands scope acts).progress ≡ place_next commands (state_after plan commands scope before).progress + 1
   pub stays : AllByRecursion KeepsOpen between
   pub earlier : List Record
   pub answer : Record
-  pub last : (stood plan commands scope acts).records ≡ earlier ++ answer ∷ []
-  pub own_cycle : answer.cycle ≡ cycles_begun plan (stood plan commands scope before).progress
-  pub own_place : answer.place ≡ place_next commands (stood plan commands scope before).progress
+  pub last : (state_after plan commands scope acts).records ≡ earlier ++ answer ∷ []
+  pub own_cycle : answer.cycle ≡ cycles_begun plan (state_after plan commands scope before).progress
+  pub own_place : answer.place ≡ place_next commands (state_after plan commands scope before).progress
   pub line : List ℕ
   pub quality : Quality
   pub said : Option Answer

@@ -1,4 +1,4 @@
--- Why each act is made, and why a connection is closed: this project's own. An act is one call of the link, with what came of it.
+-- Why each act is made, and why a connection is closed: this project's own. An act is one call on the link, with its result.
 use Rattle.std.specs.Prelude.{◌≡◌, ◌⊎◌, ℕ, false, List, [], ◌∷◌, ◌++◌}
 use Rattle.gc_client.specs.Rule.{fresh}
 use Rattle.gc_texts.specs.declared.tasks.Task.{Task}
@@ -13,11 +13,12 @@ use Rattle.gc_links.specs.Acts.{Act, Untold, Cut, Ended, Broke, Closed, Unopened
 use Rattle.gc_station.specs.Deciding.{is_up}
 use Rattle.gc_station.specs.Progressing.{is_finished, is_spared}
 use Rattle.gc_station.specs.Reasons.{IsFor, IsAtItsEnd}
-use Rattle.gc_station.specs.Runs.{stood}
+use Rattle.gc_station.specs.Runs.{state_after}
 use Rattle.gc_station.specs.Model.{Model, waiting_of, action_at, Performs}
 use Rattle.gc_station.specs.Scopes.{Scope}
 
--- where a null procedure of a beginning goes out nothing waits, and the client is new: the first command after the beginning has id 0
+-- if a null procedure of a synchronization is sent nothing is outstanding, and the client is new: the first command after the
+-- synchronization has id 0
 abbrev pub IsAlone : Action → Model → Type 0
 IsAlone Ask s = (s.client ≡ fresh) × (s.marks ≡ [])
 IsAlone _ s = Unit {0}
@@ -39,40 +40,41 @@ Shows _ act = ⊥
 -- a connection is closed for a cause: the run's end, a dead line, or what the last act shows
 pub record ClosesForACause (plan : Plan) (commands : List Task) (scope : Scope) (acts : List Act) : Type 0 where
   pub why : Cause
-  pub closes : action_at plan (stood plan commands scope acts) ≡ Close why
-  pub shown : IsAtItsEnd plan (stood plan commands scope acts).progress (waiting_of (stood plan commands scope acts)) why
+  pub closes : action_at plan (state_after plan commands scope acts) ≡ Close why
+  pub shown : IsAtItsEnd plan (state_after plan commands scope acts).progress (waiting_of (state_after plan commands scope acts)) why
       ⊎ ((earlier : List Act) × (last : Act) × (acts ≡ earlier ++ last ∷ []) × Shows why last)
 
--- a run ends as done: no command is left to be sent, and none waits
+-- a run ends as done: no command is left to be sent, and none is outstanding
 abbrev pub EndsDone : Progress → ℕ → Cause → Type 0
 EndsDone p commands why = (why ≡ cause.Done) × (p.left ≡ 0) × (p.unsent ≡ 0) × (commands ≡ 0)
 
--- a connection was closed, or couldn't be made, for the first of these causes, while `commands` commands waited; and then the
--- run ends for the cause `why`. After `Clock` (the clock can't be read), `Turns` (all turns are used up), `Stale` and `Stopped`, `why`
--- is that same cause. After `Done` it is `Done`: no command is left to be sent, and none waits. After any other cause the run is done in the
--- same way; or `why` is that other cause, a new connection would take a try, and no try is left
-abbrev pub EndsBehind : Plan → Progress → ℕ → Cause → Cause → Type 0
-EndsBehind plan p commands cause.Done why = EndsDone p commands why
-EndsBehind plan p commands cause.Clock why = why ≡ cause.Clock
-EndsBehind plan p commands cause.Turns why = why ≡ cause.Turns
-EndsBehind plan p commands cause.Stale why = why ≡ cause.Stale
-EndsBehind plan p commands cause.Stopped why = why ≡ cause.Stopped
-EndsBehind plan p commands other why =
+-- a connection was closed, or couldn't be made, for the first of these causes, while `commands` commands were outstanding; and
+-- then the run ends for the cause `why`. After `Clock` (the clock can't be read), `Turns` (all turns are used up), `Stale` and
+-- `Stopped`, `why` is that same cause. After `Done` it is `Done`: no command is left to be sent, and none is outstanding. After
+-- any other cause the run is done in the same way; or `why` is that other cause, a new connection would take a try, and no try
+-- is left
+abbrev pub EndsAfter : Plan → Progress → ℕ → Cause → Cause → Type 0
+EndsAfter plan p commands cause.Done why = EndsDone p commands why
+EndsAfter plan p commands cause.Clock why = why ≡ cause.Clock
+EndsAfter plan p commands cause.Turns why = why ≡ cause.Turns
+EndsAfter plan p commands cause.Stale why = why ≡ cause.Stale
+EndsAfter plan p commands cause.Stopped why = why ≡ cause.Stopped
+EndsAfter plan p commands other why =
     EndsDone p commands why ⊎ ((why ≡ other) × (is_finished commands p ≡ false) × (is_spared plan other p ≡ false) × (p.tries ≡ 0))
 
 -- the act, which performed the action `next`, closed the connection for some cause, or couldn't make one; and the run ends then
--- for the cause `why`, as `EndsBehind` says
-abbrev pub EndsGone : Plan → Progress → Waiting → Action → Cause → Act → Type 0
-EndsGone plan p w next why act =
-    ((other : Cause) × (act ≡ Closed) × (next ≡ Close other) × EndsBehind plan p w.commands other why)
-    ⊎ ((act ≡ Unopened) × EndsBehind plan p w.commands cause.Open why)
+-- for the cause `why`, as `EndsAfter` says
+abbrev pub EndsDisconnected : Plan → Progress → Waiting → Action → Cause → Act → Type 0
+EndsDisconnected plan p w next why act =
+    ((other : Cause) × (act ≡ Closed) × (next ≡ Close other) × EndsAfter plan p w.commands other why)
+    ⊎ ((act ≡ Unopened) × EndsAfter plan p w.commands cause.Open why)
 
--- an act ends a run for a cause: a call failed where there was no connection, or the connection is gone, and no other is made
+-- an act ends a run for a cause: a call failed if there was no connection, or the connection is gone, and no other is made
 abbrev pub Ends : Plan → Model → Cause → Act → Type 0
-Ends plan s why act = ((is_up s.progress.phase ≡ false) × Shows why act) ⊎ EndsGone plan s.progress (waiting_of s) (action_at plan s) why act
+Ends plan s why act = ((is_up s.progress.phase ≡ false) × Shows why act) ⊎ EndsDisconnected plan s.progress (waiting_of s) (action_at plan s) why act
 
 -- a run stops without a connection, and for a cause: all turns are used up, or what the last act shows
 pub record StopsForACause (plan : Plan) (commands : List Task) (scope : Scope) (acts : List Act) (why : Cause) : Type 0 where
-  pub down : is_up (stood plan commands scope acts).progress.phase ≡ false
-  pub shown : ((why ≡ cause.Turns) × ((stood plan commands scope acts).progress.turns ≡ 0))
-      ⊎ ((earlier : List Act) × (last : Act) × (acts ≡ earlier ++ last ∷ []) × Ends plan (stood plan commands scope earlier) why last)
+  pub down : is_up (state_after plan commands scope acts).progress.phase ≡ false
+  pub shown : ((why ≡ cause.Turns) × ((state_after plan commands scope acts).progress.turns ≡ 0))
+      ⊎ ((earlier : List Act) × (last : Act) × (acts ≡ earlier ++ last ∷ []) × Ends plan (state_after plan commands scope earlier) why last)

@@ -16,13 +16,13 @@ use Rattle.gc_values.specs.declared.fault.ValueFault.{ValueFault}
 use Rattle.gc_station.specs.Marks.{end_of, is_well}
 use Rattle.gc_station.specs.Scopes.{AreReadings}
 
--- `r` has the fields of a command's reply. `expected` says where the command's target stands, if the text says so, and which
--- return codes are accepted of it.
+-- `r` has the fields of a command's reply. `expected` says where the command's target is, if the text says so, and which return
+-- codes are accepted of it.
 -- `only`, `without`: the command was answered well only if the communication code is 0, and the return code is 0 or an accepted
--- one. Where no code is accepted, both codes have to be 0.
--- `unread`: it wasn't answered well where the reply says neither an answer nor a refusal with an accepted code.
--- `found`, `away`: both codes are 0, and the parameters are an answer to what was asked. Then the command was answered well, unless
--- the answer was measured elsewhere than the target stands; then it ended as elsewhere.
+-- one. If no code is accepted, both codes have to be 0.
+-- `unread`: it wasn't answered well if the reply says neither an answer nor a refusal with an accepted code.
+-- `found`, `away`: both codes are 0, and the parameters are an answer to what was asked. Then the command was answered well,
+-- unless the answer was measured elsewhere than the target is; then it ended as elsewhere.
 -- `warned`, `warned_away`: the same with an accepted return code other than 0.
 -- `warned_without`: with an accepted return code other than 0, and parameters that don't read, it is answered with a warning,
 -- and without values.

@@ -48,8 +48,8 @@ is_missed _ = false
 abbrev pub at_most : ℕ → ℕ
 at_most n = min n 18446744073709551615
 
--- whether the attempt of a chain that stands in front of these records is followed by a further one: the next attempt that begins among
--- them does so with an attempt above 1. Records of cycle 0, of the set-up, belong to no chain
+-- whether the attempt of a chain that comes before these records is followed by a further one: the next attempt that begins
+-- among them does so with an attempt above 1. Records of cycle 0, of the setup, belong to no chain
 abbrev pub is_followed : List Record → Bool
 is_followed [] = false
 is_followed (r ∷ others) = if nat_eq r.cycle 0 || not (nat_eq r.turn.link 0) then is_followed others else nat_lt 1 r.turn.attempt
@@ -65,7 +65,8 @@ further_attempts [] = 0
 further_attempts (r ∷ others) =
     if not (nat_eq r.cycle 0) && nat_eq r.turn.link 0 && nat_lt 1 r.turn.attempt then suc (further_attempts others) else further_attempts others
 
--- each count of a tally is the number of the records of last attempts with its ending; `again` is how many chains went out again
+-- each count of a tally is the number of the records of last attempts with its ending; `again` is how many chains were sent
+-- again
 pub record TalliesCountRecords : Type 0 where
   pub answered : (records : List Record) → (tally_of records).answered ≡ at_most (how_many is_answered (last_attempts records))
   pub unreadable : (records : List Record) → (tally_of records).unreadable ≡ at_most (how_many is_unreadable (last_attempts records))

@@ -1,6 +1,6 @@
--- When cycles begin, and which commands aren't sent, in the acts' own moments: this project's own. Cycles are due on a grid: the
--- first when it begins, and each other one `every` milliseconds after the one before it. An act is one call of the link, with what
--- came of it.
+-- When cycles begin, and which commands aren't sent, in the acts' own moments: this project's own. Cycles are due on a grid:
+-- the first when it begins, and each other one `every` milliseconds after the one before it. An act is one call on the link,
+-- with its result.
 use Rattle.std.specs.Prelude.{◌≡◌, ℕ, zero, suc, ◌+◌, ◌-◌, ◌<◌, ◌≤◌, true, false, List, [], ◌∷◌, ◌++◌, drop, None}
 use Rattle.std.specs.List.{AllByRecursion}
 use Rattle.gc_texts.specs.Endings.{Skipped, Missed}
@@ -9,40 +9,40 @@ use Rattle.gc_links.specs.Acts.{Act, Told, Gave, Silent}
 use Rattle.gc_links.specs.declared.link.Moment.{Moment}
 use Rattle.gc_station.specs.Deciding.{may_go}
 use Rattle.gc_station.specs.Records.{Record}
-use Rattle.gc_station.specs.Runs.{stood}
+use Rattle.gc_station.specs.Runs.{state_after}
 use Rattle.gc_station.specs.Scopes.{Scope}
 use Rattle.gc_station.specs.Model.{opening, action_at, waiting_of, cycles_begun, place_next, is_chained, Runs}
 use Rattle.gc_station.specs.declared.plan.Plan.{Plan}
 use Rattle.gc_station.specs.declared.progress.Action.TheVariants.{Begin, Send, Skip}
 
--- the clock doesn't go back: the first moment that these acts tell is at or past `now`, each later one at or past the one
+-- the clock doesn't go back: the first moment that these acts read is at or past `now`, each later one at or past the one
 -- before it, and all have 64 bits
-abbrev pub Rises : ℕ → List Act → Type 0
-Rises now [] = Unit {0}
-Rises now (Told m ∷ acts) = (now ≤ m.elapsed) × (m.elapsed ≤ 18446744073709551615) × Rises m.elapsed acts
-Rises now (Gave bytes m ∷ acts) = (now ≤ m.elapsed) × (m.elapsed ≤ 18446744073709551615) × Rises m.elapsed acts
-Rises now (Silent m ∷ acts) = (now ≤ m.elapsed) × (m.elapsed ≤ 18446744073709551615) × Rises m.elapsed acts
-Rises now (act ∷ acts) = Rises now acts
+abbrev pub ClockRises : ℕ → List Act → Type 0
+ClockRises now [] = Unit {0}
+ClockRises now (Told m ∷ acts) = (now ≤ m.elapsed) × (m.elapsed ≤ 18446744073709551615) × ClockRises m.elapsed acts
+ClockRises now (Gave bytes m ∷ acts) = (now ≤ m.elapsed) × (m.elapsed ≤ 18446744073709551615) × ClockRises m.elapsed acts
+ClockRises now (Silent m ∷ acts) = (now ≤ m.elapsed) × (m.elapsed ≤ 18446744073709551615) × ClockRises m.elapsed acts
+ClockRises now (act ∷ acts) = ClockRises now acts
 
--- the due moment of the cycle that has n cycles before it, where the first one began at `first`
-abbrev pub due_behind : ℕ → ℕ → ℕ → ℕ
-due_behind first every zero = first
-due_behind first every (suc n) = due_behind first every n + every
+-- the due moment of the cycle that has n cycles before it, if the first one began at `first`
+abbrev pub due_after : ℕ → ℕ → ℕ → ℕ
+due_after first every zero = first
+due_after first every (suc n) = due_after first every n + every
 
 -- among these acts one reads the clock at this moment and begins a cycle, and n cycles began before it
 pub record BeginsAt (plan : Plan) (commands : List Task) (scope : Scope) (acts : List Act) (n : ℕ) (m : Moment) : Type 0 where
   pub before : List Act
   pub behind : List Act
   pub order : acts ≡ before ++ Told m ∷ behind
-  pub begins : action_at plan (stood plan commands scope before) ≡ Begin
-  pub number : cycles_begun plan (stood plan commands scope before).progress ≡ n
+  pub begins : action_at plan (state_after plan commands scope before) ≡ Begin
+  pub number : cycles_begun plan (state_after plan commands scope before).progress ≡ n
 
 -- among these acts a cycle begins at this moment, `late` milliseconds after its due moment, and n cycles began before it
 pub record BeginsLate (plan : Plan) (commands : List Task) (scope : Scope) (acts : List Act) (n : ℕ) (m : Moment) (late : ℕ) : Type 0 where
   pub first : Moment
   pub first_begins : BeginsAt plan commands scope acts 0 first
   pub begins : BeginsAt plan commands scope acts n m
-  pub grid : due_behind first.elapsed plan.every n + late ≡ m.elapsed
+  pub grid : due_after first.elapsed plan.every n + late ≡ m.elapsed
 
 -- the cycle that began last among these acts: how many began before it (`n`), the moment at which it began, and how many
 -- milliseconds after its due moment that was (`late`)
@@ -51,20 +51,20 @@ pub record LastBegan (plan : Plan) (commands : List Task) (scope : Scope) (acts 
   pub moment : Moment
   pub late : ℕ
   pub begins : BeginsLate plan commands scope acts n moment late
-  pub number : cycles_begun plan (stood plan commands scope acts).progress ≡ suc n
+  pub number : cycles_begun plan (state_after plan commands scope acts).progress ≡ suc n
 
 -- a cycle begins at or after its due moment, where cycles have due moments and the clock doesn't go back
 abbrev pub CyclesBeginWhenDue : Type 0
 CyclesBeginWhenDue =
     (plan : Plan) (commands : List Task) (scope : Scope) (acts later : List Act) (m : Moment) → 0 < plan.every → Runs plan commands (opening plan scope) (acts ++ Told m ∷ later)
-    → Rises 0 (acts ++ Told m ∷ []) → action_at plan (stood plan commands scope acts) ≡ Begin
-    → (late : ℕ) × BeginsLate plan commands scope (acts ++ Told m ∷ []) (cycles_begun plan (stood plan commands scope acts).progress) m late
+    → ClockRises 0 (acts ++ Told m ∷ []) → action_at plan (state_after plan commands scope acts) ≡ Begin
+    → (late : ℕ) × BeginsLate plan commands scope (acts ++ Told m ∷ []) (cycles_begun plan (state_after plan commands scope acts).progress) m late
 
--- where a command goes out, its cycle began before the next one was due, if cycles have due moments and the clock doesn't go back
+-- if a command is sent, its cycle began before the next one was due, if cycles have due moments and the clock doesn't go back
 abbrev pub SentOnlyInTime : Type 0
 SentOnlyInTime =
-    (plan : Plan) (commands : List Task) (scope : Scope) (acts : List Act) → 0 < plan.every → Runs plan commands (opening plan scope) acts → Rises 0 acts
-    → action_at plan (stood plan commands scope acts) ≡ Send → (last : LastBegan plan commands scope acts) × (last.late < plan.every)
+    (plan : Plan) (commands : List Task) (scope : Scope) (acts : List Act) → 0 < plan.every → Runs plan commands (opening plan scope) acts → ClockRises 0 acts
+    → action_at plan (state_after plan commands scope acts) ≡ Send → (last : LastBegan plan commands scope acts) × (last.late < plan.every)
 
 -- the command of a record is missed: its cycle began when the next one was due, or later; it wasn't sent, and the record has the moment at
 -- which its cycle was due, by the clock of time stamps
@@ -78,31 +78,31 @@ pub record IsMissedIn (plan : Plan) (commands : List Task) (scope : Scope) (acts
   pub sent : r.sent ≡ None
   pub due : r.utc ≡ moment.utc - late
 
--- the command of a record is skipped: it is of a chain, and not its first; its cycle began before the next one was due; it wasn't sent,
--- because the one before it wasn't answered well, or a connection was closed or the station began anew since that one went out; and the
--- record has the moment at which the command was passed over
+-- the command of a record is skipped: it is of a chain, and not its first; its cycle began before the next one was due; it
+-- wasn't sent, because the one before it wasn't answered well, or a connection was closed or the station resynchronized since
+-- that one was sent; and the record has the moment at which the command was left out
 pub record IsSkippedIn (plan : Plan) (commands : List Task) (scope : Scope) (acts : List Act) (r : Record) : Type 0 where
   pub before : List Act
   pub moment : Moment
   pub behind : List Act
   pub order : acts ≡ before ++ Told moment ∷ behind
-  pub skips : action_at plan (stood plan commands scope before) ≡ Skip
-  pub cycle : r.cycle ≡ cycles_begun plan (stood plan commands scope before).progress
-  pub place : r.place ≡ place_next commands (stood plan commands scope before).progress
-  pub not_first : plan.setup < place_next commands (stood plan commands scope before).progress
-  pub chained : is_chained (drop (place_next commands (stood plan commands scope before).progress) commands) ≡ true
-  pub broken : may_go (stood plan commands scope before).progress (waiting_of (stood plan commands scope before)) ≡ false
+  pub skips : action_at plan (state_after plan commands scope before) ≡ Skip
+  pub cycle : r.cycle ≡ cycles_begun plan (state_after plan commands scope before).progress
+  pub place : r.place ≡ place_next commands (state_after plan commands scope before).progress
+  pub not_first : plan.setup < place_next commands (state_after plan commands scope before).progress
+  pub chained : is_chained (drop (place_next commands (state_after plan commands scope before).progress) commands) ≡ true
+  pub broken : may_go (state_after plan commands scope before).progress (waiting_of (state_after plan commands scope before)) ≡ false
   pub last : LastBegan plan commands scope before
   pub in_time : last.late < plan.every
   pub sent : r.sent ≡ None
   pub utc : r.utc ≡ moment.utc
 
 -- if the record is of a missed or a skipped command, that command was missed, or skipped, for its cause
-abbrev pub IsTrulyUnsent : Plan → List Task → Scope → List Act → Record → Type 0
-IsTrulyUnsent plan commands scope acts r = (r.end ≡ Missed → IsMissedIn plan commands scope acts r) × (r.end ≡ Skipped → IsSkippedIn plan commands scope acts r)
+abbrev pub UnsentIsJustified : Plan → List Task → Scope → List Act → Record → Type 0
+UnsentIsJustified plan commands scope acts r = (r.end ≡ Missed → IsMissedIn plan commands scope acts r) × (r.end ≡ Skipped → IsSkippedIn plan commands scope acts r)
 
 -- each record of a missed or a skipped command is justified, where cycles have due moments and the clock doesn't go back
 abbrev pub UnsentForACause : Type 0
 UnsentForACause =
-    (plan : Plan) (commands : List Task) (scope : Scope) (acts : List Act) → 0 < plan.every → Runs plan commands (opening plan scope) acts → Rises 0 acts
-    → AllByRecursion (IsTrulyUnsent plan commands scope acts) (stood plan commands scope acts).records
+    (plan : Plan) (commands : List Task) (scope : Scope) (acts : List Act) → 0 < plan.every → Runs plan commands (opening plan scope) acts → ClockRises 0 acts
+    → AllByRecursion (UnsentIsJustified plan commands scope acts) (state_after plan commands scope acts).records

@@ -1,8 +1,9 @@
--- What a station does next, this project's own. It is a function of how far the station is, and of how many requests wait: in
--- all, of those that aren't given up, and of commands. The phases are: without a connection (`Down`), in the pause before the
--- next attempt (`Pausing`), before the line feed that clears a connection (`Clearing`), until a connection is quiet
--- (`Draining`), with a connection for requests (`Ready`), before a close (`Closing`), and at the end (`Over`). Of the progress,
--- `left` counts the cycles that haven't begun, and `unsent` the commands of the cycle that were neither sent nor passed over.
+-- What a station does next, this project's own. It is a function of how far the station is, and of how many requests are
+-- outstanding: in all, of those that haven't timed out, and of commands. The phases are: without a connection (`Down`), in the
+-- pause before the next attempt (`Pausing`), before the line feed that clears a connection (`Clearing`), until a connection is
+-- quiet (`Draining`), with a connection for requests (`Ready`), before a close (`Closing`), and at the end (`Over`). Of the
+-- progress, `left` counts the cycles that haven't begun, and `unsent` the commands of the cycle that were neither sent nor left
+-- out.
 use Rattle.std.specs.Prelude.{ℕ, ◌+◌, ◌-◌, ◌&&◌, ◌||◌, Bool, true, false, not, if◌then◌else◌, nat_lt, nat_le, nat_eq, min, max, List, [], ◌∷◌}
 use Rattle.gc_client.specs.declared.window.TheConstants.{WINDOW}
 use Rattle.gc_station.specs.declared.plan.Plan.{Plan}
@@ -15,7 +16,7 @@ use Rattle.gc_station.specs.declared.progress.Progress.{Progress}
 use Rattle.gc_station.specs.declared.progress.Until.TheVariants.{Limit, Due}
 use Rattle.gc_station.specs.declared.progress.Waiting.{Waiting}
 
--- how many requests may be under way: as the plan has it, at least one and at most seven
+-- how many requests may be in flight: as the plan has it, at least one and at most seven
 abbrev pub width_of : Plan → ℕ
 width_of plan = min (max plan.width 1) 7
 
@@ -33,11 +34,11 @@ is_up phase.Ready = true
 is_up (phase.Closing cause) = true
 is_up (phase.Over cause) = false
 
--- whether at least `wait` milliseconds lie between `since`, from when a pause or a quiet time counts, and the moment told last
+-- whether at least `wait` milliseconds lie between `since`, from when a pause or a quiet time counts, and the moment read last
 abbrev pub is_past : ℕ → Progress → Bool
 is_past wait p = nat_le wait (p.moment.elapsed - p.since)
 
--- whether at least the plan's quiet time lies between `since`, from when it counts, and the moment told last
+-- whether at least the plan's quiet time lies between `since`, from when it counts, and the moment read last
 abbrev pub is_quiet : Plan → Progress → Bool
 is_quiet plan p = is_past plan.quiet p
 
@@ -46,7 +47,7 @@ abbrev pub is_none_left : List ℕ → Bool
 is_none_left [] = true
 is_none_left (asked ∷ others) = false
 
--- whether a beginning is over: none of its null procedures is left unanswered
+-- whether a synchronization is done: none of its null procedures is left unanswered
 abbrev pub has_begun : Progress → Bool
 has_begun p = is_none_left p.word
 
@@ -54,23 +55,23 @@ has_begun p = is_none_left p.word
 abbrev pub patience_of : Plan → ℕ
 patience_of plan = later plan.deadline plan.deadline
 
--- whether the line is dead: a request waits, or a null procedure of the beginning went out on this connection; and for
--- `patience_of` no reply line came, since the last one or since the first request after it
+-- whether the line is dead: a request is outstanding, or a null procedure of the synchronization was sent on this connection;
+-- and for `patience_of` no reply line came, since the last one or since the first request after it
 abbrev pub is_dead : Plan → Progress → Waiting → Bool
 is_dead plan p w = (nat_lt 0 w.all || nat_lt 0 p.again) && nat_le (patience_of plan) (p.moment.elapsed - p.alive)
 
--- whether the run is stale: no answer of a good quality was written down for as long as the plan allows
+-- whether the run is stale: no answer of a good quality was recorded for as long as the plan allows
 abbrev pub is_stale : Plan → Progress → Waiting → Bool
 is_stale plan p w = nat_lt 0 plan.stale && nat_le plan.stale (p.moment.elapsed - w.fresh)
 
--- whether the station is between two chains: no command of the cycle is left, or the next one begins a chain; or since the connection was
--- made and the station began no command of a cycle had its turn (`preparing`), so that no chain goes on. In a missed cycle all commands count
--- as one chain
+-- whether the station is between two chains: no command of the cycle is left, or the next one begins a chain; or since the
+-- connection was made and the station synchronized no command of a cycle had its turn (`preparing`), so that no chain goes on.
+-- In a missed cycle all commands count as one chain
 abbrev pub is_between : Progress → Bool
 is_between p = (nat_eq p.unsent 0 || not p.next_is_chained) || p.preparing
 
--- whether the run may end here where that is asked for: there is no connection, or the station begins, or it is between two chains
--- and nothing is under way that isn't given up
+-- whether the run may end here if that is asked for: there is no connection, or the station synchronizes, or it is between two
+-- chains and nothing is in flight that hasn't timed out
 abbrev pub is_resting : Progress → Waiting → Bool
 is_resting p w = (not (is_up p.phase) || not (has_begun p)) || (nat_eq w.current 0 && is_between p)
 
@@ -78,12 +79,13 @@ is_resting p w = (not (is_up p.phase) || not (has_begun p)) || (nat_eq w.current
 abbrev pub is_stopping : Progress → Waiting → Bool
 is_stopping p w = p.stops && is_resting p w
 
--- whether no further chain begins, because the end of the run was asked for, though something is under way that isn't given up
+-- whether no further chain begins, because the end of the run was asked for, though something is in flight that hasn't timed
+-- out
 abbrev pub is_held_back : Progress → Waiting → Bool
 is_held_back p w = (p.stops && is_between p) && nat_lt 0 w.current
 
--- the next action where nothing may go out: to read, as a reply may still come; to close a dead line; or to begin anew,
--- where all requests that wait are given up
+-- the next action if nothing may be sent: to read, as a reply may still come; to close a dead line; or to resynchronize, if all
+-- outstanding requests have timed out
 abbrev pub action_waiting : Plan → Progress → Waiting → Action
 action_waiting plan p w = if is_dead plan p w then Close Dead else if nat_eq w.current 0 then Renew else Read Limit
 
@@ -100,12 +102,12 @@ is_idle plan p = p.early && not (is_due plan p)
 abbrev pub goes_on : Plan → Progress → Bool
 goes_on plan p = nat_lt 0 p.unsent || is_due plan p
 
--- whether no command of any cycle is left to be sent, and none waits: `commands` is how many wait
+-- whether no command of any cycle is left to be sent, and none is outstanding: `commands` is how many are outstanding
 abbrev pub is_finished : ℕ → Progress → Bool
 is_finished commands p = nat_eq p.left 0 && nat_eq p.unsent 0 && nat_eq commands 0
 
--- the next action while the station begins: the null procedure of the first id that isn't answered goes out, and again at its
--- deadline, but not between cycles, nor where no command is left to be sent after the beginning
+-- the next action while the station synchronizes: the null procedure of the first id that isn't answered is sent, and again at
+-- its deadline, but not between cycles, nor if no command is left to be sent after the synchronization
 abbrev pub action_beginning : Plan → Progress → Waiting → Action
 action_beginning plan p w =
     if is_finished w.commands p then Close Done
@@ -114,43 +116,45 @@ action_beginning plan p w =
     else if nat_le p.again p.moment.elapsed then Ask
     else Read Limit
 
--- the next action where each command of the cycle is settled
+-- the next action if each command of the cycle is settled
 abbrev pub action_done : Plan → Progress → Action
 action_done plan p = if nat_eq p.left 0 then Close Done else if is_due plan p then Begin else Read Due
 
--- whether another request may go out: fewer are under way than `width_of` allows, and fewer wait in all than the window has places
+-- whether another request may be sent: fewer are in flight than `width_of` allows, and fewer are outstanding in all than the
+-- window has places
 abbrev pub has_room : Plan → Waiting → Bool
 has_room plan w = nat_lt w.current (width_of plan) && nat_lt w.all WINDOW
 
--- `action`, which sends a request, if there is room for one; else the action of a station that waits
+-- `action`, which sends a request, if there is room for one; otherwise the action of a station that waits
 abbrev pub action_room : Plan → Progress → Waiting → Action → Action
 action_room plan p w action = if has_room plan w then action else action_waiting plan p w
 
--- the next action where the next command may go out: it does, if there is room, where one of the seven requests before it is a
--- call of the table that a reply ended (`behind`). Else a null procedure goes out first, once no request is under way that isn't
--- given up
+-- the next action when the next command may be sent: `Send`, if there is room and one of the seven requests before it is a call
+-- of the table that a reply ended (`behind`). Else a null procedure is sent first (`Flush`), once no request is in flight that
+-- hasn't timed out
 abbrev pub action_next : Plan → Progress → Waiting → Action
 action_next plan p w =
     if nat_lt p.behind WINDOW then action_room plan p w Send
     else if nat_eq w.current 0 then action_room plan p w Flush
     else action_waiting plan p w
 
--- whether the next command of a chain may go out: the one before it was answered well, and since that went out no connection was
--- closed, and the station didn't begin anew
+-- whether the next command of a chain may be sent: the one before it was answered well, and since that was sent no connection
+-- was closed, and the station didn't resynchronize
 abbrev pub may_go : Progress → Waiting → Bool
 may_go p w = w.well && p.chain_unbroken
 
--- whether the next command goes out only once all that went out are settled: it is chained, or begins a further attempt of its chain
+-- whether the next command is sent only once all that were sent are settled: it is chained, or begins a further attempt of its
+-- chain
 abbrev pub waits_for_all : Progress → Bool
 waits_for_all p = p.next_is_chained || nat_lt 0 p.next_others
 
--- the next action where the next command begins a further attempt of its chain, and each command that was sent is settled: the
--- command goes out where a command of the attempt before ended as its rule names; else this attempt and those behind it are passed
--- over, as they are in a missed cycle, where each command counts as chained
+-- the next action if the next command begins a further attempt of its chain, and each command that was sent is settled: the
+-- command is sent if a command of the attempt before ended as its rule names; otherwise this attempt and those after it are
+-- left out, as they are in a missed cycle, in which each command counts as chained
 abbrev pub action_again : Plan → Progress → Waiting → Action
 action_again plan p w = if w.listed && not p.next_is_chained then action_next plan p w else Pass
 
--- the next action where each command that was sent is settled
+-- the next action if each command that was sent is settled
 abbrev pub action_settled : Plan → Progress → Waiting → Action
 action_settled plan p w =
     if nat_eq p.unsent 0 then action_done plan p
@@ -158,29 +162,30 @@ action_settled plan p w =
     else if may_go p w then action_next plan p w
     else Skip
 
--- the next action where no command may go out before those that wait are settled: each of the cycle was sent, or the next
--- one is chained or begins a further attempt. Where some wait, and all that wait are given up, a null procedure goes out, whose reply settles them
+-- the next action if no command may be sent before those that are outstanding are settled: each of the cycle was sent, or the
+-- next one is chained or begins a further attempt. If some are outstanding, and all outstanding requests have timed out, a null
+-- procedure is sent, whose reply settles them
 abbrev pub action_sent : Plan → Progress → Waiting → Action
 action_sent plan p w =
     if nat_eq w.commands 0 then action_settled plan p w
     else if nat_eq w.current 0 then action_room plan p w Flush
     else action_waiting plan p w
 
--- the next action where the next command of the set-up may go out: as for a command of the cycle (`action_next`)
+-- the next action if the next command of the setup may be sent: as for a command of the cycle (`action_next`)
 abbrev pub action_prepare : Plan → Progress → Waiting → Action
 action_prepare plan p w =
     if nat_lt p.behind WINDOW then action_room plan p w Prepare
     else if nat_eq w.current 0 then action_room plan p w Flush
     else action_waiting plan p w
 
--- the next action where it is the turn of the next command of the set-up, if there is one. Where the last one was answered well, the set-up
--- is done, so that there always is one
+-- the next action when the setup\'s next command has its turn. There always is one, since the setup is done once the last one
+-- was answered well
 abbrev pub action_turn : Plan → Progress → Waiting → Action
 action_turn plan p w = if nat_lt p.prepared plan.setup then action_prepare plan p w else Read Limit
 
--- the next action while the set-up isn't done: nothing goes out where no command is left to be sent after it, nor between cycles. Its first
--- command goes out as soon as there is room, and each other one once the one before it was answered well. Where it wasn't, the
--- connection is closed, and the set-up begins with its first command on the next one
+-- the next action while the setup isn't done: nothing is sent if no command is left to be sent after it, nor between cycles.
+-- Its first command is sent as soon as there is room, and each other one once the one before it was answered well. If it
+-- wasn't, the connection is closed, and the setup begins with its first command on the next one
 abbrev pub action_preparing : Plan → Progress → Waiting → Action
 action_preparing plan p w =
     if is_finished w.commands p then Close Done
@@ -190,30 +195,31 @@ action_preparing plan p w =
     else if nat_eq w.current 0 then action_room plan p w Flush
     else action_waiting plan p w
 
--- the next action once the station has begun and its set-up is done: that of `action_next`, if there is a command that needn't wait for the answer of
--- the command before it; else that of `action_sent`
+-- the next action once the station has synchronized and its setup is done: that of `action_next`, if there is a command that
+-- needn't wait for the answer of the command before it; otherwise that of `action_sent`
 abbrev pub action_cycle : Plan → Progress → Waiting → Action
 action_cycle plan p w = if nat_lt 0 p.unsent && not (waits_for_all p) then action_next plan p w else action_sent plan p w
 
--- whether the set-up is still to be done: since the connection was made and the station began no command of a cycle had its turn (`preparing`), and not
--- all commands of the set-up went out, or the last of them waits, or wasn't answered well
+-- whether the setup is still to be done: no command of a cycle had its turn since the connection was made and the station
+-- synchronized (`preparing`), and a command of the setup wasn\'t sent yet, or the last one sent is outstanding, or wasn\'t
+-- answered well
 abbrev pub is_preparing : Plan → Progress → Waiting → Bool
 is_preparing plan p w = p.preparing && not (nat_le plan.setup p.prepared && nat_eq w.commands 0 && w.well)
 
--- the next action once the station has begun: to wait, where the end of the run was asked for, and only what is under way is left;
--- the set-up's until that is done, and then the cycle's
+-- the next action once the station has synchronized: that of a station that waits, if the end of the run was asked for and only
+-- requests in flight are left; that of the setup until it is done; and then that of the cycle
 abbrev pub action_begun : Plan → Progress → Waiting → Action
 action_begun plan p w =
     if is_held_back p w then action_waiting plan p w
     else if is_preparing plan p w then action_preparing plan p w
     else action_cycle plan p w
 
--- the next action on a connection that is ready: the beginning's until its eighth null procedure is answered, then the
+-- the next action on a connection that is ready: the synchronization's until its eighth null procedure is answered, then the
 -- commands'
 abbrev pub action_ready : Plan → Progress → Waiting → Action
 action_ready plan p w = if has_begun p then action_begun plan p w else action_beginning plan p w
 
--- the next action in a phase, where turns are left, and the moment told last isn't out of date
+-- the next action in a phase, where turns are left, and the moment read last isn't out of date
 abbrev pub action_told : Plan → Phase → Progress → Waiting → Action
 action_told plan phase.Down p w = Open
 action_told plan phase.Pausing p w = Read Limit
@@ -223,12 +229,12 @@ action_told plan phase.Ready p w = action_ready plan p w
 action_told plan (phase.Closing cause) p w = Close cause
 action_told plan (phase.Over cause) p w = Stop cause
 
--- the next action where all turns are used up: with a connection (`true`) to close it, else to stop
+-- the next action if all turns are used up: with a connection (`true`) to close it, else to stop
 abbrev pub action_up : Bool → Action
 action_up true = Close Turns
 action_up false = Stop Turns
 
--- the next action where the end isn't decided yet
+-- the next action if the end isn't decided yet
 abbrev pub action_on : Plan → Progress → Waiting → Action
 action_on plan p w =
     if nat_eq p.turns 0 then action_up (is_up p.phase)
@@ -237,7 +243,7 @@ action_on plan p w =
     else if p.stale then ReadClock
     else action_told plan p.phase p w
 
--- the next action in a phase: `Stop` where the run is over, `Close` where the connection is to be closed, and else that of
+-- the next action in a phase: `Stop` if the run is over, `Close` if the connection is to be closed, and else that of
 -- `action_on`
 abbrev pub action_in : Phase → Plan → Progress → Waiting → Action
 action_in (phase.Over cause) plan p w = Stop cause

@@ -1,5 +1,6 @@
--- Each command once, this project's own: the commands that had their turn, cycle by cycle and in order, are the records of a run that are of cycles,
--- and after them the commands that wait, but for those of attempts that were passed over, each once. An act is one call of the link, with what came of it.
+-- Each command once, this project's own: the commands that had their turn, cycle by cycle and in order, are the records of a
+-- run that are of cycles, and after them the outstanding commands, but for those of attempts that were left out, each once. An
+-- act is one call on the link, with its result.
 use Rattle.std.specs.Prelude.{◌≡◌, ◌⊎◌, ◌<◌, ℕ, zero, suc, List, [], ◌∷◌, ◌++◌, take, drop, Bool, true, false, nat_eq, map, Option, Some, None}
 use Rattle.gc_catalogue.specs.declared.asked.Asked.{Asked}
 use Rattle.gc_client.specs.declared.pending.Pending.{Pending}
@@ -13,27 +14,28 @@ use Rattle.gc_station.specs.declared.progress.Action.TheVariants.{Stop}
 use Rattle.gc_links.specs.Acts.{Act}
 use Rattle.gc_station.specs.Records.{Record}
 pub use Rattle.gc_station.specs.Requests.{Request, requests, of_command, of_task, in_text}
-use Rattle.gc_station.specs.Runs.{stood}
+use Rattle.gc_station.specs.Runs.{state_after}
 use Rattle.gc_station.specs.Model.{Model, action_at, cycles_begun, place_next}
 use Rattle.gc_station.specs.Scopes.{Scope}
 
--- all commands of the first `n` cycles, which are counted from 1: each has the commands behind the first `setup`, which are the set-up
+-- all commands of the first `n` cycles, which are counted from 1: each has the commands after the first `setup`, which are the
+-- setup
 abbrev pub all_cycles : ℕ → List Task → ℕ → List Request
 all_cycles setup commands zero = []
 all_cycles setup commands (suc n) = all_cycles setup commands n ++ requests (suc n) setup (map of_task (drop setup commands))
 
--- the commands that had their turn, sent or not, where this many cycles began: all of the cycles before the last of these, and
+-- the commands that had their turn, sent or not, if this many cycles began: all of the cycles before the last of these, and
 -- those before the place `place` of the last
 abbrev pub sent_by : ℕ → List Task → ℕ → ℕ → List Request
 sent_by setup commands zero place = []
 sent_by setup commands (suc n) place = all_cycles setup commands n ++ requests (suc n) setup (map of_task (drop setup (take place commands)))
 
--- these requests, with this one in front unless it is of the set-up (`true`)
+-- these requests, with this one first unless it is of the setup (`true`)
 abbrev pub cycle_with : Bool → Request → List Request → List Request
 cycle_with true x xs = xs
 cycle_with false x xs = x ∷ xs
 
--- those of these requests that are of a cycle: the others are of the set-up, which has cycle 0
+-- those of these requests that are of a cycle: the others are of the setup, which has cycle 0
 abbrev pub of_cycles : List Request → List Request
 of_cycles [] = []
 of_cycles (x ∷ xs) = cycle_with (nat_eq x.cycle 0) x (of_cycles xs)
@@ -42,11 +44,11 @@ of_cycles (x ∷ xs) = cycle_with (nat_eq x.cycle 0) x (of_cycles xs)
 abbrev pub of_record : Record → Request
 of_record r = record { cycle = r.cycle; place = r.place; asked = of_command r.command }
 
--- the request of a command that waits
+-- the request of an outstanding command
 abbrev pub of_waiting : Mark → Pending Asked → Request
 of_waiting mark p = record { cycle = mark.cycle; place = mark.place; asked = of_pending p }
 
--- the requests of commands among those that wait, by their marks
+-- the requests of commands among those that are outstanding, by their marks
 abbrev pub still_waiting : List (Option Mark) → List (Pending Asked) → List Request
 still_waiting [] pendings = []
 still_waiting (mark ∷ marks) [] = []
@@ -58,24 +60,25 @@ abbrev pub Parted : {A : Type 0} → List A → List A → List A → Type 0
 Parted xs ys [] = (xs ≡ []) × (ys ≡ [])
 Parted {A} xs ys (z ∷ zs) = ((others : List A) × (xs ≡ z ∷ others) × Parted others ys zs) ⊎ ((others : List A) × (ys ≡ z ∷ others) × Parted xs others zs)
 
--- of these requests those that are of a cycle, as the text has them: the commands that set the clock stand without their moments
+-- of these requests those that are of a cycle, as the text has them: the commands that set the clock are without their moments
 abbrev pub of_text : List Task → List Request → List Request
 of_text commands xs = map (in_text commands) (of_cycles xs)
 
--- each command that had its turn, in order, either has its record, or after the records waits; or it is of an attempt that was passed over
+-- each command that had its turn, in order, either has its record, or is outstanding after the records; or it is of an attempt
+-- that was left out
 abbrev pub IsEachOnce : Plan → List Task → Model → Type 0
 IsEachOnce plan commands s =
     Parted (of_text commands (map of_record s.records ++ still_waiting s.marks s.client.waiting)) s.passes (sent_by plan.setup commands (cycles_begun plan s.progress) (place_next commands s.progress))
 
--- after these acts of a run `IsEachOnce` holds. If the run stopped there, the records and the attempts that were passed over are the
--- commands that had their turn; and if it is done, they are all commands of all cycles
+-- after these acts of a run `IsEachOnce` holds. If the run stopped there, the records and the attempts that were left out are
+-- the commands that had their turn; and if it is done, they are all commands of all cycles
 pub record EachOnce (plan : Plan) (commands : List Task) (scope : Scope) (acts : List Act) : Type 0 where
-  pub each : IsEachOnce plan commands (stood plan commands scope acts)
-  pub settled : (cause : Cause) → action_at plan (stood plan commands scope acts) ≡ Stop cause
-      → Parted (of_text commands (map of_record (stood plan commands scope acts).records)) (stood plan commands scope acts).passes
-      (sent_by plan.setup commands (cycles_begun plan (stood plan commands scope acts).progress) (place_next commands (stood plan commands scope acts).progress))
-  pub done : action_at plan (stood plan commands scope acts) ≡ Stop Done
-      → Parted (of_text commands (map of_record (stood plan commands scope acts).records)) (stood plan commands scope acts).passes (all_cycles plan.setup commands plan.cycles)
+  pub each : IsEachOnce plan commands (state_after plan commands scope acts)
+  pub settled : (cause : Cause) → action_at plan (state_after plan commands scope acts) ≡ Stop cause
+      → Parted (of_text commands (map of_record (state_after plan commands scope acts).records)) (state_after plan commands scope acts).passes
+      (sent_by plan.setup commands (cycles_begun plan (state_after plan commands scope acts).progress) (place_next commands (state_after plan commands scope acts).progress))
+  pub done : action_at plan (state_after plan commands scope acts) ≡ Stop Done
+      → Parted (of_text commands (map of_record (state_after plan commands scope acts).records)) (state_after plan commands scope acts).passes (all_cycles plan.setup commands plan.cycles)
 
 -- a station is further than it was: in a later cycle, or at a later place in the same cycle
 abbrev pub IsFurther : Plan → List Task → Model → Model → Type 0

@@ -1,7 +1,7 @@
--- How a request ends that has no answer, in an operator's words, this project's own. Late: its own request went out, then a moment
--- at or past its deadline was told, and only then a line came with its id. Lost: its own request went out, and at the act that
--- wrote it down as lost a line came with the id of a request that was put after it, or the station begins anew, because seven wait
--- that are all given up, or the run stopped. An act is one call of the link, with what came of it.
+-- How a request ends that has no answer, in an operator's words, this project's own. Late: its own request was sent, then a
+-- moment at or past its deadline was read, and only then a line came with its id. Lost: its own request was sent, and at the
+-- act that recorded it as lost a line came with the id of a request that was put after it, or the station resynchronizes,
+-- because seven are outstanding that have all timed out, or the run stopped. An act is one call on the link, with its result.
 use Rattle.std.specs.Prelude.{◌≡◌, ◌⊎◌, ℕ, ◌≤◌, List, [], ◌∷◌, ◌++◌, length, Some}
 use Rattle.gc_catalogue.specs.declared.asked.Asked.{Asked}
 use Rattle.gc_client.specs.Ids.{Waits}
@@ -14,53 +14,54 @@ use Rattle.gc_links.specs.declared.link.Moment.{Moment}
 use Rattle.gc_station.specs.declared.plan.Plan.{Plan}
 use Rattle.gc_station.specs.declared.progress.Action.TheVariants.{Renew, Stop}
 use Rattle.gc_links.specs.Acts.{Act, Told, Gave, Silent}
-use Rattle.gc_station.specs.Answers.{deadline_behind}
+use Rattle.gc_station.specs.Answers.{deadline_after}
 use Rattle.gc_station.specs.Quiet.{IsAsking}
 use Rattle.gc_station.specs.Records.{Record}
-use Rattle.gc_station.specs.Runs.{stood}
-use Rattle.gc_station.specs.Model.{Puts, IsSending, action_at, cycle_out, place_out, request_text, lines_behind}
+use Rattle.gc_station.specs.Runs.{state_after}
+use Rattle.gc_station.specs.Model.{Puts, IsSending, action_at, cycle_out, place_out, request_text, lines_completed}
 use Rattle.gc_station.specs.Scopes.{Scope}
 
--- an act tells a moment at or past this one
-abbrev pub IsPast : ℕ → Act → Type 0
-IsPast deadline (Told m) = deadline ≤ m.elapsed
-IsPast deadline (Gave bytes m) = deadline ≤ m.elapsed
-IsPast deadline (Silent m) = deadline ≤ m.elapsed
-IsPast deadline _ = ⊥
+-- an act reads a moment at or past this one
+abbrev pub ReadsAtOrPast : ℕ → Act → Type 0
+ReadsAtOrPast deadline (Told m) = deadline ≤ m.elapsed
+ReadsAtOrPast deadline (Gave bytes m) = deadline ≤ m.elapsed
+ReadsAtOrPast deadline (Silent m) = deadline ≤ m.elapsed
+ReadsAtOrPast deadline _ = ⊥
 
--- among these acts one tells a moment at or past this one
-pub record TellsPast (deadline : ℕ) (acts : List Act) : Type 0 where
+-- among these acts one reads a moment at or past this one
+pub record OneReadsPast (deadline : ℕ) (acts : List Act) : Type 0 where
   pub earlier : List Act
   pub telling : Act
   pub later : List Act
   pub at : acts ≡ earlier ++ telling ∷ later
-  pub past : IsPast deadline telling
+  pub past : ReadsAtOrPast deadline telling
 
--- after these acts, this act puts the very request of record `r`: the station's next action is a send; the cycle and the place are the
--- record's; the moment told last is the one that the record has as `sent`; and what is put is the request line of the record's call
+-- after these acts, this act puts the very request of record `r`: the station's next action is a send; the cycle and the place
+-- are the record's; the moment read last is the one that the record has as `sent`; and what is put is the request line of the
+-- record's call
 pub record IsOwnRequest (plan : Plan) (commands : List Task) (scope : Scope) (acts : List Act) (act : Act) (r : Record) : Type 0 where
-  pub sends : IsSending plan (stood plan commands scope acts)
-  pub cycle : r.cycle ≡ cycle_out plan (stood plan commands scope acts)
-  pub place : r.place ≡ place_out plan commands (stood plan commands scope acts)
-  pub sent : r.sent ≡ Some (stood plan commands scope acts).progress.moment.utc
-  pub put : Puts (request_text (stood plan commands scope acts).client r.command.call) act
+  pub sends : IsSending plan (state_after plan commands scope acts)
+  pub cycle : r.cycle ≡ cycle_out plan (state_after plan commands scope acts)
+  pub place : r.place ≡ place_out plan commands (state_after plan commands scope acts)
+  pub sent : r.sent ≡ Some (state_after plan commands scope acts).progress.moment.utc
+  pub put : Puts (request_text (state_after plan commands scope acts).client r.command.call) act
 
 -- after these acts, this piece completes a line with this id
-pub record Brings (plan : Plan) (commands : List Task) (scope : Scope) (acts : List Act) (piece : List ℕ) (id : ℕ) : Type 0 where
+pub record BringsLine (plan : Plan) (commands : List Task) (scope : Scope) (acts : List Act) (piece : List ℕ) (id : ℕ) : Type 0 where
   pub front : List (List ℕ)
   pub line : List ℕ
   pub others : List (List ℕ)
-  pub came : lines_behind (stood plan commands scope acts).rest piece ≡ front ++ line ∷ others
+  pub came : lines_completed (state_after plan commands scope acts).rest piece ≡ front ++ line ∷ others
   pub has : heard line ≡ Some id
 
--- after these acts, this act writes a record down
+-- after these acts, this act writes a record
 pub record IsWrittenAt (plan : Plan) (commands : List Task) (scope : Scope) (acts : List Act) (act : Act) (r : Record) : Type 0 where
   pub earlier : List Record
   pub later : List Record
-  pub written : (stood plan commands scope (acts ++ act ∷ [])).records ≡ (stood plan commands scope acts).records ++ (earlier ++ r ∷ later)
+  pub written : (state_after plan commands scope (acts ++ act ∷ [])).records ≡ (state_after plan commands scope acts).records ++ (earlier ++ r ∷ later)
 
--- among these acts the very request of a record was put; then, up to and with the moment of a piece, a moment at or past its deadline was
--- told; a line with the request's id came with that piece; and this act wrote the record down
+-- among these acts the very request of a record was put; then, up to and with the moment of a piece, a moment at or past its
+-- deadline was read; a line with the request's id came with that piece; and this act wrote the record
 pub record IsLateIn (plan : Plan) (commands : List Task) (scope : Scope) (acts : List Act) (r : Record) : Type 0 where
   pub before : List Act
   pub request : Act
@@ -70,41 +71,43 @@ pub record IsLateIn (plan : Plan) (commands : List Task) (scope : Scope) (acts :
   pub behind : List Act
   pub order : acts ≡ before ++ request ∷ (between ++ Gave piece moment ∷ behind)
   pub own : IsOwnRequest plan commands scope before request r
-  pub too_late : TellsPast (deadline_behind plan commands scope before) (between ++ Gave piece moment ∷ [])
-  pub came : Brings plan commands scope (before ++ request ∷ between) piece (stood plan commands scope before).client.next
+  pub too_late : OneReadsPast (deadline_after plan commands scope before) (between ++ Gave piece moment ∷ [])
+  pub came : BringsLine plan commands scope (before ++ request ∷ between) piece (state_after plan commands scope before).client.next
   pub written : IsWrittenAt plan commands scope (before ++ request ∷ between) (Gave piece moment) r
 
--- between a request and this act another request was put; the other one still waits, and this act brings a line with its id
+-- between a request and this act another request was put; the other one is still outstanding, and this act brings a line with
+-- its id
 pub record IsOvertaken (plan : Plan) (commands : List Task) (scope : Scope) (before : List Act) (request : Act) (between : List Act) (act : Act) : Type 0 where
   pub first : List Act
   pub other : Act
   pub next : List Act
   pub order : between ≡ first ++ other ∷ next
-  pub asks : IsAsking (action_at plan (stood plan commands scope (before ++ request ∷ first)))
+  pub asks : IsAsking (action_at plan (state_after plan commands scope (before ++ request ∷ first)))
   pub call : Asked
-  pub put : Puts (request_text (stood plan commands scope (before ++ request ∷ first)).client call) other
-  pub waits : Waits (stood plan commands scope (before ++ request ∷ between)).client (stood plan commands scope (before ++ request ∷ first)).client.next
+  pub put : Puts (request_text (state_after plan commands scope (before ++ request ∷ first)).client call) other
+  pub waits : Waits (state_after plan commands scope (before ++ request ∷ between)).client (state_after plan commands scope (before ++ request ∷ first)).client.next
   pub piece : List ℕ
   pub moment : Moment
   pub reads : act ≡ Gave piece moment
-  pub came : Brings plan commands scope (before ++ request ∷ between) piece (stood plan commands scope (before ++ request ∷ first)).client.next
+  pub came : BringsLine plan commands scope (before ++ request ∷ between) piece (state_after plan commands scope (before ++ request ∷ first)).client.next
 
--- after these acts the station begins anew at this act: it reads the clock, and seven wait, which are all given up
-pub record BeginsAnew (plan : Plan) (commands : List Task) (scope : Scope) (acts : List Act) (act : Act) : Type 0 where
-  pub renews : action_at plan (stood plan commands scope acts) ≡ Renew
+-- after these acts the station resynchronizes at this act: it reads the clock, and seven are outstanding, which have all timed
+-- out
+pub record Resynchronizes (plan : Plan) (commands : List Task) (scope : Scope) (acts : List Act) (act : Act) : Type 0 where
+  pub renews : action_at plan (state_after plan commands scope acts) ≡ Renew
   pub moment : Moment
   pub told : act ≡ Told moment
-  pub seven : length (stood plan commands scope acts).client.waiting ≡ WINDOW
-  pub given_up : deadlines (stood plan commands scope acts).client.waiting ≡ []
+  pub seven : length (state_after plan commands scope acts).client.waiting ≡ WINDOW
+  pub given_up : deadlines (state_after plan commands scope acts).client.waiting ≡ []
 
 -- after these acts, this act is the last one: no act is after it, and the run stops
 pub record IsLast (plan : Plan) (commands : List Task) (scope : Scope) (acts : List Act) (act : Act) (behind : List Act) : Type 0 where
   pub none : behind ≡ []
   pub why : Cause
-  pub stops : action_at plan (stood plan commands scope (acts ++ act ∷ [])) ≡ Stop why
+  pub stops : action_at plan (state_after plan commands scope (acts ++ act ∷ [])) ≡ Stop why
 
--- among these acts the very request of a record was put, and after it an act wrote the record down: it brought a line with the id of a
--- request that was put after that one, or the station begins anew at it, or it is the last act
+-- among these acts the very request of a record was put, and after it an act wrote the record: it brought a line with the id of
+-- a request that was put after that one, or the station resynchronizes at it, or it is the last act
 pub record IsLostIn (plan : Plan) (commands : List Task) (scope : Scope) (acts : List Act) (r : Record) : Type 0 where
   pub before : List Act
   pub request : Act
@@ -115,13 +118,13 @@ pub record IsLostIn (plan : Plan) (commands : List Task) (scope : Scope) (acts :
   pub own : IsOwnRequest plan commands scope before request r
   pub written : IsWrittenAt plan commands scope (before ++ request ∷ between) act r
   pub shown : IsOvertaken plan commands scope before request between act
-      ⊎ (BeginsAnew plan commands scope (before ++ request ∷ between) act ⊎ IsLast plan commands scope (before ++ request ∷ between) act behind)
+      ⊎ (Resynchronizes plan commands scope (before ++ request ∷ between) act ⊎ IsLast plan commands scope (before ++ request ∷ between) act behind)
 
--- where a record says that its command is late, `IsLateIn` holds of it: the request went out, and its reply came too late
-abbrev pub IsTrulyLate : Plan → List Task → Scope → List Act → Record → Type 0
-IsTrulyLate plan commands scope acts r = r.end ≡ Late → IsLateIn plan commands scope acts r
+-- if a record says that its command is late, `IsLateIn` holds of it: the request was sent, and its reply came too late
+abbrev pub LateIsJustified : Plan → List Task → Scope → List Act → Record → Type 0
+LateIsJustified plan commands scope acts r = r.end ≡ Late → IsLateIn plan commands scope acts r
 
--- where a record says that its command is lost, `IsLostIn` holds of it: the request went out, and no reply to it can be taken
--- any more
-abbrev pub IsTrulyLost : Plan → List Task → Scope → List Act → Record → Type 0
-IsTrulyLost plan commands scope acts r = r.end ≡ Lost → IsLostIn plan commands scope acts r
+-- if a record says that its command is lost, `IsLostIn` holds of it: the request was sent, and no reply to it can be taken any
+-- more
+abbrev pub LostIsJustified : Plan → List Task → Scope → List Act → Record → Type 0
+LostIsJustified plan commands scope acts r = r.end ≡ Lost → IsLostIn plan commands scope acts r

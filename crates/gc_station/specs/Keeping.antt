@@ -1,5 +1,5 @@
 -- What lasts while a run goes on, this project's own: at each act of the link all that the acts before it settled is in the
--- book, and lasts. An act is one call of the link, with what came of it. The book is what takes the texts of the records.
+-- book, and lasts. An act is one call on the link, with its result. The book is what takes the texts of the records.
 use Rattle.std.specs.Prelude.{◌≡◌, ℕ, Bool, true, List, [], ◌∷◌, ◌++◌, Option, Result, Ok, Err, refl}
 use Rattle.std.specs.Coded.{Coded, code_by, coded×, coded_ℕ, coded_bool, coded_list, coded_option}
 use Rattle.std.specs.Io.KnownBytes.{Appends}
@@ -11,51 +11,51 @@ use Rattle.gc_links.specs.Coding.{acts_code}
 use Rattle.gc_station.specs.declared.plan.Plan.{Plan}
 use Rattle.gc_station.specs.Records.{Record, texts_of}
 use Rattle.gc_station.specs.Model.{opening, Runs}
-use Rattle.gc_station.specs.Runs.{stood}
+use Rattle.gc_station.specs.Runs.{state_after}
 use Rattle.gc_station.specs.Scopes.{Scope}
 
--- a turn is what was seen of a link and a book at one moment: what the link had told and what the book had taken, where these
+-- a turn is what was seen of a link and a book at one moment: what the link had recorded and what the book had taken, if these
 -- are known, and whether all that the book had taken lasted, as far as the book is meant to make it last. A book that isn't
 -- meant to make anything last always says so
-pub record Turn : Type 0 where
+pub record Snapshot : Type 0 where
   pub acts : Option (List Act)
   pub taken : Option (List ℕ)
   pub lasts : Bool
 
--- at this turn the link had told these acts (after `told`), and the book had taken (after `taken`) the text of each record that they
--- settled, and all of it lasted
+-- at this turn the link had recorded these acts (after `told`), and the book had taken (after `taken`) the text of each record
+-- that they settled, and all of it lasted
 pub record IsKept (plan : Plan) (commands : List Task) (scope : Scope) (text : Record → List ℕ) (told : Option (List Act)) (taken : Option (List ℕ))
-    (acts : List Act) (turn : Turn) : Type 0 where
+    (acts : List Act) (turn : Snapshot) : Type 0 where
   pub tells : Tells told turn.acts acts
-  pub took : Appends taken turn.taken (texts_of text (stood plan commands scope acts).records)
+  pub took : Appends taken turn.taken (texts_of text (state_after plan commands scope acts).records)
   pub lasts : turn.lasts ≡ true
 
 -- `acts`, which follow the acts of `done`, have these turns, one for one and in order: each turn was seen before its act, and all that the
 -- acts before that act settled was kept then
-abbrev pub AreKept : Plan → List Task → Scope → (Record → List ℕ) → Option (List Act) → Option (List ℕ) → (done acts : List Act) → List Turn → Type 0
+abbrev pub AreKept : Plan → List Task → Scope → (Record → List ℕ) → Option (List Act) → Option (List ℕ) → (done acts : List Act) → List Snapshot → Type 0
 AreKept plan commands scope text told taken done [] [] = Unit {0}
 AreKept plan commands scope text told taken done [] (turn ∷ turns) = ⊥
 AreKept plan commands scope text told taken done (act ∷ acts) [] = ⊥
 AreKept plan commands scope text told taken done (act ∷ acts) (turn ∷ turns) =
     IsKept plan commands scope text told taken done turn × AreKept plan commands scope text told taken (done ++ act ∷ []) acts turns
 
--- a link told a run's `acts`, each the one that was to be made next, and after them `others`. Before each of `acts` a turn was seen, at
--- which all that the acts before it settled was kept
+-- a link recorded a run's `acts`, each the one that was to be made next, and after them `others`. Before each of `acts` a turn
+-- was seen, at which all that the acts before it settled was kept
 pub record KeepsUp (plan : Plan) (commands : List Task) (scope : Scope) (text : Record → List ℕ) (told told' : Option (List Act)) (taken : Option (List ℕ))
-    (seen seen' : List Turn) (others : List Act) : Type 0 where
+    (seen seen' : List Snapshot) (others : List Act) : Type 0 where
   pub acts : List Act
   pub tells : Tells told told' (acts ++ others)
   pub runs : Runs plan commands (opening plan scope) acts
-  pub turns : List Turn
+  pub turns : List Snapshot
   pub saw : seen' ≡ seen ++ turns
   pub kept : AreKept plan commands scope text told taken [] acts turns
 
--- the acts after a run with this result: where the book failed (`Err`) the connection is closed; else none
+-- the acts after a run with this result: if the book failed (`Err`) the connection is closed; otherwise none
 abbrev pub closing : {X E : Type 0} → Result X E → List Act
 closing (Ok _) = []
 closing (Err _) = Closed ∷ []
 
--- the acts after a run that ended so: where the fault is `Output`, so that the book failed, the connection is closed; else
+-- the acts after a run that ended so: if the fault is `Output`, so that the book failed, the connection is closed; otherwise
 -- none
 abbrev pub closing_at : {X : Type 0} → Result X RunFault → List Act
 closing_at (Ok _) = []
@@ -69,17 +69,17 @@ abbrev Parts : Type 0
 Parts = Option (List Act) × (Option (List ℕ) × Bool)
 
 -- the parts of what was seen at a moment
-abbrev to_parts : Turn → Parts
+abbrev to_parts : Snapshot → Parts
 to_parts turn = (turn.acts, (turn.taken, turn.lasts))
 
 -- what was seen at a moment, from its parts
-abbrev from_parts : Parts → Turn
+abbrev from_parts : Parts → Snapshot
 from_parts p = record { acts = p.0; taken = p.1.0; lasts = p.1.1 }
 
 -- the parts of what was seen, put together again, are what was seen
-pub from_parts-to_parts : (turn : Turn) → from_parts (to_parts turn) ≡ turn
+pub from_parts-to_parts : (turn : Snapshot) → from_parts (to_parts turn) ≡ turn
 from_parts-to_parts turn = refl
 
 -- how a list of turns is stored in ghost state
-abbrev pub turns_code : Coded (List Turn)
-turns_code = coded_list (code_by Parts (coded× (coded_option acts_code) (coded× (coded_option (coded_list coded_ℕ)) coded_bool)) to_parts from_parts from_parts-to_parts)
+abbrev pub snapshots_code : Coded (List Snapshot)
+snapshots_code = coded_list (code_by Parts (coded× (coded_option acts_code) (coded× (coded_option (coded_list coded_ℕ)) coded_bool)) to_parts from_parts from_parts-to_parts)

@@ -1,5 +1,6 @@
--- Chains by the parts of a run, this project's own: the commands of a chain are requests of one part, each after the answer of the
--- one before it. A part reaches from one beginning to the next (`Parts`). An act is one call of the link, with what came of it.
+-- Chains by the parts of a run, this project's own: the commands of a chain are requests of one part, each after the answer of
+-- the one before it. A part reaches from one synchronization to the next (`Parts`). An act is one call on the link, with its
+-- result.
 use Rattle.std.specs.Prelude.{◌≡◌, ◌⊎◌, ℕ, suc, ◌<◌, ◌≤◌, true, List, ◌++◌, drop, length, Option, Some, slice_get}
 use Rattle.gc_catalogue.specs.declared.answer.Answer.{Answer}
 use Rattle.gc_links.specs.Acts.{Act}
@@ -11,17 +12,17 @@ use Rattle.gc_texts.specs.declared.tasks.Task.{Task}
 use Rattle.gc_station.specs.Parts.{Part, mark_of, parts_of}
 use Rattle.gc_station.specs.Qualities.{IsOfQuality, accepted_at}
 use Rattle.gc_station.specs.Records.{Record}
-use Rattle.gc_station.specs.Runs.{stood}
+use Rattle.gc_station.specs.Runs.{state_after}
 use Rattle.gc_station.specs.Scopes.{Scope}
 use Rattle.gc_station.specs.Model.{Runs, is_chained, opening}
 use Rattle.gc_station.specs.declared.mark.Mark.{Mark}
 use Rattle.gc_station.specs.declared.plan.Plan.{Plan}
 
--- each command after the one at place a, up to the one at place b, goes out only once the one before it was answered well
+-- each command after the one at place a, up to the one at place b, is sent only once the one before it was answered well
 abbrev pub AreChained : List Task → ℕ → ℕ → Type 0
 AreChained commands a b = (p : ℕ) → a < p → p ≤ b → is_chained (drop p commands) ≡ true
 
--- the pair of i and m comes before the pair of j and n: by the first numbers or, where these are equal, by the second ones
+-- the pair of i and m comes before the pair of j and n: by the first numbers or, if these are equal, by the second ones
 abbrev pub IsBefore : ℕ → ℕ → ℕ → ℕ → Type 0
 IsBefore i m j n = (i < j) ⊎ ((i ≡ j) × (m < n))
 
@@ -31,10 +32,10 @@ parts plan commands scope acts = parts_of plan commands (opening plan scope) act
 
 -- after these acts, the command at place a of this cycle has a record, which is an answer of a good quality: with both codes 0
 -- and values that read, or with a return code that is accepted of that command. And `part` has the request of that command
-pub record IsAnsweredBack (plan : Plan) (commands : List Task) (scope : Scope) (acts : List Act) (part : Part) (cycle a : ℕ) : Type 0 where
+pub record IsAnsweredEarlier (plan : Plan) (commands : List Task) (scope : Scope) (acts : List Act) (part : Part) (cycle a : ℕ) : Type 0 where
   pub k : ℕ
   pub answer : Record
-  pub among : slice_get (stood plan commands scope acts).records k ≡ Some answer
+  pub among : slice_get (state_after plan commands scope acts).records k ≡ Some answer
   pub own_cycle : answer.cycle ≡ cycle
   pub own_place : answer.place ≡ a
   pub line : List ℕ
@@ -46,12 +47,13 @@ pub record IsAnsweredBack (plan : Plan) (commands : List Task) (scope : Scope) (
   pub m : ℕ
   pub expected : Expected
   pub mark : slice_get part.marks m ≡ Some (Some (mark_of expected answer))
-  -- each command that went out behind it in that part is of a cycle, and none of the set-up
+  -- each command that was sent after it in that part is of a cycle, and none of the setup
   pub of_cycles : (x : ℕ) (mark : Mark) → m < x → slice_get part.marks x ≡ Some (Some mark) → 0 < mark.cycle
 
--- the command of this cycle and place went out as request n of part i of a run, both counted from 0: after the acts `before`, part i is the
--- last one and has n requests so far; and each earlier command of its chain was answered by then, as a request of that very part
-pub record IsSentBehind (plan : Plan) (commands : List Task) (scope : Scope) (acts : List Act) (i n cycle place : ℕ) : Type 0 where
+-- the command of this cycle and place was sent as request n of part i of a run, both counted from 0: after the acts `before`,
+-- part i is the last one and has n requests so far; and each earlier command of its chain was answered by then, as a request of
+-- that very part
+pub record IsSentAfter (plan : Plan) (commands : List Task) (scope : Scope) (acts : List Act) (i n cycle place : ℕ) : Type 0 where
   pub before : List Act
   pub rest : List Act
   pub order : acts ≡ before ++ rest
@@ -59,24 +61,26 @@ pub record IsSentBehind (plan : Plan) (commands : List Task) (scope : Scope) (ac
   pub of_parts : slice_get (parts plan commands scope before) i ≡ Some first
   pub last : length (parts plan commands scope before) ≡ suc i
   pub count : length first.marks ≡ n
-  pub chain : (a : ℕ) → plan.setup ≤ a → a < place → AreChained commands a place → IsAnsweredBack plan commands scope before first cycle a
+  pub chain : (a : ℕ) → plan.setup ≤ a → a < place → AreChained commands a place → IsAnsweredEarlier plan commands scope before first cycle a
 
--- each command of a cycle that goes out does so after the answers of all earlier commands of its chain, as a request of the same part of a run
+-- each command of a cycle is sent only after the answers of all earlier commands of its chain, as a request of the same part of
+-- a run
 abbrev pub ChainsStay : Type 0
 ChainsStay =
     (plan : Plan) (commands : List Task) (scope : Scope) (acts : List Act) → Runs plan commands (opening plan scope) acts
     → (i n : ℕ) (part : Part) (mark : Mark) → slice_get (parts plan commands scope acts) i ≡ Some part → slice_get part.marks n ≡ Some (Some mark)
-    → 0 < mark.cycle → IsSentBehind plan commands scope acts i n mark.cycle mark.place
+    → 0 < mark.cycle → IsSentAfter plan commands scope acts i n mark.cycle mark.place
 
--- of two commands of cycles that go out, in one part or in two, the later one is of a later place in its cycle, or of a later cycle
+-- of two commands of cycles that are sent, in one part or in two, the later one is of a later place in its cycle, or of a later
+-- cycle
 abbrev pub MarksGoOn : Type 0
 MarksGoOn =
     (plan : Plan) (commands : List Task) (scope : Scope) (acts : List Act) → Runs plan commands (opening plan scope) acts
     → (i j m n : ℕ) (p q : Part) (a b : Mark) → slice_get (parts plan commands scope acts) i ≡ Some p → slice_get (parts plan commands scope acts) j ≡ Some q
     → slice_get p.marks m ≡ Some (Some a) → slice_get q.marks n ≡ Some (Some b) → IsBefore i m j n → 0 < a.cycle → 0 < b.cycle → IsBefore a.cycle a.place b.cycle b.place
 
--- the records after some acts stay, in front of those of the acts that follow
+-- the records after some acts stay, before those of the acts that follow
 abbrev pub RecordsStay : Type 0
 RecordsStay =
     (plan : Plan) (commands : List Task) (scope : Scope) (before rest : List Act)
-    → (more : List Record) × ((stood plan commands scope (before ++ rest)).records ≡ (stood plan commands scope before).records ++ more)
+    → (more : List Record) × ((state_after plan commands scope (before ++ rest)).records ≡ (state_after plan commands scope before).records ++ more)

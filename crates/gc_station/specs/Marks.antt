@@ -1,5 +1,5 @@
--- Marks, this project's own: for each request that waits, which command of which cycle it is; a null procedure of the station's own
--- has none.
+-- Marks, this project's own: for each outstanding request, which command of which cycle it is; a null procedure of the
+-- station's own has none.
 use Rattle.std.specs.Prelude.{ℕ, suc, Bool, true, false, if◌then◌else◌, List, [], ◌∷◌, Option, Some, None}
 use Rattle.gc_catalogue.specs.declared.answer.Answer.{Answer}
 use Rattle.gc_catalogue.specs.declared.answer.Reading.{Reading}
@@ -32,9 +32,9 @@ abbrev pub value_as : Quality → Bool → Answer → List ℕ → End
 value_as quality true answer line = end.Elsewhere line
 value_as quality false answer line = end.Answered quality (Some answer) line
 
--- how a command ends whose reply, this line, has a return code that is accepted. The reading is the one that the reply would have if its
--- return code were 0. Where that is an answer, the command ends with a warning and the answer, or as elsewhere if the answer was measured
--- elsewhere than near this place; and else with a warning and no answer
+-- how a command ends whose reply, this line, has a return code that is accepted. The reading is the one that the reply would
+-- have if its return code were 0. If that is an answer, the command ends with a warning and the answer, or as elsewhere if the
+-- answer was measured elsewhere than near this place; and else with a warning and no answer
 abbrev pub warned_as : Option Near → Reading → List ℕ → End
 warned_as near (reading.Value answer) line = value_as quality.Warning (is_elsewhere near answer) answer line
 warned_as near (reading.Refused code) line = end.Answered quality.Warning None line
@@ -48,9 +48,9 @@ refused_as true near zeroed line = warned_as near zeroed line
 refused_as false near zeroed line = end.Answered quality.Refused None line
 
 -- how a command ends whose reply came in time. The reply is this line, which says the first of these readings, and would say
--- `zeroed` with return code 0. `expected` says where the target stands, if the text does, and which return codes are accepted.
--- As unreadable: both codes are 0, and the values don't read. As elsewhere: the answer was measured elsewhere than its target
--- stands. Else as answered: fine with both codes 0, with a warning where the return code is accepted, and else refused
+-- `zeroed` with return code 0. `expected` says where the target is, if the text does, and which return codes are accepted. As
+-- unreadable: both codes are 0, and the values don't read. As elsewhere: the answer was measured elsewhere than its target is.
+-- Else as answered: fine with both codes 0, with a warning if the return code is accepted, and else refused
 abbrev pub answer_as : Expected → Reading → Reading → List ℕ → End
 answer_as expected (reading.Unreadable fault) zeroed line = end.Unreadable line fault
 answer_as expected (reading.Value answer) zeroed line = value_as quality.Fine (is_elsewhere expected.near answer) answer line
@@ -79,9 +79,9 @@ record_of reads utc mark settlement = record {
   end = end_of reads mark.expected settlement.call settlement.outcome;
 }
 
--- the records of these settlements, all made at the moment `utc`. The marks are those of all requests that waited, the oldest first: the
--- first settlement is of the first mark, and so on, and marks without a settlement still wait. A null procedure has no mark, and no
--- record. `reads` gives what a reply's line says of a call
+-- the records of these settlements, all made at the moment `utc`. The marks are those of all outstanding requests, the oldest
+-- first: the first settlement is of the first mark, and so on, and marks without a settlement are still outstanding. A null
+-- procedure has no mark, and no record. `reads` gives what a reply's line says of a call
 abbrev pub records_of : (Asked → List ℕ → Reading) → ℕ → List (Option Mark) → List (Settlement Asked) → List Record
 records_of reads utc [] settlements = []
 records_of reads utc (mark ∷ marks) [] = []
@@ -98,13 +98,13 @@ is_well end.Lost = false
 is_well end.Skipped = false
 is_well end.Missed = false
 
--- whether the last of these records is of a command that was answered well; where there are none, `well`
+-- whether the last of these records is of a command that was answered well; if there are none, `well`
 abbrev pub last_well : Bool → List Record → Bool
 last_well well [] = well
 last_well well (r ∷ others) = last_well (is_well r.end) others
 
--- the moment at which a command that was answered well was written down last: `now`, where one of these records, which are written
--- down at that moment, is of such a command; else `fresh`
-abbrev pub fresh_behind : ℕ → ℕ → List Record → ℕ
-fresh_behind now fresh [] = fresh
-fresh_behind now fresh (r ∷ others) = fresh_behind now (if is_well r.end then now else fresh) others
+-- the moment at which a command that was answered well was recorded last: `now`, if one of these records, which are recorded at
+-- that moment, is of such a command; otherwise `fresh`
+abbrev pub fresh_after : ℕ → ℕ → List Record → ℕ
+fresh_after now fresh [] = fresh
+fresh_after now fresh (r ∷ others) = fresh_after now (if is_well r.end then now else fresh) others

@@ -1,5 +1,5 @@
--- What a station is after the acts of its link, this project's own: the client's rule over what really happened, and how far the
--- station is. Each act is the one that the station was to make next. An act is one call of the link, with what came of it.
+-- What a station is after the acts of its link, this project's own: the client's rule over what really happened, and how far
+-- the station is. Each act is the one that the station was to make next. An act is one call on the link, with its result.
 use Rattle.std.specs.Prelude.{◌≡◌, ℕ, ◌+◌, ◌-◌, ◌<◌, ◌||◌, Bool, true, false, List, [], ◌∷◌, ◌++◌, length, drop, take, map, Option, Some, None, if◌then◌else◌, nat_eq, slice_get, min, ◌⊎◌}
 use Rattle.std.specs.List.{filter_map}
 use Rattle.gc_lines.specs.Frames.{line_in, rest_behind}
@@ -34,18 +34,18 @@ use Rattle.gc_station.specs.declared.mark.Mark.{Mark}
 use Rattle.gc_links.specs.Acts.{Act, Told, Untold, Put, Cut, Gave, Silent, Ended, Broke, Closed, Opened, Unopened}
 use Rattle.gc_station.specs.Deciding.{later, is_preparing, action_of}
 pub use Rattle.gc_station.specs.Lines.{is_ok, is_reply}
-use Rattle.gc_station.specs.Attempts.{listed_behind, listed_by}
-use Rattle.gc_station.specs.Marks.{commands_in, records_of, last_well, fresh_behind}
-use Rattle.gc_station.specs.Progressing.{at_start, turned, told, begun, skipped, passed, skipped_at, failing, opened, again, cleared, asking, null_sent, renewed, sent, caught_up, noted, lines_asked, gave, silent, reckoned_early, closed, loses_all, setup_sent}
+use Rattle.gc_station.specs.Attempts.{listed_after, listed_by}
+use Rattle.gc_station.specs.Marks.{commands_in, records_of, last_well, fresh_after}
+use Rattle.gc_station.specs.Progressing.{at_start, turned, moment_noted, cycle_begun, skipped, attempts_left_out, skipped_at, failing, opened, after_failure, cleared, asking, null_sent, renewed, sent, caught_up, line_noted, lines_asked, bytes_noted, silent, reckoned_early, closed, loses_all, setup_sent}
 use Rattle.gc_station.specs.Records.{Record}
 use Rattle.gc_station.specs.Requests.{Request, requests, of_task}
 use Rattle.gc_station.specs.Scopes.{Scope}
 use Rattle.gc_texts.specs.Endings.{Skipped, Missed}
 
--- where a station stands: how far it is, the bytes since the last line feed that it heard on this connection, the client, which command
--- each request that waits is of, the records so far, whether a command of the attempt that was settled last ended as its rule names
--- (`listed`), the commands that were passed over, the moment at which a command that was answered well was written down last (0 where
--- none was; an earlier moment where the clock went back since), and what replies say
+-- the state of a station: how far it is, the bytes since the last line feed that it heard on this connection, the client, which
+-- command each outstanding request is of, the records so far, whether a command of the attempt that was settled last ended as
+-- its rule names (`listed`), the commands that were left out, the moment at which a command that was answered well was recorded
+-- last (0 if none was; an earlier moment if the clock went back since), and what replies say
 pub record Model : Type 0 where
   pub progress : Progress
   pub rest : List ℕ
@@ -62,8 +62,8 @@ abbrev pub opening : Plan → Scope → Model
 opening plan scope =
     record { progress = at_start plan scope.turns; rest = []; client = fresh; marks = []; records = []; listed = false; passes = []; fresh = 0; reads = scope.reads }
 
--- how many requests wait: in all, of those that aren't given up, and of commands; whether the command that was written down last was
--- answered well, and whether one of its attempt ended as its rule names; and when one was answered well last
+-- how many requests are outstanding: in all, of those that haven't timed out, and of commands; whether the command that was
+-- recorded last was answered well, and whether one of its attempt ended as its rule names; and when one was answered well last
 abbrev pub waiting_of : Model → Waiting
 waiting_of s = record {
   all = length s.client.waiting;
@@ -86,44 +86,44 @@ place_next commands p = length commands - p.unsent
 abbrev pub cycles_begun : Plan → Progress → ℕ
 cycles_begun plan p = plan.cycles - p.left
 
--- the turn where there is no command
+-- the turn if there is no command
 abbrev pub no_turn : Turn
 no_turn = record { place = 0; attempt = 1; link = 0 }
 
--- what is expected of the answer of the first of these commands: where its target stands, if the text says so, and which return codes
--- are accepted
+-- what is expected of the answer of the first of these commands: where its target is, if the text says so, and which return
+-- codes are accepted
 abbrev pub expected_first : List Task → Expected
 expected_first [] = record { near = None; accepted = no_codes; again = no_again; turn = no_turn }
 expected_first (task ∷ others) = record { near = task.near; accepted = task.accepted; again = task.again; turn = task.turn }
 
--- the mark of the next command: its cycle, its place, the moment told last, and what is expected of its answer
+-- the mark of the next command: its cycle, its place, the moment read last, and what is expected of its answer
 abbrev pub mark_next : Plan → List Task → Progress → Mark
 mark_next plan commands p =
     record { cycle = cycles_begun plan p; place = place_next commands p; sent = p.moment.utc; expected = expected_first (drop (place_next commands p) commands) }
 
--- how many commands a cycle has: those behind the set-up
+-- how many commands a cycle has: those after the setup
 abbrev pub cycle_length : Plan → List Task → ℕ
 cycle_length plan commands = length commands - plan.setup
 
--- the cycle of the command that goes out next: 0 while the set-up isn't done
+-- the cycle of the command that is sent next: 0 while the setup isn't done
 abbrev pub cycle_out : Plan → Model → ℕ
 cycle_out plan s = if is_preparing plan s.progress (waiting_of s) then 0 else cycles_begun plan s.progress
 
--- the place of the command that goes out next, counted from 0: in the set-up, while that isn't done, and else in the cycle
+-- the place of the command that is sent next, counted from 0: in the setup, while that isn't done, and else in the cycle
 abbrev pub place_out : Plan → List Task → Model → ℕ
 place_out plan commands s = if is_preparing plan s.progress (waiting_of s) then s.progress.prepared else place_next commands s.progress
 
--- what is expected of an answer, in an attempt of the set-up. A command of the set-up is of no chain that goes out again: it has no rule, and no
--- attempt of a chain begins with it
+-- what is expected of an answer, in an attempt of the setup. A command of the setup is of no chain that is sent again: it has
+-- no rule, and no attempt of a chain begins with it
 abbrev pub in_attempt : ℕ → Expected → Expected
 in_attempt attempt expected = record expected { again = no_again; turn = record expected.turn { attempt = attempt; link = 1 } }
 
--- the mark of the next command of the set-up: it has cycle 0, and the attempt of the set-up
+-- the mark of the next command of the setup: it has cycle 0, and the attempt of the setup
 abbrev pub mark_setup : List Task → Progress → Mark
 mark_setup commands p =
     record { cycle = 0; place = p.prepared; sent = p.moment.utc; expected = in_attempt p.attempt (expected_first (drop p.prepared commands)) }
 
--- how many commands of the cycle were sent or passed over: none before the first cycle
+-- how many commands of the cycle were sent or left out: none before the first cycle
 abbrev pub requests_out : Plan → List Task → Progress → ℕ
 requests_out plan commands p = if nat_eq p.left plan.cycles then 0 else place_next commands p
 
@@ -131,52 +131,52 @@ requests_out plan commands p = if nat_eq p.left plan.cycles then 0 else place_ne
 abbrev pub request_text : ById Asked → Asked → List ℕ
 request_text client call = with_end (asked_line (Some client.next) call)
 
--- the bytes of the null procedure that goes out while the station begins, where these ids aren't answered: it has the first of them. No
--- bytes where all are answered
+-- the bytes of the null procedure that is sent while the station synchronizes, if these ids aren't answered: it has the first
+-- of them. No bytes if all are answered
 abbrev pub null_text : List ℕ → List ℕ
 null_text [] = []
 null_text (asked ∷ others) = with_end (request_line (Some asked) NullProc)
 
--- the bytes of the request for the first of these commands, where it goes out at the moment `utc`; none where there is none
+-- the bytes of the request for the first of these commands, if it is sent at the moment `utc`; none if there is none
 abbrev pub first_text : ℕ → ById Asked → List Task → List ℕ
 first_text utc client [] = []
 first_text utc client (task ∷ others) = request_text client (call_at task utc)
 
--- the bytes of the request for the first of these commands of the set-up, where it goes out at the moment `utc`; of a null procedure where there is none, which isn't so in a plan whose
--- set-up has no more commands than there are
+-- the bytes of the request for the first of these commands of the setup, if it is sent at the moment `utc`; of a null procedure
+-- if there is none, which isn't so in a plan whose setup has no more commands than there are
 abbrev pub text_or_null : ℕ → ById Asked → List Task → List ℕ
 text_or_null utc client [] = request_text client (Table NullProc)
 text_or_null utc client (task ∷ others) = request_text client (call_at task utc)
 
--- whether the first of these commands goes out only once the one before it was answered well
+-- whether the first of these commands is sent only once the one before it was answered well
 abbrev pub is_chained : List Task → Bool
 is_chained [] = false
 is_chained (task ∷ others) = task.chained
 
--- how many commands the attempt that the first of these commands begins and those behind it have, where that is a further attempt;
--- else 0
+-- how many commands the attempt that the first of these commands begins and those after it have, if that is a further attempt;
+-- otherwise 0
 abbrev pub others_in : List Task → ℕ
 others_in [] = 0
 others_in (task ∷ others) = task.others
 
--- whether the command that stands this many places behind the next one goes out only once the one before it was answered well. In a
--- missed cycle, where none goes out, this holds of each command
-abbrev pub is_chained_behind : ℕ → List Task → Progress → Bool
-is_chained_behind count commands p = p.missed || is_chained (drop (place_next commands p + count) commands)
+-- whether the command this many places after the next one is sent only once the one before it was answered well. In a missed
+-- cycle, in which none is sent, this holds of each command
+abbrev pub is_chained_after : ℕ → List Task → Progress → Bool
+is_chained_after count commands p = p.missed || is_chained (drop (place_next commands p + count) commands)
 
--- `others_in` from the command that stands this many places behind the next one
-abbrev pub others_behind : ℕ → List Task → Progress → ℕ
-others_behind count commands p = others_in (drop (place_next commands p + count) commands)
+-- `others_in` from the command this many places after the next one
+abbrev pub others_after : ℕ → List Task → Progress → ℕ
+others_after count commands p = others_in (drop (place_next commands p + count) commands)
 
--- whether the command after the next one goes out only once the next one was answered well
-abbrev pub is_chained_behind_next : List Task → Progress → Bool
-is_chained_behind_next commands p = is_chained_behind 1 commands p
+-- whether the command after the next one is sent only once the next one was answered well
+abbrev pub is_chained_after_next : List Task → Progress → Bool
+is_chained_after_next commands p = is_chained_after 1 commands p
 
 -- `others_in` from the command after the next one
-abbrev pub others_behind_next : List Task → Progress → ℕ
-others_behind_next commands p = others_behind 1 commands p
+abbrev pub others_after_next : List Task → Progress → ℕ
+others_after_next commands p = others_after 1 commands p
 
--- a command goes out next: of a cycle, or of the set-up
+-- a command is sent next: of a cycle, or of the setup
 abbrev pub IsSending : Plan → Model → Type 0
 IsSending plan s = (action_at plan s ≡ Send) ⊎ (action_at plan s ≡ Prepare)
 
@@ -207,7 +207,7 @@ IsReading Broke = Unit {0}
 IsReading Untold = Unit {0}
 IsReading _ = ⊥
 
--- an act performs this action, where a station is at this model
+-- an act performs this action, if this is the model of the station
 abbrev pub Performs : List Task → Model → Action → Act → Type 0
 Performs commands s ReadClock act = ReadsClock act
 Performs commands s Renew act = ReadsClock act
@@ -230,17 +230,17 @@ Performs commands s (Stop cause) act = ⊥
 abbrev pub with_progress : (Progress → Progress) → Model → Model
 with_progress f s = record s { progress = f s.progress }
 
--- the model at a later moment: requests whose deadline has come are given up
+-- the model at a later moment: requests whose deadline has come time out
 abbrev pub with_moment : Moment → Model → Model
 with_moment m s = record s { client = expires s.client m.elapsed; fresh = min s.fresh m.elapsed }
 
--- the client after a send; where the send was refused (`None`), the client as it was
+-- the client after a send; if the send was refused (`None`), the client as it was
 abbrev pub client_sent : ById Asked → Option (Sending (ById Asked)) → ById Asked
 client_sent client None = client
 client_sent client (Some x) = x.client
 
 -- the model once a request for this target, with this call and this mark, was sent; it waits for `wait` milliseconds from the
--- moment told last
+-- moment read last
 abbrev pub asks : ℕ → ℕ → Asked → Option Mark → Model → Model
 asks wait target call mark s = record s {
   client = client_sent s.client (sends WINDOW s.client target call (later s.progress.moment.elapsed wait));
@@ -260,12 +260,12 @@ asks_first mark (task ∷ others) s = asks task.deadline task.command.target (ca
 abbrev pub asks_next : Plan → List Task → Model → Model
 asks_next plan commands s = asks_first (mark_next plan commands s.progress) (drop (place_next commands s.progress) commands) s
 
--- the model once the first of these commands of the set-up was sent, with this mark; or a null procedure, where there is none
+-- the model once the first of these commands of the setup was sent, with this mark; or a null procedure, if there is none
 abbrev pub asks_or_null : Plan → Mark → List Task → Model → Model
 asks_or_null plan mark [] s = asks_null plan s
 asks_or_null plan mark (task ∷ others) s = asks task.deadline task.command.target (call_at task mark.sent) (Some mark) s
 
--- the model once the next command of the set-up was sent
+-- the model once the next command of the setup was sent
 abbrev pub asks_setup : Plan → List Task → Model → Model
 asks_setup plan commands s = asks_or_null plan (mark_setup commands s.progress) (drop s.progress.prepared commands) s
 
@@ -279,23 +279,23 @@ skips_first p m mark [] = []
 skips_first p m mark (task ∷ others) =
     record { sent = None; utc = skipped_at m p; cycle = mark.cycle; place = mark.place; turn = mark.expected.turn; command = task.command; end = if p.missed then Missed else Skipped } ∷ []
 
--- the record of the next command, which isn't sent, where the act read the clock; else none
+-- the record of the next command, which isn't sent, if the act read the clock; otherwise none
 abbrev pub skips : Plan → List Task → Progress → Act → List Record
 skips plan commands p (Told m) = skips_first p m (mark_next plan commands p) (drop (place_next commands p) commands)
 skips plan commands p _ = []
 
--- whether a command of the attempt ended as its rule names, once the next command isn't sent: as before, where the clock couldn't be
--- read
+-- whether a command of the attempt ended as its rule names, once the next command isn't sent: as before, if the clock couldn't
+-- be read
 abbrev pub skip_listed : Plan → List Task → Model → Act → Bool
-skip_listed plan commands s (Told m) = listed_behind s.listed (mark_next plan commands s.progress).expected None (if s.progress.missed then Missed else Skipped)
+skip_listed plan commands s (Told m) = listed_after s.listed (mark_next plan commands s.progress).expected None (if s.progress.missed then Missed else Skipped)
 skip_listed plan commands s _ = s.listed
 
--- the commands that are passed over where the next one begins a further attempt: those of this attempt and of those behind it
+-- the commands that are left out if the next one begins a further attempt: those of this attempt and of those after it
 abbrev pub passes_next : Plan → List Task → Progress → List Request
 passes_next plan commands p =
     requests (cycles_begun plan p) (place_next commands p) (map of_task (take p.next_others (drop (place_next commands p) commands)))
 
--- the model with these commands passed over besides
+-- the model with these commands left out besides
 abbrev pub with_passes : List Request → Model → Model
 with_passes passes s = record s { passes = s.passes ++ passes }
 
@@ -307,13 +307,13 @@ with_listed listed s = record s { listed = listed }
 abbrev pub with_records : List Record → Model → Model
 with_records records s = record s { records = s.records ++ records }
 
--- the model once these settlements of the oldest requests that wait are written down, by their marks, which are taken out
+-- the model once these settlements of the oldest outstanding requests are recorded, by their marks, which are removed
 abbrev pub with_settled : List (Settlement Asked) → Model → Model
 with_settled settlements s = record s {
   records = s.records ++ records_of s.reads s.progress.moment.utc s.marks settlements;
   listed = listed_by s.reads s.listed s.marks settlements;
   marks = drop (length settlements) s.marks;
-  fresh = fresh_behind s.progress.moment.elapsed s.fresh (records_of s.reads s.progress.moment.utc s.marks settlements);
+  fresh = fresh_after s.progress.moment.elapsed s.fresh (records_of s.reads s.progress.moment.utc s.marks settlements);
 }
 
 -- the model after what a client settled: with the records of these settlements, and the client as it then is
@@ -325,18 +325,18 @@ abbrev pub is_tables : Option (Settlement Asked) → Bool
 is_tables None = false
 is_tables (Some x) = is_of_table x.call
 
--- whether the last of these settlements is of a call of the table; false where there is none
+-- whether the last of these settlements is of a call of the table; false if there is none
 abbrev pub ends_with_table : List (Settlement Asked) → Bool
 ends_with_table settlements = is_tables (slice_get settlements (length settlements - 1))
 
--- the model once a line settled requests: with the records of these settlements, and how many requests are behind the last call of the table
--- that a reply ended
+-- the model once a line settled requests: with the records of these settlements, and how many requests are after the last call
+-- of the table that a reply ended
 abbrev pub line_settles : Settled Asked (ById Asked) → Model → Model
 line_settles x s = with_progress (caught_up (ends_with_table x.settlements) (length x.client.waiting)) (settles x s)
 
 -- the model after a line that came
 abbrev pub line_came : Model → List ℕ → Model
-line_came s line = with_progress (noted (is_reply line)) (line_settles (hears s.client line (heard line)) s)
+line_came s line = with_progress (line_noted (is_reply line)) (line_settles (hears s.client line (heard line)) s)
 
 -- the model after lines that came, in order
 abbrev pub lines_came : Model → List (List ℕ) → Model
@@ -344,8 +344,8 @@ lines_came s [] = s
 lines_came s (line ∷ others) = lines_came (line_came s line) others
 
 -- the lines that a piece completes after the bytes since the last line feed
-abbrev pub lines_behind : List ℕ → List ℕ → List (List ℕ)
-lines_behind rest piece = filter_map line_in (frames_behind rest piece)
+abbrev pub lines_completed : List ℕ → List ℕ → List (List ℕ)
+lines_completed rest piece = filter_map line_in (frames_behind rest piece)
 
 -- a model with these bytes since the last line feed in place of its own
 abbrev pub with_rest : List ℕ → Model → Model
@@ -353,13 +353,13 @@ with_rest rest s = record s { rest = rest }
 
 -- the model after a piece whose lines are heard, in order
 abbrev pub piece_came : List ℕ → Model → Model
-piece_came piece s = lines_came (with_rest (rest_behind s.rest piece) s) (lines_behind s.rest piece)
+piece_came piece s = lines_came (with_rest (rest_behind s.rest piece) s) (lines_completed s.rest piece)
 
--- the model after a piece whose lines are heard while the station begins, in order
+-- the model after a piece whose lines are heard while the station synchronizes, in order
 abbrev pub piece_asked : List ℕ → Model → Model
-piece_asked piece s = with_progress (λ p. lines_asked p (lines_behind s.rest piece)) (with_rest (rest_behind s.rest piece) s)
+piece_asked piece s = with_progress (λ p. lines_asked p (lines_completed s.rest piece)) (with_rest (rest_behind s.rest piece) s)
 
--- whether what comes in a phase is heard: in `Ready` alone. In each other phase it is dropped
+-- whether what comes in a phase is heard: in `Ready` alone. In each other phase it is discarded
 abbrev pub is_heard : Phase → Bool
 is_heard phase.Down = false
 is_heard phase.Pausing = false
@@ -369,24 +369,24 @@ is_heard phase.Ready = true
 is_heard (phase.Closing cause) = false
 is_heard (phase.Over cause) = false
 
--- the model after a piece, with the ids of the beginning that aren't answered. If the piece is heard (`true`), the client hears
--- it where none of these ids is left, and else the beginning does; the client doesn't hear what follows the beginning's last
--- answer in that piece. If it isn't heard (`false`), it is dropped
-abbrev pub came : Bool → List ℕ → List ℕ → Model → Model
-came true [] piece s = piece_came piece s
-came true (asked ∷ others) piece s = piece_asked piece s
-came false word piece s = s
+-- the model after a piece, with the ids of the synchronization that aren't answered. If the piece is heard (`true`), the client
+-- hears it if none of these ids is left, and else the synchronization does; the client doesn't hear what follows the
+-- synchronization's last answer in that piece. If it isn't heard (`false`), it is discarded
+abbrev pub after_piece : Bool → List ℕ → List ℕ → Model → Model
+after_piece true [] piece s = piece_came piece s
+after_piece true (asked ∷ others) piece s = piece_asked piece s
+after_piece false word piece s = s
 
 -- the model once what a piece settled was counted: a command that was settled gives all tries back, and the cycle may be done
--- early. `before` commands waited before the piece
+-- early. `before` commands were outstanding before the piece
 abbrev pub reckoned : Plan → Until → ℕ → Model → Model
-reckoned plan until before s = with_progress (λ p. reckoned_early plan (commands_in s.marks) (gave plan until before (waiting_of s) p)) s
+reckoned plan until before s = with_progress (λ p. reckoned_early plan (commands_in s.marks) (bytes_noted plan until before (waiting_of s) p)) s
 
--- the model after a piece that came by this moment: requests whose deadline has come are given up first, and then the piece
--- is heard
+-- the model after a piece that came by this moment: requests whose deadline has come time out first, and then the piece is
+-- heard
 abbrev pub piece_at : Plan → Until → List ℕ → Moment → Model → Model
 piece_at plan until piece m s =
-    reckoned plan until (commands_in s.marks) (came (is_heard s.progress.phase) s.progress.word piece (with_moment m (with_progress (told m) s)))
+    reckoned plan until (commands_in s.marks) (after_piece (is_heard s.progress.phase) s.progress.word piece (with_moment m (with_progress (moment_noted m) s)))
 
 -- the model after a read
 abbrev pub after_read : Plan → Until → Model → Act → Model
@@ -396,23 +396,22 @@ after_read plan until s Ended = with_progress (failing cause.End) s
 after_read plan until s Broke = with_progress (failing cause.Read) s
 after_read plan until s _ = with_progress (failing cause.Clock) s
 
--- the model after an act that reads the clock: its progress is changed by `f` or, where the clock couldn't be read, fails for
--- that
+-- the model after an act that reads the clock: its progress is changed by `f` or, if the clock couldn't be read, fails for that
 abbrev pub after_clock : (Moment → Progress → Progress) → Model → Act → Model
 after_clock f s (Told m) = with_moment m (with_progress (f m) s)
 after_clock f s _ = with_progress (failing cause.Clock) s
 
--- the model after the clock was read to pass over the further attempts of a chain; where it couldn't be read, none is passed over
+-- the model after the clock was read to leave out the further attempts of a chain; if it couldn't be read, none is left out
 abbrev pub after_pass : Plan → List Task → Model → Act → Model
 after_pass plan commands s (Told m) =
     let n = s.progress.next_others in
-    let is_chained = is_chained_behind n commands s.progress in
-    let others = others_behind n commands s.progress in
-    with_moment m (with_progress (λ p. reckoned_early plan (commands_in s.marks) (passed is_chained others m p)) (with_passes (passes_next plan commands s.progress) s))
+    let is_chained = is_chained_after n commands s.progress in
+    let others = others_after n commands s.progress in
+    with_moment m (with_progress (λ p. reckoned_early plan (commands_in s.marks) (attempts_left_out is_chained others m p)) (with_passes (passes_next plan commands s.progress) s))
 after_pass plan commands s _ = with_progress (failing cause.Clock) s
 
--- the model after a write, changed by `f`. Where the bytes were cut, the connection is to be closed besides, for a cause that names
--- this number of requests
+-- the model after a write, changed by `f`. If the bytes were cut, the connection is to be closed besides, for a cause that
+-- names this number of requests
 abbrev pub after_put : ℕ → (Model → Model) → Model → Act → Model
 after_put requests f s (Cut bytes count) = with_progress (failing (cause.Write requests count)) (f s)
 after_put requests f s _ = f s
@@ -420,24 +419,25 @@ after_put requests f s _ = f s
 -- the model after an attempt to connect
 abbrev pub after_open : Plan → Model → Act → Model
 after_open plan s Opened = with_progress opened s
-after_open plan s _ = with_progress (again plan (commands_in s.marks) cause.Open) s
+after_open plan s _ = with_progress (after_failure plan (commands_in s.marks) cause.Open) s
 
--- the model after a close: the bytes of a line are forgotten, and what waits goes on waiting
+-- the model after a close: the bytes of a line are forgotten, and what is outstanding stays outstanding
 abbrev pub after_close : Plan → Cause → Model → Model
 after_close plan cause s = with_progress (closed plan (waiting_of s) cause) (with_rest [] s)
 
 -- the model after an act that performs this action, apart from the turn that is taken
 abbrev pub moved : Plan → List Task → Action → Model → Act → Model
-moved plan commands ReadClock s act = after_clock (λ m p. reckoned_early plan (commands_in s.marks) (told m p)) s act
+moved plan commands ReadClock s act = after_clock (λ m p. reckoned_early plan (commands_in s.marks) (moment_noted m p)) s act
 moved plan commands Renew s act = after_clock (λ m p. reckoned_early plan 0 (renewed plan m p)) s act
-moved plan commands Begin s act = after_clock (begun plan (cycle_length plan commands)) s act
+moved plan commands Begin s act = after_clock (cycle_begun plan (cycle_length plan commands)) s act
 moved plan commands Open s act = after_open plan s act
 moved plan commands Clear s act = after_put (requests_out plan commands s.progress) (with_progress cleared) s act
 moved plan commands Ask s act = after_put (requests_out plan commands s.progress) (with_progress (null_sent plan)) s act
 moved plan commands Prepare s act = after_put (requests_out plan commands s.progress) (λ (s : Model). with_progress (setup_sent plan) (asks_setup plan commands s)) s act
-moved plan commands Send s act = after_put (requests_out plan commands s.progress) (λ (s : Model). with_progress (sent (is_chained_behind_next commands s.progress) (others_behind_next commands s.progress)) (asks_next plan commands s)) s act
+moved plan commands Send s act = after_put (requests_out plan commands s.progress)
+    (λ (s : Model). with_progress (sent (is_chained_after_next commands s.progress) (others_after_next commands s.progress)) (asks_next plan commands s)) s act
 moved plan commands Skip s act =
-    after_clock (λ m p. reckoned_early plan (commands_in s.marks) (skipped (is_chained_behind_next commands s.progress) (others_behind_next commands s.progress) m p))
+    after_clock (λ m p. reckoned_early plan (commands_in s.marks) (skipped (is_chained_after_next commands s.progress) (others_after_next commands s.progress) m p))
     (with_listed (skip_listed plan commands s act) (with_records (skips plan commands s.progress act) s)) act
 moved plan commands Pass s act = after_pass plan commands s act
 moved plan commands Flush s act = after_put (requests_out plan commands s.progress) (λ (s : Model). with_progress asking (asks_null plan s)) s act
@@ -445,12 +445,12 @@ moved plan commands (Read until) s act = after_read plan until s act
 moved plan commands (Close cause) s act = after_close plan cause s
 moved plan commands (Stop cause) s act = s
 
--- the model with all requests that wait lost and a fresh client, if that is asked for; else the model as it is
+-- the model with all outstanding requests lost and a fresh client, if that is asked for; otherwise the model as it is
 abbrev pub losing : Bool → Model → Model
 losing true s = settles (restarts s.client) s
 losing false s = s
 
--- the model with all requests that wait lost, where the station begins anew or no act follows; else the model as it is
+-- the model with all outstanding requests lost, if the station resynchronizes or no act follows; otherwise the model as it is
 abbrev pub ended : Model → Model
 ended s = losing (loses_all s.progress) s
 

@@ -1,6 +1,6 @@
--- Where an answer was measured, this project's own: whatever the line, the instrument or a hand at it did, an answered command of a
--- target that stands somewhere was measured there, as far as its answer has a direction. An act is one call of the link, with what
--- came of it.
+-- Where an answer was measured, this project's own: whatever the line, the instrument or a hand at it did, an answered command
+-- of a target with a known place was measured there, as far as its answer has a direction. An act is one call on the link,
+-- with its result.
 use Rattle.std.specs.Prelude.{◌≡◌, ◌⊎◌, ℕ, true, List, Some, slice_get}
 use Rattle.std.specs.List.{AllByRecursion}
 use Rattle.gc_catalogue.specs.declared.answer.Answer.{Answer}
@@ -19,34 +19,34 @@ use Rattle.gc_texts.specs.declared.quality.Quality.{Quality}
 use Rattle.gc_texts.specs.declared.tasks.Task.{Task}
 use Rattle.gc_links.specs.Acts.{Act}
 use Rattle.gc_station.specs.Records.{Record}
-use Rattle.gc_station.specs.Runs.{stood}
+use Rattle.gc_station.specs.Runs.{state_after}
 use Rattle.gc_station.specs.Scopes.{Scope}
 use Rattle.gc_station.specs.declared.plan.Plan.{Plan}
 
--- if a record is answered, its answer has a direction, and the text says where its command's target stands, then that direction
--- is near that place, within its tolerance
+-- if a record is answered, its answer has a direction, and the text says where its command's target is, then that direction is
+-- near that place, within its tolerance
 abbrev pub IsAtItsTarget : List Task → Record → Type 0
 IsAtItsTarget commands r =
     (task : Task) (near : Near) (quality : Quality) (answer : Answer) (line : List ℕ) (d : Direction) → slice_get commands r.place ≡ Some task → task.near ≡ Some near
     → r.end ≡ Answered quality (Some answer) line → direction_of answer ≡ Some d → IsNear d near.place near.tolerance
 
 -- this line says this answer of the call: it has both codes 0; or it has an accepted return code, and says the answer once 0
--- stands in place of that code
+-- replaces that code
 abbrev pub HasAnswer : (Asked → List ℕ → Reading) → Codes → Asked → List ℕ → Answer → Type 0
 HasAnswer reads accepted call line answer =
     (reads call line ≡ Value answer)
     ⊎ ((code : ℕ) × (reads call line ≡ Refused code) × (are_accepted accepted code ≡ true) × (reads call (as_zero line) ≡ Value answer))
 
--- if a record ended as elsewhere, its line says an answer (`HasAnswer`), the text says where the command's target stands, and
--- the answer's direction isn't near that place
-abbrev pub IsTrulyElsewhere : (Asked → List ℕ → Reading) → List Task → Record → Type 0
-IsTrulyElsewhere reads commands r =
+-- if a record ended as elsewhere, its line says an answer (`HasAnswer`), the text says where the command's target is, and the
+-- answer's direction isn't near that place
+abbrev pub ElsewhereIsJustified : (Asked → List ℕ → Reading) → List Task → Record → Type 0
+ElsewhereIsJustified reads commands r =
     (task : Task) (line : List ℕ) → slice_get commands r.place ≡ Some task → r.end ≡ Elsewhere line
     → (answer : Answer) × (near : Near) × (d : Direction) × HasAnswer reads task.accepted r.command.call line answer × (task.near ≡ Some near) × (direction_of answer ≡ Some d)
     × (IsNear d near.place near.tolerance → ⊥)
 
--- after any acts, `IsAtItsTarget` and `IsTrulyElsewhere` hold of each record
+-- after any acts, `IsAtItsTarget` and `ElsewhereIsJustified` hold of each record
 abbrev pub AnswersAreAtTheirTargets : Type 0
 AnswersAreAtTheirTargets =
     (plan : Plan) (commands : List Task) (scope : Scope) (acts : List Act)
-    → AllByRecursion (λ r. IsAtItsTarget commands r × IsTrulyElsewhere scope.reads commands r) (stood plan commands scope acts).records
+    → AllByRecursion (λ r. IsAtItsTarget commands r × ElsewhereIsJustified scope.reads commands r) (state_after plan commands scope acts).records

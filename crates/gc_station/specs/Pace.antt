@@ -17,22 +17,22 @@ dead_at plan p = later p.alive (patience_of plan)
 abbrev pub due_at : Plan → Progress → ℕ
 due_at plan p = later p.began plan.every
 
--- the moment of the next attempt to connect: the end of the pause, or, where no connection is wanted before the next cycle is due, that due
--- moment if it is later
+-- the moment of the next attempt to connect: the end of the pause, or, if no connection is wanted before the next cycle is due,
+-- that due moment if it is later
 abbrev pub retry_at : Plan → Progress → ℕ
 retry_at plan p = if is_idle plan p then max (later p.since p.pause) (due_at plan p) else later p.since p.pause
 
--- the moment from which on the run is stale, if no answer of a good quality is written down until then; the greatest `u64` where it
+-- the moment from which on the run is stale, if no answer of a good quality is recorded until then; the greatest `u64` if it
 -- never is
 abbrev pub stale_at : Plan → ℕ → ℕ
 stale_at plan fresh = if nat_lt 0 plan.stale then later fresh plan.stale else 18446744073709551615
 
--- how long a read waits at most: a second where somebody may ask for the end of the run, else a minute
+-- how long a read waits at most: a second if somebody may ask for the end of the run, else a minute
 abbrev pub longest : Plan → ℕ
 longest plan = if plan.watched then 1000 else 60000
 
--- the moment at which a read in this phase ends if nothing comes, leaving out the deadlines of the requests that wait: at the end of a pause
--- or a drain, when the line is dead, or when a null procedure of the beginning goes out again
+-- the moment at which a read in this phase ends if nothing comes, leaving out the deadlines of the outstanding requests: at the
+-- end of a pause or a drain, when the line is dead, or when a null procedure of the synchronization is sent again
 abbrev pub ends_in : Phase → Plan → Progress → ℕ
 ends_in phase.Pausing plan p = retry_at plan p
 ends_in phase.Draining plan p = later p.since plan.quiet
@@ -68,6 +68,6 @@ overrun plan p told = if has_overrun plan p && nat_lt told (cycle_of plan p) the
 
 -- the number of the last cycle that was reported as overrun: the given cycle, if one is to be reported now, else `told` as
 -- before
-abbrev pub told_then : ℕ → Option ℕ → ℕ
-told_then told None = told
-told_then told (Some cycle) = cycle
+abbrev pub reported_then : ℕ → Option ℕ → ℕ
+reported_then told None = told
+reported_then told (Some cycle) = cycle

@@ -1,6 +1,6 @@
--- A run of a station as its client has it, this project's own: a part for each beginning, with what happens while the station
--- begins, then the client's steps, and which command each request is that goes out. An act is one call of the link, with what came
--- of it.
+-- A run of a station as its client has it, this project's own: a part for each synchronization, with what happens while the
+-- station synchronizes, then the client's steps, and which command each request is that is sent. An act is one call on the
+-- link, with its result.
 use Rattle.std.specs.Prelude.{◌≡◌, ℕ, ◌&&◌, Bool, true, false, if◌then◌else◌, List, [], ◌∷◌, ◌++◌, drop, map, Option, Some, None, slice_get, unwrap_or}
 use Rattle.gc_catalogue.specs.declared.asked.Asked.{Asked}
 use Rattle.gc_catalogue.specs.declared.asked.Asked.TheVariants.{Table}
@@ -19,21 +19,22 @@ use Rattle.gc_station.specs.Deciding.{later, has_begun}
 use Rattle.gc_station.specs.Progressing.{loses_all}
 use Rattle.gc_station.specs.Records.{Record}
 use Rattle.gc_station.specs.Requests.{asked_at}
-use Rattle.gc_station.specs.Model.{Model, action_at, place_next, mark_next, mark_setup, lines_behind, is_heard, after}
+use Rattle.gc_station.specs.Model.{Model, action_at, place_next, mark_next, mark_setup, lines_completed, is_heard, after}
 
--- what happens while a station begins: the null procedure of the first id that isn't answered goes out, whole or in part; or a line is heard
+-- what happens while a station synchronizes: the null procedure of the first id that isn't answered is sent, whole or in part;
+-- or a line is heard
 pub data Turn : Type 0 where
   Asks : Turn
   Hears : (line : List ℕ) → Turn
 
--- what happens from one beginning to the next: the turns of the beginning; then the client's steps, and of each request that goes out, in
--- order, which command of which cycle it is; a null procedure of the station's own is none
+-- what happens from one synchronization to the next: the turns of the synchronization; then the client's steps, and of each
+-- request that is sent, in order, which command of which cycle it is; a null procedure of the station's own is none
 pub record Part : Type 0 where
   pub turns : List Turn
   pub steps : List (Step Asked)
   pub marks : List (Option Mark)
 
--- the part of these turns of a beginning
+-- the part of these turns of a synchronization
 abbrev pub only_turns : List Turn → Part
 only_turns turns = record { turns = turns; steps = []; marks = [] }
 
@@ -49,19 +50,19 @@ nothing = only []
 abbrev pub joined : Part → Part → Part
 joined p q = record { turns = p.turns ++ q.turns; steps = p.steps ++ q.steps; marks = p.marks ++ q.marks }
 
--- the part of a request that goes out: for this target, with this call, this deadline, and this mark (`None` for a null
+-- the part of a request that is sent: for this target, with this call, this deadline, and this mark (`None` for a null
 -- procedure)
 abbrev pub asking : ℕ → Asked → ℕ → Option Mark → Part
 asking target call deadline mark = record { turns = []; steps = Send target call deadline ∷ []; marks = mark ∷ [] }
 
--- the part of the first of these commands, whose request goes out at the moment `now` with this mark; nothing where there is no
+-- the part of the first of these commands, whose request is sent at the moment `now` with this mark; nothing if there is no
 -- command
 abbrev pub asking_first : ℕ → Mark → List Task → Part
 asking_first now mark [] = nothing
 asking_first now mark (task ∷ others) = asking task.command.target (call_at task mark.sent) (later now task.deadline) (Some mark)
 
--- the part of the first of these commands of the set-up, whose request goes out at the moment `now` with this mark; of a null procedure where
--- there is no command
+-- the part of the first of these commands of the setup, whose request is sent at the moment `now` with this mark; of a null
+-- procedure if there is no command
 abbrev pub asking_or_null : Plan → ℕ → Mark → List Task → Part
 asking_or_null plan now mark [] = asking 0 (Table NullProc) (later now plan.deadline) None
 asking_or_null plan now mark (task ∷ others) = asking task.command.target (call_at task mark.sent) (later now task.deadline) (Some mark)
@@ -75,14 +76,14 @@ putting plan commands s action.Send =
     asking_first s.progress.moment.elapsed (mark_next plan commands s.progress) (drop (place_next commands s.progress) commands)
 putting plan commands s _ = nothing
 
--- the client's steps for a piece after these bytes since the last line feed: it hears the piece line by line; or, where the piece is
--- dropped, nothing, as if the lines were lost on the way
+-- the client's steps for a piece after these bytes since the last line feed: it hears the piece line by line; or, if the piece
+-- is discarded, nothing, as if the lines were lost on the way
 abbrev pub hearing : Bool → List ℕ → List ℕ → List (Step Asked)
-hearing true rest piece = map Hear (lines_behind rest piece)
+hearing true rest piece = map Hear (lines_completed rest piece)
 hearing false rest piece = []
 
--- the part of an act of this action once the station has begun. A moment gives up what has reached its deadline before the
--- piece that came with it is heard
+-- the part of an act of this action once the station has synchronized. A moment times out what has reached its deadline before
+-- the piece that came with it is heard
 abbrev pub doing : Plan → List Task → Model → Action → Act → Part
 doing plan commands s action (Told m) = only (Expire m.elapsed ∷ [])
 doing plan commands s action (Silent m) = only (Expire m.elapsed ∷ [])
@@ -91,25 +92,25 @@ doing plan commands s action (Put bytes) = putting plan commands s action
 doing plan commands s action (Cut bytes count) = putting plan commands s action
 doing plan commands s action _ = nothing
 
--- the part of an act of this action while the station begins: the null procedure of the first id that isn't answered is put, all
--- of it or some; a piece is heard line by line
+-- the part of an act of this action while the station synchronizes: the null procedure of the first id that isn't answered is
+-- put, all of it or some; a piece is heard line by line
 abbrev pub beginning : Model → Action → Act → Part
 beginning s action.Ask (Put bytes) = only_turns (Asks ∷ [])
 beginning s action.Ask (Cut bytes count) = only_turns (Asks ∷ [])
-beginning s (action.Read until) (Gave piece m) = only_turns (if is_heard s.progress.phase then map Hears (lines_behind s.rest piece) else [])
+beginning s (action.Read until) (Gave piece m) = only_turns (if is_heard s.progress.phase then map Hears (lines_completed s.rest piece) else [])
 beginning s action act = nothing
 
 -- the part of an act of this action
 abbrev pub acting : Plan → List Task → Model → Action → Act → Part
 acting plan commands s action act = if has_begun s.progress then doing plan commands s action act else beginning s action act
 
--- whether a part ends with this act: after it all requests that wait are lost, because the station begins anew or no act follows. An act of
--- a beginning ends no part, because nothing waits then
+-- whether a part ends with this act: after it all outstanding requests are lost, because the station resynchronizes or no act
+-- follows. An act of a synchronization ends no part, because nothing is outstanding then
 abbrev pub ends_part : Plan → List Task → Model → Act → Bool
 ends_part plan commands s act = has_begun s.progress && loses_all (after plan commands s act).progress
 
--- the parts of an act, in which p happens, and of the acts after it: where the act ends a part (`true`), p is a part of its own, in front
--- of the others; else p is the front of the first of them
+-- the parts of an act, in which p happens, and of the acts after it: if the act ends a part (`true`), p is a part of its own,
+-- before the others; otherwise p is the front of the first of them
 abbrev pub in_front : Part → Bool → List Part → List Part
 in_front p true parts = p ∷ parts
 in_front p false [] = p ∷ []
@@ -121,8 +122,8 @@ parts_of plan commands s [] = nothing ∷ []
 parts_of plan commands s (act ∷ acts) =
     in_front (acting plan commands s (action_at plan s) act) (ends_part plan commands s act) (parts_of plan commands (after plan commands s act) acts)
 
--- a request with this mark is for the target and the call of `a`: those of the mark's command, where it goes out at the mark's moment, or a
--- null procedure where there is no mark
+-- a request with this mark is for the target and the call of `a`: those of the mark's command, if it is sent at the mark's
+-- moment, or a null procedure if there is no mark
 abbrev pub IsOf : List Task → Option Mark → Wanted Asked → Type 0
 IsOf commands None a = a ≡ record { target = 0; call = Table NullProc }
 IsOf commands (Some mark) a = (task : Task) × (slice_get commands mark.place ≡ Some task) × (a ≡ asked_at mark.sent task)
@@ -133,7 +134,7 @@ AreOf commands [] [] = Unit {0}
 AreOf commands (mark ∷ marks) (a ∷ others) = IsOf commands mark a × AreOf commands marks others
 AreOf commands _ _ = ⊥
 
--- whether the request of a command that ended so went out
+-- whether the request of a command that ended so was sent
 abbrev pub went_out : End → Bool
 went_out (Answered quality answer line) = true
 went_out (Unreadable line fault) = true
@@ -143,21 +144,21 @@ went_out Lost = true
 went_out Skipped = false
 went_out Missed = false
 
--- these records, with this one in front if its command went out
+-- these records, with this one first if its command was sent
 abbrev pub sent_with : Bool → Record → List Record → List Record
 sent_with true r rs = r ∷ rs
 sent_with false r rs = rs
 
--- the records of commands that went out, in order
+-- the records of commands that were sent, in order
 abbrev pub sent_of : List Record → List Record
 sent_of [] = []
 sent_of (r ∷ rs) = sent_with (went_out r.end) r (sent_of rs)
 
--- when the request of a record went out; 0 where it didn't
+-- when the request of a record was sent; 0 if it didn't
 abbrev pub sent_at : Record → ℕ
 sent_at r = unwrap_or r.sent 0
 
--- the mark of the command that a record is of, where this is expected of its answer
+-- the mark of the command that a record is of, if this is expected of its answer
 abbrev pub mark_of : Expected → Record → Mark
 mark_of expected r = record { cycle = r.cycle; place = r.place; sent = sent_at r; expected = expected }
 

@@ -1,9 +1,9 @@
--- How often a station connects anew, and how long it pauses before that, by its failures in a row: this project's own. An act is
--- one call of the link, with what came of it.
+-- How often a station reconnects, and how long it pauses before that, by its failures in a row: this project's own. An act is
+-- one call on the link, with its result.
 use Rattle.std.specs.Prelude.{◌≡◌, ◌⊎◌, ℕ, zero, suc, ◌+◌, ◌*◌, ◌<◌, ◌≤◌, true, false, List, min, max}
 use Rattle.gc_texts.specs.declared.tasks.Task.{Task}
 use Rattle.gc_links.specs.Acts.{Act}
-use Rattle.gc_station.specs.Progressing.{at_start, is_spared, again, gave}
+use Rattle.gc_station.specs.Progressing.{at_start, is_spared, after_failure, bytes_noted}
 use Rattle.gc_station.specs.Model.{Model, moved}
 use Rattle.gc_station.specs.declared.cause.Cause.{Cause}
 use Rattle.gc_station.specs.declared.cause.Cause.TheVariants as cause
@@ -22,9 +22,9 @@ doubled (suc n) time = 2 * doubled n time
 
 -- the length of the pause after n failures in a row: none after none; the quiet time after the first, and after each
 -- further one twice the last pause, up to a minute and never below the quiet time
-abbrev pub pause_behind : Plan → ℕ → ℕ
-pause_behind plan zero = 0
-pause_behind plan (suc n) = max (min (doubled n plan.quiet) 60000) plan.quiet
+abbrev pub pause_after : Plan → ℕ → ℕ
+pause_after plan zero = 0
+pause_after plan (suc n) = max (min (doubled n plan.quiet) 60000) plan.quiet
 
 -- an action that touches neither the tries nor the pause: it doesn't make a connection, read from one or close one
 abbrev pub LeavesTries : Action → Type 0
@@ -33,24 +33,24 @@ LeavesTries (Read until) = ⊥
 LeavesTries (Close why) = ⊥
 LeavesTries _ = Unit {0}
 
--- at the start all tries are left, and the pause is 0. A failure takes one try, and makes the pause that of one failure more; without a try
--- left the run is over. A close while no connection is wanted takes no try, and makes a pause of 0 that of one failure. A read that settles
--- a command gives all tries back, and makes the pause 0, where since the set-up a command of a cycle had its turn. Other bytes change neither, and nor does an act that is no opening, no
--- read and no close
+-- at the start all tries are left, and the pause is 0. A failure takes one try, and makes the pause that of one failure more;
+-- without a try left the run is over. A close while no connection is wanted takes no try, and makes a pause of 0 that of one
+-- failure. A read that settles a command gives all tries back, and makes the pause 0, where since the setup a command of a
+-- cycle had its turn. Other bytes change neither, and nor does an act that is no opening, no read and no close
 pub record TriesAndPausesAreCounted : Type 0 where
-  pub start : (plan : Plan) (turns : ℕ) → ((at_start plan turns).tries ≡ plan.retries) × ((at_start plan turns).pause ≡ pause_behind plan 0)
-  pub failed : (plan : Plan) (commands n : ℕ) (why : Cause) (p : Progress) → is_spared plan why p ≡ false → p.pause ≡ pause_behind plan n
-      → (again plan commands why p).pause ≡ pause_behind plan (suc n)
-  pub takes : (plan : Plan) (commands : ℕ) (why : Cause) (p : Progress) → is_spared plan why p ≡ false → 0 < p.tries → (again plan commands why p).tries + 1 ≡ p.tries
+  pub start : (plan : Plan) (turns : ℕ) → ((at_start plan turns).tries ≡ plan.retries) × ((at_start plan turns).pause ≡ pause_after plan 0)
+  pub failed : (plan : Plan) (commands n : ℕ) (why : Cause) (p : Progress) → is_spared plan why p ≡ false → p.pause ≡ pause_after plan n
+      → (after_failure plan commands why p).pause ≡ pause_after plan (suc n)
+  pub takes : (plan : Plan) (commands : ℕ) (why : Cause) (p : Progress) → is_spared plan why p ≡ false → 0 < p.tries → (after_failure plan commands why p).tries + 1 ≡ p.tries
   pub none_left : (plan : Plan) (commands : ℕ) (why : Cause) (p : Progress) → is_spared plan why p ≡ false → p.tries ≡ 0
-      → ((again plan commands why p).phase ≡ phase.Over cause.Done) ⊎ ((again plan commands why p).phase ≡ phase.Over why)
-  pub spared : (plan : Plan) (commands n : ℕ) (why : Cause) (p : Progress) → is_spared plan why p ≡ true → p.pause ≡ pause_behind plan (suc n)
-      → ((again plan commands why p).pause ≡ pause_behind plan (suc n)) × ((again plan commands why p).tries ≡ p.tries)
-  pub spared_first : (plan : Plan) (commands : ℕ) (why : Cause) (p : Progress) → is_spared plan why p ≡ true → p.pause ≡ pause_behind plan 0
-      → ((again plan commands why p).pause ≡ pause_behind plan 1) × ((again plan commands why p).tries ≡ p.tries)
+      → ((after_failure plan commands why p).phase ≡ phase.Over cause.Done) ⊎ ((after_failure plan commands why p).phase ≡ phase.Over why)
+  pub spared : (plan : Plan) (commands n : ℕ) (why : Cause) (p : Progress) → is_spared plan why p ≡ true → p.pause ≡ pause_after plan (suc n)
+      → ((after_failure plan commands why p).pause ≡ pause_after plan (suc n)) × ((after_failure plan commands why p).tries ≡ p.tries)
+  pub spared_first : (plan : Plan) (commands : ℕ) (why : Cause) (p : Progress) → is_spared plan why p ≡ true → p.pause ≡ pause_after plan 0
+      → ((after_failure plan commands why p).pause ≡ pause_after plan 1) × ((after_failure plan commands why p).tries ≡ p.tries)
   pub settled : (plan : Plan) (until : Until) (before : ℕ) (after : Waiting) (p : Progress) → after.commands < before → p.preparing ≡ false
-      → ((gave plan until before after p).tries ≡ plan.retries) × ((gave plan until before after p).pause ≡ pause_behind plan 0)
+      → ((bytes_noted plan until before after p).tries ≡ plan.retries) × ((bytes_noted plan until before after p).pause ≡ pause_after plan 0)
   pub unsettled : (plan : Plan) (until : Until) (before : ℕ) (after : Waiting) (p : Progress) → (before ≤ after.commands) ⊎ (p.preparing ≡ true)
-      → ((gave plan until before after p).tries ≡ p.tries) × ((gave plan until before after p).pause ≡ p.pause)
+      → ((bytes_noted plan until before after p).tries ≡ p.tries) × ((bytes_noted plan until before after p).pause ≡ p.pause)
   pub other : (plan : Plan) (commands : List Task) (action : Action) (s : Model) (act : Act) → LeavesTries action
       → ((moved plan commands action s act).progress.tries ≡ s.progress.tries) × ((moved plan commands action s act).progress.pause ≡ s.progress.pause)

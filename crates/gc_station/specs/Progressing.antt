@@ -1,6 +1,6 @@
 -- What each act does to how far a station is, this project's own. That is its progress: the phase that it is in, the ids of the
--- null procedures that aren't answered (`word`), the moment told last, and how many cycles, commands of the cycle, tries and
--- turns are left. An act is one call of the link, with what came of it.
+-- null procedures that aren't answered (`word`), the moment read last, and how many cycles, commands of the cycle, tries and
+-- turns are left. An act is one call on the link, with its result.
 use Rattle.std.specs.Prelude.{ℕ, ◌+◌, ◌-◌, ◌&&◌, ◌||◌, Bool, true, false, not, if◌then◌else◌, nat_lt, nat_le, nat_eq, min, max, List, [], ◌∷◌, Option}
 use Rattle.gc_client.specs.Beginning.{the_word, is_answered, left_by}
 use Rattle.gc_client.specs.Rule.{heard}
@@ -19,7 +19,7 @@ use Rattle.gc_station.specs.Deciding.{later, is_up, is_past, is_quiet, is_due, g
 pub use Rattle.gc_station.specs.Deciding.{is_idle, is_finished}
 use Rattle.gc_station.specs.Lines.{is_reply}
 
--- the progress of a station that has done nothing: no null procedure of the beginning is answered
+-- the progress of a station that has done nothing: no null procedure of the synchronization is answered
 abbrev pub at_start : Plan → ℕ → Progress
 at_start plan turns = record {
   phase = phase.Down;
@@ -53,14 +53,14 @@ at_start plan turns = record {
 abbrev pub turned : Progress → Progress
 turned p = record p { turns = p.turns - 1 }
 
--- the progress once the moment `m` was told, by any act but a read that gave nothing: the quiet time counts from `m`. Where the
+-- the progress once the moment `m` was read, by any act but a read that gave nothing: the quiet time counts from `m`. If the
 -- clock went back, so that the cycle's beginning (`began`) or the moment from which a dead line counts (`alive`) lies after
 -- `m`, it becomes `m`: so the next cycle isn't put off
-abbrev pub told : Moment → Progress → Progress
-told m p = record p { moment = m; since = m.elapsed; alive = min p.alive m.elapsed; began = min p.began m.elapsed; stale = false; stops = p.stops || m.stops }
+abbrev pub moment_noted : Moment → Progress → Progress
+moment_noted m p = record p { moment = m; since = m.elapsed; alive = min p.alive m.elapsed; began = min p.began m.elapsed; stale = false; stops = p.stops || m.stops }
 
 -- the moment that counts as the beginning of a cycle that is begun at the moment `m`. For the first cycle, and where cycles
--- have no due moment, it is `m`; for any other cycle the moment at which it was due, or `m` where that is earlier
+-- have no due moment, it is `m`; for any other cycle the moment at which it was due, or `m` if that is earlier
 abbrev pub beginning : Plan → Moment → Progress → ℕ
 beginning plan m p = if nat_eq p.left plan.cycles || nat_eq plan.every 0 then m.elapsed else min (later p.began plan.every) m.elapsed
 
@@ -72,10 +72,10 @@ is_missing plan m p = nat_lt 0 plan.every && nat_le plan.every (m.elapsed - begi
 abbrev pub due_of : Plan → Moment → Progress → ℕ
 due_of plan m p = m.utc - (m.elapsed - beginning plan m p)
 
--- the progress after the beginning of a cycle of `count` commands. Where it is missed, none of them goes out
-abbrev pub begun : Plan → ℕ → Moment → Progress → Progress
-begun plan count m p =
-    let q = told m p in
+-- the progress after the beginning of a cycle of `count` commands. If it is missed, none of them is sent
+abbrev pub cycle_begun : Plan → ℕ → Moment → Progress → Progress
+cycle_begun plan count m p =
+    let q = moment_noted m p in
     record q {
       began = beginning plan m p;
       due = due_of plan m p;
@@ -89,22 +89,22 @@ begun plan count m p =
       preparing = false;
     }
 
--- the moment in the record of a command that isn't sent: where its cycle is missed, the moment at which the cycle was due; else
--- this one
+-- the moment in the record of a command that isn't sent: where its cycle is missed, the moment at which the cycle was due;
+-- otherwise this one
 abbrev pub skipped_at : Moment → Progress → ℕ
 skipped_at m p = if p.missed then p.due else m.utc
 
--- the progress after a command that isn't sent. `next_is_chained`: the one after it goes out only once this one was
--- answered well; `others`: how many commands that one's attempt and those behind it have, where it begins a further attempt, else 0
+-- the progress after a command that isn't sent. `next_is_chained`: the one after it is sent only once this one was answered
+-- well; `others`: how many commands that one's attempt and those after it have, if it begins a further attempt, else 0
 abbrev pub skipped : Bool → ℕ → Moment → Progress → Progress
 skipped next_is_chained others m p =
-    let q = told m p in record q { unsent = p.unsent - 1; next_is_chained = next_is_chained; next_others = others; chain_unbroken = false; preparing = false }
+    let q = moment_noted m p in record q { unsent = p.unsent - 1; next_is_chained = next_is_chained; next_others = others; chain_unbroken = false; preparing = false }
 
--- the progress after the further attempts of a chain that the next command begins are passed over: all their commands are, and what is
--- said of the next command is of the one behind them
-abbrev pub passed : Bool → ℕ → Moment → Progress → Progress
-passed next_is_chained others m p =
-    let q = told m p in record q { unsent = p.unsent - p.next_others; next_is_chained = next_is_chained; next_others = others; chain_unbroken = false; preparing = false }
+-- the progress after the further attempts of a chain that the next command begins are left out: all their commands are, and
+-- what is said of the next command is of the one after them
+abbrev pub attempts_left_out : Bool → ℕ → Moment → Progress → Progress
+attempts_left_out next_is_chained others m p =
+    let q = moment_noted m p in record q { unsent = p.unsent - p.next_others; next_is_chained = next_is_chained; next_others = others; chain_unbroken = false; preparing = false }
 
 -- the progress after a failure for this cause: the connection is to be closed, and without a connection the run is over
 abbrev pub failing : Cause → Progress → Progress
@@ -119,30 +119,31 @@ abbrev pub is_spared : Plan → Cause → Progress → Bool
 is_spared plan cause.Open p = false
 is_spared plan _ p = is_idle plan p
 
--- the phase after the loss of a connection, or after an attempt that failed, while `commands` commands wait: the run is
--- done, or it tries again, or without a try left it is over for this cause
+-- the phase after the loss of a connection, or after an attempt that failed, while `commands` commands are outstanding: the run
+-- is done, or it tries again, or without a try left it is over for this cause
 abbrev pub phase_again : Plan → ℕ → Cause → Progress → Phase
 phase_again plan commands why p =
     if is_finished commands p then phase.Over cause.Done
     else if is_spared plan why p || nat_lt 0 p.tries then phase.Pausing
     else phase.Over why
 
--- the length of the next pause: the quiet time after a first failure, and after each further one twice the last pause, up to
--- a minute. Where no connection is wanted it is the last pause. It is never below the quiet time
+-- the length of the next pause: the quiet time after a first failure, and after each further one twice the last pause, up to a
+-- minute. If no connection is wanted it is the last pause. It is never below the quiet time
 abbrev pub pause_again : Plan → Cause → Progress → ℕ
 pause_again plan why p = if is_spared plan why p then max p.pause plan.quiet else max (min (later p.pause p.pause) 60000) plan.quiet
 
--- the attempt of the set-up that is next, where the last one sent something or nothing: the one after it, or the same
+-- the attempt of the setup that is next, if the last one sent something or nothing: the one after it, or the same
 abbrev pub next_attempt : Progress → ℕ
 next_attempt p = if nat_eq p.prepared 0 then p.attempt else later p.attempt 1
 
--- the progress where the set-up, if there is one, is to go out again from its first command on
+-- the progress if the setup, if there is one, is to be sent again from its first command on
 abbrev pub unprepared : Plan → Progress → Progress
 unprepared plan p = record p { preparing = nat_lt 0 plan.setup; prepared = 0; attempt = next_attempt p }
 
--- the progress after a connection that was closed or couldn't be made: the set-up goes out again on the next connection, and the next attempt takes a try, unless it is spared
-abbrev pub again : Plan → ℕ → Cause → Progress → Progress
-again plan commands why p = record p {
+-- the progress after a connection that was closed or couldn't be made: the setup is sent again on the next connection, and the
+-- next attempt takes a try, unless it is spared
+abbrev pub after_failure : Plan → ℕ → Cause → Progress → Progress
+after_failure plan commands why p = record p {
   phase = phase_again plan commands why p;
   stale = true;
   tries = if is_spared plan why p then p.tries else p.tries - 1;
@@ -153,7 +154,7 @@ again plan commands why p = record p {
   attempt = next_attempt p;
 }
 
--- the progress after the line feed: a connection is drained next, unless a beginning goes on with it
+-- the progress after the line feed: a connection is drained next, unless a synchronization goes on with it
 abbrev pub cleared : Progress → Progress
 cleared p = record p { phase = if has_begun p then phase.Draining else phase.Ready; again = 0; asked = false; stale = true }
 
@@ -165,62 +166,64 @@ one_more n = if nat_lt n WINDOW then n + 1 else n
 abbrev pub asking : Progress → Progress
 asking p = record p { alive = if p.asked then p.alive else p.moment.elapsed; asked = true; stale = true; behind = one_more p.behind }
 
--- the progress after the null procedure of the first id that isn't answered: it goes out again at its deadline. No command goes
--- out before it is answered
+-- the progress after the null procedure of the first id that isn't answered: it is sent again at its deadline. No command is
+-- sent before it is answered
 abbrev pub null_sent : Plan → Progress → Progress
 null_sent plan p = let q = asking p in record q { again = later p.moment.elapsed plan.deadline; behind = 0 }
 
--- the progress of a station that begins anew at this moment: no null procedure is answered, no chain goes on, and the
--- set-up goes out again. Where nothing goes out before the next cycle is due, the time after which the line is dead begins with the first null procedure
+-- the progress of a station that resynchronizes at this moment: no null procedure is answered, no chain goes on, and the setup
+-- is sent again. If nothing is sent before the next cycle is due, the time after which the line is dead begins with the first
+-- null procedure
 abbrev pub renewed : Plan → Moment → Progress → Progress
-renewed plan m p = let q = told m p in unprepared plan (record q { word = the_word; again = 0; asked = p.asked && goes_on plan q; chain_unbroken = false; behind = 0 })
+renewed plan m p = let q = moment_noted m p in unprepared plan (record q { word = the_word; again = 0; asked = p.asked && goes_on plan q; chain_unbroken = false; behind = 0 })
 
 -- the progress after the next command. `next_is_chained` and `others` are of the one after it, as of `skipped`
 abbrev pub sent : Bool → ℕ → Progress → Progress
 sent next_is_chained others p = let q = asking p in record q { unsent = p.unsent - 1; next_is_chained = next_is_chained; next_others = others; chain_unbroken = true; preparing = false }
 
--- the progress after the next command of the set-up
+-- the progress after the next command of the setup
 abbrev pub setup_sent : Plan → Progress → Progress
 setup_sent plan p = let q = asking p in record q { prepared = min (p.prepared + 1) plan.setup; chain_unbroken = false }
 
 -- the progress after a line that was heard: a reply line shows that the line is alive
-abbrev pub noted : Bool → Progress → Progress
-noted is_reply p = record p { alive = if is_reply then p.moment.elapsed else p.alive; asked = if is_reply then false else p.asked }
+abbrev pub line_noted : Bool → Progress → Progress
+line_noted is_reply p = record p { alive = if is_reply then p.moment.elapsed else p.alive; asked = if is_reply then false else p.asked }
 
--- the progress once a line settled requests, of which `waiting` wait still: where the last of them, which the line answers, is a
--- call of the table (`of_table`), as many requests are behind that call as wait
+-- the progress once a line settled requests, of which `waiting` are still outstanding: if the last of them, which the line
+-- answers, is a call of the table (`of_table`), the outstanding requests are those sent after it
 abbrev pub caught_up : Bool → ℕ → Progress → Progress
 caught_up of_table waiting p = record p { behind = if of_table then waiting else p.behind }
 
--- the progress once a line with this id, or with none, was heard while the station begins: where the line answers the first
--- null procedure that is left, the next null procedure goes out at once
+-- the progress once a line with this id, or with none, was heard while the station synchronizes: if the line answers the first
+-- null procedure that is left, the next null procedure is sent at once
 abbrev pub answered : Option ℕ → Progress → Progress
 answered id p = record p { word = left_by p.word id; again = if is_answered p.word id then 0 else p.again }
 
--- the progress after a line that was heard while the station begins
+-- the progress after a line that was heard while the station synchronizes
 abbrev pub line_asked : Progress → List ℕ → Progress
-line_asked p line = noted (is_reply line) (answered (heard line) p)
+line_asked p line = line_noted (is_reply line) (answered (heard line) p)
 
--- the progress after the lines of a piece that were heard while the station begins, in order
+-- the progress after the lines of a piece that were heard while the station synchronizes, in order
 abbrev pub lines_asked : Progress → List (List ℕ) → Progress
 lines_asked p [] = p
 lines_asked p (line ∷ others) = lines_asked (line_asked p line) others
 
 -- whether the cycle counts as done early after a read. A read until the next cycle is due shows that it was, because only a done cycle
 -- has such a read; after any other read it counts as before (`early`)
-abbrev pub early_behind : Until → Bool → Bool
-early_behind Due early = true
-early_behind Limit early = early
+abbrev pub early_after : Until → Bool → Bool
+early_after Due early = true
+early_after Limit early = early
 
--- whether a read gives the tries back: it settled a command, and the set-up is done
+-- whether a read gives the tries back: it settled a command, and the setup is done
 abbrev pub gives_back : ℕ → Waiting → Progress → Bool
 gives_back before after p = nat_lt after.commands before && not p.preparing
 
--- the progress after bytes that came: `before` commands waited before them, and `after` counts what waits after them.
--- Where a command was settled, and since the set-up a command of a cycle had its turn, all tries are left again, and the next pause is the quiet time
-abbrev pub gave : Plan → Until → ℕ → Waiting → Progress → Progress
-gave plan until before after p = record p {
-  early = early_behind until p.early;
+-- the progress after bytes that came: `before` commands were outstanding before them, and `after` counts what is outstanding
+-- after them. If a command was settled once a command of a cycle had its turn after the setup, all tries are available again,
+-- and the next pause is the quiet time
+abbrev pub bytes_noted : Plan → Until → ℕ → Waiting → Progress → Progress
+bytes_noted plan until before after p = record p {
+  early = early_after until p.early;
   tries = if gives_back before after p then plan.retries else p.tries;
   pause = if gives_back before after p then 0 else p.pause;
 }
@@ -229,7 +232,7 @@ gave plan until before after p = record p {
 abbrev pub pause_ended : Plan → Progress → Progress
 pause_ended plan p = record p { phase = if is_past p.pause p && not (is_idle plan p) then phase.Down else p.phase }
 
--- the progress at the end of draining, once the connection was quiet: requests may go out
+-- the progress at the end of draining, once the connection was quiet: requests may be sent
 abbrev pub drained : Progress → Progress
 drained p = record p { phase = phase.Ready; alive = p.moment.elapsed; asked = false }
 
@@ -239,7 +242,7 @@ quieted plan phase.Pausing p = pause_ended plan p
 quieted plan phase.Draining p = if is_quiet plan p then drained p else p
 quieted plan _ p = p
 
--- the progress once the moment `m` was told by a read that gave nothing: the quiet time goes on. Where the clock went back, so
+-- the progress once the moment `m` was read by a read that gave nothing: the quiet time goes on. If the clock went back, so
 -- that the start of the quiet time (`since`), the cycle's beginning (`began`) or the moment from which a dead line counts
 -- (`alive`) lies after `m`, it becomes `m`
 abbrev pub time_passed : Until → Moment → Progress → Progress
@@ -250,15 +253,15 @@ time_passed until m p = record p {
   began = min p.began m.elapsed;
   stale = false;
   stops = p.stops || m.stops;
-  early = early_behind until p.early;
+  early = early_after until p.early;
 }
 
 -- the progress after a read that gave nothing until this moment
 abbrev pub silent : Plan → Until → Moment → Progress → Progress
 silent plan until m p = quieted plan p.phase (time_passed until m p)
 
--- the progress where `commands` commands wait: the cycle was done early if nothing of it is left and the next one isn't due
--- yet
+-- the progress where `commands` commands are outstanding: the cycle was done early if nothing of it is left and the next one
+-- isn't due yet
 abbrev pub reckoned_early : Plan → ℕ → Progress → Progress
 reckoned_early plan commands p = record p { early = p.early || (nat_eq commands 0 && nat_eq p.unsent 0 && not (is_due plan p)) }
 
@@ -266,7 +269,7 @@ reckoned_early plan commands p = record p { early = p.early || (nat_eq commands 
 abbrev pub ended_for : Cause → Progress → Progress
 ended_for why p = record p { phase = phase.Over why; chain_unbroken = false }
 
--- the progress after a close: for `Done`, `Clock`, `Turns`, `Stale` and `Stopped` no other connection is made; for any other cause `again`
+-- the progress after a close: for `Done`, `Clock`, `Turns`, `Stale` and `Stopped` no other connection is made; for any other cause `after_failure`
 -- says whether
 abbrev pub closed : Plan → Waiting → Cause → Progress → Progress
 closed plan w cause.Done p = ended_for cause.Done p
@@ -274,7 +277,7 @@ closed plan w cause.Clock p = ended_for cause.Clock p
 closed plan w cause.Turns p = ended_for cause.Turns p
 closed plan w cause.Stale p = ended_for cause.Stale p
 closed plan w cause.Stopped p = ended_for cause.Stopped p
-closed plan w why p = again plan w.commands why p
+closed plan w why p = after_failure plan w.commands why p
 
 -- whether the run is over in a phase
 abbrev pub is_over_in : Phase → Bool
@@ -290,6 +293,6 @@ is_over_in (phase.Over cause) = true
 abbrev pub is_over : Progress → Bool
 is_over p = is_over_in p.phase || (not (is_up p.phase) && nat_eq p.turns 0)
 
--- whether all requests that wait are lost: the station begins anew, or no act follows
+-- whether all outstanding requests are lost: the station resynchronizes, or no act follows
 abbrev pub loses_all : Progress → Bool
 loses_all p = not (has_begun p) || is_over p

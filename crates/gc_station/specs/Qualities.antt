@@ -17,7 +17,7 @@ use Rattle.gc_texts.specs.declared.tasks.Task.{Task}
 use Rattle.gc_links.specs.Acts.{Act}
 use Rattle.gc_station.specs.Model.{expected_first}
 use Rattle.gc_station.specs.Records.{Record}
-use Rattle.gc_station.specs.Runs.{stood}
+use Rattle.gc_station.specs.Runs.{state_after}
 use Rattle.gc_station.specs.Scopes.{Scope}
 use Rattle.gc_station.specs.declared.plan.Plan.{Plan}
 
@@ -35,8 +35,8 @@ IsRefusal accepted (reading.Refused code) = are_accepted accepted code ≡ false
 IsRefusal accepted (reading.ComFault code) = Unit {0}
 IsRefusal accepted (reading.Unreadable fault) = ⊥
 
--- what the line of an answer of this quality says of its call, where the codes `accepted` are accepted, and what the record has
--- as its values (`said`). `Fine`: the line says an answer, and the record has it. `Warning`: the line says a refusal with an
+-- what the line of an answer of this quality says of its call, if the codes `accepted` are accepted, and what the record has as
+-- its values (`said`). `Fine`: the line says an answer, and the record has it. `Warning`: the line says a refusal with an
 -- accepted code; the record has the answer, if any, that the line would say with return code 0. `Refused`: the line says any
 -- other refusal or a fault of communication, and the record has no answer
 abbrev pub IsOfQuality : (Asked → List ℕ → Reading) → Codes → Asked → Quality → Option Answer → List ℕ → Type 0
@@ -58,9 +58,9 @@ IsAsListed reads commands r =
 -- after any acts `IsAsListed` holds of each record
 abbrev pub QualitiesAreAsListed : Type 0
 QualitiesAreAsListed =
-    (plan : Plan) (commands : List Task) (scope : Scope) (acts : List Act) → AllByRecursion (λ r. IsAsListed scope.reads commands r) (stood plan commands scope acts).records
+    (plan : Plan) (commands : List Task) (scope : Scope) (acts : List Act) → AllByRecursion (λ r. IsAsListed scope.reads commands r) (state_after plan commands scope acts).records
 
--- where no code is accepted, the line of an answer of a good quality has both codes 0, and values that read
+-- if no code is accepted, the line of an answer of a good quality has both codes 0, and values that read
 abbrev pub GoodIsAnAnswer : Type 0
 GoodIsAnAnswer =
     (reads : Asked → List ℕ → Reading) (call : Asked) (quality : Quality) (said : Option Answer) (line : List ℕ) → IsOfQuality reads no_codes call quality said line

@@ -1,5 +1,5 @@
--- Which acts are requests, stay on a connection, or are quiet: this project's own, in terms of the acts alone. An act is one call
--- of the link, with what came of it.
+-- Which acts are requests, stay on a connection, or are quiet: this project's own, in terms of the acts alone. An act is one
+-- call on the link, with its result.
 use Rattle.std.specs.Prelude.{◌≡◌, ◌≢◌, ℕ, ◌-◌, ◌≤◌, List, [], ◌∷◌, ◌++◌}
 use Rattle.std.specs.List.{AllByRecursion}
 use Rattle.gc_links.specs.declared.link.Moment.{Moment}
@@ -13,8 +13,8 @@ IsRequest (Put bytes) = bytes ≢ 10 ∷ []
 IsRequest (Cut bytes count) = bytes ≢ 10 ∷ []
 IsRequest _ = ⊥
 
--- an action sends a request of the client, and none of a beginning: the next command, or a null procedure after requests that are all
--- given up
+-- an action sends a request of the client, and none of a synchronization: the next command, or a null procedure after requests
+-- that have all timed out
 abbrev pub IsAsking : Action → Type 0
 IsAsking Prepare = Unit {0}
 IsAsking Send = Unit {0}
@@ -25,14 +25,14 @@ IsAsking _ = ⊥
 abbrev pub AsksNothing : Act → Type 0
 AsksNothing act = IsRequest act → ⊥
 
--- an act tells this moment, together with whatever else came of it
+-- an act reads this moment, together with whatever else came of it
 abbrev pub TellsMoment : ℕ → Act → Type 0
 TellsMoment elapsed (Told m) = m.elapsed ≡ elapsed
 TellsMoment elapsed (Gave bytes m) = m.elapsed ≡ elapsed
 TellsMoment elapsed (Silent m) = m.elapsed ≡ elapsed
 TellsMoment elapsed _ = ⊥
 
--- an act reads the clock, or is a read that gave bytes or nothing: no bytes go out, and the connection stays
+-- an act reads the clock, or is a read that gave bytes or nothing: no bytes are sent, and the connection stays
 abbrev pub IsListening : Act → Type 0
 IsListening (Told m) = Unit {0}
 IsListening (Gave bytes m) = Unit {0}
@@ -56,9 +56,9 @@ StaysConnected Opened = ⊥
 StaysConnected Unopened = ⊥
 StaysConnected _ = Unit {0}
 
--- these acts begin with a quiet time of `quiet` milliseconds, before anything goes out. First bytes may come; then an act told a moment; and
--- the reads after it gave nothing, until one told a moment at least `quiet` milliseconds later by the clock. A quiet time of 0 has always
--- passed, also where the clock went back
+-- these acts begin with a quiet time of `quiet` milliseconds, before anything is sent. First bytes may come; then an act read a
+-- moment; and the reads after it gave nothing, until one read a moment at least `quiet` milliseconds later by the clock. A
+-- quiet time of 0 has always passed, also if the clock went back
 pub record IsQuietFirst (quiet : ℕ) (acts : List Act) : Type 0 where
   pub drain : List Act
   pub start : Act

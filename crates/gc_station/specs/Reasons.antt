@@ -1,4 +1,4 @@
--- Reasons, this project's own: what has to hold where an act is the next one.
+-- Reasons, this project's own: what has to hold if an act is the next one.
 use Rattle.std.specs.Prelude.{◌≡◌, ◌<◌, ◌≤◌, ◌⊎◌, true, false}
 use Rattle.gc_client.specs.declared.window.TheConstants.{WINDOW}
 use Rattle.gc_station.specs.declared.plan.Plan.{Plan}
@@ -11,7 +11,8 @@ use Rattle.gc_station.specs.declared.progress.Progress.{Progress}
 use Rattle.gc_station.specs.declared.progress.Waiting.{Waiting}
 use Rattle.gc_station.specs.Deciding.{width_of, has_begun, is_up, is_idle, is_dead, is_stale, may_go, is_preparing}
 
--- another request may go out: fewer are under way than `width_of` allows, and fewer wait in all than the window has places
+-- another request may be sent: fewer are in flight than `width_of` allows, and fewer are outstanding in all than the window has
+-- places
 abbrev pub HasRoom : Plan → Waiting → Type 0
 HasRoom plan w = (w.current < width_of plan) × (w.all < WINDOW)
 
@@ -20,58 +21,60 @@ HasRoom plan w = (w.current < width_of plan) × (w.all < WINDOW)
 abbrev pub IsHeld : Progress → Type 0
 IsHeld p = (p.unsent ≡ 0) ⊎ ((p.next_is_chained ≡ true) ⊎ (0 < p.next_others))
 
--- the station is between two chains: no command of the cycle is left, or the next one begins a chain, or no command of a cycle had its turn
--- since the connection was made and the station began
+-- the station is between two chains: no command of the cycle is left, or the next one begins a chain, or no command of a cycle
+-- had its turn since the connection was made and the station synchronized
 abbrev pub IsBetween : Progress → Type 0
 IsBetween p = (p.unsent ≡ 0) ⊎ ((p.next_is_chained ≡ false) ⊎ (p.preparing ≡ true))
 
--- the run may end here where that is asked for: there is no connection, or the station begins, or it is between two chains and
--- nothing is under way that isn't given up
+-- the run may end here if that is asked for: there is no connection, or the station synchronizes, or it is between two chains
+-- and nothing is in flight that hasn't timed out
 abbrev pub IsResting : Progress → Waiting → Type 0
 IsResting p w = (is_up p.phase ≡ false) ⊎ ((has_begun p ≡ false) ⊎ ((w.current ≡ 0) × IsBetween p))
 
--- where the end of the run was asked for, the next command goes on with a chain that has begun
+-- if the end of the run was asked for, the next command goes on with a chain that has begun
 abbrev pub StaysInItsChain : Progress → Type 0
 StaysInItsChain p = p.stops ≡ true → p.next_is_chained ≡ true
 
--- the next command of the set-up waits for the answer of the one before it
+-- the next command of the setup waits for the answer of the one before it
 abbrev pub IsHeldBack : Plan → Progress → Waiting → Type 0
 IsHeldBack plan p w = (is_preparing plan p w ≡ true) × (0 < p.prepared)
 
--- no command may go out: the station hasn't begun; or there is no room; or some request isn't given up, and either all that may be
--- sent was sent (`IsHeld`), or the set-up waits for an answer (`IsHeldBack`), and some commands wait, or none of the last seven requests is a
--- call of the table that a reply ended, or the end of the run was asked for, and the station is between two chains
+-- no command may be sent: the station hasn't synchronized; or there is no room; or some request hasn't timed out, and either
+-- all that may be sent was sent (`IsHeld`), or the setup waits for an answer (`IsHeldBack`), and some commands are outstanding,
+-- or none of the last seven requests is a call of the table that a reply ended, or the end of the run was asked for, and the
+-- station is between two chains
 abbrev pub NothingMayGo : Plan → Progress → Waiting → Type 0
 NothingMayGo plan p w =
     (has_begun p ≡ false)
     ⊎ ((width_of plan ≤ w.current) ⊎ ((WINDOW ≤ w.all) ⊎ (((IsHeld p ⊎ IsHeldBack plan p w) × (0 < w.commands) × (0 < w.current))
     ⊎ (((WINDOW ≤ p.behind) × (0 < w.current)) ⊎ ((p.stops ≡ true) × IsBetween p × (0 < w.current))))))
 
--- the next command may go out: it is the first of its chain; or all that went out are settled, the one before it was answered well,
--- and since that went out no connection was closed, and the station didn't begin anew
+-- the next command may be sent: it is the first of its chain; or all that were sent are settled, the one before it was answered
+-- well, and since that was sent no connection was closed, and the station didn't resynchronize
 abbrev pub MayGo : Progress → Waiting → Type 0
 MayGo p w = (p.next_is_chained ≡ false) ⊎ ((w.commands ≡ 0) × (w.well ≡ true) × (p.chain_unbroken ≡ true))
 
--- the next command of the set-up may go out: it is the first, or all that went out are settled and the one before it was answered well
+-- the next command of the setup may be sent: it is the first, or all that were sent are settled and the one before it was
+-- answered well
 abbrev pub MayPrepare : Plan → Progress → Waiting → Type 0
 MayPrepare plan p w = (is_preparing plan p w ≡ true) × (p.prepared < plan.setup) × ((p.prepared ≡ 0) ⊎ ((w.commands ≡ 0) × (w.well ≡ true)))
 
--- the next command begins no further attempt of its chain; or all that went out are settled, and a command of the attempt before ended
--- as its rule names
+-- the next command begins no further attempt of its chain; or all that were sent are settled, and a command of the attempt
+-- before ended as its rule names
 abbrev pub MayRetry : Progress → Waiting → Type 0
 MayRetry p w = (p.next_others ≡ 0) ⊎ ((w.commands ≡ 0) × (w.listed ≡ true))
 
--- a null procedure is wanted: commands wait that have to be settled before another goes out; or the next command may go out, and
--- none of the last seven requests is a call of the table that a reply ended
+-- a null procedure is wanted: commands are outstanding that have to be settled before another is sent; or the next command may
+-- be sent, and none of the last seven requests is a call of the table that a reply ended
 abbrev pub WantsNull : Plan → Progress → Waiting → Type 0
 WantsNull plan p w = ((IsHeld p ⊎ IsHeldBack plan p w) × (0 < w.commands)) ⊎ ((((0 < p.unsent) × MayGo p w) ⊎ MayPrepare plan p w) × (WINDOW ≤ p.behind))
 
--- the connection is to be closed though no call of the link failed: all is done; all turns are used up; no command may go out, and
--- the line is dead; the run is stale; or its end was asked for, and it may end here
+-- the connection is to be closed though no call of the link failed: all is done; all turns are used up; no command may be sent,
+-- and the line is dead; the run is stale; or its end was asked for, and it may end here
 abbrev pub IsAtItsEnd : Plan → Progress → Waiting → Cause → Type 0
 IsAtItsEnd plan p w Done = (p.left ≡ 0) × (p.unsent ≡ 0) × (w.commands ≡ 0)
 IsAtItsEnd plan p w Dead = NothingMayGo plan p w × (is_dead plan p w ≡ true)
--- the last command of the set-up that went out is settled, and wasn't answered well
+-- the last command of the setup that was sent is settled, and wasn't answered well
 IsAtItsEnd plan p w SetUp = (is_preparing plan p w ≡ true) × (0 < p.prepared) × (w.commands ≡ 0) × (w.well ≡ false)
 IsAtItsEnd plan p w Turns = p.turns ≡ 0
 IsAtItsEnd plan p w Stale = is_stale plan p w ≡ true
@@ -84,24 +87,24 @@ HasOneFor Stale p = Unit {0}
 HasOneFor Stopped p = Unit {0}
 HasOneFor _ p = is_up p.phase ≡ true
 
--- what holds where this action is the next one; nothing is said of reading the clock and of a read
+-- what holds if this action is the next one; nothing is said of reading the clock and of a read
 abbrev pub IsFor : Plan → Progress → Waiting → Action → Type 0
 IsFor plan p w action.ReadClock = Unit {0}
--- the station begins anew where seven wait, which are all given up
+-- the station resynchronizes where seven are outstanding, which have all timed out
 IsFor plan p w action.Renew = (p.phase ≡ phase.Ready) × (has_begun p ≡ true) × (w.current ≡ 0) × (WINDOW ≤ w.all)
 IsFor plan p w action.Begin = (p.phase ≡ phase.Ready) × (has_begun p ≡ true) × (p.unsent ≡ 0) × (w.commands ≡ 0) × (0 < p.left) × (p.stops ≡ false) × (is_preparing plan p w ≡ false)
 IsFor plan p w action.Open = p.phase ≡ phase.Down
 IsFor plan p w action.Clear = p.phase ≡ phase.Clearing
--- the null procedure of a beginning goes out, and again at its deadline, unless the cycle is done and the next isn't due
+-- the null procedure of a synchronization is sent, and again at its deadline, unless the cycle is done and the next isn't due
 IsFor plan p w action.Ask = (p.phase ≡ phase.Ready) × (has_begun p ≡ false) × (p.again ≤ p.moment.elapsed) × (is_idle plan p ≡ false)
--- no command of the set-up goes out where the end of the run was asked for
+-- no command of the setup is sent if the end of the run was asked for
 IsFor plan p w action.Prepare = (p.phase ≡ phase.Ready) × (has_begun p ≡ true) × MayPrepare plan p w × HasRoom plan w × (p.behind < WINDOW) × (p.stops ≡ false)
--- a command of a cycle has its turn only once the set-up is done
+-- a command of a cycle has its turn only once the setup is done
 IsFor plan p w action.Send =
     (p.phase ≡ phase.Ready) × (has_begun p ≡ true) × (0 < p.unsent) × HasRoom plan w × MayGo p w × (p.behind < WINDOW) × MayRetry p w × StaysInItsChain p × (is_preparing plan p w ≡ false)
 IsFor plan p w action.Skip = (p.phase ≡ phase.Ready) × (has_begun p ≡ true) × (0 < p.unsent) × (w.commands ≡ 0) × (p.next_is_chained ≡ true) × (may_go p w ≡ false) × (is_preparing plan p w ≡ false)
--- the further attempts of a chain are passed over where all that went out are settled, and no command of the attempt before ended as its
--- rule names; or where nothing goes out, because the cycle is missed
+-- the further attempts of a chain are left out if all that were sent are settled, and no command of the attempt before ended as
+-- its rule names; or if nothing is sent, because the cycle is missed
 IsFor plan p w action.Pass =
     (p.phase ≡ phase.Ready) × (has_begun p ≡ true) × (0 < p.unsent) × (w.commands ≡ 0) × (0 < p.next_others) × ((w.listed ≡ false) ⊎ (p.next_is_chained ≡ true)) × (is_preparing plan p w ≡ false)
 IsFor plan p w action.Flush = (p.phase ≡ phase.Ready) × (has_begun p ≡ true) × WantsNull plan p w × (w.current ≡ 0) × HasRoom plan w

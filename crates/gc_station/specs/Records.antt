@@ -11,9 +11,9 @@ use Rattle.gc_catalogue.specs.declared.answer.Reading.{Reading}
 use Rattle.gc_catalogue.specs.declared.asked.Asked.{Asked}
 use Rattle.gc_station.specs.Scopes.{AreReadings}
 
--- how a command ended: the moment told last before its request went out, if it did (`sent`); the moment of its end (`utc`),
--- both by the clock of time stamps; its cycle, and its place among the tasks of the station; which command of the text it is, and in which
--- attempt; what it asked, and whom; and its ending
+-- how a command ended: the moment read last before its request was sent, if it was (`sent`); the moment of its end (`utc`),
+-- both by the clock of time stamps; its cycle, and its place among the tasks of the station; which command of the text it is,
+-- and in which attempt; what it asked, and whom; and its ending
 pub record Record : Type 0 where
   pub sent : Option ℕ
   pub utc : ℕ
@@ -27,7 +27,7 @@ pub record Record : Type 0 where
 abbrev pub record_seen : Stamp → Wish → Ending → Record
 record_seen stamp command ending = record { sent = stamp.sent; utc = stamp.utc; cycle = stamp.cycle; place = stamp.place; turn = stamp.turn; command = command; end = ending_seen ending }
 
--- a text was written whole, or where the write failed (`Err`) a first part of it, which isn't all
+-- a text was written whole, or if the write failed (`Err`) a first part of it, which isn't all
 abbrev pub Writes : {X E : Type 0} → Option (List ℕ) → Option (List ℕ) → List ℕ → Result X E → Type 0
 Writes old new text (Ok _) = Appends old new text
 Writes old new text (Err _) = (part : ℕ) × (part < length text) × Appends old new (take part text)
@@ -37,7 +37,7 @@ abbrev pub texts_of : (Record → List ℕ) → List Record → List ℕ
 texts_of text records = flat_map text records
 
 -- a book that was to write the records `all`, in order, broke off within the record `next`, which comes after those of
--- `before`: all records in front of `next` were written whole, and of `next` only a first part
+-- `before`: all records before `next` were written whole, and of `next` only a first part
 pub record WritesPart (text : Record → List ℕ) (before all : List Record) (old new : Option (List ℕ)) : Type 0 where
   pub earlier : List Record
   pub next : Record
@@ -47,7 +47,7 @@ pub record WritesPart (text : Record → List ℕ) (before all : List Record) (o
   pub not_all : part < length (text next)
   pub took : Appends old new (texts_of text (before ++ earlier) ++ take part (text next))
 
--- all these records were written whole; or, where the book failed, those of `before`, and a part of the others
+-- all these records were written whole; or, if the book failed, those of `before`, and a part of the others
 abbrev pub WritesAll : {X E : Type 0} → (Record → List ℕ) → List Record → List Record → Option (List ℕ) → Option (List ℕ) → Result X E → Type 0
 WritesAll text before all old new (Ok _) = Appends old new (texts_of text all)
 WritesAll text before all old new (Err _) = WritesPart text before all old new

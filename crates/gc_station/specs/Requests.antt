@@ -1,5 +1,5 @@
--- The requests of a run, by their cycles and places: this project's own. A command that sets the clock asks for the moment at which its
--- request goes out; as the text has it, it asks for the beginning of 1970.
+-- The requests of a run, by their cycles and places: this project's own. A command that sets the clock asks for the moment at
+-- which its request is sent; as the text has it, it asks for the beginning of 1970.
 use Rattle.std.specs.Prelude.{ℕ, ◌+◌, Bool, true, false, List, [], ◌∷◌, drop, Option, Some, None}
 use Rattle.gc_catalogue.specs.declared.asked.Asked.{Asked}
 use Rattle.gc_catalogue.specs.declared.asked.Asked.TheVariants.{Table}
@@ -25,7 +25,7 @@ requests cycle place (a ∷ others) = record { cycle = cycle; place = place; ask
 abbrev pub of_command : Wish → Wanted Asked
 of_command c = record { target = c.target; call = c.call }
 
--- what a command asks as the text has it: without its moment, where it sets the clock (`true`)
+-- what a command asks as the text has it: without its moment, if it sets the clock (`true`)
 abbrev pub untimed : Bool → Asked → Asked
 untimed true call = Table (SetDate (date_time 0))
 untimed false call = call
@@ -34,20 +34,20 @@ untimed false call = call
 abbrev pub of_task : Task → Wanted Asked
 of_task task = record { target = task.command.target; call = untimed task.now task.command.call }
 
--- the command of a task where its request goes out at this moment
+-- the command of a task where its request is sent at this moment
 abbrev pub command_at : ℕ → Task → Wish
 command_at utc task = record { target = task.command.target; call = call_at task utc }
 
--- the command of a task, where its request went out at this moment, if it did
+-- the command of a task, where its request was sent at this moment, if it did
 abbrev pub command_sent : Option ℕ → Task → Wish
 command_sent None task = task.command
 command_sent (Some utc) task = command_at utc task
 
--- what the request of a task asks that goes out at this moment, and whom
+-- what the request of a task asks that is sent at this moment, and whom
 abbrev pub asked_at : ℕ → Task → Wanted Asked
 asked_at utc task = of_command (command_at utc task)
 
--- whether the first of these commands sets the clock; false where there is none
+-- whether the first of these commands sets the clock; false if there is none
 abbrev pub sets_clock : List Task → Bool
 sets_clock [] = false
 sets_clock (task ∷ others) = task.now

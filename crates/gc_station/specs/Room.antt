@@ -1,17 +1,18 @@
--- How many requests may be under way where one goes out: this project's own. An act is one call of the link, with what came of it.
+-- How many requests may be in flight if one is sent: this project's own. An act is one call on the link, with its result.
 use Rattle.std.specs.Prelude.{◌≡◌, ◌⊎◌, ◌<◌, List, length}
 use Rattle.gc_client.specs.Rule.{deadlines}
 use Rattle.gc_texts.specs.declared.tasks.Task.{Task}
 use Rattle.gc_station.specs.declared.plan.Plan.{Plan}
 use Rattle.gc_links.specs.Acts.{Act}
 use Rattle.gc_station.specs.Quiet.{IsAsking}
-use Rattle.gc_station.specs.Runs.{stood}
+use Rattle.gc_station.specs.Runs.{state_after}
 use Rattle.gc_station.specs.Scopes.{Scope}
 use Rattle.gc_station.specs.Model.{action_at}
 
--- where a request goes out next that isn't a beginning's, fewer are under way than the plan's width, or none is; and fewer than seven wait in all
+-- if a request is sent next that isn't a synchronization's, fewer are in flight than the plan's width, or none is; and fewer
+-- than seven are outstanding in all
 abbrev pub RequestsHaveRoom : Type 0
 RequestsHaveRoom =
-    (plan : Plan) (commands : List Task) (scope : Scope) (acts : List Act) → IsAsking (action_at plan (stood plan commands scope acts))
-    → ((length (deadlines (stood plan commands scope acts).client.waiting) ≡ 0) ⊎ (length (deadlines (stood plan commands scope acts).client.waiting) < plan.width))
-    × (length (stood plan commands scope acts).client.waiting < 7)
+    (plan : Plan) (commands : List Task) (scope : Scope) (acts : List Act) → IsAsking (action_at plan (state_after plan commands scope acts))
+    → ((length (deadlines (state_after plan commands scope acts).client.waiting) ≡ 0) ⊎ (length (deadlines (state_after plan commands scope acts).client.waiting) < plan.width))
+    × (length (state_after plan commands scope acts).client.waiting < 7)

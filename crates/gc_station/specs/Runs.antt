@@ -1,5 +1,5 @@
--- Whole runs of a station, this project's own: each act was the one that was to be made next, and the book has what they write
--- down. An act is one call of the link, with what came of it. The book is what takes the texts of the records.
+-- Whole runs of a station, this project's own: each act was the one that was to be made next, and the book has what they
+-- record. An act is one call on the link, with its result. The book is what takes the texts of the records.
 use Rattle.std.specs.Prelude.{◌≡◌, ◌⊎◌, ℕ, Bool, true, List, [], ◌∷◌, ◌++◌, Option, Some, None, Result, Ok, Err}
 use Rattle.std.specs.Io.KnownBytes.{Appends}
 use Rattle.gc_texts.specs.declared.tasks.Task.{Task}
@@ -17,36 +17,37 @@ use Rattle.gc_station.specs.Tallies.{tally_of}
 use Rattle.gc_station.specs.Scopes.{Scope}
 
 -- the model of a station after these acts, from the start on
-abbrev pub stood : Plan → List Task → Scope → List Act → Model
-stood plan commands scope acts = after_all plan commands (opening plan scope) acts
+abbrev pub state_after : Plan → List Task → Scope → List Act → Model
+state_after plan commands scope acts = after_all plan commands (opening plan scope) acts
 
--- a link told these acts, each the one that was to be made next; then none was, for this cause; the book took the records of
--- the acts, and the tally counts them
+-- a link recorded these acts, each the one that was to be made next; then none was, for this cause; the book took the records
+-- of the acts, and the tally counts them
 pub record RanTo (plan : Plan) (commands : List Task) (scope : Scope) (text : Record → List ℕ) (told told' : Option (List Act))
     (taken taken' : Option (List ℕ)) (cause : Cause) (tally : Tally) : Type 0 where
   pub acts : List Act
   pub tells : Tells told told' acts
   pub runs : Runs plan commands (opening plan scope) acts
-  pub stops : action_at plan (stood plan commands scope acts) ≡ Stop cause
-  pub took : Appends taken taken' (texts_of text (stood plan commands scope acts).records)
-  pub counts : tally ≡ tally_of (stood plan commands scope acts).records
+  pub stops : action_at plan (state_after plan commands scope acts) ≡ Stop cause
+  pub took : Appends taken taken' (texts_of text (state_after plan commands scope acts).records)
+  pub counts : tally ≡ tally_of (state_after plan commands scope acts).records
 
--- a link told these acts, each the one that was to be made next, and after the last one that the connection was closed, and nothing
--- else; the book took the records of the acts before the last one whole, and of those that this one writes down a part, from the front
+-- a link recorded these acts, each the one that was to be made next, and after the last one that the connection was closed, and
+-- nothing else; the book took the records of the acts before the last one whole, and of those that this one records a part,
+-- from the front
 pub record BrokeAt (plan : Plan) (commands : List Task) (scope : Scope) (text : Record → List ℕ) (told told' : Option (List Act)) (taken taken' : Option (List ℕ)) : Type 0 where
   pub acts : List Act
   pub last : Act
   pub tells : Tells told told' (acts ++ last ∷ (Closed ∷ []))
   pub runs : Runs plan commands (opening plan scope) (acts ++ last ∷ [])
-  pub took : WritesPart text (stood plan commands scope acts).records (stood plan commands scope (acts ++ last ∷ [])).records taken taken'
+  pub took : WritesPart text (state_after plan commands scope acts).records (state_after plan commands scope (acts ++ last ∷ [])).records taken taken'
 
--- a link told these acts, each the one that was to be made next, and after them that the connection was closed, and nothing else; the
--- book took the records of all of them, and couldn't make them last
+-- a link recorded these acts, each the one that was to be made next, and after them that the connection was closed, and nothing
+-- else; the book took the records of all of them, and couldn't make them last
 pub record LeftAt (plan : Plan) (commands : List Task) (scope : Scope) (text : Record → List ℕ) (told told' : Option (List Act)) (taken taken' : Option (List ℕ)) : Type 0 where
   pub acts : List Act
   pub tells : Tells told told' (acts ++ Closed ∷ [])
   pub runs : Runs plan commands (opening plan scope) acts
-  pub took : Appends taken taken' (texts_of text (stood plan commands scope acts).records)
+  pub took : Appends taken taken' (texts_of text (state_after plan commands scope acts).records)
 
 -- a run stopped for this cause, with this tally; or the book failed
 abbrev pub EndsAs : {E : Type 0} → Plan → List Task → Scope → (Record → List ℕ) → Option (List Act) → Option (List Act) → Option (List ℕ) → Option (List ℕ)

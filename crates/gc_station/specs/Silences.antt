@@ -1,16 +1,16 @@
--- How long no reply line came, where a connection is closed for it: this project's own. An act is one call of the link, with what
--- came of it.
+-- How long no reply line came, if a connection is closed for it: this project's own. An act is one call on the link, with its
+-- result.
 use Rattle.std.specs.Prelude.{◌≡◌, ◌⊎◌, ℕ, ◌-◌, ◌<◌, ◌≤◌, false, List, [], ◌∷◌, ◌++◌}
 use Rattle.std.specs.List.{AllByRecursion}
 use Rattle.gc_texts.specs.declared.tasks.Task.{Task}
 use Rattle.gc_station.specs.declared.plan.Plan.{Plan}
 use Rattle.gc_links.specs.Acts.{Act, Told, Put, Gave, Silent}
 use Rattle.gc_station.specs.Quiet.{TellsMoment, IsListening, StaysConnected}
-use Rattle.gc_station.specs.Runs.{stood}
-use Rattle.gc_station.specs.Model.{Model, is_reply, lines_behind, after}
+use Rattle.gc_station.specs.Runs.{state_after}
+use Rattle.gc_station.specs.Model.{Model, is_reply, lines_completed, after}
 use Rattle.gc_station.specs.Scopes.{Scope}
 
--- the moment that these acts told last; where they told none, `now`
+-- the moment that these acts read last; if they read none, `now`
 abbrev pub latest : ℕ → List Act → ℕ
 latest now [] = now
 latest now (Told m ∷ acts) = latest m.elapsed acts
@@ -24,7 +24,7 @@ IsNoReply line = is_reply line ≡ false
 
 -- an act brings no line that reads as a reply, where `rest` are the bytes since the last line feed
 abbrev pub BringsNoReply : List ℕ → Act → Type 0
-BringsNoReply rest (Gave piece m) = AllByRecursion IsNoReply (lines_behind rest piece)
+BringsNoReply rest (Gave piece m) = AllByRecursion IsNoReply (lines_completed rest piece)
 BringsNoReply rest act = Unit {0}
 
 -- none of these acts brings a line that reads as a reply, from this model on
@@ -32,7 +32,7 @@ abbrev pub IsMute : Plan → List Task → Model → List Act → Type 0
 IsMute plan commands s [] = Unit {0}
 IsMute plan commands s (act ∷ acts) = BringsNoReply s.rest act × IsMute plan commands (after plan commands s act) acts
 
--- after these acts the clock goes back to the moment `from`: the moment that they told last is later
+-- after these acts the clock goes back to the moment `from`: the moment that they read last is later
 pub record WentBack (from : ℕ) (acts : List Act) : Type 0 where
   pub earlier : List Act
   pub act : Act
@@ -42,9 +42,9 @@ pub record WentBack (from : ℕ) (acts : List Act) : Type 0 where
   pub tells : TellsMoment told act
   pub later : from < latest told others
 
--- after an act that told a moment, `start`, no line that reads as a reply came on the same connection, and the moment that was told last is
--- at least `wait` milliseconds later. After `start` no request went out, or one went out at once, so that its reply had all that time; or
--- the clock went back at `start`
+-- after an act that read a moment, `start`, no line that reads as a reply came on the same connection, and the moment that was
+-- read last is at least `wait` milliseconds later. After `start` no request was sent, or one was sent at once, so that its
+-- reply had all that time; or the clock went back at `start`
 pub record IsMuteFor (wait : ℕ) (plan : Plan) (commands : List Task) (scope : Scope) (acts : List Act) : Type 0 where
   pub before : List Act
   pub start : Act
@@ -53,6 +53,6 @@ pub record IsMuteFor (wait : ℕ) (plan : Plan) (commands : List Task) (scope : 
   pub order : acts ≡ before ++ start ∷ behind
   pub starts : TellsMoment from start
   pub stays : AllByRecursion StaysConnected behind
-  pub mute : IsMute plan commands (stood plan commands scope (before ++ start ∷ [])) behind
+  pub mute : IsMute plan commands (state_after plan commands scope (before ++ start ∷ [])) behind
   pub asked : AllByRecursion IsListening behind ⊎ (((text : List ℕ) × (others : List Act) × (behind ≡ Put text ∷ others)) ⊎ WentBack from before)
   pub long : wait ≤ latest from behind - from

@@ -1,5 +1,5 @@
--- No part of a promise: what the functions of a station do to it, in terms of its model. An act is one call of the link, with what
--- came of it.
+-- No part of a promise: what the functions of a station do to it, in terms of its model. An act is one call on the link, with
+-- its result.
 use Rattle.std.specs.Prelude.{◌≡◌, ℕ, ◌<◌, false, List, [], ◌∷◌, length, Option, Some, None, Result, Ok, Err}
 use Rattle.std.specs.Io.KnownBytes.{Appends}
 use Rattle.gc_lines.specs.Assembler.{StandsFor}
@@ -27,7 +27,8 @@ use Rattle.gc_station.specs.Requests.{command_at}
 use Rattle.gc_station.specs.Model.{Model, Performs, moved, ended, with_progress}
 use Rattle.gc_station.specs.Tallies.{nothing_yet, tallied}
 
--- how many requests of a station wait, whether the command that was written down last was answered well, and when one was last
+-- how many requests of a station are outstanding, whether the command recorded last was answered well, and when one was
+-- answered well last
 abbrev pub waiting_in : Station → Waiting
 waiting_in station =
     record {
@@ -39,12 +40,12 @@ waiting_in station =
       fresh = station.fresh;
     }
 
--- each request that waits has a mark
+-- each outstanding request has a mark
 abbrev pub IsPaired : Station → Type 0
 IsPaired station = length station.marks.items ≡ length station.client.ids.waiting
 
--- a station is as this model says; so are its tally, whether the last command was answered well, and when one was last, where the model's `reads` gives each
--- reply's reading for its call
+-- a station is as this model says; so are its tally, whether the last command was answered well, and when one was last, if the
+-- model's `reads` gives each reply's reading for its call
 pub record Refines (station : Station) (s : Model) : Type 0 where
   pub progress : station.progress ≡ s.progress
   pub ids : station.client.ids ≡ s.client
@@ -57,16 +58,16 @@ pub record Refines (station : Station) (s : Model) : Type 0 where
   pub listed : AreReadings s.reads → station.listed ≡ s.listed
   pub fresh : AreReadings s.reads → station.fresh ≡ s.fresh
 
--- a book took the records of a model, where the model's `reads` gives each reply's reading for its call
+-- a book took the records of a model, if the model's `reads` gives each reply's reading for its call
 abbrev pub Took : (Record → List ℕ) → Option (List ℕ) → Option (List ℕ) → Model → Type 0
 Took text start taken s = AreReadings s.reads → Appends start taken (texts_of text s.records)
 
--- a book took those records of a model that were there before, and a part of the others, where the model's `reads` gives each reply's
--- reading for its call
+-- a book took those records of a model that were there before, and a part of the others, if the model's `reads` gives each
+-- reply's reading for its call
 abbrev pub TookPart : (Record → List ℕ) → List Record → Option (List ℕ) → Option (List ℕ) → Model → Type 0
 TookPart text before start taken s = AreReadings s.reads → WritesPart text before s.records start taken
 
--- what is seen of a run at a moment: what its link told, how its book writes a record and which bytes that took, and the
+-- what is seen of a run at a moment: what its link recorded, how its book writes a record and which bytes that took, and the
 -- station
 pub record Seen : Type 0 where
   pub acts : Option (List Act)
@@ -78,7 +79,7 @@ pub record Seen : Type 0 where
 abbrev pub seen : Option (List Act) → (Record → List ℕ) → Option (List ℕ) → Station → Seen
 seen acts text taken station = record { acts = acts; text = text; taken = taken; station = station }
 
--- a link told one act, which performs this action. Where the station was as the model s says and the book had taken its
+-- a link recorded one act, which performs this action. If the station was as the model s says and the book had taken its
 -- records, the station is then as `next s act` says, and the book has taken the records of that
 pub record Makes (commands : List Task) (action : Action) (next : Model → Act → Model) (old new : Seen) : Type 0 where
   pub act : Act
@@ -86,7 +87,7 @@ pub record Makes (commands : List Task) (action : Action) (next : Model → Act 
   pub goes : (s : Model) (start : Option (List ℕ)) → Refines old.station s → Took old.text start old.taken s
       → Performs commands s action act × Refines new.station (next s act) × Took new.text start new.taken (next s act)
 
--- a link told one act, which performs this action; and a book failed at one of the records that the model `next s act` has
+-- a link recorded one act, which performs this action; and a book failed at one of the records that the model `next s act` has
 -- beyond those of the model s
 pub record Breaks (commands : List Task) (action : Action) (next : Model → Act → Model) (old : Seen) (told : Option (List Act)) (taken : Option (List ℕ)) : Type 0 where
   pub act : Act
@@ -107,14 +108,14 @@ Does plan commands action old new = Makes commands action (moved plan commands a
 abbrev pub stepped : Plan → List Task → Action → Model → Act → Model
 stepped plan commands action s act = ended (moved plan commands action (with_progress turned s) act)
 
--- the progress after a write with this result: as it was or, where the write was cut (`Err`), failing for a cause that names
--- this number of requests
+-- the progress after a write with this result: as it was or, if the write was cut (`Err`), failing for a cause that names this
+-- number of requests
 abbrev pub cut_progress : Result (Unit {0}) ℕ → ℕ → Progress → Progress
 cut_progress (Ok _) requests p = p
 cut_progress (Err n) requests p = failing (cause.Write requests n) p
 
--- what an action needs: the window has room for a request, a command is left to be sent or skipped, and for a null procedure of a beginning
--- the station hasn't begun
+-- what an action needs: the window has room for a request, a command is left to be sent or skipped, and for a null procedure of
+-- a synchronization the station hasn't synchronized
 abbrev pub IsFitting : Progress → ℕ → Action → Type 0
 IsFitting p waiting Send = (0 < p.unsent) × (waiting < WINDOW)
 IsFitting p waiting Prepare = waiting < WINDOW
@@ -128,7 +129,7 @@ abbrev pub ComesTo : {X E : Type 0} → (Record → List ℕ) → List Record �
 ComesTo text before station start taken s (Ok _) = Refines station s × Took text start taken s
 ComesTo text before station start taken s (Err _) = TookPart text before start taken s
 
--- the request for the first of these commands of the set-up, with this mark; for a null procedure where there is none
+-- the request for the first of these commands of the setup, with this mark; for a null procedure if there is none
 abbrev pub setup_asked : Plan → Mark → List Task → Asking
 setup_asked plan mark [] = record { command = record { target = 0; call = Table NullProc }; wait = plan.deadline; mark = None }
 setup_asked plan mark (task ∷ others) = record { command = command_at mark.sent task; wait = task.deadline; mark = Some mark }

@@ -1,5 +1,5 @@
--- How a run ends that is stale, and one whose end was asked for: this project's own. An act is one call of the link, with what came
--- of it.
+-- How a run ends that is stale, and one whose end was asked for: this project's own. An act is one call on the link, with its
+-- result.
 use Rattle.std.specs.Prelude.{◌≡◌, ◌⊎◌, ℕ, ◌-◌, ◌<◌, ◌≤◌, ◌||◌, min, Bool, true, false, List, [], ◌∷◌, ◌++◌}
 use Rattle.std.specs.List.{AllByRecursion}
 use Rattle.gc_texts.specs.declared.tasks.Task.{Task}
@@ -14,18 +14,18 @@ use Rattle.gc_station.specs.Marks.{is_well}
 use Rattle.gc_station.specs.Model.{opening, action_at, waiting_of, Runs}
 use Rattle.gc_station.specs.Reasons.{IsResting}
 use Rattle.gc_station.specs.Records.{Record}
-use Rattle.gc_station.specs.Runs.{stood}
+use Rattle.gc_station.specs.Runs.{state_after}
 use Rattle.gc_station.specs.Scopes.{Scope}
 
--- an act tells a moment
+-- an act reads a moment
 abbrev pub IsTelling : Act → Type 0
 IsTelling (Told m) = Unit {0}
 IsTelling (Gave bytes m) = Unit {0}
 IsTelling (Silent m) = Unit {0}
 IsTelling _ = ⊥
 
--- the least of a number and the moments that these acts tell, by the clock for deadlines: where that clock doesn't go back, and the
--- number was told before them, it is the number
+-- the least of a number and the moments that these acts read, by the clock for deadlines: if that clock doesn't go back, and
+-- the number was read before them, it is the number
 abbrev pub least_told : ℕ → List Act → ℕ
 least_told n [] = n
 least_told n (Told m ∷ acts) = least_told (min n m.elapsed) acts
@@ -33,19 +33,19 @@ least_told n (Gave bytes m ∷ acts) = least_told (min n m.elapsed) acts
 least_told n (Silent m ∷ acts) = least_told (min n m.elapsed) acts
 least_told n (act ∷ acts) = least_told n acts
 
--- whether `asked`, or one of the moments that these acts tell says that the end of the run was asked for
-abbrev pub asked_behind : Bool → List Act → Bool
-asked_behind asked [] = asked
-asked_behind asked (Told m ∷ acts) = asked_behind (asked || m.stops) acts
-asked_behind asked (Gave bytes m ∷ acts) = asked_behind (asked || m.stops) acts
-asked_behind asked (Silent m ∷ acts) = asked_behind (asked || m.stops) acts
-asked_behind asked (act ∷ acts) = asked_behind asked acts
+-- whether `asked`, or one of the moments that these acts read says that the end of the run was asked for
+abbrev pub asked_after : Bool → List Act → Bool
+asked_after asked [] = asked
+asked_after asked (Told m ∷ acts) = asked_after (asked || m.stops) acts
+asked_after asked (Gave bytes m ∷ acts) = asked_after (asked || m.stops) acts
+asked_after asked (Silent m ∷ acts) = asked_after (asked || m.stops) acts
+asked_after asked (act ∷ acts) = asked_after asked acts
 
 -- a record is of a command that wasn't answered well
 abbrev pub IsUnwell : Record → Type 0
 IsUnwell r = is_well r.end ≡ false
 
--- the last of these acts is a read at this moment, and wrote down a command that was answered well
+-- the last of these acts is a read at this moment, and recorded a command that was answered well
 pub record EndsWell (plan : Plan) (commands : List Task) (scope : Scope) (acts : List Act) (now : ℕ) : Type 0 where
   pub earlier : List Act
   pub piece : List ℕ
@@ -55,11 +55,11 @@ pub record EndsWell (plan : Plan) (commands : List Task) (scope : Scope) (acts :
   pub front : List Record
   pub answer : Record
   pub later : List Record
-  pub written : (stood plan commands scope acts).records ≡ (stood plan commands scope earlier).records ++ (front ++ answer ∷ later)
+  pub written : (state_after plan commands scope acts).records ≡ (state_after plan commands scope earlier).records ++ (front ++ answer ∷ later)
   pub well : is_well answer.end ≡ true
 
--- the acts behind the last one that wrote down a command that was answered well, or all acts where none did: from which moment on the run
--- may become stale (`from`, 0 at the start), and the records of these acts, none of which is of such a command
+-- the acts after the last one that recorded a command that was answered well, or all acts if none did: from which moment on the
+-- run may become stale (`from`, 0 at the start), and the records of these acts, none of which is of such a command
 pub record UnwellSince (plan : Plan) (commands : List Task) (scope : Scope) (acts : List Act) : Type 0 where
   pub before : List Act
   pub behind : List Act
@@ -67,53 +67,53 @@ pub record UnwellSince (plan : Plan) (commands : List Task) (scope : Scope) (act
   pub from : ℕ
   pub start : ((before ≡ []) × (from ≡ 0)) ⊎ EndsWell plan commands scope before from
   pub records : List Record
-  pub written : (stood plan commands scope acts).records ≡ (stood plan commands scope before).records ++ records
+  pub written : (state_after plan commands scope acts).records ≡ (state_after plan commands scope before).records ++ records
   pub unwell : AllByRecursion IsUnwell records
-  pub fresh : (stood plan commands scope acts).fresh ≡ least_told from behind
+  pub fresh : (state_after plan commands scope acts).fresh ≡ least_told from behind
 
--- after these acts the moment told last lies `stale` milliseconds or more behind the start, or behind the last act that wrote down a
--- command that was answered well; where the clock went back since, behind the least moment that was told since
+-- after these acts the moment read last lies `stale` milliseconds or more after the start, or after the last act that recorded
+-- a command that was answered well; if the clock went back since, after the least moment that was read since
 pub record IsStaleAt (plan : Plan) (commands : List Task) (scope : Scope) (acts : List Act) : Type 0 where
   pub since : UnwellSince plan commands scope acts
   pub wanted : 0 < plan.stale
-  pub long : plan.stale ≤ (stood plan commands scope acts).progress.moment.elapsed - least_told since.from since.behind
+  pub long : plan.stale ≤ (state_after plan commands scope acts).progress.moment.elapsed - least_told since.from since.behind
 
--- where a connection is closed, or a run ends, because it is stale, it is (`IsStaleAt`)
+-- if a connection is closed, or a run ends, because it is stale, it is (`IsStaleAt`)
 abbrev pub ClosesStale : Type 0
 ClosesStale =
     (plan : Plan) (commands : List Task) (scope : Scope) (acts : List Act) → Runs plan commands (opening plan scope) acts
-    → action_at plan (stood plan commands scope acts) ≡ Close Stale → IsStaleAt plan commands scope acts
+    → action_at plan (state_after plan commands scope acts) ≡ Close Stale → IsStaleAt plan commands scope acts
 
--- where a run stops for this cause, its last act is the close that was next for that cause
+-- if a run stops for this cause, its last act is the close that was next for that cause
 abbrev pub StopsAtItsClose : Cause → Type 0
 StopsAtItsClose why =
     (plan : Plan) (commands : List Task) (scope : Scope) (acts : List Act) → Runs plan commands (opening plan scope) acts
-    → action_at plan (stood plan commands scope acts) ≡ Stop why
-    → (earlier : List Act) × (acts ≡ earlier ++ Closed ∷ []) × (action_at plan (stood plan commands scope earlier) ≡ Close why)
+    → action_at plan (state_after plan commands scope acts) ≡ Stop why
+    → (earlier : List Act) × (acts ≡ earlier ++ Closed ∷ []) × (action_at plan (state_after plan commands scope earlier) ≡ Close why)
 
--- the first moment told at which a run with turns left is stale ends it: no act is behind it but one close
+-- the first moment read at which a run with turns left is stale ends it: no act is after it but one close
 abbrev pub EndsOnceStale : Type 0
 EndsOnceStale =
     (plan : Plan) (commands : List Task) (scope : Scope) (earlier behind : List Act) (telling : Act) → Runs plan commands (opening plan scope) (earlier ++ telling ∷ behind) → IsTelling telling
-    → 0 < (stood plan commands scope (earlier ++ telling ∷ [])).progress.turns
-    → is_stale plan (stood plan commands scope (earlier ++ telling ∷ [])).progress (waiting_of (stood plan commands scope (earlier ++ telling ∷ []))) ≡ true
+    → 0 < (state_after plan commands scope (earlier ++ telling ∷ [])).progress.turns
+    → is_stale plan (state_after plan commands scope (earlier ++ telling ∷ [])).progress (waiting_of (state_after plan commands scope (earlier ++ telling ∷ []))) ≡ true
     → (behind ≡ []) ⊎ (behind ≡ Closed ∷ [])
 
--- once a moment was told at which the end of the run was asked for, no cycle begins, no command of the set-up goes out, and each command that
--- goes out goes on with a chain that has begun
+-- once a moment was read at which the end of the run was asked for, no cycle begins, no command of the setup is sent, and each
+-- command that is sent goes on with a chain that has begun
 abbrev pub GoesOnInItsChain : Type 0
 GoesOnInItsChain =
-    (plan : Plan) (commands : List Task) (scope : Scope) (acts : List Act) → Runs plan commands (opening plan scope) acts → asked_behind false acts ≡ true
-    → (action_at plan (stood plan commands scope acts) ≡ Send → (stood plan commands scope acts).progress.next_is_chained ≡ true)
-    × (action_at plan (stood plan commands scope acts) ≡ Begin → ⊥) × (action_at plan (stood plan commands scope acts) ≡ Prepare → ⊥)
+    (plan : Plan) (commands : List Task) (scope : Scope) (acts : List Act) → Runs plan commands (opening plan scope) acts → asked_after false acts ≡ true
+    → (action_at plan (state_after plan commands scope acts) ≡ Send → (state_after plan commands scope acts).progress.next_is_chained ≡ true)
+    × (action_at plan (state_after plan commands scope acts) ≡ Begin → ⊥) × (action_at plan (state_after plan commands scope acts) ≡ Prepare → ⊥)
 
--- where a connection is closed, or a run ends, because that was asked for, a moment was told at which it was; and there is no connection,
--- or the station begins, or it is between two chains and nothing is under way that isn't given up. No command of a chain that has begun
--- is left that may go out
+-- if a connection is closed, or a run ends, because that was asked for, a moment was read at which it was; and there is no
+-- connection, or the station synchronizes, or it is between two chains and nothing is in flight that hasn't timed out. No
+-- command of a chain that has begun is left that may be sent
 abbrev pub ClosesBetweenChains : Type 0
 ClosesBetweenChains =
     (plan : Plan) (commands : List Task) (scope : Scope) (acts : List Act) → Runs plan commands (opening plan scope) acts
-    → action_at plan (stood plan commands scope acts) ≡ Close Stopped
-    → (asked_behind false acts ≡ true) × IsResting (stood plan commands scope acts).progress (waiting_of (stood plan commands scope acts))
-    × (0 < (stood plan commands scope acts).progress.unsent → (stood plan commands scope acts).progress.next_is_chained ≡ true
-    → may_go (stood plan commands scope acts).progress (waiting_of (stood plan commands scope acts)) ≡ false)
+    → action_at plan (state_after plan commands scope acts) ≡ Close Stopped
+    → (asked_after false acts ≡ true) × IsResting (state_after plan commands scope acts).progress (waiting_of (state_after plan commands scope acts))
+    × (0 < (state_after plan commands scope acts).progress.unsent → (state_after plan commands scope acts).progress.next_is_chained ≡ true
+    → may_go (state_after plan commands scope acts).progress (waiting_of (state_after plan commands scope acts)) ≡ false)

@@ -11,7 +11,7 @@ use Rattle.gc_station.specs.declared.tally.Tally.{Tally}
 abbrev pub none_yet : Tally
 none_yet = record { answered = 0; late = 0; lost = 0; skipped = 0; unreadable = 0; missed = 0; elsewhere = 0; again = 0 }
 
--- one more, or 2^64 - 1 where the count is that already (`later` adds up to that)
+-- one more, or 2^64 - 1 if the count is that already (`later` adds up to that)
 abbrev pub one_more : ℕ → ℕ
 one_more n = later n 1
 
@@ -25,7 +25,7 @@ counted (Unreadable line fault) t = record t { unreadable = one_more t.unreadabl
 counted (Elsewhere line) t = record t { elsewhere = one_more t.elsewhere }
 counted Missed t = record t { missed = one_more t.missed }
 
--- the tally of the commands of both tallies
+-- the sum of both tallies, count by count
 abbrev pub sum : Tally → Tally → Tally
 sum a b = record {
   answered = later a.answered b.answered;
@@ -38,21 +38,23 @@ sum a b = record {
   again = later a.again b.again;
 }
 
--- the counts of no command: of the chains that are over, and of the attempt that is under way
+-- the counts of no command: of the chains that are over, and of the current attempt
 abbrev pub nothing_yet : Counts
 nothing_yet = record { settled = none_yet; attempt = none_yet }
 
--- the counts where an attempt begins, in this turn: those of the attempt before are dropped where it is a further one, and else kept
+-- the counts if an attempt begins, in this turn: those of the attempt before are discarded if it is a further one, and else
+-- kept
 abbrev pub started : Turn → Counts → Counts
 started turn c =
     if nat_lt 1 turn.attempt then record { settled = record c.settled { again = one_more c.settled.again }; attempt = none_yet }
     else record { settled = sum c.settled c.attempt; attempt = none_yet }
 
--- the counts where a command has this turn
+-- the counts if a command has this turn
 abbrev pub turned_to : Turn → Counts → Counts
 turned_to turn c = if nat_eq turn.link 0 then started turn c else c
 
--- the counts in which a command of this cycle and turn, with this ending, is counted. A command of the set-up, whose cycle is 0, isn't
+-- the counts in which a command of this cycle and turn, with this ending, is counted. A command of the setup, whose cycle is 0,
+-- isn't
 abbrev pub counted_in : ℕ → Turn → End → Counts → Counts
 counted_in cycle turn end c = if nat_eq cycle 0 then c else (let d = turned_to turn c in record d { attempt = counted end d.attempt })
 

@@ -1,5 +1,5 @@
--- How many connections ended, or couldn't be made, since a command was settled: this project's own. An act is one call of the link,
--- with what came of it.
+-- How many connections ended, or couldn't be made, since a command was settled: this project's own. An act is one call on the
+-- link, with its result.
 use Rattle.std.specs.Prelude.{◌≡◌, ◌≢◌, ◌⊎◌, ℕ, suc, ◌<◌, ◌≤◌, true, false, List, [], ◌∷◌, ◌++◌}
 use Rattle.gc_texts.specs.declared.tasks.Task.{Task}
 use Rattle.gc_station.specs.declared.cause.Cause.{Cause}
@@ -7,11 +7,11 @@ use Rattle.gc_station.specs.declared.cause.Cause.TheVariants as cause
 use Rattle.gc_links.specs.declared.link.Moment.{Moment}
 use Rattle.gc_station.specs.declared.plan.Plan.{Plan}
 use Rattle.gc_links.specs.Acts.{Act, Gave, Closed, Opened, Unopened}
-use Rattle.gc_station.specs.Runs.{stood}
+use Rattle.gc_station.specs.Runs.{state_after}
 use Rattle.gc_station.specs.Model.{Model, after}
 use Rattle.gc_station.specs.Scopes.{Scope}
 
--- a cause for which a connection ended or couldn't be made, and after which the run connects anew, unless no try is left
+-- a cause for which a connection ended or couldn't be made, and after which the run reconnects, unless no try is left
 abbrev pub IsTried : Cause → Type 0
 IsTried cause.Done = ⊥
 IsTried cause.Clock = ⊥
@@ -40,8 +40,8 @@ opens_in (Opened ∷ acts) = suc (opens_in acts)
 opens_in (Unopened ∷ acts) = suc (opens_in acts)
 opens_in (act ∷ acts) = opens_in acts
 
--- a read that gave bytes settled no command: it wrote down no record between these models; or since the set-up no command of a cycle had its turn. Of other acts nothing is
--- said
+-- a read that gave bytes settled no command: it wrote no record between these models; or since the setup no command of a cycle
+-- had its turn. Of other acts nothing is said
 abbrev pub SettlesNone : Model → Act → Model → Type 0
 SettlesNone s (Gave bytes m) t = (t.records ≡ s.records) ⊎ (t.progress.preparing ≡ true)
 SettlesNone s act t = Unit {0}
@@ -51,24 +51,24 @@ abbrev pub NoneSettled : Plan → List Task → Model → List Act → Type 0
 NoneSettled plan commands s [] = Unit {0}
 NoneSettled plan commands s (act ∷ acts) = SettlesNone s act (after plan commands s act) × NoneSettled plan commands (after plan commands s act) acts
 
--- these acts end with a read that settled a command, and since the set-up a command of a cycle had its turn
+-- these acts end with a read that settled a command, and since the setup a command of a cycle had its turn
 pub record EndsSettled (plan : Plan) (commands : List Task) (scope : Scope) (acts : List Act) : Type 0 where
   pub earlier : List Act
   pub piece : List ℕ
   pub moment : Moment
   pub order : acts ≡ earlier ++ Gave piece moment ∷ []
-  pub settled : (stood plan commands scope acts).records ≢ (stood plan commands scope earlier).records
-  pub prepared : (stood plan commands scope acts).progress.preparing ≡ false
+  pub settled : (state_after plan commands scope acts).records ≢ (state_after plan commands scope earlier).records
+  pub prepared : (state_after plan commands scope acts).progress.preparing ≡ false
 
--- since the last read that settled a command, or from the start where none did, more connections ended or couldn't be made than
--- the plan has tries. At least as many connections as the plan has tries were asked for meanwhile, and more where that is from
--- the start
+-- since the last read that settled a command, or from the start if none did, more connections ended or couldn't be made than
+-- the plan has tries. At least as many connections as the plan has tries were asked for meanwhile, and more if that is from the
+-- start
 pub record AllTried (plan : Plan) (commands : List Task) (scope : Scope) (acts : List Act) : Type 0 where
   pub before : List Act
   pub behind : List Act
   pub order : acts ≡ before ++ behind
   pub since : (before ≡ []) ⊎ EndsSettled plan commands scope before
-  pub none : NoneSettled plan commands (stood plan commands scope before) behind
+  pub none : NoneSettled plan commands (state_after plan commands scope before) behind
   pub ended : plan.retries < ends_in behind
   pub opened : plan.retries ≤ opens_in behind
   pub first : before ≡ [] → plan.retries < opens_in behind

@@ -1,4 +1,4 @@
-//! A book: where a station writes how its commands ended.
+//! A book is if a station writes how its commands ended.
 
 ghost use Rattle.std.specs.Prelude.{◌≡◌, true, OnOk};
 ghost use Rattle.std.specs.Io.KnownBytes.{Keeps};
@@ -12,15 +12,15 @@ use gc_texts::{Ending, Stamp, Wish};
 /// The health of the link before an act, for whoever watches the station.
 #[derive(Clone, Copy, Debug, PartialEq, Eq)]
 pub enum LinkHealth {
-    /// Requests go out and are answered.
+    /// Requests are sent and are answered.
     Fine,
     /// All that is left is to wait for the next cycle.
     Idle,
     /// There is no connection, though one is wanted.
     Unconnected,
-    /// A connection was made, and no request went out over it yet: it is being cleared, or drained until it is quiet.
+    /// A connection was made, and no request was sent over it yet: it is being cleared, or drained until it is quiet.
     Unquiet,
-    /// A request went out, and no reply line came since.
+    /// A request was sent, and no reply line came since.
     Unheard,
 }
 
@@ -33,7 +33,7 @@ pub trait Book {
     /// The bytes of a record, as this book writes them.
     ghost text: { Self → Record → List ℕ };
 
-    /// All bytes that the book has taken, where they are known.
+    /// All bytes that the book has taken, if they are known.
     ghost taken: { Self → Option (List ℕ) };
 
     /// Whether a write or a sync of the book has failed.
@@ -42,7 +42,7 @@ pub trait Book {
     /// Whether the records that were written outlast what this book is meant to outlast.
     ghost is_durable: { Self → Bool };
 
-    /// The cycles that were reported to the book as overrun, where they are known.
+    /// The cycles that were reported to the book as overrun, if they are known.
     ghost overruns: { Self → Option (List ℕ) } = { λ _. None };
 
     /// Writes a record. `Err`: the book took a first part of the record's bytes, not all of them, and has failed.
@@ -52,8 +52,8 @@ pub trait Book {
         ensures untold { overruns self.new ≡ overruns self.old }
         ensures form { text self.new ≡ text self.old };
 
-    /// Makes all records so far durable: they outlast a crash, where the book is meant to outlast one. It is called before each act
-    /// and at the end. `Err`: the book has failed.
+    /// Makes all records so far durable: they outlast a crash, if the book is meant to outlast one. It is called before each
+    /// act and at the end. `Err`: the book has failed.
     fn sync(&mut self) -> Result<(), PortFailed>
         ensures is_durable { OnOk result (is_durable self.new ≡ true) }
         ensures same { Keeps (taken self.old) (taken self.new) }
@@ -61,7 +61,7 @@ pub trait Book {
         ensures untold { overruns self.new ≡ overruns self.old }
         ensures form { text self.new ≡ text self.old };
 
-    /// Takes note of the health of the link and of the last moment that the link told. It is called before each act.
+    /// Takes note of the health of the link and of the last moment read on the link. It is called before each act.
     fn sees(&mut self, health: LinkHealth, moment: Moment)
         ensures quiet { overruns self.new ≡ overruns self.old }
         ensures same { taken self.new ≡ taken self.old }

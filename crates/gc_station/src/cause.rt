@@ -10,32 +10,32 @@ use gc_texts::RunFault;
 pub enum Cause {
     /// Each command of each cycle is settled.
     Done,
-    /// No command may go out, and no reply line came for twice the longest deadline, counted from the last reply line or from the
-    /// first request that was sent after that.
+    /// No command may be sent, and no reply line came for twice the longest deadline, counted from the last reply line or from
+    /// the first request that was sent after that.
     Dead,
     /// A read failed.
     Read,
     /// The other end closed the connection.
     End,
-    /// A write failed: only its first `bytes` bytes went out. `requests` commands of the cycle were sent or passed over before
+    /// A write failed: only its first `bytes` bytes were sent. `requests` commands of the cycle were sent or left out before
     /// it.
     Write { requests: usize, bytes: usize },
     /// The clock can't be read.
     Clock,
     /// No connection could be made.
     Open,
-    /// A command of the set-up wasn't answered well.
+    /// A command of the setup wasn't answered well.
     SetUp,
     /// All turns are used up.
     Turns,
-    /// No answer of a good quality was written down for as long as the plan allows.
+    /// No answer of a good quality was recorded for as long as the plan allows.
     Stale,
     /// The end of the run was asked for.
     Stopped,
 }
 
 impl Cause {
-    /// The fault of a run that stopped for this cause; `None` where the run is done, or its end was asked for.
+    /// The fault of a run that stopped for this cause; `None` if the run is done, or its end was asked for.
     pub fn fault(self) -> Option<RunFault>
         ensures { result ≡ fault_of self }
     {

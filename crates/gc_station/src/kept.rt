@@ -3,16 +3,16 @@
 
 ghost use Rattle.std.specs.Prelude.{◌≡◌, [], ◌∷◌, ◌++◌, List};
 ghost use base.Fml.{ftrue};
-ghost use Rattle.gc_station.specs.Keeping.{Turn, turns_code};
+ghost use Rattle.gc_station.specs.Keeping.{Snapshot, snapshots_code};
 
 use crate::book::Book;
 use gc_links::Link;
 use std::marker::Model;
 
-/// What was seen so far, in order: at each moment what a link had told, what a book had taken, and whether that lasted.
+/// What was seen so far, in order: at each moment what a link had recorded, what a book had taken, and whether that lasted.
 #[derive(Drop)]
 pub struct Kept {
-    pub ghost turns: { List Turn } by { turns_code },
+    pub ghost turns: { List Snapshot } by { snapshots_code },
 }
 
 impl Model for Kept {
@@ -29,14 +29,14 @@ impl Kept {
 
     // What was seen so far, with `turn` added at the end. The turns are ghost, so there is nothing to copy.
     fn then<L, B>(&self, _link: &L, _book: &B) -> Kept
-        ghost turn: { Turn }
+        ghost turn: { Snapshot }
         ensures { result.turns ≡ self.now.turns ++ turn ∷ [] }
     {
         Kept {}
     }
 
-    // What was seen so far, with a turn of now added at the end: what the link has told, what the book has taken, and whether the
-    // book is durable.
+    // What was seen so far, with what is seen now added at the end: what the link has recorded, what the book has taken, and
+    // whether the book is durable.
     pub(crate) fn and<L: Link, B: Book>(&self, link: &L, book: &B) -> Kept
         ensures { result.turns ≡ self.now.turns ++ record { acts = L.acts link.now; taken = B.taken book.now; lasts = B.is_durable book.now } ∷ [] }
     {

@@ -1,8 +1,9 @@
-//! Laws of a station's runs, whatever its link tells. A run is the list of its acts: an act is one call of the link, with what
-//! came of it. A request is put where its bytes are written, all of them or some; a moment is told where the clock is read. A run
-//! begins with eight null procedures, one after the other, and begins anew where seven requests wait, all given up. Then it sends
-//! the commands of its text, cycle by cycle. A request waits from its sending until it is settled; at its deadline it is given
-//! up, but goes on waiting. A chain is a row of commands for one target, each sent only once the one before it was answered well.
+//! Laws of a station's runs, whatever its link does. A run is the list of its acts: an act is one call of the link, with what
+//! came of it. A request is put where its bytes are written, all of them or some; a moment is read if the clock is read. A run
+//! begins with eight null procedures, one after the other, and resynchronizes where seven requests are outstanding, all timed
+//! out. Then it sends the commands of its text, cycle by cycle. A request waits from its sending until it is settled; at its
+//! deadline it has timed out, but stays outstanding. A chain is a row of commands for one target, each sent only once the one
+//! before it was answered well.
 
 ghost use Rattle.std.specs.Prelude.{◌≡◌, ◌⊎◌, ◌≤◌, List, [], ◌∷◌, ◌++◌, length};
 ghost use Rattle.std.specs.List.{AllByRecursion};
@@ -13,9 +14,9 @@ ghost use Rattle.gc_station.specs.declared.cause.Cause.TheVariants as cause;
 ghost use Rattle.gc_station.specs.declared.progress.Action.TheVariants.{Send, Skip, Close, Stop};
 ghost use Rattle.gc_station.specs.declared.plan.Plan.{Plan};
 ghost use Rattle.gc_links.specs.Acts.{Act, Closed};
-ghost use Rattle.gc_station.specs.Answers.{IsTrueRecord};
+ghost use Rattle.gc_station.specs.Answers.{AnswerIsJustified};
 ghost use Rattle.gc_station.specs.Behind.{CommandsGoOutBehindTheTable, TheTableIsNeverHeldUp};
-ghost use Rattle.gc_station.specs.Beginnings.{NoneBeforeTheLastAnswer, BeginsSo, IsClearedAndQuiet};
+ghost use Rattle.gc_station.specs.Beginnings.{NoneBeforeTheLastAnswer, SynchronizesInOrder, IsClearedAndQuiet};
 ghost use Rattle.gc_station.specs.Closing.{IsReasoned, ClosesForACause, StopsForACause};
 ghost use Rattle.gc_station.specs.Deciding.{patience_of};
 ghost use Rattle.gc_station.specs.Codes.{WellIsAnAcceptedCode};
@@ -27,12 +28,12 @@ ghost use Rattle.gc_station.specs.Room.{RequestsHaveRoom};
 ghost use Rattle.gc_station.specs.Chains.{IsChained, IsLinked};
 ghost use Rattle.gc_station.specs.EachOnce.{EachOnce, IsFurther};
 ghost use Rattle.gc_station.specs.Links.{ChainsStay, MarksGoOn, RecordsStay};
-ghost use Rattle.gc_station.specs.Ends.{IsTrulyLate, IsTrulyLost};
-ghost use Rattle.gc_station.specs.Given.{given};
+ghost use Rattle.gc_station.specs.Ends.{LateIsJustified, LostIsJustified};
+ghost use Rattle.gc_station.specs.Given.{bytes_heard};
 ghost use Rattle.gc_station.specs.Nearness.{AnswersAreAtTheirTargets};
 ghost use Rattle.gc_station.specs.Qualities.{QualitiesAreAsListed, GoodIsAnAnswer};
 ghost use Rattle.gc_station.specs.Quiet.{IsRequest};
-ghost use Rattle.gc_station.specs.Runs.{stood};
+ghost use Rattle.gc_station.specs.Runs.{state_after};
 ghost use Rattle.gc_station.specs.Scopes.{Scope, OneReadingForALine, SomeReadings};
 ghost use Rattle.gc_station.specs.Setups.{EachSetUpOnce, SetUpsGoOn, NoneBeforeTheSetUp, SetUpInOrder};
 ghost use Rattle.gc_station.specs.Silences.{IsMuteFor};
@@ -90,12 +91,12 @@ pub fn some_function_says_what_each_reply_says()
 /// the first id that wasn't answered. When the station resynchronized, seven requests were outstanding, all timed out.
 pub fn each_act_is_due()
     ensures { (plan : Plan) (commands : List Task) (scope : Scope) (earlier later : List Act) (act : Act)
-        → Runs plan commands (opening plan scope) (earlier ++ act ∷ later) → IsReasoned plan commands (stood plan commands scope earlier) act }
+        → Runs plan commands (opening plan scope) (earlier ++ act ∷ later) → IsReasoned plan commands (state_after plan commands scope earlier) act }
 {}
 
-/// A connection is closed only for a cause: nothing was left to be done; or no command could go out, and the line was dead; or
-/// all turns were used up; or the run was stale; or its end was asked for, and it could end there; or the act before it shows that a
-/// call failed or that the other end closed.
+/// A connection is closed only for a cause: nothing was left to be done; or no command could be sent, and the line was dead; or
+/// all turns were used up; or the run was stale; or its end was asked for, and it could end there; or the act before it shows
+/// that a call failed or that the other end closed.
 pub fn closes_for_a_cause()
     ensures { (plan : Plan) (commands : List Task) (scope : Scope) (earlier later : List Act)
         → Runs plan commands (opening plan scope) (earlier ++ Closed ∷ later) → ClosesForACause plan commands scope earlier }
@@ -106,15 +107,15 @@ pub fn closes_for_a_cause()
 /// reply had all that time; or the clock went back to that time.
 pub fn closes_a_dead_line_behind_no_reply()
     ensures { (plan : Plan) (commands : List Task) (scope : Scope) (acts : List Act) → Runs plan commands (opening plan scope) acts
-        → action_at plan (stood plan commands scope acts) ≡ Close cause.Dead → IsMuteFor (patience_of plan) plan commands scope acts }
+        → action_at plan (state_after plan commands scope acts) ≡ Close cause.Dead → IsMuteFor (patience_of plan) plan commands scope acts }
 {}
 
 /// After a command was sent, whatever acts follow, the next command sent has a later place in the same cycle, or is of a later
 /// cycle: no command is sent twice in its cycle.
 pub fn each_send_goes_on()
     ensures { (plan : Plan) (commands : List Task) (scope : Scope) (earlier later : List Act) (act : Act)
-        → action_at plan (stood plan commands scope earlier) ≡ Send
-        → IsFurther plan commands (stood plan commands scope earlier) (stood plan commands scope (earlier ++ act ∷ later)) }
+        → action_at plan (state_after plan commands scope earlier) ≡ Send
+        → IsFurther plan commands (state_after plan commands scope earlier) (state_after plan commands scope (earlier ++ act ∷ later)) }
 {}
 
 /// A command of a chain that isn't the chain's first is sent only after the answer of the command before it in the same cycle.
@@ -123,7 +124,7 @@ pub fn each_send_goes_on()
 /// end is recorded.
 pub fn each_chain_is_kept()
     ensures { (plan : Plan) (commands : List Task) (scope : Scope) (acts : List Act) → Runs plan commands (opening plan scope) acts
-        → action_at plan (stood plan commands scope acts) ≡ Send → IsChained plan commands (stood plan commands scope acts) → IsLinked plan commands scope acts }
+        → action_at plan (state_after plan commands scope acts) ≡ Send → IsChained plan commands (state_after plan commands scope acts) → IsLinked plan commands scope acts }
 {}
 
 /// Each record of an answer has a line that arrived with the id of the record's own request, the one of the same cycle and
@@ -132,7 +133,7 @@ pub fn each_chain_is_kept()
 /// target is that of its command.
 pub fn answers_come_in_time()
     ensures { (plan : Plan) (commands : List Task) (scope : Scope) (acts : List Act)
-        → Runs plan commands (opening plan scope) acts → AllByRecursion (IsTrueRecord plan commands scope acts) (stood plan commands scope acts).records }
+        → Runs plan commands (opening plan scope) acts → AllByRecursion (AnswerIsJustified plan commands scope acts) (state_after plan commands scope acts).records }
 {}
 
 /// Each late record is justified: its own request, of the same cycle and place, was sent; then a time at or past its deadline
@@ -140,7 +141,7 @@ pub fn answers_come_in_time()
 /// the record was written.
 pub fn late_ones_came_late()
     ensures { (plan : Plan) (commands : List Task) (scope : Scope) (acts : List Act)
-        → Runs plan commands (opening plan scope) acts → AllByRecursion (IsTrulyLate plan commands scope acts) (stood plan commands scope acts).records }
+        → Runs plan commands (opening plan scope) acts → AllByRecursion (LateIsJustified plan commands scope acts) (state_after plan commands scope acts).records }
 {}
 
 /// Each lost record has a cause: its own request, of the same cycle and place, was sent, and the act at which the record was
@@ -149,7 +150,7 @@ pub fn late_ones_came_late()
 /// stops there.
 pub fn lost_ones_are_lost_for_a_cause()
     ensures { (plan : Plan) (commands : List Task) (scope : Scope) (acts : List Act)
-        → Runs plan commands (opening plan scope) acts → AllByRecursion (IsTrulyLost plan commands scope acts) (stood plan commands scope acts).records }
+        → Runs plan commands (opening plan scope) acts → AllByRecursion (LostIsJustified plan commands scope acts) (state_after plan commands scope acts).records }
 {}
 
 /// A run stops without a connection, and only for one of these causes. All turns are used up. Or the last act is a call that
@@ -159,7 +160,7 @@ pub fn lost_ones_are_lost_for_a_cause()
 /// left. By `each_command_once` all is settled then.
 pub fn stops_for_a_cause()
     ensures { (plan : Plan) (commands : List Task) (scope : Scope) (acts : List Act) (why : Cause) → Runs plan commands (opening plan scope) acts
-        → action_at plan (stood plan commands scope acts) ≡ Stop why → StopsForACause plan commands scope acts why }
+        → action_at plan (state_after plan commands scope acts) ≡ Stop why → StopsForACause plan commands scope acts why }
 {}
 
 /// If a run stops at a connection that ended or couldn't be made, and not because it is done, for the clock or for its turns,
@@ -168,13 +169,13 @@ pub fn stops_for_a_cause()
 /// than `retries`, if no read settled a command.
 pub fn stops_behind_all_tries()
     ensures { (plan : Plan) (commands : List Task) (scope : Scope) (acts : List Act) (last : Act) (why : Cause) → Runs plan commands (opening plan scope) (acts ++ last ∷ [])
-        → action_at plan (stood plan commands scope (acts ++ last ∷ [])) ≡ Stop why → IsTried why → IsEnding last → AllTried plan commands scope (acts ++ last ∷ []) }
+        → action_at plan (state_after plan commands scope (acts ++ last ∷ [])) ≡ Stop why → IsTried why → IsEnding last → AllTried plan commands scope (acts ++ last ∷ []) }
 {}
 
 /// If a connection is closed or a run stops because its turns are used up, the run made at least as many acts as it had turns.
 pub fn ends_for_turns_behind_as_many_acts()
     ensures { (plan : Plan) (commands : List Task) (scope : Scope) (acts : List Act) → Runs plan commands (opening plan scope) acts
-        → (action_at plan (stood plan commands scope acts) ≡ Close cause.Turns) ⊎ (action_at plan (stood plan commands scope acts) ≡ Stop cause.Turns)
+        → (action_at plan (state_after plan commands scope acts) ≡ Close cause.Turns) ⊎ (action_at plan (state_after plan commands scope acts) ≡ Stop cause.Turns)
         → scope.turns ≤ length acts }
 {}
 
@@ -190,7 +191,7 @@ pub fn each_connection_is_cleared_and_quiet()
 /// heard, after the last line feed, in whatever pieces they arrived.
 pub fn rest_is_what_came()
     ensures { (plan : Plan) (commands : List Task) (scope : Scope) (acts : List Act) → Runs plan commands (opening plan scope) acts
-        → (stood plan commands scope acts).rest ≡ rest_of (given plan commands scope acts) }
+        → (state_after plan commands scope acts).rest ≡ rest_of (bytes_heard plan commands scope acts) }
 {}
 
 /// No command is sent before the last answer of a synchronization. Take the null procedures that aren't answered at some point
@@ -205,7 +206,7 @@ pub fn no_command_goes_out_before_the_last_answer()
 /// seven requests are outstanding, all timed out.
 pub fn each_beginning_goes_on_by_its_answers()
     ensures { (plan : Plan) (commands : List Task) (scope : Scope) (acts : List Act) (act : Act)
-        → Runs plan commands (opening plan scope) (acts ++ act ∷ []) → BeginsSo plan commands scope acts act }
+        → Runs plan commands (opening plan scope) (acts ++ act ∷ []) → SynchronizesInOrder plan commands scope acts act }
 {}
 
 /// Records are never changed or removed: those of a run's first acts stay, in order, before the records of the acts that
@@ -248,7 +249,7 @@ pub fn qualities_are_as_listed()
     ensures { QualitiesAreAsListed }
 {}
 
-/// Where the text accepts no code of a command, an answer of a good quality has both codes 0 and values that read. So for a text
+/// If the text accepts no code of a command, an answer of a good quality has both codes 0 and values that read. So for a text
 /// without `accept` the laws on chains speak of such answers alone.
 pub fn good_without_accept_is_an_answer()
     ensures { GoodIsAnAnswer }
@@ -275,7 +276,7 @@ pub fn each_record_is_of_its_task()
 {}
 
 /// Each count of a tally is the number of the records that ended in its way, of those of the last attempt of their chain, up to
-/// 2^64 - 1; and one more is how many times a chain went out again.
+/// 2^64 - 1; and one more is how many times a chain was sent again.
 pub fn tallies_count_the_records()
     ensures { TalliesCountRecords }
 {}

@@ -3,6 +3,7 @@
 
 mod book;
 mod cause;
+mod deciding;
 mod kept;
 pub mod laws;
 mod mark;

@@ -1,4 +1,4 @@
-//! Marks: which command of which cycle a request that waits is of.
+//! Marks: which command of which cycle an outstanding request is of.
 
 ghost use Rattle.std.specs.Prelude.{◌≡◌};
 ghost use Rattle.gc_station.specs.Marks.{commands_in};
@@ -12,9 +12,9 @@ pub(crate) struct Mark {
     pub cycle: u64,
     /// The command's place among the commands of a cycle, counted from 0.
     pub place: usize,
-    /// The last moment that the link told before the command was sent, in milliseconds since 1970-01-01, UTC.
+    /// The last moment read on the link before the command was sent, in milliseconds since 1970-01-01, UTC.
     pub sent: u64,
-    /// Where the command's target stands, and which return codes are accepted, as the text says.
+    /// The place of the command's target, and which return codes are accepted, as the text says.
     pub expected: Expected,
 }
 

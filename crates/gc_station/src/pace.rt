@@ -1,11 +1,11 @@
-//! Pace: how long a read waits, and which cycle is reported as overrun, because it wasn't done in time. No record, and nothing that
-//! goes out, rests on either.
+//! Pace: how long a read waits, and which cycle is reported as overrun, because it wasn't done in time. No record, and nothing
+//! that is sent, rests on either.
 
 ghost use Rattle.std.specs.Prelude.{◌≡◌, ℕ, Option};
 ghost use Rattle.std.specs.Option.{option_to_list};
 ghost use Rattle.std.specs.Io.KnownBytes.{Appends};
 ghost use Rattle.gc_client.specs.Rule.{IsEarliest, deadlines};
-ghost use Rattle.gc_station.specs.Pace.{dead_at, due_at, retry_at, stale_at, longest, ends_in, ends_without_deadline, ends_at, patience, cycle_of, overrun, told_then};
+ghost use Rattle.gc_station.specs.Pace.{dead_at, due_at, retry_at, stale_at, longest, ends_in, ends_without_deadline, ends_at, patience, cycle_of, overrun, reported_then};
 
 use crate::book::{Book, LinkHealth};
 use crate::plan::Plan;
@@ -13,8 +13,7 @@ use crate::progress::{Phase, Progress, Until, patience_of};
 use crate::progressing::later;
 use crate::station::Station;
 
-// The moment from which on the run is stale, if no answer of a good quality is written down until then; `u64::MAX` where it never
-// is.
+// The moment from which on the run is stale, if no answer of a good quality is recorded until then; `u64::MAX` if it never is.
 fn stale_at(plan: &Plan, fresh: u64) -> u64
     ensures { result ≡ stale_at plan.now fresh }
 {
@@ -25,7 +24,7 @@ fn stale_at(plan: &Plan, fresh: u64) -> u64
     }
 }
 
-// How long a read waits at most: a second where somebody may ask for the end of the run, else a minute.
+// How long a read waits at most: a second if somebody may ask for the end of the run, else a minute.
 fn longest(plan: &Plan) -> u64
     ensures { result ≡ longest plan.now }
 {
@@ -60,8 +59,8 @@ impl Progress {
         }
     }
 
-    // The moment at which a read in this phase ends if nothing comes, leaving out the deadlines of the requests that wait: at the end of
-    // a pause or a drain, when the line is dead, or when a null procedure of the beginning goes out again.
+    // The moment at which a read in this phase ends if nothing comes, leaving out the deadlines of the outstanding requests: at
+    // the end of a pause or a drain, when the line is dead, or when a null procedure of the synchronization is sent again.
     fn ends(&self, plan: &Plan) -> u64
         ensures { result ≡ ends_in self.now.phase plan.now self.now }
     {
@@ -160,7 +159,7 @@ impl Station {
     // Reports to a book the health of the link and, once for each cycle, that the cycle wasn't done when the next was due. `told` is
     // the last cycle that was reported before. Returns the last one that was reported by then.
     pub(crate) fn tell_overrun<B: Book>(&self, book: &mut B, plan: &Plan, told: u64) -> u64
-        ensures told { result ≡ told_then told (overrun plan.now self.now.progress told) }
+        ensures told { result ≡ reported_then told (overrun plan.now self.now.progress told) }
         ensures tells { Appends (B.overruns book.old) (B.overruns book.new) (option_to_list (overrun plan.now self.now.progress told)) }
         ensures taken { B.taken book.new ≡ B.taken book.old }
         ensures failed { B.failed book.new ≡ B.failed book.old }

@@ -1,30 +1,32 @@
-//! The plan: how a station measures, and when it gives up.
+//! The plan: how a station measures, and when it times out.
 
 /// What an operator chooses. Times are in milliseconds.
 #[derive(Clone, Copy, Debug, PartialEq, Eq)]
 pub struct Plan {
-    /// How many requests that aren't given up may be under way: 1 to 7. A number outside counts as the nearest of these.
+    /// How many requests that haven't timed out may be in flight: 1 to 7. A number outside counts as the nearest of these.
     pub width: u8,
-    /// The longest time that a request waits before it is given up. A null procedure waits so long, and a command as long as its
-    /// task says. A null procedure of a beginning goes out again after it. A line is dead after twice as long without a reply line.
+    /// The longest time that a request is outstanding before it has timed out. A null procedure waits so long, and a command as
+    /// long as its task says. A null procedure of a synchronization is sent again after it. A line is dead after twice as long
+    /// without a reply line.
     pub deadline: u64,
     /// How far apart the cycles are due, counted from when the first one begins. 0: each begins when the one before it is done.
     /// A cycle that can't begin before the next is due is missed.
     pub every: u64,
     /// How many cycles are measured or missed.
     pub cycles: u64,
-    /// How long the station pauses before it connects again, twice as long at each further failure, up to a minute; and how long
-    /// nothing may come on a new connection before a command goes out on it. A beginning doesn't wait for such a quiet connection.
+    /// How long the station pauses before it connects again, twice as long at each further failure, up to a minute; and how
+    /// long nothing may come on a new connection before a command is sent on it. A synchronization doesn't wait for such a
+    /// quiet connection.
     pub quiet: u64,
-    /// How many tries the station has to connect anew before the run ends. A reply that settles a command gives all of them back,
-    /// but a command of the set-up only if the set-up is done with it. A
-    /// connection that ends once a cycle is done and before the next is due takes no try, and the next connection is made when that
-    /// cycle is due. An attempt that failed always takes one.
+    /// How many tries the station has to reconnect before the run ends. A reply that settles a command gives all of them back,
+    /// but a command of the setup only if the setup is done with it. A connection that ends once a cycle is done and before the
+    /// next is due takes no try, and the next connection is made when that cycle is due. An attempt that failed always takes
+    /// one.
     pub retries: u32,
-    /// How many of the commands in front are the set-up, at most as many as there are. The others are those of a cycle. The set-up goes out
-    /// on each connection, and behind each beginning, before any of them.
+    /// How many of the commands before it are the setup, at most as many as there are. The others are those of a cycle. The
+    /// setup is sent on each connection, and after each synchronization, before any of them.
     pub setup: usize,
-    /// How long the run goes on without an answer of a good quality, counted from the start or the last one that was written down.
+    /// How long the run goes on without an answer of a good quality, counted from the start or the last one that was recorded.
     /// 0: for as long as it takes.
     pub stale: u64,
     /// Whether somebody may ask for the end of the run. Then no read waits longer than a second, so that the station sees it.

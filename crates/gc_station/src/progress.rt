@@ -1,75 +1,28 @@
-//! Progress: how far a station is, and what it does next. All decisions are made here, by looking at nothing else.
-//!
-//! The table lists the actions that may be next in each phase, of which the first that fits is taken, and the phase after each.
-//! In all phases but `Closing` and `Over` two come first: where no turn is left, `Close(Turns)`, or without a connection
-//! `Stop(Turns)`; and where something went out, or a connection was closed or couldn't be made, since a moment was told
-//! (`stale`), `ReadClock`, which gives up the requests whose deadline has come, and changes no phase. Between these two, with or
-//! without a connection: where no answer of a good quality was written down for as long as the plan allows, `Close(Stale)`; and
-//! where the end of the run was asked for and the station rests (`is_resting`), `Close(Stopped)`.
-//!
-//! | Phase | Where | Action | What the action does | Next phase |
-//! |---|---|---|---|---|
-//! | `Down` | | `Open` | makes a connection | `Clearing`; where none could be made, as after `Close(Open)` |
-//! | `Pausing` | | `Read(Limit)` | waits | `Down`, once the pause is over and a connection is wanted |
-//! | `Clearing` | | `Clear` | sends a lone line feed | `Draining`; `Ready` where the station begins |
-//! | `Draining` | | `Read(Limit)` | drops what comes | `Ready`, once nothing came for the quiet time |
-//! | `Ready`: the station begins | no command is unsent, and no cycle is left | `Close(Done)` | closes the connection | `Over(Done)` |
-//! | | the cycle is done, and the next isn't due | `Read(Due)` | hears what comes | `Ready` |
-//! | | the line is dead | `Close(Dead)` | closes the connection | as below |
-//! | | the null procedure of the first id that isn't answered is to go out, for the first time or again at its deadline | `Ask` | sends it | `Ready` |
-//! | | else | `Read(Limit)` | hears what comes | `Ready`; the station has begun once the eighth is answered |
-//! | `Ready`: the station has begun | the end of the run was asked for, the station is between two chains, and something isn't given up | as where the station waits | | |
-//! | | the set-up isn't done, no command is unsent, none waits, and no cycle is left | `Close(Done)` | closes the connection | `Over(Done)` |
-//! | | the set-up isn't done, the cycle is done, and the next isn't due | `Read(Due)` | hears what comes | `Ready` |
-//! | | the set-up isn't done, and nothing of it went out | as where the next command may go out, with `Prepare` for `Send` | | |
-//! | | the set-up isn't done, commands wait, and all that waits is given up | with room `Flush`, else as where the station waits | sends a null procedure after them | `Ready` |
-//! | | the set-up isn't done, commands wait, and something isn't given up | as where the station waits | | |
-//! | | the set-up isn't done, no command waits, and the last one was answered well | as where the next command may go out, with `Prepare` for `Send` | | |
-//! | | the set-up isn't done, no command waits, and the last one wasn't answered well | `Close(SetUp)` | closes the connection | as below |
-//! | | the set-up is done, a command is unsent, which isn't `next_is_chained` and begins no further attempt | as where the next command may go out | | |
-//! | | commands wait, and all that waits is given up | with room `Flush`, else as where the station waits | sends a null procedure after them | `Ready` |
-//! | | commands wait, and something isn't given up | as where the station waits | | |
-//! | | no command waits, the next one begins a further attempt of its chain, and a command of the attempt before ended as its rule names | as where the next command may go out | | |
-//! | | no command waits, and the next one begins a further attempt otherwise, or in a missed cycle | `Pass` | reads the clock, and passes over this attempt and those behind it | `Ready` |
-//! | | no command waits, one is unsent, and may go | as where the next command may go out | | |
-//! | | no command waits, one is unsent, and may not go | `Skip` | reads the clock, and writes the command down | `Ready` |
-//! | | no command waits or is unsent, and no cycle is left | `Close(Done)` | closes the connection | `Over(Done)` |
-//! | | no command waits or is unsent, and the next cycle is due | `Begin` | reads the clock, and begins the cycle | `Ready` |
-//! | | no command waits or is unsent, and the next cycle isn't due | `Read(Due)` | hears what comes | `Ready` |
-//! | the next command may go out | one of the seven requests before it is a call of the table that a reply ended | with room `Send`, else as where the station waits | sends the next command | `Ready` |
-//! | | else, where all that waits is given up, or nothing waits | with room `Flush`, else as where the station waits | sends a null procedure before it | `Ready` |
-//! | | else | as where the station waits | | |
-//! | the station waits | the line is dead | `Close(Dead)` | closes the connection | as below |
-//! | | all that wait are given up | `Renew` | reads the clock, and begins anew: all that wait are lost | the same |
-//! | | else | `Read(Limit)` | hears what comes | the same |
-//! | `Closing` | | `Close` for its cause | closes the connection | for `Done`, `Clock`, `Turns`, `Stale` and `Stopped`: `Over` for that cause. Else `Over(Done)` where nothing is left to be sent and no command waits, `Pausing` where a try is left or none is needed, and else `Over` for that cause |
-//! | `Over` | | `Stop` for its cause | does nothing: the run is over | |
-//!
-//! Where a call of the link fails, or a write is cut, `Closing` for that cause follows, and without a connection `Over`.
+//! Progress: how far a station is. What it does next is decided in `deciding.rt`, by looking at nothing else.
 
 ghost use Rattle.std.specs.Prelude.{◌≡◌};
-ghost use Rattle.gc_station.specs.Deciding.{width_of, is_up, is_past, is_quiet, has_begun, patience_of, is_dead, is_due, goes_on, is_finished, has_room, may_go, waits_for_all, action_again, action_of, action_on, action_ready, action_begun, action_beginning, action_next, action_room, action_sent, action_settled, action_done, action_waiting, is_stale, is_between, is_resting, is_stopping, is_held_back, action_cycle, action_prepare, action_turn, action_preparing, is_preparing};
+ghost use Rattle.gc_station.specs.Deciding.{width_of, is_up, is_past, is_quiet, has_begun, patience_of};
 ghost use Rattle.gc_station.specs.Progressing.{at_start};
 ghost use Rattle.gc_station.specs.Model.{is_heard};
 
 use crate::cause::Cause;
 use crate::plan::Plan;
 use crate::progressing::later;
-use gc_client::{Beginning, WINDOW};
+use gc_client::Beginning;
 use gc_links::Moment;
 
-/// Where a station is.
+/// How far a station is.
 #[derive(Clone, Copy)]
 pub(crate) enum Phase {
     /// Without a connection, and one is to be made.
     Down,
     /// Without a connection, and one is to be made after a pause.
     Pausing,
-    /// A connection was made; the line feed that clears half a request is to go out.
+    /// A connection was made; the line feed that clears half a request is to be sent.
     Clearing,
-    /// What comes is dropped until the line is quiet.
+    /// What comes is discarded until the line is quiet.
     Draining,
-    /// Requests go out, and their replies are heard.
+    /// Requests are sent, and their replies are heard.
     Ready,
     /// The connection is to be closed.
     Closing(Cause),
@@ -82,7 +35,7 @@ pub(crate) enum Phase {
 pub(crate) enum Action {
     /// To read the clock.
     ReadClock,
-    /// To read the clock, and to begin anew: all that wait are lost.
+    /// To read the clock, and to resynchronize: all outstanding requests are lost.
     Renew,
     /// To read the clock, and to begin a cycle.
     Begin,
@@ -90,22 +43,22 @@ pub(crate) enum Action {
     Open,
     /// To send a lone line feed.
     Clear,
-    /// To send the null procedure of the first id of the beginning that isn't answered, for the first time or again.
+    /// To send the null procedure of the first id of the synchronization that isn't answered, for the first time or again.
     Ask,
-    /// To send the next command of the set-up.
+    /// To send the next command of the setup.
     Prepare,
     /// To send the next command of the cycle.
     Send,
     /// To read the clock, and to write the next command down without sending it.
     Skip,
-    /// To read the clock, and to pass over the further attempts of a chain that the next command begins.
+    /// To read the clock, and to leave out the further attempts of a chain that the next command begins.
     Pass,
-    /// To send a null procedure after requests that are all given up: its reply settles them. Or before a command, where none of
+    /// To send a null procedure after requests that have all timed out: its reply settles them. Or before a command, if none of
     /// the seven requests before that is a call of the table that a reply ended.
     Flush,
     /// To read.
     Read(Until),
-    /// To close the connection. For `Stale` and `Stopped` also where there is none: then only the run ends.
+    /// To close the connection. For `Stale` and `Stopped` also if there is none: then only the run ends.
     Close(Cause),
     /// To do nothing any more.
     Stop(Cause),
@@ -114,54 +67,54 @@ pub(crate) enum Action {
 /// When a read that brings nothing ends.
 #[derive(Clone, Copy)]
 pub(crate) enum Until {
-    /// Until something may have to be done: a deadline is reached, a pause or a drain is over, the line is dead, or
-    /// a null procedure of a beginning goes out again.
+    /// Until something may have to be done: a deadline is reached, a pause or a drain is over, the line is dead, or a null
+    /// procedure of a synchronization is sent again.
     Limit,
     /// Until the next cycle is due: each command of this one is settled.
     Due,
 }
 
-/// How many requests wait, how the commands that were written down last ended, and when one was answered well last.
+/// How many requests are outstanding, how the commands that were recorded last ended, and when one was answered well last.
 #[derive(Clone, Copy)]
 pub(crate) struct Waiting {
-    /// All requests that wait.
+    /// All outstanding requests.
     pub all: usize,
-    /// Those of them that aren't given up.
+    /// Those of them that haven't timed out.
     pub current: usize,
     /// Those of them that are commands of the cycle. The others are null procedures.
     pub commands: usize,
-    /// Whether the command that was written down last was answered well, as `is_well` says.
+    /// Whether the command that was recorded last was answered well, as `is_well` says.
     pub well: bool,
     /// Whether it, or a command before it of the same attempt, ended as its rule names.
     pub listed: bool,
-    /// The moment at which a command that was answered well was written down last, by the clock for deadlines; 0 where none was;
-    /// an earlier one where the clock went back since.
+    /// The moment at which a command that was answered well was recorded last, by the clock for deadlines; 0 if none was; an
+    /// earlier one if the clock went back since.
     pub fresh: u64,
 }
 
 /// How far a station is.
 #[derive(Drop)]
 pub(crate) struct Progress {
-    /// Where the station is.
+    /// How far the station is.
     pub phase: Phase,
-    /// Which null procedures of the beginning are answered. Once all are, the station has begun.
+    /// Which null procedures of the synchronization are answered. Once all are, the station has synchronized.
     pub word: Beginning,
-    /// The deadline of the null procedure of the first id that isn't answered, where that went out on this connection: then it
-    /// goes out again. Else 0.
+    /// The deadline of the null procedure of the first id that isn't answered, if that was sent on this connection: then it is
+    /// sent again. Else 0.
     pub again: u64,
-    /// Whether something went out, or a connection was closed or couldn't be made, since `moment` was told.
+    /// Whether something was sent, or a connection was closed or couldn't be made, since `moment` was read.
     pub stale: bool,
-    /// The last moment that the link told.
+    /// The last moment read on the link.
     pub moment: Moment,
-    /// From when a pause and the quiet time count: the last moment that was told otherwise than after a read that gave
-    /// nothing, or an earlier one where the clock went back since.
+    /// From when a pause and the quiet time count: the last moment that was read otherwise than after a read that gave nothing,
+    /// or an earlier one if the clock went back since.
     pub since: u64,
-    /// From when a dead line counts: the latest of the moments at which the last reply line came, the first request after it
-    /// or on this connection went out, and a connection was last drained; an earlier one where the clock went back since.
+    /// From when a dead line counts: the latest of the moments at which the last reply line came, the first request after it or
+    /// on this connection was sent, and a connection was last drained; an earlier one if the clock went back since.
     pub alive: u64,
-    /// Whether a request went out on this connection, and no reply line came since.
+    /// Whether a request was sent on this connection, and no reply line came since.
     pub asked: bool,
-    /// The moment that counts as the beginning of the cycle: its due moment, or where it has none, as the first, the one at which
+    /// The moment that counts as the beginning of the cycle: its due moment, or if it has none, as the first, the one at which
     /// it began.
     pub began: u64,
     /// Whether the cycle was done before the next was due.
@@ -172,34 +125,35 @@ pub(crate) struct Progress {
     pub missed: bool,
     /// How many cycles haven't begun.
     pub left: u64,
-    /// How many commands of the cycle were neither sent nor passed over.
+    /// How many commands of the cycle were neither sent nor left out.
     pub unsent: usize,
-    /// Whether the next of them goes out only once the command before it was answered well.
+    /// Whether the next of them is sent only once the command before it was answered well.
     pub next_is_chained: bool,
-    /// Where it begins a further attempt of its chain: how many commands this attempt and those behind it have. Else 0.
+    /// If it begins a further attempt of its chain: how many commands this attempt and those after it have. Else 0.
     pub next_others: usize,
-    /// Whether the command before it went out, and since then no connection was closed and the station didn't begin anew.
+    /// Whether the command before it was sent, and since then no connection was closed and the station didn't resynchronize.
     pub chain_unbroken: bool,
-    /// How many tries to connect anew are left.
+    /// How many tries to reconnect are left.
     pub tries: u32,
     /// The length of the current pause, or of the last one. 0: there was none yet, or a reply settled a command since.
     pub pause: u64,
     /// How many turns are left.
     pub turns: u64,
-    /// How many requests went out behind the last call of the table that a reply ended, answered or late, and behind the
-    /// beginning. Seven where they are more.
+    /// How many requests were sent after the last call of the table that a reply ended, answered or late, and after the
+    /// synchronization. Seven if they are more.
     pub behind: usize,
-    /// Whether there is a set-up, and no command of a cycle had its turn since the connection was made and the station began.
+    /// Whether there is a setup, and no command of a cycle had its turn since the connection was made and the station
+    /// synchronized.
     pub preparing: bool,
-    /// How many commands of the set-up went out in this attempt.
+    /// How many commands of the setup were sent in this attempt.
     pub prepared: usize,
-    /// Which attempt of the set-up this is, or the next one where nothing of it went out: counted from 1, over the whole run.
+    /// Which attempt of the setup this is, or the next one if nothing of it was sent: counted from 1, over the whole run.
     pub attempt: u64,
-    /// Whether the end of the run was asked for by a moment that was told.
+    /// Whether the end of the run was asked for by a moment that was read.
     pub stops: bool,
 }
 
-// How many requests that aren't given up may be under way: the plan's width, brought into 1 to 7.
+// How many requests that haven't timed out may be in flight: the plan's width, clamped to 1 to 7.
 pub(crate) fn width(plan: &Plan) -> u8
     ensures { result ≡ width_of plan.now }
 {
@@ -229,7 +183,7 @@ impl Phase {
         }
     }
 
-    // Whether bytes that come are heard in this phase; in the others they are dropped.
+    // Whether bytes that come are heard in this phase; in the others they are discarded.
     pub(crate) fn is_heard(self) -> bool
         ensures { result ≡ is_heard self }
     {
@@ -246,7 +200,7 @@ impl Phase {
 }
 
 impl Progress {
-    // The progress of a station that has done nothing: no null procedure of its beginning is answered.
+    // The progress of a station that has done nothing: no null procedure of its synchronization is answered.
     pub(crate) fn at_start(plan: &Plan, max_turns: u64) -> Progress
         ensures { result ≡ at_start plan.now max_turns }
     {
@@ -283,371 +237,24 @@ impl Progress {
         }
     }
 
-    // Whether at least `wait` milliseconds lie between `since` and the last moment that was told.
+    // Whether at least `wait` milliseconds lie between `since` and the last moment that was read.
     pub(crate) fn is_past(&self, wait: u64) -> bool
         ensures { result ≡ is_past wait self.now }
     {
         wait <= self.moment.elapsed.saturating_sub(self.since)
     }
 
-    // Whether at least the plan's quiet time lies between `since` and the last moment that was told.
+    // Whether at least the plan's quiet time lies between `since` and the last moment that was read.
     pub(crate) fn is_quiet(&self, plan: &Plan) -> bool
         ensures { result ≡ is_quiet plan.now self.now }
     {
         self.is_past(plan.quiet)
     }
 
-    // Whether the station has begun: each null procedure of its beginning is answered.
+    // Whether the station has synchronized: each null procedure of its synchronization is answered.
     pub(crate) fn has_begun(&self) -> bool
         ensures { result ≡ has_begun self.now }
     {
         self.word.has_begun()
-    }
-
-    // Whether the line is dead: a request waits, or a null procedure of the beginning went out on this connection, and no reply
-    // line came for `patience_of`.
-    fn is_dead(&self, plan: &Plan, waiting: Waiting) -> bool
-        ensures { result ≡ is_dead plan.now self.now waiting }
-    {
-        (waiting.all > 0 || self.again > 0)
-            && patience_of(plan) <= self.moment.elapsed.saturating_sub(self.alive)
-    }
-
-    // Whether no answer of a good quality was written down for as long as the plan allows.
-    fn is_stale(&self, plan: &Plan, waiting: Waiting) -> bool
-        ensures { result ≡ is_stale plan.now self.now waiting }
-    {
-        plan.stale > 0 && plan.stale <= self.moment.elapsed.saturating_sub(waiting.fresh)
-    }
-
-    // Whether the station is between two chains: no command of the cycle is left, or the next one begins a chain, or the set-up comes first.
-    fn is_between(&self) -> bool
-        ensures { result ≡ is_between self.now }
-    {
-        self.unsent == 0 || !self.next_is_chained || self.preparing
-    }
-
-    // Whether the run may end here where that is asked for: there is no connection, or the station begins, or it is between two
-    // chains and nothing is under way that isn't given up.
-    fn is_resting(&self, waiting: Waiting) -> bool
-        ensures { result ≡ is_resting self.now waiting }
-    {
-        !self.phase.is_up() || !self.has_begun() || (waiting.current == 0 && self.is_between())
-    }
-
-    // Whether the run ends now because that was asked for.
-    fn is_stopping(&self, waiting: Waiting) -> bool
-        ensures { result ≡ is_stopping self.now waiting }
-    {
-        self.stops && self.is_resting(waiting)
-    }
-
-    // Whether no further chain begins, because the end of the run was asked for, though something is under way that isn't given
-    // up.
-    fn is_held_back(&self, waiting: Waiting) -> bool
-        ensures { result ≡ is_held_back self.now waiting }
-    {
-        (self.stops && self.is_between()) && waiting.current > 0
-    }
-
-    // Whether the next cycle is due: the first at once, and each other one `every` milliseconds after the one before it began.
-    pub(crate) fn is_due(&self, plan: &Plan) -> bool
-        ensures { result ≡ is_due plan.now self.now }
-    {
-        if self.left == plan.cycles {
-            return true;
-        }
-        plan.every <= self.moment.elapsed.saturating_sub(self.began)
-    }
-
-    // Whether commands are left that needn't wait for a due moment: some of this cycle, or the next cycle is due.
-    pub(crate) fn goes_on(&self, plan: &Plan) -> bool
-        ensures { result ≡ goes_on plan.now self.now }
-    {
-        self.unsent > 0 || self.is_due(plan)
-    }
-
-    // The next action, where `waiting` counts the requests that wait.
-    pub(crate) fn action(&self, plan: &Plan, waiting: Waiting) -> Action
-        ensures { result ≡ action_of plan.now self.now waiting }
-    {
-        match self.phase {
-            Phase::Over(cause) => Action::Stop(cause),
-            Phase::Closing(cause) => Action::Close(cause),
-            _ => self.action_on(plan, waiting),
-        }
-    }
-
-    // The next action where the connection isn't to be closed and the run isn't over.
-    fn action_on(&self, plan: &Plan, waiting: Waiting) -> Action
-        ensures { result ≡ action_on plan.now self.now waiting }
-    {
-        if self.turns == 0 {
-            return if self.phase.is_up() {
-                Action::Close(Cause::Turns)
-            } else {
-                Action::Stop(Cause::Turns)
-            };
-        }
-        if self.is_stale(plan, waiting) {
-            return Action::Close(Cause::Stale);
-        }
-        if self.is_stopping(waiting) {
-            return Action::Close(Cause::Stopped);
-        }
-        if self.stale {
-            return Action::ReadClock;
-        }
-        match self.phase {
-            Phase::Down => Action::Open,
-            Phase::Pausing => Action::Read(Until::Limit),
-            Phase::Clearing => Action::Clear,
-            Phase::Draining => Action::Read(Until::Limit),
-            Phase::Ready => self.action_ready(plan, waiting),
-            Phase::Closing(cause) => Action::Close(cause),
-            Phase::Over(cause) => Action::Stop(cause),
-        }
-    }
-
-    // The next action of the phase `Ready`: the beginning's until its eighth null procedure is answered, then the commands'.
-    fn action_ready(&self, plan: &Plan, waiting: Waiting) -> Action
-        ensures { result ≡ action_ready plan.now self.now waiting }
-    {
-        if self.has_begun() {
-            self.action_begun(plan, waiting)
-        } else {
-            self.action_beginning(plan, waiting)
-        }
-    }
-
-    // Whether no command of any cycle is left to be sent, and none waits: `commands` is how many wait.
-    pub(crate) fn is_finished(&self, commands: usize) -> bool
-        ensures { result ≡ is_finished commands self.now }
-    {
-        self.left == 0 && self.unsent == 0 && commands == 0
-    }
-
-    // The next action while the station begins: to send the null procedure of the first id that isn't answered, for the first
-    // time or again at its deadline. Nothing goes out between cycles, nor where no command is left to be sent after the
-    // beginning.
-    fn action_beginning(&self, plan: &Plan, waiting: Waiting) -> Action
-        ensures { result ≡ action_beginning plan.now self.now waiting }
-    {
-        if self.is_finished(waiting.commands) {
-            Action::Close(Cause::Done)
-        } else if self.is_idle(plan) {
-            Action::Read(Until::Due)
-        } else if self.is_dead(plan, waiting) {
-            Action::Close(Cause::Dead)
-        } else if self.again <= self.moment.elapsed {
-            Action::Ask
-        } else {
-            Action::Read(Until::Limit)
-        }
-    }
-
-    // The next action where the next command may go out: it does, if there is room, where one of the seven requests before it is
-    // a call of the table that a reply ended. Else a null procedure goes out first, once no request is under way that isn't given
-    // up: an instrument that keeps the reply to its last call of the table may still send that for the id that is next.
-    fn action_next(&self, plan: &Plan, waiting: Waiting) -> Action
-        ensures { result ≡ action_next plan.now self.now waiting }
-    {
-        if self.behind < WINDOW {
-            self.action_room(plan, waiting, Action::Send)
-        } else if waiting.current == 0 {
-            self.action_room(plan, waiting, Action::Flush)
-        } else {
-            self.action_waiting(plan, waiting)
-        }
-    }
-
-    // The next action once the station has begun: to wait, where the end of the run was asked for, and only what is under way is
-    // left; the set-up's until that is done, and then the cycle's.
-    fn action_begun(&self, plan: &Plan, waiting: Waiting) -> Action
-        ensures { result ≡ action_begun plan.now self.now waiting }
-    {
-        if self.is_held_back(waiting) {
-            self.action_waiting(plan, waiting)
-        } else if self.is_preparing(plan, waiting) {
-            self.action_preparing(plan, waiting)
-        } else {
-            self.action_cycle(plan, waiting)
-        }
-    }
-
-    // Whether the set-up is still to be done: since the connection was made and the station began no command of a cycle had its
-    // turn, and not all commands of the set-up went out, or the last of them waits, or wasn't answered well.
-    fn is_preparing(&self, plan: &Plan, waiting: Waiting) -> bool
-        ensures { result ≡ is_preparing plan.now self.now waiting }
-    {
-        self.preparing && !(plan.setup <= self.prepared && waiting.commands == 0 && waiting.well)
-    }
-
-    // The next action where the next command of the set-up may go out: as for a command of the cycle.
-    fn action_prepare(&self, plan: &Plan, waiting: Waiting) -> Action
-        ensures { result ≡ action_prepare plan.now self.now waiting }
-    {
-        if WINDOW > self.behind {
-            self.action_room(plan, waiting, Action::Prepare)
-        } else if waiting.current == 0 {
-            self.action_room(plan, waiting, Action::Flush)
-        } else {
-            self.action_waiting(plan, waiting)
-        }
-    }
-
-    // The next action where it is the turn of the next command of the set-up, if there is one. Where the last one was answered
-    // well, the set-up is done, so that there always is one.
-    fn action_turn(&self, plan: &Plan, waiting: Waiting) -> Action
-        ensures { result ≡ action_turn plan.now self.now waiting }
-    {
-        if self.prepared < plan.setup {
-            self.action_prepare(plan, waiting)
-        } else {
-            Action::Read(Until::Limit)
-        }
-    }
-
-    // The next action while the set-up isn't done. Nothing goes out where no command is left to be sent after it, nor between
-    // cycles. Its first command goes out as soon as there is room, and each other one once the one before it was answered well.
-    // Where it wasn't, the connection is closed: the set-up begins with its first command on the next one.
-    fn action_preparing(&self, plan: &Plan, waiting: Waiting) -> Action
-        ensures { result ≡ action_preparing plan.now self.now waiting }
-    {
-        let commands = waiting.commands;
-        if self.is_finished(commands) {
-            Action::Close(Cause::Done)
-        } else if self.is_idle(plan) {
-            Action::Read(Until::Due)
-        } else if self.prepared == 0 {
-            self.action_turn(plan, waiting)
-        } else if waiting.commands == 0 {
-            if waiting.well {
-                self.action_turn(plan, waiting)
-            } else {
-                Action::Close(Cause::SetUp)
-            }
-        } else if waiting.current == 0 {
-            self.action_room(plan, waiting, Action::Flush)
-        } else {
-            self.action_waiting(plan, waiting)
-        }
-    }
-
-    // The next action once the station has begun and its set-up is done: that of `action_next`, if there is a command that needn't
-    // wait for the answer of the command before it; else that of `action_sent`.
-    fn action_cycle(&self, plan: &Plan, waiting: Waiting) -> Action
-        ensures { result ≡ action_cycle plan.now self.now waiting }
-    {
-        if self.unsent > 0 && !self.waits_for_all() {
-            self.action_next(plan, waiting)
-        } else {
-            self.action_sent(plan, waiting)
-        }
-    }
-
-    // The next action where no command may go out before those that wait are settled: all of the cycle have gone out, or the next
-    // one is chained or begins a further attempt. Where commands wait, and all requests that wait are given up, a null procedure goes out, whose reply
-    // settles them.
-    fn action_sent(&self, plan: &Plan, waiting: Waiting) -> Action
-        ensures { result ≡ action_sent plan.now self.now waiting }
-    {
-        if waiting.commands == 0 {
-            self.action_settled(plan, waiting)
-        } else if waiting.current == 0 {
-            self.action_room(plan, waiting, Action::Flush)
-        } else {
-            self.action_waiting(plan, waiting)
-        }
-    }
-
-    // The next action where each command that was sent is settled.
-    fn action_settled(&self, plan: &Plan, waiting: Waiting) -> Action
-        ensures { result ≡ action_settled plan.now self.now waiting }
-    {
-        if self.unsent == 0 {
-            self.action_done(plan)
-        } else if self.next_others > 0 {
-            self.action_again(plan, waiting)
-        } else if self.may_go(waiting) {
-            self.action_next(plan, waiting)
-        } else {
-            Action::Skip
-        }
-    }
-
-    // Whether the next command goes out only once all that went out are settled: it is chained, or begins a further attempt.
-    fn waits_for_all(&self) -> bool
-        ensures { result ≡ waits_for_all self.now }
-    {
-        self.next_is_chained || self.next_others > 0
-    }
-
-    // The next action where the next command begins a further attempt of its chain, and all that went out are settled: it goes out
-    // where a command of the attempt before ended as its rule names. Else, and in a missed cycle, where each command counts as
-    // chained, this attempt and those behind it are passed over.
-    fn action_again(&self, plan: &Plan, waiting: Waiting) -> Action
-        ensures { result ≡ action_again plan.now self.now waiting }
-    {
-        if waiting.listed && !self.next_is_chained {
-            self.action_next(plan, waiting)
-        } else {
-            Action::Pass
-        }
-    }
-
-    // Whether the next command of a chain may go out: the one before it was answered well, and since that went out no
-    // connection was closed, and the station didn't begin anew.
-    fn may_go(&self, waiting: Waiting) -> bool
-        ensures { result ≡ may_go self.now waiting }
-    {
-        waiting.well && self.chain_unbroken
-    }
-
-    // `action`, which sends a request, if there is room for one; else the action of a station that waits.
-    fn action_room(&self, plan: &Plan, waiting: Waiting, action: Action) -> Action
-        ensures { result ≡ action_room plan.now self.now waiting action }
-    {
-        if waiting.has_room(plan) {
-            action
-        } else {
-            self.action_waiting(plan, waiting)
-        }
-    }
-
-    // The next action where each command of the cycle is settled.
-    fn action_done(&self, plan: &Plan) -> Action
-        ensures { result ≡ action_done plan.now self.now }
-    {
-        if self.left == 0 {
-            Action::Close(Cause::Done)
-        } else if self.is_due(plan) {
-            Action::Begin
-        } else {
-            Action::Read(Until::Due)
-        }
-    }
-
-    // The next action where nothing may go out.
-    fn action_waiting(&self, plan: &Plan, waiting: Waiting) -> Action
-        ensures { result ≡ action_waiting plan.now self.now waiting }
-    {
-        if self.is_dead(plan, waiting) {
-            Action::Close(Cause::Dead)
-        } else if waiting.current == 0 {
-            Action::Renew
-        } else {
-            Action::Read(Until::Limit)
-        }
-    }
-}
-
-impl Waiting {
-    // Whether another request may go out: fewer are under way than `width` allows, and fewer wait in all than the window has
-    // places.
-    pub(crate) fn has_room(self, plan: &Plan) -> bool
-        ensures { result ≡ has_room plan.now self }
-    {
-        self.current < usize::from(width(plan)) && self.all < WINDOW
     }
 }

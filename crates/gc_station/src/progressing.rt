@@ -6,7 +6,7 @@ ghost use Rattle.gc_client.specs.Hearing.{HearsInto};
 ghost use Rattle.gc_client.specs.Rule.{ById};
 ghost use Rattle.gc_client.specs.declared.settlement.Settlement.{Settlement};
 ghost use Rattle.gc_station.specs.Deciding.{later};
-ghost use Rattle.gc_station.specs.Progressing.{turned, told, beginning, is_missing, due_of, begun, skipped, passed, skipped_at, failing, opened, is_finished, is_idle, is_spared, phase_again, pause_again, again, cleared, asking, null_sent, renewed, line_asked, sent, caught_up, noted, early_behind, gave, pause_ended, drained, quieted, time_passed, silent, reckoned_early, ended_for, closed, is_over, loses_all, next_attempt, unprepared, setup_sent, gives_back};
+ghost use Rattle.gc_station.specs.Progressing.{turned, moment_noted, beginning, is_missing, due_of, cycle_begun, skipped, attempts_left_out, skipped_at, failing, opened, is_finished, is_idle, is_spared, phase_again, pause_again, after_failure, cleared, asking, null_sent, renewed, line_asked, sent, caught_up, line_noted, early_after, bytes_noted, pause_ended, drained, quieted, time_passed, silent, reckoned_early, ended_for, closed, is_over, loses_all, next_attempt, unprepared, setup_sent, gives_back};
 ghost use Rattle.gc_station.specs.Lines.{is_reply};
 
 use crate::cause::Cause;
@@ -16,7 +16,7 @@ use gc_client::{Beginning, Hearing, WINDOW};
 use gc_lines::read_reply;
 use gc_links::Moment;
 
-// The moment `wait` milliseconds after `moment`, or the greatest `u64` where there is none.
+// The moment `wait` milliseconds after `moment`, or the greatest `u64` if there is none.
 pub(crate) fn later(moment: u64, wait: u64) -> u64
     ensures { result ≡ later moment wait }
 {
@@ -25,8 +25,8 @@ pub(crate) fn later(moment: u64, wait: u64) -> u64
 
 // Whether the cycle counts as done early after a read. A read `Until::Due` shows that the cycle was done early, because only
 // after a done cycle is there such a read. After any other read the cycle counts as it did before (`early`).
-fn early_behind(until: Until, early: bool) -> bool
-    ensures { result ≡ early_behind until early }
+fn early_after(until: Until, early: bool) -> bool
+    ensures { result ≡ early_after until early }
 {
     match until {
         Until::Due => true,
@@ -57,17 +57,17 @@ pub(crate) fn is_reply(hearing: Hearing) -> bool
 
 impl Progress {
     // Takes one of the turns that are left.
-    pub(crate) fn turn(&mut self)
+    pub(crate) fn take_turn(&mut self)
         ensures { self.new ≡ turned self.old }
     {
         self.turns = self.turns.saturating_sub(1);
     }
 
-    // Notes a moment that the link told: the quiet time begins now. (`pass_time` notes the moment of a read that gave nothing.)
-    // Where the clock went back, the cycle is taken to have begun now at the latest, so that the next one isn't put off, and the
-    // line to have been alive now at the latest.
-    pub(crate) fn tell(&mut self, moment: Moment)
-        ensures { self.new ≡ told moment self.old }
+    // Notes a moment read on the link: the quiet time begins now. (`pass_time` notes the moment of a read that gave nothing.)
+    // Where the clock went back, the cycle is taken to have begun now at the latest, so that the next one isn't put off, and
+    // the line to have been alive now at the latest.
+    pub(crate) fn note_moment(&mut self, moment: Moment)
+        ensures { self.new ≡ moment_noted moment self.old }
     {
         self.moment = moment;
         self.since = moment.elapsed;
@@ -105,14 +105,14 @@ impl Progress {
         moment.utc.saturating_sub(late)
     }
 
-    // Begins a cycle of `count` commands at this moment. Where the cycle is missed, none of them goes out.
-    pub(crate) fn begin(&mut self, plan: &Plan, count: usize, moment: Moment)
-        ensures { self.new ≡ begun plan.now count moment self.old }
+    // Begins a cycle of `count` commands at this moment. If the cycle is missed, none of them is sent.
+    pub(crate) fn begin_cycle(&mut self, plan: &Plan, count: usize, moment: Moment)
+        ensures { self.new ≡ cycle_begun plan.now count moment self.old }
     {
         let began = self.beginning(plan, moment);
         let missed = self.is_missing(plan, moment);
         let due = self.due_of(plan, moment);
-        self.tell(moment);
+        self.note_moment(moment);
         self.began = began;
         self.due = due;
         self.missed = missed;
@@ -126,20 +126,20 @@ impl Progress {
     }
 
     // The moment in the record of a command that isn't sent: where its cycle is missed, the moment at which the cycle was due;
-    // else `moment`.
+    // otherwise `moment`.
     pub(crate) fn skipped_at(&self, moment: Moment) -> u64
         ensures { result ≡ skipped_at moment self.now }
     {
         if self.missed { self.due } else { moment.utc }
     }
 
-    // Skips the next command, which isn't sent. `next_is_chained`: the command after it goes out only once this one was answered
-    // well. `others`: where that one begins a further attempt of its chain, how many commands this attempt and those behind it
-    // have; else 0.
+    // Skips the next command, which isn't sent. `next_is_chained`: the command after it is sent only once this one was answered
+    // well. `others`: if that one begins a further attempt of its chain, how many commands this attempt and those after it
+    // have; otherwise 0.
     pub(crate) fn skip(&mut self, next_is_chained: bool, others: usize, moment: Moment)
         ensures { self.new ≡ skipped next_is_chained others moment self.old }
     {
-        self.tell(moment);
+        self.note_moment(moment);
         self.unsent = self.unsent.saturating_sub(1);
         self.next_is_chained = next_is_chained;
         self.next_others = others;
@@ -147,12 +147,12 @@ impl Progress {
         self.preparing = false;
     }
 
-    // Passes over the further attempts of a chain that the next command begins. `next_is_chained` and `others` are of the command
-    // behind them, as of `skip`.
-    pub(crate) fn pass(&mut self, next_is_chained: bool, others: usize, moment: Moment)
-        ensures { self.new ≡ passed next_is_chained others moment self.old }
+    // Leaves out the further attempts of a chain that the next command begins. `next_is_chained` and `others` are of the
+    // command after them, as of `skip`.
+    pub(crate) fn leave_out(&mut self, next_is_chained: bool, others: usize, moment: Moment)
+        ensures { self.new ≡ attempts_left_out next_is_chained others moment self.old }
     {
-        self.tell(moment);
+        self.note_moment(moment);
         self.unsent = self.unsent.saturating_sub(self.next_others);
         self.next_is_chained = next_is_chained;
         self.next_others = others;
@@ -172,7 +172,7 @@ impl Progress {
     }
 
     // Notes that a connection was made.
-    pub(crate) fn open(&mut self)
+    pub(crate) fn note_open(&mut self)
         ensures { self.new ≡ opened self.old }
     {
         self.phase = Phase::Clearing;
@@ -196,8 +196,8 @@ impl Progress {
         }
     }
 
-    // The phase after the loss of a connection, or after an attempt that failed, while `commands` commands wait: the run
-    // is done, or it tries again, or without a try left it is over for this cause.
+    // The phase after the loss of a connection, or after an attempt that failed, while `commands` commands are outstanding: the
+    // run is done, or it tries again, or without a try left it is over for this cause.
     fn phase_again(&self, plan: &Plan, commands: usize, cause: Cause) -> Phase
         ensures { result ≡ phase_again plan.now commands cause self.now }
     {
@@ -211,7 +211,7 @@ impl Progress {
     }
 
     // The length of the next pause: the quiet time after a first failure, and after each further one twice the last pause, up
-    // to a minute. Where no connection is wanted it is the last pause. It is never below the quiet time.
+    // to a minute. If no connection is wanted it is the last pause. It is never below the quiet time.
     fn pause_again(&self, plan: &Plan, cause: Cause) -> u64
         ensures { result ≡ pause_again plan.now cause self.now }
     {
@@ -222,7 +222,7 @@ impl Progress {
         }
     }
 
-    // The attempt of the set-up that is next: the one after the last, if something of that went out.
+    // The attempt of the setup that is next: the one after the last, if something of that was sent.
     fn next_attempt(&self) -> u64
         ensures { result ≡ next_attempt self.now }
     {
@@ -233,7 +233,7 @@ impl Progress {
         }
     }
 
-    // Notes that the set-up, if there is one, is to go out again from its first command on.
+    // Notes that the setup, if there is one, is to be sent again from its first command on.
     fn unprepare(&mut self, plan: &Plan)
         ensures { self.new ≡ unprepared plan.now self.old }
     {
@@ -243,9 +243,9 @@ impl Progress {
     }
 
     // Notes that a connection was closed, or couldn't be made: the phase is `phase_again`, the pause `pause_again`, and a try
-    // is taken unless the next attempt is spared. The set-up goes out again on the next connection.
+    // is taken unless the next attempt is spared. The setup is sent again on the next connection.
     pub(crate) fn try_again(&mut self, plan: &Plan, commands: usize, cause: Cause)
-        ensures { self.new ≡ again plan.now commands cause self.old }
+        ensures { self.new ≡ after_failure plan.now commands cause self.old }
     {
         let spared = self.is_spared(plan, cause);
         self.pause = self.pause_again(plan, cause);
@@ -258,8 +258,8 @@ impl Progress {
         self.unprepare(plan);
     }
 
-    // Notes that the line feed went out: the connection is drained next, unless a beginning goes on with it.
-    pub(crate) fn clear(&mut self)
+    // Notes that the line feed was sent: the connection is drained next, unless a synchronization goes on with it.
+    pub(crate) fn note_cleared(&mut self)
         ensures { self.new ≡ cleared self.old }
     {
         self.phase = if self.has_begun() {
@@ -272,9 +272,9 @@ impl Progress {
         self.stale = true;
     }
 
-    // Notes that a request went out. The time after which the line is dead begins with the first request after a reply line. It
-    // is counted as behind the last call of the table that a reply ended.
-    pub(crate) fn ask(&mut self)
+    // Notes that a request was sent. The time after which the line is dead begins with the first request after a reply line.
+    // The request counts as one more after the last call of the table that a reply ended.
+    pub(crate) fn note_request(&mut self)
         ensures { self.new ≡ asking self.old }
     {
         if !self.asked {
@@ -287,22 +287,22 @@ impl Progress {
         }
     }
 
-    // Notes that the null procedure of the first id that isn't answered went out: it goes out again at its deadline. No command
-    // goes out before it is answered, so nothing is behind it then.
-    pub(crate) fn ask_null(&mut self, plan: &Plan)
+    // Notes that the null procedure of the first id that isn't answered was sent: it is sent again at its deadline. No command
+    // is sent before it is answered, so the count of requests after the last call of the table starts at 0.
+    pub(crate) fn note_null(&mut self, plan: &Plan)
         ensures { self.new ≡ null_sent plan.now self.old }
     {
-        self.ask();
+        self.note_request();
         self.again = later(self.moment.elapsed, plan.deadline);
         self.behind = 0;
     }
 
-    // Notes that the station begins anew at this moment. Where nothing goes out before the next cycle is due, the time after
+    // Notes that the station resynchronizes at this moment. If nothing is sent before the next cycle is due, the time after
     // which the line is dead begins with the first null procedure.
-    pub(crate) fn renew(&mut self, plan: &Plan, moment: Moment)
+    pub(crate) fn resynchronize(&mut self, plan: &Plan, moment: Moment)
         ensures { self.new ≡ renewed plan.now moment self.old }
     {
-        self.tell(moment);
+        self.note_moment(moment);
         self.word = Beginning::new();
         self.again = 0;
         self.asked = self.asked && self.goes_on(plan);
@@ -311,8 +311,8 @@ impl Progress {
         self.unprepare(plan);
     }
 
-    // Hears a line while the station begins. Where the line answers the first null procedure that is left, the next one goes out
-    // at once.
+    // Hears a line while the station synchronizes. If the line answers the first null procedure that is left, the next one is
+    // sent at once.
     pub(crate) fn hear(&mut self, line: &[u8])
         requires { length line.now ≤ 512 }
         ensures { self.new ≡ line_asked self.old line.now }
@@ -320,14 +320,14 @@ impl Progress {
         if self.word.hear(line) {
             self.again = 0;
         }
-        self.note(reads(line));
+        self.note_line(reads(line));
     }
 
-    // Notes that the next command went out. `next_is_chained` and `others` are of the command after it, as of `skip`.
-    pub(crate) fn send(&mut self, next_is_chained: bool, others: usize)
+    // Notes that the next command was sent. `next_is_chained` and `others` are of the command after it, as of `skip`.
+    pub(crate) fn note_sent(&mut self, next_is_chained: bool, others: usize)
         ensures { self.new ≡ sent next_is_chained others self.old }
     {
-        self.ask();
+        self.note_request();
         self.unsent = self.unsent.saturating_sub(1);
         self.next_is_chained = next_is_chained;
         self.next_others = others;
@@ -335,17 +335,17 @@ impl Progress {
         self.preparing = false;
     }
 
-    // Notes that the next command of the set-up went out.
-    pub(crate) fn prepare(&mut self, plan: &Plan)
+    // Notes that the next command of the setup was sent.
+    pub(crate) fn note_setup(&mut self, plan: &Plan)
         ensures { self.new ≡ setup_sent plan.now self.old }
     {
-        self.ask();
+        self.note_request();
         self.prepared = self.prepared.saturating_add(1).min(plan.setup);
         self.chain_unbroken = false;
     }
 
-    // Notes that a line settled requests, and that `waiting` wait still. Where the one that it answers is a call of the table
-    // (`of_table`), as many are behind that call as wait.
+    // Notes that a line settled requests, and that `waiting` are still outstanding. If the request that the line answers is a
+    // call of the table (`of_table`), the outstanding requests are those sent after it.
     pub(crate) fn catch_up(&mut self, of_table: bool, waiting: usize)
         ensures { self.new ≡ caught_up of_table waiting self.old }
     {
@@ -355,8 +355,8 @@ impl Progress {
     }
 
     // Notes that a line was heard: a reply line shows that the line is alive.
-    pub(crate) fn note(&mut self, is_reply: bool)
-        ensures { self.new ≡ noted is_reply self.old }
+    pub(crate) fn note_line(&mut self, is_reply: bool)
+        ensures { self.new ≡ line_noted is_reply self.old }
     {
         if is_reply {
             self.alive = self.moment.elapsed;
@@ -364,20 +364,20 @@ impl Progress {
         }
     }
 
-    // Notes that a read gave bytes: `before` commands waited before it, and `after` counts what waits now. Where a command
-    // was settled, and since the set-up a command of a cycle had its turn, all tries are left again, and the next pause is the
-    // quiet time.
-    pub(crate) fn give(&mut self, plan: &Plan, until: Until, before: usize, after: Waiting)
-        ensures { self.new ≡ gave plan.now until before after self.old }
+    // Notes that a read gave bytes: `before` commands were outstanding before it, and `after` counts what is outstanding now.
+    // If a command was settled once a command of a cycle had its turn after the setup, all tries are available again, and the
+    // next pause is the quiet time.
+    pub(crate) fn note_bytes(&mut self, plan: &Plan, until: Until, before: usize, after: Waiting)
+        ensures { self.new ≡ bytes_noted plan.now until before after self.old }
     {
         if after.commands < before && !self.preparing {
             self.tries = plan.retries;
             self.pause = 0;
         }
-        self.early = early_behind(until, self.early);
+        self.early = early_after(until, self.early);
     }
 
-    // Ends a pause that was long enough, where a connection is wanted: the next action connects.
+    // Ends a pause that was long enough, if a connection is wanted: the next action connects.
     fn end_pause(&mut self, plan: &Plan)
         ensures { self.new ≡ pause_ended plan.now self.old }
     {
@@ -386,7 +386,7 @@ impl Progress {
         }
     }
 
-    // Ends the draining of a connection that was quiet for long enough: requests may go out.
+    // Ends the draining of a connection that was quiet for long enough: requests may be sent.
     fn end_drain(&mut self)
         ensures { self.new ≡ drained self.old }
     {
@@ -395,8 +395,8 @@ impl Progress {
         self.asked = false;
     }
 
-    // Ends a pause that was long enough, where a connection is wanted, or a draining in which nothing came for the quiet time.
-    fn quiet(&mut self, plan: &Plan)
+    // Ends a pause that was long enough, if a connection is wanted, or a draining in which nothing came for the quiet time.
+    fn end_quiet_phase(&mut self, plan: &Plan)
         ensures { self.new ≡ quieted plan.now self.old.phase self.old }
     {
         match self.phase {
@@ -410,8 +410,8 @@ impl Progress {
         }
     }
 
-    // Notes the moment after a read that gave nothing: the quiet time goes on. Where the clock went back, the quiet time
-    // and the cycle are taken to have begun now at the latest, and the line to have been alive now at the latest.
+    // Notes the moment after a read that gave nothing: the quiet time goes on. If the clock went back, the quiet time and the
+    // cycle are taken to have begun now at the latest, and the line to have been alive now at the latest.
     fn pass_time(&mut self, until: Until, moment: Moment)
         ensures { self.new ≡ time_passed until moment self.old }
     {
@@ -421,20 +421,20 @@ impl Progress {
         self.began = self.began.min(moment.elapsed);
         self.stale = false;
         self.stops = self.stops || moment.stops;
-        self.early = early_behind(until, self.early);
+        self.early = early_after(until, self.early);
     }
 
     // Notes that a read gave nothing until this moment, which may end a pause or a draining.
-    pub(crate) fn be_silent(&mut self, plan: &Plan, until: Until, moment: Moment)
+    pub(crate) fn note_silence(&mut self, plan: &Plan, until: Until, moment: Moment)
         ensures { self.new ≡ silent plan.now until moment self.old }
     {
         self.pass_time(until, moment);
-        self.quiet(plan);
+        self.end_quiet_phase(plan);
     }
 
-    // Notes whether the cycle was done early, where `commands` commands wait: nothing of it is left, and the next one isn't
-    // due yet.
-    pub(crate) fn reckon_early(&mut self, plan: &Plan, commands: usize)
+    // Notes whether the cycle was done early, where `commands` commands are outstanding: nothing of it is left, and the next
+    // one isn't due yet.
+    pub(crate) fn note_early(&mut self, plan: &Plan, commands: usize)
         ensures { self.new ≡ reckoned_early plan.now commands self.old }
     {
         self.early = self.early || (commands == 0 && self.unsent == 0 && !self.is_due(plan));
@@ -471,7 +471,7 @@ impl Progress {
         }
     }
 
-    // Whether all requests that wait are lost: the station begins anew, or no act follows.
+    // Whether all outstanding requests are lost: the station resynchronizes, or no act follows.
     pub(crate) fn loses_all(&self) -> bool
         ensures { result ≡ loses_all self.now }
     {

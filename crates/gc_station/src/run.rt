@@ -19,8 +19,8 @@ use gc_lines::PortFailed;
 use gc_links::Link;
 use gc_texts::{RunFault, Task};
 
-// Runs a station until no act is next. Returns why it stopped, and how many commands ended how. `Err`: the book failed, and the
-// link was closed.
+// Runs a station until no act is next. Returns why it stopped, and the counts of how commands ended. `Err`: the book failed,
+// and the link was closed.
 pub(crate) fn run<L: Link, B: Book>(
     link: &mut L,
     book: &mut B,
@@ -38,7 +38,7 @@ pub(crate) fn run<L: Link, B: Book>(
     ensures form { B.text book.new ≡ B.text book.old }
 {
     let mut station = Station::new(plan, max_turns);
-    // The last cycle whose overrun was reported to the book; 0 where none was.
+    // The last cycle whose overrun was reported to the book; 0 if none was.
     let mut told = 0;
     loop {
         // No act is made before all records last: through a crash of the program, or of the machine, as far as the book is meant
@@ -62,39 +62,40 @@ pub(crate) fn run<L: Link, B: Book>(
 
 /// Sends the commands over a link, in cycles, by the plan, and writes into a book how each command ended.
 ///
-/// What a station does next is a function of what its link told: `action_at`. It connects, sends a lone line feed, and begins:
-/// eight null procedures go out one after the other, with ids 6, 5, 4, 3, 2, 1, 0 and 7. One that isn't answered by its deadline
-/// goes out again with the same id, also on the next connection. Any reply with that id answers it; all other bytes are dropped.
-/// After the eighth answer the client is new, with next id 0. Then the commands of a cycle go out, each once, while fewer
-/// requests are under way than the plan's width, and fewer than seven wait in all. Each moment gives up the requests whose
-/// deadline has come, before the bytes that came with it are heard. A request that is given up keeps its id and no longer holds
-/// up the others: its own reply settles it as late, and the reply to a later request as lost. Where no command may go out before
-/// those that wait are settled, and all that wait are given up, a null procedure goes out after them. Its reply settles them; it
-/// is in no record. A command is never sent again in its cycle.
+/// What a station does next is a function of what its link recorded: `action_at`. It connects, sends a lone line feed, and
+/// synchronizes: eight null procedures are sent one after the other, with ids 6, 5, 4, 3, 2, 1, 0 and 7. One that isn't
+/// answered by its deadline is sent again with the same id, also on the next connection. Any reply with that id answers it; all
+/// other bytes are discarded. After the eighth answer the client is new, with next id 0. Then the commands of a cycle are sent,
+/// each once, while fewer requests are in flight than the plan's width, and fewer than seven are outstanding in all. Each
+/// moment times out the requests whose deadline has come, before the bytes that came with it are heard. A request that has
+/// timed out keeps its id and no longer holds up the others: its own reply settles it as late, and the reply to a later request
+/// as lost. If no command may be sent before those that are outstanding are settled, and all outstanding requests have timed
+/// out, a null procedure is sent after them. Its reply settles them; it is in no record. A command is never sent again in its
+/// cycle.
 ///
-/// A command goes out only where one of the seven requests before it is a call of the table that a reply ended, or the last null
-/// procedure of the beginning. Else a null procedure goes out first, once no request is under way that isn't given up. Commands
-/// that are all calls of the table are never held up by that.
+/// A command is sent only if one of the seven requests before it is a call of the table that a reply ended, or the last null
+/// procedure of the synchronization. Else a null procedure is sent first, once no request is in flight that hasn't timed out.
+/// Commands that are all calls of the table are never held up by that.
 ///
-/// A connection that failed, ended or is dead is closed. The requests that wait go on waiting on the next connection, and the ids
-/// go on. Before each new attempt to connect the station pauses: for the quiet time, at each further failure twice as long, up to
-/// a minute. Once a cycle is done it connects again only when the next is due. Each connection is cleared by a line feed. Unless
-/// a beginning goes on with it, bytes on it are then dropped until none came for the quiet time. The station begins anew where
-/// seven requests wait that are all given up: all of them are lost, and the null procedures go out on the same connection. A
-/// beginning whose connection was lost goes on with the next one.
+/// A connection that failed, ended or is dead is closed. The outstanding requests stay outstanding on the next connection, and
+/// the ids go on. Before each new attempt to connect the station pauses: for the quiet time, at each further failure twice as
+/// long, up to a minute. Once a cycle is done it connects again only when the next is due. Each connection is cleared by a line
+/// feed. Unless a synchronization goes on with it, bytes on it are then discarded until none came for the quiet time. The
+/// station resynchronizes where seven requests are outstanding that have all timed out: all of them are lost, and the null
+/// procedures are sent on the same connection. A synchronization whose connection was lost goes on with the next one.
 ///
-/// `Ok`: each command of each cycle is settled, and the tally counts how; or the end of the run was asked for, and each command that
-/// went out is settled or lost. Between two chains nothing more goes out then: what is under way is waited for until it is settled or
-/// given up, the connection is closed, and commands that had no turn aren't written. The run fails with `Clock` as soon as the clock can't
-/// be read; and, once no try is left, with `Read` where a read failed, `Mute` where the line was dead, `Write` where a write was
-/// cut (with the number of the cycle's commands before it, 0 before the first cycle), `LinkClosed` where the other end closed the
-/// connection, and `Socket` where no connection could be made. It fails with `Stale` at the first moment at or past `stale` since the
-/// start or the last answer of a good quality, and with `TooManyReads` where `max_turns` acts were made; a
-/// connection that is open then is closed by one act more. In all of these cases the connection is closed, and the commands that
-/// waited are written as lost. The run fails with `Output` where the book failed. Where it failed at a record of the last act, it
-/// has all records of the acts before, those of the last act in front of that record, and a first part of that record. Where the
-/// records couldn't be made to last, it has all of them. Then nothing more is sent: the link is closed, and the commands that
-/// wait aren't written.
+/// `Ok`: each command of each cycle is settled, and the tally counts how; or the end of the run was asked for, and each command
+/// that was sent is settled or lost. Between two chains nothing more is sent then: what is in flight is waited for until it is
+/// settled or timed out, the connection is closed, and commands that had no turn aren't written. The run fails with `Clock` as
+/// soon as the clock can't be read; and, once no try is left, with `Read` if a read failed, `Mute` if the line was dead,
+/// `Write` if a write was cut (with the number of the cycle's commands before it, 0 before the first cycle), `LinkClosed` if
+/// the other end closed the connection, and `Socket` if no connection could be made. It fails with `Stale` at the first moment
+/// at or past `stale` since the start or the last answer of a good quality, and with `TooManyReads` where `max_turns` acts were
+/// made; a connection that is open then is closed by one act more. In all of these cases the connection is closed, and the
+/// outstanding commands are written as lost. The run fails with `Output` if the book failed. If it failed at a record of the
+/// last act, it has all records of the acts before, those of the last act before that record, and a first part of that record.
+/// If the records couldn't be made to last, it has all of them. Then nothing more is sent: the link is closed, and the
+/// outstanding commands aren't written.
 ///
 /// Before each act all records of the acts before outlast what the book is meant to outlast. What is seen of the link and the
 /// book then is noted in `kept`.
@@ -106,12 +107,12 @@ pub fn run_station<L: Link, B: Book>(
     max_turns: u64,
     kept: &mut Kept,
 ) -> Result<Tally, RunFault>
-    // What the link told, what the book took and how the run ended are as the model has them, for whatever function says what
-    // each reply says of its call; and there is such a function.
+    // What the link recorded, what the book took and how the run ended are as the model has them, for whatever function says
+    // what each reply says of its call; and there is such a function.
     ensures ran { ForReadings (λ reads.
         Ran plan.now commands.now (record { turns = max_turns; reads = reads }) (B.text book.old) (L.acts link.old) (L.acts link.new) (B.taken book.old) (B.taken book.new) result) }
 
-    // At each act what the acts before it settled is in the book, and lasts. Where the book failed one act is made all the same:
+    // At each act what the acts before it settled is in the book, and lasts. If the book failed one act is made all the same:
     // the connection is closed.
     ensures keeps { ForReadings (λ reads.
         KeepsUp plan.now commands.now (record { turns = max_turns; reads = reads }) (B.text book.old) (L.acts link.old) (L.acts link.new) (B.taken book.old) kept.old.turns kept.new.turns (closing_at result)) }
@@ -119,7 +120,7 @@ pub fn run_station<L: Link, B: Book>(
     // Unless the book failed, all records last at the end.
     ensures is_durable { LastsBut (B.is_durable book.new) result }
 
-    // Where the fault is `Output` the book has failed; else whether it has failed is as before.
+    // If the fault is `Output` the book has failed; otherwise whether it has failed is as before.
     ensures output { FailsAtOutput (B.failed book.old) (B.failed book.new) result }
 {
     match run(link, book, commands, plan, max_turns, kept) {

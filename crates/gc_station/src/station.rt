@@ -1,27 +1,25 @@
 //! A station's steps: each makes the one call of the link that is next, and does by the client what came of it.
 
-ghost use Rattle.std.specs.Prelude.{◌≡◌, ℕ, ◌<◌, ◌≤◌, ◌++◌, List, length, drop, map, Option, None, OnOk, All, true, false, if◌then◌else◌};
-ghost use Rattle.std.specs.Io.KnownBytes.{Appends};
+ghost use Rattle.std.specs.Prelude.{◌≡◌, ℕ, ◌≤◌, List, length, drop, map, Option, OnOk, All, true};
 ghost use Rattle.gc_lines.specs.Ports.{FailsWith};
 ghost use Rattle.gc_catalogue.specs.declared.answer.Reading.{Reading};
 ghost use Rattle.gc_catalogue.specs.declared.asked.Asked.{Asked};
 ghost use Rattle.gc_catalogue.specs.Asked.{IsAskedReading};
 ghost use Rattle.gc_client.specs.Settlements.{settlement_seen, IsReadBy};
 ghost use Rattle.gc_station.specs.Deciding.{action_of};
-ghost use Rattle.gc_links.specs.Acts.{Told};
-ghost use Rattle.gc_station.specs.Attempts.{listed_behind, listed_by};
-ghost use Rattle.gc_texts.specs.Endings.{Missed, Skipped};
-ghost use Rattle.gc_station.specs.Marks.{commands_in, records_of, last_well, fresh_behind};
+ghost use Rattle.gc_station.specs.Attempts.{listed_by};
+ghost use Rattle.gc_station.specs.Marks.{commands_in, records_of, last_well, fresh_after};
 ghost use Rattle.gc_station.specs.Scopes.{AreReadings};
-ghost use Rattle.gc_station.specs.Records.{Record, texts_of, WritesAll, WritesNews};
-ghost use Rattle.gc_station.specs.Model.{Model, opening, action_at, place_next, expected_first, mark_next, requests_out, is_chained, others_in, is_chained_behind, others_behind, skips, skip_listed, moved, ended, cycle_length, mark_setup, is_chained_behind_next};
+ghost use Rattle.gc_station.specs.Records.{Record, WritesNews};
+ghost use Rattle.gc_station.specs.Model.{Model, opening, action_at, place_next, expected_first, mark_next, requests_out, is_chained, others_in, is_chained_after, others_after, moved, ended, mark_setup};
 ghost use Rattle.gc_station.specs.Stations.{waiting_in, IsPaired, Refines, Took, Does, Made, stepped, OnCall, ComesTo, IsFitting, seen};
 ghost use Rattle.gc_station.specs.Tallies.{tallied};
-ghost use Rattle.gc_station.specs.declared.progress.Action.TheVariants.{ReadClock, Renew, Begin, Open, Skip, Pass, Close};
+ghost use Rattle.gc_station.specs.declared.progress.Action.TheVariants.{ReadClock, Renew, Begin, Open, Close};
 ghost use Rattle.gc_texts.specs.declared.tasks.Task.{Task};
 
 mod hearing;
 mod sending;
+mod unsent;
 
 use crate::book::Book;
 use crate::cause::Cause;
@@ -29,15 +27,15 @@ use crate::mark::{Mark, commands_in};
 use crate::plan::Plan;
 use crate::progress::{Action, Progress, Waiting};
 use crate::tally::Counts;
-use crate::writing::{is_listed, write_settlements};
+use crate::writing::write_settlements;
 use arrayvec::ArrayVec;
 use gc_catalogue::Asked;
 use gc_client::{Client, Settlement, SlotsOf, WINDOW};
 use gc_lines::{Assembler, PortFailed};
-use gc_links::{Link, Moment};
-use gc_texts::{Again, Codes, Ending, Expected, Stamp, Task, Turn};
+use gc_links::Link;
+use gc_texts::{Again, Codes, Expected, Task, Turn};
 
-// Whether a command at this place goes out only once the one before it was answered well.
+// Whether a command at this place is sent only once the one before it was answered well.
 fn is_chained(commands: &[Task], place: usize) -> bool
     ensures { result ≡ is_chained (drop place commands.now) }
 {
@@ -71,8 +69,8 @@ fn expected_at(commands: &[Task], place: usize) -> Expected
     }
 }
 
-// Of a command at this place that begins a further attempt of its chain: how many commands this attempt and those behind it have.
-// 0 of any other.
+// Of a command at this place that begins a further attempt of its chain: how many commands this attempt and those after it
+// have. 0 of any other.
 fn others_at(commands: &[Task], place: usize) -> usize
     ensures { result ≡ others_in (drop place commands.now) }
 {
@@ -86,19 +84,19 @@ fn others_at(commands: &[Task], place: usize) -> usize
 #[derive(Drop)]
 pub(crate) struct Station {
     pub(crate) client: Client<SlotsOf<Asked>>,
-    // One for each request that waits, in order: which command it is, or none for a null procedure.
+    // One for each outstanding request, in order: which command it is, or none for a null procedure.
     pub(crate) marks: ArrayVec<Option<Mark>, WINDOW>,
     pub(crate) assembler: Assembler,
     pub(crate) progress: Progress,
     pub(crate) tally: Counts,
-    // Whether the command that was written down last was answered well.
+    // Whether the command that was recorded last was answered well.
     pub(crate) well: bool,
     // Whether it, or a command before it of the same attempt, ended as its rule names.
     pub(crate) listed: bool,
-    // When a command that was answered well was written down last, by the clock for deadlines; 0 where none was; an earlier moment
-    // where the clock went back since.
+    // When a command that was answered well was recorded last, by the clock for deadlines; 0 if none was; an earlier moment if
+    // the clock went back since.
     pub(crate) fresh: u64,
-    // The settlements of the last line or restart, which `write` writes down.
+    // The settlements of the last line or restart, which `write` records.
     pub(crate) settled: ArrayVec<Settlement<Asked>, WINDOW>,
 }
 
@@ -120,7 +118,8 @@ impl Station {
         }
     }
 
-    // How many requests wait, whether the command that was written down last was answered well, and when one was last.
+    // How many requests are outstanding, whether the command recorded last was answered well, and when one was answered well
+    // last.
     fn waiting(&self) -> Waiting
         ensures { result ≡ waiting_in self.now }
     {
@@ -134,7 +133,7 @@ impl Station {
         }
     }
 
-    // How many of the requests that wait are commands.
+    // How many of the outstanding requests are commands.
     pub(crate) fn commands(&self) -> usize
         ensures { result ≡ commands_in self.now.marks.items }
     {
@@ -150,7 +149,7 @@ impl Station {
         self.progress.action(plan, self.waiting())
     }
 
-    // The place of the next command, counted from 0: how many commands of the cycle were sent or passed over.
+    // The place of the next command, counted from 0: how many commands of the cycle were sent or left out.
     fn place(&self, commands: &[Task]) -> usize
         ensures { result ≡ place_next commands.now self.now.progress }
     {
@@ -169,7 +168,7 @@ impl Station {
         }
     }
 
-    // The mark of the next command of the set-up: it has cycle 0, and the attempt of the set-up.
+    // The mark of the next command of the setup: it has cycle 0, and the attempt of the setup.
     fn mark_setup(&self, commands: &[Task]) -> Mark
         ensures { result ≡ mark_setup commands.now self.now.progress }
     {
@@ -185,24 +184,23 @@ impl Station {
         }
     }
 
-    // Whether the command `count` places behind the next one goes out only once the one before it was answered well. In a missed
-    // cycle the result is true for each command, because none goes out.
-    fn is_chained_behind(&self, count: usize, commands: &[Task]) -> bool
-        ensures { result ≡ is_chained_behind count commands.now self.now.progress }
+    // Whether the command `count` places after the next one is sent only once the one before it was answered well. In a missed
+    // cycle the result is true for each command, because none is sent.
+    fn is_chained_after(&self, count: usize, commands: &[Task]) -> bool
+        ensures { result ≡ is_chained_after count commands.now self.now.progress }
     {
         self.progress.missed || is_chained(commands, self.place(commands).saturating_add(count))
     }
 
-    // Where the command `count` places behind the next one begins a further attempt of its chain: how many commands this attempt
-    // and those behind it have. Else 0.
-    fn others_behind(&self, count: usize, commands: &[Task]) -> usize
-        ensures { result ≡ others_behind count commands.now self.now.progress }
+    // If the command `count` places after the next one begins a further attempt of its chain: how many commands this attempt
+    // and those after it have. Else 0.
+    fn others_after(&self, count: usize, commands: &[Task]) -> usize
+        ensures { result ≡ others_after count commands.now self.now.progress }
     {
         others_at(commands, self.place(commands).saturating_add(count))
     }
 
-    // How many commands of the cycle were sent or passed over: 0 before the first cycle. The fault of a cut write has this
-    // number.
+    // How many commands of the cycle were sent or left out: 0 before the first cycle. The fault of a cut write has this number.
     fn requests_out(&self, plan: &Plan, commands: &[Task]) -> usize
         ensures { result ≡ requests_out plan.now commands.now self.now.progress }
     {
@@ -212,7 +210,7 @@ impl Station {
         self.place(commands)
     }
 
-    // Reads the clock, and gives up the requests whose deadline has come. Where the clock can't be read, that is noted as the
+    // Reads the clock, and times out the requests whose deadline has come. If the clock can't be read, that is noted as the
     // cause to close for.
     fn read_clock<L: Link>(&mut self, link: &mut L, plan: &Plan)
         ensures { (commands : List Task) (text : Record → List ℕ) (known : Option (List ℕ))
@@ -221,8 +219,8 @@ impl Station {
         match link.now() {
             Ok(moment) => {
                 let commands = self.commands();
-                self.progress.tell(moment);
-                self.progress.reckon_early(plan, commands);
+                self.progress.note_moment(moment);
+                self.progress.note_early(plan, commands);
                 self.client.expire(moment.elapsed);
                 self.fresh = self.fresh.min(moment.elapsed);
             }
@@ -230,16 +228,16 @@ impl Station {
         }
     }
 
-    // Reads the clock, and begins anew: `end` writes down as lost what waits. A clock that can't be read is noted, as by
-    // `read_clock`.
+    // Reads the clock, and resynchronizes: `end` records as lost what is outstanding. A clock that can't be read is noted, as
+    // by `read_clock`.
     fn renew<L: Link>(&mut self, link: &mut L, plan: &Plan)
         ensures { (commands : List Task) (text : Record → List ℕ) (known : Option (List ℕ))
             → Does plan.now commands Renew (seen (L.acts link.old) text known self.old) (seen (L.acts link.new) text known self.new) }
     {
         match link.now() {
             Ok(moment) => {
-                self.progress.renew(plan, moment);
-                self.progress.reckon_early(plan, 0);
+                self.progress.resynchronize(plan, moment);
+                self.progress.note_early(plan, 0);
                 self.client.expire(moment.elapsed);
                 self.fresh = self.fresh.min(moment.elapsed);
             }
@@ -255,7 +253,7 @@ impl Station {
         match link.now() {
             Ok(moment) => {
                 let count = commands.len().saturating_sub(plan.setup);
-                self.progress.begin(plan, count, moment);
+                self.progress.begin_cycle(plan, count, moment);
                 self.client.expire(moment.elapsed);
                 self.fresh = self.fresh.min(moment.elapsed);
             }
@@ -270,112 +268,12 @@ impl Station {
     {
         let commands = self.commands();
         match link.open() {
-            Ok(()) => self.progress.open(),
+            Ok(()) => self.progress.note_open(),
             Err(_) => self.progress.try_again(plan, commands, Cause::Open),
         }
     }
 
-    // Reads the clock, and writes the next command down without sending it. A clock that can't be read is noted, as by
-    // `read_clock`, and nothing is written. `Err`: the book failed.
-    fn skip<L: Link, B: Book>(
-        &mut self,
-        link: &mut L,
-        book: &mut B,
-        plan: &Plan,
-        commands: &[Task],
-    ) -> Result<(), PortFailed>
-        requires unsent { 0 < self.old.progress.unsent }
-        requires within { self.old.progress.unsent ≤ length commands.now }
-        ensures does { Made commands.now Skip (moved plan.now commands.now Skip) (seen (L.acts link.old) (B.text book.old) (B.taken book.old) self.old) (seen (L.acts link.new) (B.text book.old) (B.taken book.new) self.new) result }
-        ensures fails { FailsWith result (B.failed book.old) (B.failed book.new) }
-        ensures form { B.text book.new ≡ B.text book.old }
-    {
-        match link.now() {
-            Ok(moment) => {
-                if let Err(failed) = self.write_skipped(book, plan, commands, moment) {
-                    return Err(failed);
-                }
-                let waiting = self.commands();
-                let next_is_chained = self.is_chained_behind(1, commands);
-                let others = self.others_behind(1, commands);
-                self.progress.skip(next_is_chained, others, moment);
-                self.progress.reckon_early(plan, waiting);
-                self.client.expire(moment.elapsed);
-                self.fresh = self.fresh.min(moment.elapsed);
-                Ok(())
-            }
-            Err(_) => {
-                self.progress.fail(Cause::Clock);
-                Ok(())
-            }
-        }
-    }
-
-    // Reads the clock, and passes over the further attempts of a chain that the next command begins. A clock that can't be read is
-    // noted, as by `read_clock`, and nothing is passed over.
-    fn pass<L: Link>(&mut self, link: &mut L, plan: &Plan, commands: &[Task])
-        ensures { (text : Record → List ℕ) (known : Option (List ℕ))
-            → Does plan.now commands.now Pass (seen (L.acts link.old) text known self.old) (seen (L.acts link.new) text known self.new) }
-    {
-        match link.now() {
-            Ok(moment) => {
-                let waiting = self.commands();
-                let count = self.progress.next_others;
-                let next_is_chained = self.is_chained_behind(count, commands);
-                let others = self.others_behind(count, commands);
-                self.progress.pass(next_is_chained, others, moment);
-                self.progress.reckon_early(plan, waiting);
-                self.client.expire(moment.elapsed);
-                self.fresh = self.fresh.min(moment.elapsed);
-            }
-            Err(_) => self.progress.fail(Cause::Clock),
-        }
-    }
-
-    // Writes the record of the next command, which isn't sent: it is skipped, or its cycle is missed.
-    fn write_skipped<B: Book>(
-        &mut self,
-        book: &mut B,
-        plan: &Plan,
-        commands: &[Task],
-        moment: Moment,
-    ) -> Result<(), PortFailed>
-        requires unsent { 0 < self.old.progress.unsent }
-        requires within { self.old.progress.unsent ≤ length commands.now }
-        ensures wrote { (start : Option (List ℕ)) (before : List Record) → Appends start (B.taken book.old) (texts_of (B.text book.old) before)
-            → WritesAll (B.text book.old) before (before ++ skips plan.now commands.now self.old.progress (Told moment)) start (B.taken book.new) result }
-        ensures after { OnOk result (self.new ≡ record self.old {
-          tally = tallied self.old.tally (skips plan.now commands.now self.old.progress (Told moment));
-          well = false;
-          listed = listed_behind self.old.listed (mark_next plan.now commands.now self.old.progress).expected None (if self.old.progress.missed then Missed else Skipped);
-        }) }
-        ensures fails { FailsWith result (B.failed book.old) (B.failed book.new) }
-        ensures form { B.text book.new ≡ B.text book.old }
-    {
-        let mark = self.mark(plan, commands);
-        let task = &commands[self.place(commands)];
-        let stamp = Stamp {
-            sent: None,
-            utc: self.progress.skipped_at(moment),
-            cycle: mark.cycle,
-            place: mark.place,
-            turn: mark.expected.turn,
-        };
-        let ending = if self.progress.missed {
-            Ending::Missed
-        } else {
-            Ending::Skipped
-        };
-        if let Err(failed) = book.write(stamp, &task.command, ending) {
-            return Err(failed);
-        }
-        self.tally.count(mark.cycle, mark.expected.turn, ending);
-        self.well = false;
-        self.listed = is_listed(self.listed, &mark.expected, None, ending);
-        Ok(())
-    }
-
-    // Writes the records of `settled`, and takes out the marks of the requests that were settled, the oldest first.
+    // Writes the records of `settled`, and removes the marks of the requests that were settled, the oldest first.
     fn write<B: Book>(&mut self, book: &mut B) -> Result<(), PortFailed>
         requires { All (λ s. IsReadBy IsAskedReading s.call s.outcome) self.old.settled.items }
         ensures wrote { WritesNews (B.text book.old) (B.taken book.old) (B.taken book.new) (λ reads. records_of reads self.old.progress.moment.utc self.old.marks.items (map settlement_seen self.old.settled.items)) result }
@@ -393,7 +291,7 @@ impl Station {
         ensures listed { OnOk result ((reads : Asked → List ℕ → Reading) → AreReadings reads
             → self.new.listed ≡ listed_by reads self.old.listed self.old.marks.items (map settlement_seen self.old.settled.items)) }
         ensures fresh { OnOk result ((reads : Asked → List ℕ → Reading) → AreReadings reads
-            → self.new.fresh ≡ fresh_behind self.old.progress.moment.elapsed self.old.fresh (records_of reads self.old.progress.moment.utc self.old.marks.items (map settlement_seen self.old.settled.items))) }
+            → self.new.fresh ≡ fresh_after self.old.progress.moment.elapsed self.old.fresh (records_of reads self.old.progress.moment.utc self.old.marks.items (map settlement_seen self.old.settled.items))) }
         ensures fails { FailsWith result (B.failed book.old) (B.failed book.new) }
         ensures form { B.text book.new ≡ B.text book.old }
     {
@@ -410,7 +308,8 @@ impl Station {
         )
     }
 
-    // Closes the connection, and drops half a line that came on it. Requests that wait go on waiting.
+    // Closes the connection, and discards half a line that came on it. Outstanding requests stay outstanding on the next
+    // connection.
     fn close<L: Link>(&mut self, link: &mut L, plan: &Plan, cause: Cause)
         ensures { (commands : List Task) (text : Record → List ℕ) (known : Option (List ℕ))
             → Does plan.now commands (Close cause) (seen (L.acts link.old) text known self.old) (seen (L.acts link.new) text known self.new) }
@@ -421,8 +320,8 @@ impl Station {
         self.progress.close(plan, waiting, cause);
     }
 
-    // Makes the one call of an action, and takes in what came of it; for `Stop` does nothing. `Err`: the book failed at a
-    // record.
+    // Makes the one call on the link that an action stands for, and handles its result; `Stop` does nothing. `Err`: the book
+    // failed at a record.
     fn perform<L: Link, B: Book>(
         &mut self,
         link: &mut L,
@@ -490,7 +389,7 @@ impl Station {
         }
     }
 
-    // Writes down all commands that wait as lost, where the station begins anew or no act follows; else does nothing.
+    // Records all outstanding commands as lost, if the station resynchronizes or no act follows; otherwise does nothing.
     fn end<B: Book>(&mut self, book: &mut B) -> Result<(), PortFailed>
         ensures ends { (s : Model) (start : Option (List ℕ)) → Refines self.old s → Took (B.text book.old) start (B.taken book.old) s
             → ComesTo (B.text book.old) s.records self.new start (B.taken book.new) (ended s) result }
@@ -504,8 +403,8 @@ impl Station {
         self.write(book)
     }
 
-    // Takes a turn: makes the one call of an action, does what comes of it, and writes down what is lost. When it is called, all
-    // records so far must be durable.
+    // Takes a turn: performs an action, and records as lost what is lost then. When it is called, all records so far must be
+    // durable.
     pub(crate) fn step<L: Link, B: Book>(
         &mut self,
         link: &mut L,
@@ -523,7 +422,7 @@ impl Station {
         ensures fails { FailsWith result (B.failed book.old) (B.failed book.new) }
         ensures form { B.text book.new ≡ B.text book.old }
     {
-        self.progress.turn();
+        self.progress.take_turn();
         if let Err(failed) = self.perform(link, book, plan, commands, action) {
             return Err(failed);
         }

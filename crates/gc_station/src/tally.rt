@@ -1,4 +1,4 @@
-//! A tally: how many commands ended how, and how many chains went out again.
+//! A tally: how many commands ended how, and how many chains were sent again.
 
 ghost use Rattle.std.specs.Prelude.{◌≡◌};
 ghost use Rattle.gc_station.specs.Tallies.{none_yet, counted, sum, nothing_yet, started, turned_to, counted_in, total};
@@ -12,7 +12,7 @@ use gc_texts::{Ending, Turn};
 pub struct Tally {
     /// A reply came in time, and it is neither `unreadable` nor `elsewhere`.
     pub answered: u64,
-    /// A reply came after the request was given up.
+    /// A reply came after the request timed out.
     pub late: u64,
     /// No reply came, or none will be taken.
     pub lost: u64,
@@ -22,9 +22,9 @@ pub struct Tally {
     pub unreadable: u64,
     /// The command wasn't sent: its cycle couldn't begin before the next was due.
     pub missed: u64,
-    /// A reply came in time, with both codes 0 or an accepted return code, whose direction isn't near where its target stands.
+    /// A reply came in time, with both codes 0 or an accepted return code, whose direction isn't near where its target is.
     pub elsewhere: u64,
-    /// How many times a chain went out again.
+    /// How many times a chain was sent again.
     pub again: u64,
 }
 
@@ -60,7 +60,7 @@ impl Tally {
         }
     }
 
-    // The tally of the commands of both tallies.
+    // The sum of both tallies, count by count.
     fn sum(&self, other: &Tally) -> Tally
         ensures { result ≡ sum self.now other.now }
     {
@@ -77,12 +77,12 @@ impl Tally {
     }
 }
 
-/// The tallies of a run: of the chains that are over, and of the attempt that is under way, which a further one may replace.
+/// The tallies of a run: of the chains that are over, and of the current attempt, which a further one may replace.
 #[derive(Clone, Copy, Debug, PartialEq, Eq)]
 pub(crate) struct Counts {
     /// Of the last attempts of the chains that are over.
     pub settled: Tally,
-    /// Of the attempt that is under way.
+    /// Of the current attempt.
     pub attempt: Tally,
 }
 
@@ -97,7 +97,7 @@ impl Counts {
         }
     }
 
-    // Begins an attempt, in this turn: where it is a further one, the attempt before isn't counted.
+    // Begins an attempt of a chain: a further one replaces the counts of the attempt before.
     fn start(&mut self, turn: Turn)
         ensures { self.new ≡ started turn self.old }
     {
@@ -109,7 +109,7 @@ impl Counts {
         self.attempt = Tally::new();
     }
 
-    // Begins an attempt where a command has the turn of its first.
+    // Begins an attempt if this is the turn of an attempt's first command.
     fn turn_to(&mut self, turn: Turn)
         ensures { self.new ≡ turned_to turn self.old }
     {
@@ -118,7 +118,7 @@ impl Counts {
         }
     }
 
-    // Counts a command of this cycle and turn by its ending. One of the set-up, whose cycle is 0, isn't counted.
+    // Counts a command of this cycle and turn by its ending. One of the setup, whose cycle is 0, isn't counted.
     pub(crate) fn count(&mut self, cycle: u64, turn: Turn, ending: Ending<'_>)
         ensures { self.new ≡ counted_in cycle turn (ending_seen ending.entry) self.old }
     {

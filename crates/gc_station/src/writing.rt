@@ -8,8 +8,8 @@ ghost use Rattle.gc_catalogue.specs.declared.answer.Reading.{Reading};
 ghost use Rattle.gc_catalogue.specs.declared.asked.Asked.{Asked};
 ghost use Rattle.gc_catalogue.specs.Asked.{IsAskedReading};
 ghost use Rattle.gc_client.specs.Settlements.{settlement_seen, outcome_seen, IsReadBy};
-ghost use Rattle.gc_station.specs.Attempts.{code_in, code_of, listed_behind, listed_by};
-ghost use Rattle.gc_station.specs.Marks.{records_of, value_as, refused_as, end_of, last_well, is_well, fresh_behind};
+ghost use Rattle.gc_station.specs.Attempts.{code_in, code_of, listed_after, listed_by};
+ghost use Rattle.gc_station.specs.Marks.{records_of, value_as, refused_as, end_of, last_well, is_well, fresh_after};
 ghost use Rattle.gc_station.specs.Model.{ends_with_table};
 ghost use Rattle.gc_station.specs.Zeros.{IsZeroOf};
 ghost use Rattle.gc_station.specs.Scopes.{AreReadings};
@@ -29,7 +29,7 @@ use gc_lines::{Line, PortFailed};
 use gc_links::Moment;
 use gc_texts::{Ending, Expected, Near, Quality, Stamp, Wish, is_elsewhere, reading_as_zero};
 
-// Takes out the mark of the oldest request that waits. `None`: that request is a null procedure, or none waits.
+// Removes the mark of the oldest outstanding request. `None`: that request is a null procedure, or none is outstanding.
 fn take_mark(marks: &mut ArrayVec<Option<Mark>, WINDOW>) -> Option<Mark>
     ensures goes { marks.new.items ≡ drop 1 marks.old.items }
     ensures listed { (reads : Asked → List ℕ → Reading) (listed : Bool) (settlement : Rule.Settlement Asked)
@@ -43,8 +43,8 @@ fn take_mark(marks: &mut ArrayVec<Option<Mark>, WINDOW>) -> Option<Mark>
     }
 }
 
-// The ending of a command whose reply, this line, has this answer: elsewhere where the answer's direction isn't near where the
-// target stands (`near`), else answered with this quality.
+// The ending of a command whose reply, this line, has this answer: elsewhere if the answer's direction isn't near where the
+// target is (`near`), else answered with this quality.
 fn value_ending<'a>(
     quality: Quality,
     near: Option<Near>,
@@ -61,7 +61,7 @@ fn value_ending<'a>(
 }
 
 // The ending of a command whose reply, this line, has this return code, which isn't 0, and would say `zero` with return code 0.
-// With an accepted code: elsewhere where the values would read and were measured elsewhere, else answered with a warning. With
+// With an accepted code: elsewhere if the values would read and were measured elsewhere, else answered with a warning. With
 // another code: answered and refused.
 fn refused_ending<'a>(
     expected: &Expected,
@@ -93,8 +93,8 @@ fn zero_of(call: &Asked, outcome: &Outcome) -> Reading
     }
 }
 
-// The ending of a command whose request had this outcome, where this is expected of its answer, and its line would say `zero`
-// with return code 0.
+// The ending of a command whose request had this outcome, if this is expected of its answer, and its line would say `zero` with
+// return code 0.
 fn ending_of<'a>(expected: &Expected, zero: &'a Reading, outcome: &'a Outcome) -> Ending<'a>
     ensures { (reads : Asked → List ℕ → Reading) (call : Asked) → AreReadings reads → IsReadBy IsAskedReading call outcome.now → IsZeroOf call outcome.now zero.now
         → ending_seen result ≡ end_of reads expected.now call (outcome_seen outcome.now) }
@@ -138,22 +138,22 @@ fn code_of(outcome: &Outcome) -> Option<u16>
     }
 }
 
-// Whether a command of an attempt ended as its rule names, where this is expected of the one that ended last, and its reply has this
-// return code other than 0: it did, or one before it (`listed`), unless the attempt begins with it.
+// Whether a command of an attempt ended as its rule names, if this is expected of the one that ended last, and its reply has
+// this return code other than 0: it did, or one before it (`listed`), unless the attempt begins with it.
 pub(crate) fn is_listed(
     listed: bool,
     expected: &Expected,
     code: Option<u16>,
     ending: Ending<'_>,
 ) -> bool
-    ensures { result ≡ listed_behind listed expected.now code (ending_seen ending.entry) }
+    ensures { result ≡ listed_after listed expected.now code (ending_seen ending.entry) }
 {
     (expected.turn.link != 0 && listed) || expected.again.names(code, ending)
 }
 
-// Writes how a request with this mark ended, and counts its ending. Notes in `well` whether it was answered well, and if so in `fresh`
-// that it is written down at the moment `now`; and in `listed` whether it or one before it of its attempt ended as its rule names. A
-// null procedure has no mark: nothing is written or counted of it. `Err`: the book failed.
+// Writes how a request with this mark ended, and counts its ending. Notes in `well` whether it was answered well, and if so in
+// `fresh` that it is recorded at the moment `now`; and in `listed` whether it or one before it of its attempt ended as its rule
+// names. A null procedure has no mark: nothing is written or counted of it. `Err`: the book failed.
 fn write_one<B: Book>(
     book: &mut B,
     tally: &mut Counts,
@@ -173,7 +173,7 @@ fn write_one<B: Book>(
     ensures listed { OnOk result ((reads : Asked → List ℕ → Reading) → AreReadings reads
         → listed.new ≡ listed_by reads listed.old (mark ∷ []) (settlement_seen settlement.now ∷ [])) }
     ensures fresh { OnOk result ((reads : Asked → List ℕ → Reading) → AreReadings reads
-        → fresh.new ≡ fresh_behind now.elapsed fresh.old (records_of reads now.utc (mark ∷ []) (settlement_seen settlement.now ∷ []))) }
+        → fresh.new ≡ fresh_after now.elapsed fresh.old (records_of reads now.utc (mark ∷ []) (settlement_seen settlement.now ∷ []))) }
     ensures fails { FailsWith result (B.failed book.old) (B.failed book.new) }
     ensures form { B.text book.new ≡ B.text book.old }
 {
@@ -214,10 +214,10 @@ pub(crate) fn ends_with_table(settlements: &[Settlement<Asked>]) -> bool
     }
 }
 
-// Writes and counts the records of these settlements, which are those of the oldest requests that wait, and takes out the marks
-// of these requests. `well` becomes whether the command written last was answered well, and stays as it is where none was
-// written. Where one was answered well, `fresh` becomes the moment `now`. `listed` becomes whether one of the attempt that was settled
-// last ended as its rule names. `Err`: the book failed at a record, and no record after it was written.
+// Writes and counts the records of these settlements, which are those of the oldest outstanding requests, and removes the marks
+// of these requests. `well` becomes whether the command written last was answered well, and stays as it is if none was written.
+// If one was answered well, `fresh` becomes the moment `now`. `listed` becomes whether one of the attempt that was settled last
+// ended as its rule names. `Err`: the book failed at a record, and no record after it was written.
 pub(crate) fn write_settlements<B: Book>(
     book: &mut B,
     tally: &mut Counts,
@@ -237,7 +237,7 @@ pub(crate) fn write_settlements<B: Book>(
     ensures listed { OnOk result ((reads : Asked → List ℕ → Reading) → AreReadings reads
         → listed.new ≡ listed_by reads listed.old marks.old.items (map settlement_seen settlements.now)) }
     ensures fresh { OnOk result ((reads : Asked → List ℕ → Reading) → AreReadings reads
-        → fresh.new ≡ fresh_behind now.elapsed fresh.old (records_of reads now.utc marks.old.items (map settlement_seen settlements.now))) }
+        → fresh.new ≡ fresh_after now.elapsed fresh.old (records_of reads now.utc marks.old.items (map settlement_seen settlements.now))) }
     ensures marks { OnOk result (marks.new.items ≡ drop (length settlements.now) marks.old.items) }
     ensures fails { FailsWith result (B.failed book.old) (B.failed book.new) }
     ensures form { B.text book.new ≡ B.text book.old }

@@ -7,12 +7,12 @@ use gc_links::Moment;
 use gc_station::{Book, LinkHealth};
 use gc_texts::{Ending, Quality, Stamp, Wish};
 
-/// A book that keeps a word for each record: the last digits of its cycle and its place, a letter for its outcome, and behind the
-/// letter the values of a reply; where a case is stamped, last the moment at which the request went out. A case may have it fail at one
-/// write, or at each sync after the first few.
+/// A book that keeps a word for each record: the last digits of its cycle and its place, a letter for its outcome, and after
+/// the letter the values of a reply; if a case is stamped, last the moment at which the request was sent. A case may have it
+/// fail at one write, or at each sync after the first few.
 #[derive(Drop)]
 pub struct Ends {
-    /// The words of the records, and `N!` for each cycle N that was reported as overrun, each with a blank behind it.
+    /// The words of the records, and `N!` for each cycle N that was reported as overrun, each with a blank after it.
     pub text: ArrayVec<u8, 256>,
     // How many writes there were.
     writes: u64,
@@ -20,7 +20,7 @@ pub struct Ends {
     fails: u64,
     // How many syncs still succeed.
     keeps: u64,
-    // Whether the moment at which a record's request went out is kept.
+    // Whether the moment at which a record's request was sent is kept.
     stamped: bool,
 }
 
@@ -42,7 +42,7 @@ impl Ends {
         let _ = self.text.try_extend_from_slice(text);
     }
 
-    // Keeps a letter, and behind it the values of a reply's line, whose header has eleven bytes.
+    // Keeps a letter, and after it the values of a reply's line, whose header has eleven bytes.
     fn note_values(&mut self, letter: &[u8], line: &[u8]) {
         self.note(letter);
         if line.len() > 11 {
@@ -50,7 +50,7 @@ impl Ends {
         }
     }
 
-    // Keeps the moment at which a record's request went out, in milliseconds since 1970, if it did and the case is stamped.
+    // Keeps the moment at which a record's request was sent, in milliseconds since 1970, if it did and the case is stamped.
     fn note_sent(&mut self, sent: Option<u64>) {
         let Some(sent) = sent else { return };
         if self.stamped {
@@ -78,8 +78,8 @@ impl Book for Ends {
 
     ghost is_durable = { λ _. true };
 
-    // Keeps the word of a record: the digits of its cycle and place, the letter of its ending, behind which a reply's values stand, and
-    // where the case is stamped the moment at which its request went out.
+    // Keeps the word of a record: the digits of its cycle and place, the letter of its ending, after which a reply's values
+    // stand, and if the case is stamped the moment at which its request was sent.
     fn write(
         &mut self,
         stamp: Stamp,
@@ -107,7 +107,7 @@ impl Book for Ends {
         Ok(())
     }
 
-    // Uses up one of the syncs that succeed; where none is left, fails.
+    // Uses up one of the syncs that succeed; if none is left, fails.
     fn sync(&mut self) -> Result<(), PortFailed> {
         if self.keeps == 0 {
             return Err(PortFailed);

@@ -29,7 +29,7 @@ impl Sink for Kept {
 
     ghost failed = { λ k. k.broken };
 
-    // Keeps these bytes, and uses up one write; where none is left or memory runs out, fails for good.
+    // Keeps these bytes, and uses up one write; if none is left or memory runs out, fails for good.
     fn write(&mut self, bytes: &[u8]) -> Result<usize, PortFailed> {
         if self.broken || self.left == 0 || self.bytes.extend_from_slice(bytes).is_err() {
             self.broken = true;
@@ -45,8 +45,8 @@ impl Sink for Kept {
     }
 }
 
-// The link of a case, with a log whose sink fails after `writes` writes. Until the link tells a moment, the log's lines have the
-// moment 1000, at which the link's clock starts.
+// The link of a case, with a log whose sink fails after `writes` writes. Until the link reads a moment, the log's lines have
+// the moment 1000, at which the link's clock starts.
 fn logged<'a>(
     alloc: Global,
     steps: &'a [Step<'a>],
@@ -61,7 +61,7 @@ fn logged<'a>(
     Logged::new(Script::new(steps, setting), kept, 1000)
 }
 
-/// Runs a station over a link with a log. A log whose sink failed is told as `lost`, provided that it is the first part of the
+/// Runs a station over a link with a log. A log whose sink failed is reported as `lost`, provided that it is the first part of the
 /// log of the same run over a sink that never fails.
 pub fn play_logged(
     alloc: Global,

@@ -40,7 +40,7 @@ pub struct Outcome {
     end: Told,
     // The log, if there is one.
     log: Told,
-    // How many commands ended how, where the case tells it.
+    // How many commands ended how, if the case tells it.
     counts: Told,
     is_log_lost: bool,
 }
@@ -65,7 +65,8 @@ impl Outcome {
         tell_end(fault, script.gone, &mut self.end);
     }
 
-    /// Takes the counts of a run that is done: of answered, late, skipped and missed commands, and how many chains went out again.
+    /// Takes the counts of a run that is done: of answered, late, skipped and missed commands, and how many chains were sent
+    /// again.
     pub fn take_counts(&mut self, tally: &Tally) {
         self.counts.titled("answered ", &tally.answered);
         self.counts.titled(" late ", &tally.late);
@@ -85,7 +86,7 @@ impl Outcome {
         self.is_log_lost
     }
 
-    /// Tells a log whose sink failed as `lost`, if the log of `whole`, whose sink took all, begins with it.
+    /// Reports a log whose sink failed as `lost`, if the log of `whole`, whose sink took all, begins with it.
     pub fn lose_log(&mut self, whole: &Outcome) {
         if whole.log.as_bytes().starts_with(self.log.as_bytes()) {
             self.log.clear();
@@ -100,7 +101,7 @@ impl Outcome {
         self.put.text(what);
     }
 
-    /// Tells what came otherwise than the case has it.
+    /// Reports what came otherwise than the case has it.
     pub fn tell(&self, case: &Case<'_>, wrong: &mut Told) {
         case.tell_told("put", &self.put, wrong);
         case.tell_told("ends", &self.ends, wrong);
@@ -109,7 +110,7 @@ impl Outcome {
         case.tell_told("counts", &self.counts, wrong);
     }
 
-    /// Tells what was put and written, and the fault, as a row has them.
+    /// Reports what was put and written, and the fault, as a row has them.
     pub fn tell_row(&self, row: &mut Told) {
         tell_part(": ", &self.put, row);
         tell_part(" | ", &self.ends, row);
@@ -138,7 +139,7 @@ impl<'a> Run<'a> {
         }
     }
 
-    // Adds the first `setting.first` of the steps, and those of `then` after them. Says whether each word is known, and each step
+    // Adds the first `setting.first` of the steps, and those of `then` after them. Returns whether each word is known, and each step
     // has room.
     fn push_steps(&self, steps: &mut Vec<Step<'a>>, setting: &Setting) -> bool {
         let are_known = push_words(steps, text_of(self.steps), setting.split);
@@ -179,12 +180,12 @@ impl<'a> Run<'a> {
     }
 }
 
-// Bytes as text; `?` where they aren't UTF-8.
+// Bytes as text; `?` if they aren't UTF-8.
 fn text_of(bytes: &[u8]) -> &str {
     str::from_utf8(bytes).unwrap_or("?")
 }
 
-// Runs a station over a link that tells its acts.
+// Runs a station over a link that records its acts.
 fn play_told(tasks: &[Task], steps: &[Step<'_>], setting: &Setting, outcome: &mut Outcome) {
     let mut link = Telling::new(Script::new(steps, setting));
     let mut book = Ends::new(setting);
@@ -195,19 +196,19 @@ fn play_told(tasks: &[Task], steps: &[Step<'_>], setting: &Setting, outcome: &mu
     outcome.take(&link.link, &book, result.err());
 }
 
-// Tells the counts of a run that is done.
+// Reports the counts of a run that is done.
 fn tell_counts(end: &Result<Tally, RunFault>, outcome: &mut Outcome) {
     if let Ok(tally) = end {
         outcome.take_counts(tally);
     }
 }
 
-// Tells words without the blank behind the last one.
+// Reports words without the blank after the last one.
 fn tell_words(words: &[u8], told: &mut Told) {
     told.bytes(words.strip_suffix(b" ").unwrap_or(words));
 }
 
-// Tells the fault, if there is one. A cut write whose fault names the right number of bytes (`gone`) is told with the word `kept`
+// Reports the fault, if there is one. A cut write whose fault names the right number of bytes (`gone`) is reported with the word `kept`
 // for that number, so that a row holds for each number.
 fn tell_end(fault: Option<RunFault>, gone: usize, end: &mut Told) {
     match fault {
@@ -220,7 +221,7 @@ fn tell_end(fault: Option<RunFault>, gone: usize, end: &mut Told) {
     }
 }
 
-// Tells a part of a row behind `mark`: its text, or `none` where that is empty. If memory ran out for the part, the row counts as
+// Reports a part of a row after `mark`: its text, or `none` if that is empty. If memory ran out for the part, the row counts as
 // lacking, too, so that it equals no row of a case.
 fn tell_part(mark: &str, part: &Told, row: &mut Told) {
     row.text(mark);

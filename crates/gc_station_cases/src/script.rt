@@ -7,7 +7,7 @@ use arrayvec::ArrayVec;
 use gc_lines::PortFailed;
 use gc_links::{Came, Link, Moment};
 
-/// What a read comes to, so many milliseconds after it began.
+/// What a read comes to, this many milliseconds after it began.
 #[derive(Clone, Copy)]
 pub enum Step<'a> {
     /// These bytes come.
@@ -16,7 +16,7 @@ pub enum Step<'a> {
     Id(u8, u64),
     /// Nothing comes.
     Silence(u64),
-    /// The reply to the last request that went out comes. Its value is the last digit of the request's number, counted from 0.
+    /// The reply to the last request that was sent comes. Its value is the last digit of the request's number, counted from 0.
     Reply(u64),
     /// The clock goes back.
     Back(u64),
@@ -24,7 +24,7 @@ pub enum Step<'a> {
     Dead,
     /// A line that is no reply comes each 5 milliseconds, until the connection is closed.
     Noise,
-    /// From now on the last request that went out on this connection is answered, if it isn't yet.
+    /// From now on the last request that was sent on this connection is answered, if it isn't yet.
     Answers,
     /// The other end closes.
     End,
@@ -37,7 +37,7 @@ pub enum Step<'a> {
 // The moment at which the clock of a link starts, in milliseconds.
 const START: u64 = 1000;
 
-// The ids of a beginning's null procedures.
+// The ids of a synchronization's null procedures.
 const WORD: [u8; 8] = *b"65432107";
 
 /// A link that plays steps, and then is silent for as long as it is asked to wait. What is put is kept as text.
@@ -48,11 +48,11 @@ pub struct Script<'a> {
     at: usize,
     // How many of the next attempts to connect fail.
     shut: u64,
-    // The call of `put` that is cut, counted from 1, and how many bytes of it go out.
+    // The call of `put` that is cut, counted from 1, and how many bytes of it are sent.
     cut: u64,
     kept: usize,
     puts: u64,
-    // How many requests went out, the id of the last one, and how many had gone out when one was answered last.
+    // How many requests were sent, the id of the last one, and how many had gone out when one was answered last.
     requests: u8,
     id: u8,
     answered: u8,
@@ -70,14 +70,15 @@ pub struct Script<'a> {
     blind: bool,
     // Whether each call is kept with its time since the start, and of a request its id alone.
     timed: bool,
-    // How many null procedures of a beginning were put in a row so far; where the text of the first begins, and when it was put.
+    // How many null procedures of a synchronization were put in a row so far; if the text of the first begins, and when it was
+    // put.
     nulls: usize,
     first: usize,
     first_at: u64,
-    /// How many bytes went out of the put that was cut.
+    /// How many bytes were sent of the put that was cut.
     pub gone: usize,
     /// The words of the calls that opened, closed or wrote (`open`, `shut`, `close`, `lf`, requests, `cut:`), each with a blank
-    /// behind it.
+    /// after it.
     pub text: ArrayVec<u8, 1024>,
 }
 
@@ -115,7 +116,7 @@ impl<'a> Script<'a> {
         let _ = self.text.try_extend_from_slice(text);
     }
 
-    // Keeps a word; where the link is timed, with the time `clock` behind it, in milliseconds since the start.
+    // Keeps a word; if the link is timed, with the time `clock` after it, in milliseconds since the start.
     fn note_at(&mut self, word: &[u8], clock: u64) {
         self.note(word);
         if self.timed {
@@ -133,8 +134,8 @@ impl<'a> Script<'a> {
         self.note_at(word, self.clock);
     }
 
-    // Keeps what is put: `lf` for a lone line feed, else a request, without its line end. Where that is the eighth null procedure
-    // of a beginning in a row, the word `begin` takes the place of all eight.
+    // Keeps what is put: `lf` for a lone line feed, else a request, without its line end. If that is the eighth null procedure
+    // of a synchronization in a row, the word `begin` takes the place of all eight.
     fn note_put(&mut self, bytes: &[u8]) {
         if bytes == b"\n".as_slice() {
             self.note_now(b"lf");
@@ -155,8 +156,8 @@ impl<'a> Script<'a> {
         }
     }
 
-    // Counts the null procedures of a beginning that are put one after the other, with the ids of `WORD` in order. Any other
-    // request begins the count anew.
+    // Counts the null procedures of a synchronization that are put one after the other, with the ids of `WORD` in order. Any
+    // other request starts the count again.
     fn count_null(&mut self, request: &[u8]) {
         let id = if request.starts_with(b"%R1Q,0,") {
             id_of(request)
@@ -175,14 +176,14 @@ impl<'a> Script<'a> {
         }
     }
 
-    // Counts a call, and says whether it fails.
+    // Counts a call, and returns whether it fails.
     fn is_failing(&mut self) -> bool {
         let call = self.calls;
         self.calls = self.calls.saturating_add(1);
         call == self.failing
     }
 
-    // Lets so many milliseconds pass, and gives the moment then.
+    // Lets this many milliseconds pass, and gives the moment then.
     fn moment(&mut self, later: u64) -> Moment {
         self.clock = self.clock.saturating_add(later);
         Moment {
@@ -192,7 +193,7 @@ impl<'a> Script<'a> {
         }
     }
 
-    // As many of these bytes come as `buf` has room for; nothing comes where that is none.
+    // As many of these bytes come as `buf` has room for; nothing comes if that is none.
     fn bring(&mut self, buf: &mut [u8], line: &[u8], later: u64) -> Came
         ensures { IsWithin result buf.new }
     {
@@ -239,7 +240,7 @@ impl<'a> Script<'a> {
         self.reply(buf, millis.min(5))
     }
 
-    // The step of the next read, where there is one. `Dead`, `Noise` and `Answers` last: each is the step of all further reads,
+    // The step of the next read, if there is one. `Dead`, `Noise` and `Answers` last: each is the step of all further reads,
     // until a close ends the first two.
     fn next(&mut self) -> Option<Step<'a>> {
         let step = self.steps.get(self.at).copied()?;
@@ -269,7 +270,7 @@ impl<'a> Link for Script<'a> {
         Ok(self.moment(0))
     }
 
-    // Plays the next step. Where none is left, nothing comes for `millis` milliseconds.
+    // Plays the next step. If none is left, nothing comes for `millis` milliseconds.
     fn read(&mut self, buf: &mut [u8], millis: u64) -> Came {
         if self.is_failing() {
             return Came::Failure;
@@ -295,7 +296,7 @@ impl<'a> Link for Script<'a> {
         }
     }
 
-    // The put whose number is `cut`, or that is the failing call, is cut: its first `kept` bytes go out, at most all but one.
+    // The put whose number is `cut`, or that is the failing call, is cut: its first `kept` bytes are sent, at most all but one.
     fn put(&mut self, bytes: &[u8]) -> Result<(), usize> {
         self.puts = self.puts.saturating_add(1);
         if self.is_failing() || self.puts == self.cut {
@@ -315,7 +316,7 @@ impl<'a> Link for Script<'a> {
         Ok(())
     }
 
-    // Closes the connection, which ends `Dead` and `Noise`. A request that went out on it isn't answered by `Answers` any more.
+    // Closes the connection, which ends `Dead` and `Noise`. A request that was sent on it isn't answered by `Answers` any more.
     fn close(&mut self) {
         self.note_now(b"close");
         self.up = false;

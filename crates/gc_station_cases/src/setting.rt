@@ -14,7 +14,7 @@ pub struct Setting {
     pub shut: u64,
     /// The put that is cut, counted from 1; 0: none.
     pub cut: u64,
-    /// How many bytes of that put go out.
+    /// How many bytes of that put are sent.
     pub kept: u64,
     /// The call of the link that fails, counted from 0; `close` isn't counted.
     pub failing: u64,
@@ -26,7 +26,7 @@ pub struct Setting {
     pub writes: u64,
     /// How many of the steps are made before those of `then`.
     pub first: u64,
-    /// Behind how many bytes the line of a step `<<` is cut in two.
+    /// After how many bytes the line of a step `<<` is cut in two.
     pub split: u64,
     /// From when on the end of the run is asked for, in milliseconds since the start.
     pub until: u64,
@@ -34,16 +34,17 @@ pub struct Setting {
     pub ahead: u64,
     /// Whether the clock can't be read.
     pub blind: bool,
-    /// Whether what is put is told with its time since the start, and of a request its id alone.
+    /// Whether what is put is reported with its time since the start, and of a request its id alone.
     pub timed: bool,
-    /// Whether a record is told with the moment at which its request went out.
+    /// Whether a record is reported with the moment at which its request was sent.
     pub stamped: bool,
-    /// Whether the counts of a run are told, where it is done.
+    /// Whether the counts of a run are reported, if it is done.
     pub counted: bool,
 }
 
 impl Setting {
-    /// One request at a time, given up after 100 milliseconds, a quiet time of 10, and one new try, so that a line is dead after
+    /// One request at a time, timed out after 100 milliseconds, a quiet time of 10, and one new try, so that a line is dead
+    /// after
     /// 200. Nothing fails.
     pub fn new() -> Setting {
         Setting {
@@ -77,7 +78,7 @@ impl Setting {
         }
     }
 
-    /// Sets what these words say, and says whether each is known: `WORD=NUMBER`, or a word alone.
+    /// Sets what these words say, and returns whether each is known: `WORD=NUMBER`, or a word alone.
     pub fn set_all(&mut self, words: &str) -> bool {
         let mut rest = words;
         let mut are_known = true;
@@ -92,7 +93,7 @@ impl Setting {
         are_known
     }
 
-    // Sets what one word says, and says whether it is known.
+    // Sets what one word says, and returns whether it is known.
     fn set_word(&mut self, word: &str) -> bool {
         let (key, digits) = word.split_once('=').unwrap_or((word, "1"));
         let Some(value) = number(digits) else {
@@ -101,7 +102,7 @@ impl Setting {
         self.set_plan(key, value) || self.set_link(key, value)
     }
 
-    // Sets a value of the plan, and says whether the key is one of the plan's.
+    // Sets a value of the plan, and returns whether the key is one of the plan's.
     fn set_plan(&mut self, key: &str, value: u64) -> bool {
         match key {
             "width" => self.plan.width = u8::try_from(value).unwrap_or(u8::MAX),
@@ -118,7 +119,7 @@ impl Setting {
         true
     }
 
-    // Sets a value of the link, the book, the log or the steps, and says whether the key is one of theirs.
+    // Sets a value of the link, the book, the log or the steps, and returns whether the key is one of theirs.
     fn set_link(&mut self, key: &str, value: u64) -> bool {
         match key {
             "turns" => self.turns = value,

@@ -1,5 +1,5 @@
-//! Runs of a station over a link that plays steps: what is put on it, what is written down, and the end. `words.rt` has the
-//! words of a case, and `setting.rt` those behind `with`.
+//! Runs of a station over a link that plays steps: what is put on it, what is recorded, and the end. `words.rt` has the words
+//! of a case, and `setting.rt` those after `with`.
 //!
 //!     tasks 7 0;8 0               the station's text, with `;` for the ends of its lines; chained as it says
 //!     with width=2 timed          what is set otherwise than `Setting::new` has it
@@ -26,7 +26,7 @@ use std::io;
 pub struct Stations;
 
 impl Player for Stations {
-    // Plays a case of runs of a station, and tells into `wrong` what came otherwise.
+    // Plays a case of runs of a station, and reports into `wrong` what came otherwise.
     fn play(&self, rt: &HostRuntime, case: &Case<'_>, wrong: &mut Told) -> io::Result<()> {
         play_case(rt.alloc(), case, wrong);
         Ok(())
@@ -51,14 +51,14 @@ impl Values {
         }
     }
 
-    // Takes the values of a case. It fails where memory runs out.
+    // Takes the values of a case. It fails if memory runs out.
     fn take(&mut self, case: &Case<'_>) -> Result<(), AllocError> {
         push_lines(&mut self.tasks, case.value("tasks"))?;
         push_all(&mut self.steps, case.value("steps"))?;
         push_all(&mut self.then, case.value("then"))
     }
 
-    // The run of the case, as the words behind `with` have it.
+    // The run of the case, as the words after `with` have it.
     fn run(&self, case: &Case<'_>) -> Run<'_> {
         let mut setting = Setting::new();
         let is_known = setting.set_all(case.value("with"));
@@ -81,7 +81,7 @@ fn push_lines(lines: &mut Vec<u8>, value: &str) -> Result<(), AllocError> {
     Ok(())
 }
 
-// Plays a case. Where memory runs out for its texts, it is told as wrong.
+// Plays a case. If memory runs out for its texts, it is reported as wrong.
 fn play_case(alloc: Global, case: &Case<'_>, wrong: &mut Told) {
     let mut values = Values::new(alloc);
     if values.take(case).is_err() {
@@ -90,8 +90,8 @@ fn play_case(alloc: Global, case: &Case<'_>, wrong: &mut Told) {
     play_run(alloc, case, &values.run(case), wrong);
 }
 
-// Plays the rows, or where there is none the run. A case with rows has no `put`, `ends`, `end` or `log` beside them: one that it
-// has is told as wrong, against an outcome of nothing.
+// Plays the rows, or if there is none the run. A case with rows has no `put`, `ends`, `end` or `log` beside them: one that it
+// has is reported as wrong, against an outcome of nothing.
 fn play_run(alloc: Global, case: &Case<'_>, run: &Run<'_>, wrong: &mut Told) {
     if case.value("row").is_empty() {
         return play_each(alloc, case, run, wrong);
@@ -100,7 +100,7 @@ fn play_run(alloc: Global, case: &Case<'_>, run: &Run<'_>, wrong: &mut Told) {
     Outcome::new(alloc).tell(case, wrong);
 }
 
-// Plays the rows. Each that came to something else is told, as it came.
+// Plays the rows. Each that came to something else is reported, as it came.
 fn play_rows(alloc: Global, case: &Case<'_>, run: &Run<'_>, wrong: &mut Told) {
     for place in 0..1000 {
         match case.value_at("row", place) {
@@ -120,7 +120,7 @@ fn play_row(alloc: Global, case: &Case<'_>, row: &str, run: &Run<'_>, wrong: &mu
     }
 }
 
-// Tells a row as it came: its word, and what the run came to with it.
+// Reports a row as it came: its word, and what the run came to with it.
 fn tell_row(alloc: Global, word: &str, run: &Run<'_>, came: &mut Told) {
     let mut outcome = Outcome::new(alloc);
     run.play(alloc, word, &mut outcome);
@@ -128,7 +128,7 @@ fn tell_row(alloc: Global, word: &str, run: &Run<'_>, came: &mut Told) {
     outcome.tell_row(came);
 }
 
-// Plays the run, once for each number below the one behind `each`, up to the first that comes otherwise than the case has it.
+// Plays the run, once for each number below the one after `each`, up to the first that comes otherwise than the case has it.
 fn play_each(alloc: Global, case: &Case<'_>, run: &Run<'_>, wrong: &mut Told) {
     let Some((key, count)) = case.value("each").split_once('=') else {
         return play_once(alloc, case, "", run, wrong);
@@ -146,7 +146,7 @@ fn play_each(alloc: Global, case: &Case<'_>, run: &Run<'_>, wrong: &mut Told) {
     }
 }
 
-// Plays the run with a number behind a key.
+// Plays the run with a number after a key.
 fn play_number(alloc: Global, case: &Case<'_>, key: &str, n: u64, run: &Run<'_>, wrong: &mut Told) {
     let mut word = Told::new(alloc);
     word.text(key);
@@ -155,7 +155,7 @@ fn play_number(alloc: Global, case: &Case<'_>, key: &str, n: u64, run: &Run<'_>,
     play_once(alloc, case, word, run, wrong);
 }
 
-// Plays the run with one word more, and tells what came otherwise than the case has it.
+// Plays the run with one word more, and reports what came otherwise than the case has it.
 fn play_once(alloc: Global, case: &Case<'_>, word: &str, run: &Run<'_>, wrong: &mut Told) {
     let mut outcome = Outcome::new(alloc);
     run.play(alloc, word, &mut outcome);

@@ -8,7 +8,8 @@ use gc_links::{Link, Telling};
 use gc_station::{Book, Kept, Plan, Tally, run_station};
 use gc_texts::{RunFault, Task};
 
-/// Runs a station over a link that tells its acts, so that what `run_station` promises of the acts told holds of this run.
+/// Runs a station over a link that records its acts, so that what `run_station` promises of the acts recorded holds of this
+/// run.
 pub fn run_telling<L: Link, B: Book>(
     link: &mut Telling<L>,
     book: &mut B,

@@ -1,4 +1,4 @@
-//! The words of steps. Milliseconds stand behind `@`, and are 5 where none do.
+//! The words of steps. Milliseconds come after `@`, and are 5 if none do.
 //!
 //!     BEGUN              the beginning is answered: the replies of its eight null procedures come, the last of them 15 later
 //!     QUIET              nothing comes for the quiet time
@@ -26,7 +26,7 @@ fn meaning_of(word: &str) -> Option<&'static str> {
     }
 }
 
-/// Adds the steps of words, and says whether each is known, and each step has room. `split`: behind how many bytes a line of a
+/// Adds the steps of words, and returns whether each is known, and each step has room. `split`: after how many bytes a line of a
 /// word `<<` is cut in two.
 pub fn push_words<'a>(steps: &mut Vec<Step<'a>>, words: &'a str, split: u64) -> bool {
     let mut rest = words;
@@ -60,7 +60,7 @@ fn push_named(steps: &mut Vec<Step<'_>>, meaning: &'static str) -> bool {
     are_known
 }
 
-// Adds the step of a word, or the two of a cut line, and says whether the word is known and there was room.
+// Adds the step of a word, or the two of a cut line, and returns whether the word is known and there was room.
 fn push_word<'a>(steps: &mut Vec<Step<'a>>, word: &'a str, split: u64) -> bool {
     let (what, digits) = word.split_once('@').unwrap_or((word, "5"));
     let Some(millis) = number(digits) else {
@@ -76,18 +76,18 @@ fn push_word<'a>(steps: &mut Vec<Step<'a>>, word: &'a str, split: u64) -> bool {
     }
 }
 
-// Adds a step, and says whether there was room for it.
+// Adds a step, and returns whether there was room for it.
 fn push<'a>(steps: &mut Vec<Step<'a>>, step: Step<'a>) -> bool {
     steps.push(step).is_ok()
 }
 
-// A line, cut in two behind `split` bytes; the second part is empty where the line is no longer than that.
+// A line, cut in two after `split` bytes; the second part is empty where the line is no longer than that.
 fn cut_line(line: &[u8], split: u64) -> (&[u8], &[u8]) {
     let at = usize::try_from(split).unwrap_or(usize::MAX).min(line.len());
     line.split_at(at)
 }
 
-// The step of what stands before `@`, with the milliseconds behind it. None: no step is called so.
+// The step of what comes before `@`, with the milliseconds after it. None: no step is called so.
 fn step_of<'a>(what: &'a str, millis: u64) -> Option<Step<'a>> {
     if let Some(line) = what.strip_prefix('<') {
         return Some(Step::Line(line.as_bytes(), millis));
@@ -117,7 +117,7 @@ fn id_of(id: &str) -> Option<u8> {
     }
 }
 
-/// The first word, and what stands behind the blank that ends it.
+/// The first word, and what comes after the blank that ends it.
 pub fn cut_word(words: &str) -> (&str, &str) {
     words.split_once(' ').unwrap_or((words, ""))
 }

@@ -1,4 +1,4 @@
-//! The arguments of subcommands as tables, and the loops that hand them to clap. A default stands in its row alone: clap fills it
+//! The arguments of subcommands as tables, and the loops that hand them to clap. A default is in its row alone: clap fills it
 //! in.
 
 use clap::builder::ValueParser;
@@ -7,7 +7,7 @@ use gc_links::{Place, place_of};
 use std::alloc::{AllocError, Global};
 
 /// What an argument takes: nothing, a text, or a number from one bound to the other, which is read as `i64` or as `u64`. A
-/// positional argument is a text without a name in front.
+/// positional argument is a text without a name before it.
 #[derive(Clone, Copy)]
 pub enum Takes {
     Positional,
@@ -100,7 +100,7 @@ fn arg_of<'a>(alloc: Global, row: &Argument<'a>) -> Result<Arg<'a>, AllocError> 
     }
 }
 
-// A required argument without a name in front.
+// A required argument without a name before it.
 fn positional_of<'a>(alloc: Global, row: &Argument<'a>) -> Arg<'a> {
     Arg::new(alloc, row.name)
         .value_names(row.value_name)
@@ -108,7 +108,7 @@ fn positional_of<'a>(alloc: Global, row: &Argument<'a>) -> Arg<'a> {
         .help(row.help)
 }
 
-// An argument with two hyphens in front. There is no branch, because a branch on a live builder makes the proof costly: an
+// An argument with two hyphens before it. There is no branch, because a branch on a live builder makes the proof costly: an
 // empty list adds nothing.
 fn option_of<'a>(alloc: Global, row: &Argument<'a>) -> Result<Arg<'a>, AllocError> {
     Arg::new(alloc, row.name)

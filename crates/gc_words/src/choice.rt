@@ -9,7 +9,7 @@ use clap::{ArgMatches, Command};
 use gc_rows::Form;
 use std::alloc::{AllocError, Global};
 
-// The options of `station`. A default stands in its row alone: clap fills it in.
+// The options of `station`. A default is in its row alone: clap fills it in.
 // The place comes first, which is no option.
 const OPTIONS: &[Argument<'static>] = &[
     PLACE,
@@ -155,9 +155,9 @@ pub enum Watch {
 /// What an operator chooses. Times are in milliseconds.
 #[derive(Clone, Copy, Debug, PartialEq, Eq)]
 pub struct Choice {
-    /// How many requests may be under way that aren't given up: 1 to 7.
+    /// How many requests may be in flight that haven't timed out: 1 to 7.
     pub width: u8,
-    /// How long a request waits before it is given up, until a line of the text says otherwise.
+    /// How long a request is outstanding before it has timed out, until a line of the text says otherwise.
     pub deadline: u64,
     /// Whether commands are chained, until a line of the text says otherwise.
     pub chained: bool,
@@ -168,7 +168,7 @@ pub struct Choice {
     /// For how long nothing has to come over a new connection within a run before anything is sent on it, and how long the pause
     /// before such a connection is.
     pub quiet: u64,
-    /// How many times in a row it connects anew.
+    /// How many times in a row it reconnects.
     pub retries: u32,
     /// For how long it goes on without an answer of a good quality. 0: for as long as it takes.
     pub stale: u64,
@@ -226,7 +226,7 @@ fn form_of(matches: &ArgMatches) -> Form {
     }
 }
 
-// How many times in a row the station connects anew: the chosen number, or the greatest `u32` for 0, which stands for no end.
+// How many times in a row the station reconnects: the chosen number, or the greatest `u32` for 0, which stands for no end.
 fn retries_of(chosen: u32) -> u32 {
     match chosen {
         0 => u32::MAX,

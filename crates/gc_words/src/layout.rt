@@ -1,4 +1,4 @@
-//! The layout of records: in which form, whether what stands in front of them stands there already, and of which run they are.
+//! The layout of records: in which form, whether what comes before them is there already, and of which run they are.
 
 use gc_rows::Form;
 

@@ -16,8 +16,8 @@ pub struct Settings {
 }
 
 impl Settings {
-    /// These settings, with a status line below the signs of life where the messages go to a terminal, unless no signs of life
-    /// are asked for.
+    /// These settings, with a status line below the signs of life if the messages go to a terminal, unless no signs of life are
+    /// asked for.
     pub fn watched(self, at_terminal: bool) -> Settings {
         let mut station = self;
         if at_terminal && self.choice.watch == Watch::Lines {

@@ -1,10 +1,10 @@
-//! Where a station works: the place, and the files of its log and of its records.
+//! If a station works: the place, and the files of its log and of its records.
 
 use crate::arguments::{Argument, FLAG, Takes};
 use clap::ArgMatches;
 use gc_links::Place;
 
-/// Where a station measures, where it logs what was on the link, if anywhere, and the path of the file by which somebody asks for the
+/// If a station measures, if it logs what was on the link, if anywhere, and the path of the file by which somebody asks for the
 /// run's end, if any.
 #[derive(Clone, Copy)]
 pub struct Site<'a> {
@@ -23,7 +23,7 @@ pub(crate) const LOG_BYTES: Argument<'static> = Argument {
     ..FLAG
 };
 
-/// Where what was on the link is logged, and the most bytes that the file may have.
+/// If what was on the link is logged, and the most bytes that the file may have.
 #[derive(Clone, Copy)]
 pub struct LogPlace<'a> {
     pub path: &'a str,
@@ -41,7 +41,7 @@ pub fn log_of<'a>(words: &ArgMatches<'a>) -> Option<LogPlace<'a>> {
     }
 }
 
-/// Where records are appended, and whether each is to be on the disk before the next command goes out.
+/// Where records are appended, and whether each is to be on the disk before the next command is sent.
 #[derive(Clone, Copy)]
 pub struct Recording<'a> {
     pub path: &'a str,

@@ -1,5 +1,5 @@
-//! The version: of the program, of the library and of their packages. It stands here alone.
+//! The version: of the program, of the library and of their packages. It is defined here alone.
 
-/// What `geocom --version` says behind the name. The first number is that of the library's calls, `GEOCOM_VERSION` of `geocom.h`,
-/// and of its soname.
+/// What `geocom --version` says after the name. The first number is that of the library's calls, `GEOCOM_VERSION` of
+/// `geocom.h`, and of its soname.
 pub const VERSION: &str = "2.0.0";

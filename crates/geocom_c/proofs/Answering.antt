@@ -1,6 +1,6 @@
--- What a beginning hears of bytes: the frame that the first line feed ends, and then those of the bytes that are left. A frame
--- is what a line feed makes of the bytes before it. The word is the ids of the beginning's eight null procedures, and `left`
--- those of them that aren't answered yet. `HeardTo` says that all bytes but some were heard.
+-- What a synchronization hears of bytes: the frame that the first line feed ends, and then those of the bytes that are left. A
+-- frame is what a line feed makes of the bytes before it. The word is the ids of the synchronization's eight null procedures,
+-- and `left` those of them that aren't answered yet. `HeardTo` says that all bytes but some were heard.
 use Rattle.std.proofs.Common.{◌≡◌, ℕ, ◌+◌, ◌≤◌, ◌<◌, List, [], ◌∷◌, ◌++◌, length, map, take, drop, Some, None, refl, sym, ap, ◌∙◌, arith}
 use Rattle.std.specs.List.{position, filter_map}
 use Rattle.std.proofs.lemmas.List.{drop_all, length-drop}
@@ -40,7 +40,7 @@ pub record HeardTo (r bytes word : List ℕ) (rest : GeocomRest) (left more : Li
   pub same : left_behind left now more ≡ left_behind word r bytes
   pub behind : rest_behind now more ≡ rest_behind r bytes
 
--- where no line feed came, and all bytes were kept, all of them were heard
+-- if no line feed came, and all bytes were kept, all of them were heard
 pub heard_none : (r bytes word : List ℕ) (rest : GeocomRest) (left more : List ℕ) → position is_line_feed bytes ≡ None → more ≡ [] → IsRest rest (r ++ bytes)
     → left ≡ word → HeardTo r bytes word rest left more
 heard_none r bytes word rest left more e none is same =
@@ -51,7 +51,7 @@ heard_none r bytes word rest left more e none is same =
       behind = ap (rest_behind (r ++ bytes)) none ∙ sym (cut_none r bytes e).1;
     }
 
--- where the first line feed ended a frame, which was heard, the bytes through that line feed were heard
+-- if the first line feed ended a frame, which was heard, the bytes through that line feed were heard
 pub heard_some : (r bytes word : List ℕ) (rest : GeocomRest) (left more : List ℕ) (at : ℕ) → position is_line_feed bytes ≡ Some at
     → more ≡ drop (at + 1) bytes → IsRest rest [] → left ≡ left_past word (frame_of (r ++ take at bytes)) → HeardTo r bytes word rest left more
 heard_some r bytes word rest left more at e n is same =
@@ -62,19 +62,19 @@ heard_some r bytes word rest left more at e n is same =
       behind = ap (rest_behind []) n ∙ sym (cut_some r bytes at e).1;
     }
 
--- where all bytes but `more` were heard, and then all of `more` but `end`, all bytes but `end` were heard
+-- if all bytes but `more` were heard, and then all of `more` but `end`, all bytes but `end` were heard
 pub heard_on : (r bytes word : List ℕ) (rest new : GeocomRest) (left more after end : List ℕ) (f : HeardTo r bytes word rest left more)
     → HeardTo f.now more left new after end → HeardTo r bytes word new after end
 heard_on r bytes word rest new left more after end f g = record { now = g.now; is = g.is; same = g.same ∙ f.same; behind = g.behind ∙ f.behind }
 
--- where all bytes were heard, what is kept and what isn't answered is what all of them come to
+-- if all bytes were heard, what is retained and what isn't answered is what all of them come to
 pub heard_to_end : (r bytes word : List ℕ) (rest : GeocomRest) (left more : List ℕ) (f : HeardTo r bytes word rest left more) → more ≡ []
     → (f.now ≡ rest_behind r bytes) × (left ≡ left_behind word r bytes)
 heard_to_end r bytes word rest left more f none = (sym (ap (rest_behind f.now) none) ∙ f.behind, sym (ap (left_behind left f.now) none) ∙ f.same)
 
 -- Of how many null procedures are answered.
 
--- after eight answers no id of the beginning is left
+-- after eight answers no id of the synchronization is left
 pub is_begun : (a : ℕ) → 8 ≤ a → drop a the_word ≡ []
 is_begun a le = drop_all a the_word le
 
@@ -82,7 +82,7 @@ is_begun a le = drop_all a the_word le
 pub not_begun : (a : ℕ) → a < 8 → drop a the_word ≡ [] → ⊥
 not_begun a lt e = let n = length-drop a the_word in let none : length (drop a the_word) ≡ 0 = ap length e in absurd (omega (arith, lt, n, none))
 
--- where no id is left after `a` answers, there were at least eight
+-- if no id is left after `a` answers, there were at least eight
 pub begun_at : (a : ℕ) → drop a the_word ≡ [] → 8 ≤ a
 begun_at a e = let n = length-drop a the_word in let none : length (drop a the_word) ≡ 0 = ap length e in omega (arith, n, none)
 

@@ -27,7 +27,7 @@ same_width c d e = ap (λ w. let x : Windowed Asked = record { width = w; ids = 
 pub from_some : {A : Type 0} (x y : A) → Some x ≡ Some y → x ≡ y
 from_some x y e = cc
 
--- where a fault n other than 0 can only be that of a full window, it isn't that of no client
+-- if a fault n other than 0 can only be that of a full window, it isn't that of no client
 pub full_alone : (n : ℕ) → (n ≢ 0 → n ≡ WINDOW_FULL) → n ≡ NO_CLIENT → ⊥
 full_alone n either e = let f : n ≡ WINDOW_FULL = either (λ z. (cc)) in cc
 
@@ -52,7 +52,7 @@ no_raw_astray raw.TooLong f = absurd (omega (arith, f))
 no_raw_astray raw.OpenQuote f = absurd (omega (arith, f))
 no_raw_astray raw.TooMany f = absurd (omega (arith, f))
 
--- a number and parameters that are asked for as they stand aren't refused
+-- a number and parameters that are asked for as they are aren't refused
 pub never_refused : (procedure : ℕ) (params : List ℕ) (raw : RawCall) (e : RawFault) → IsAsked procedure params (Raw raw) → IsRawRefusal procedure params e → ⊥
 never_refused procedure params raw e is fault =
     no_raw_refusal procedure params e
@@ -75,12 +75,12 @@ other e = absurd (omega (arith, e))
 pub never_ok : {A E : Type 0} (e : E) (x : A) → Err e ≡ Ok x → ⊥
 never_ok e x f = cc
 
--- two writes turn `old` into `between`, and that into `new`: where the first leaves all behind the first n bytes, and the
--- second all behind the first n + k, both leave all behind the first n + k
+-- two writes turn `old` into `between`, and that into `new`: if the first leaves all after the first n bytes, and the second
+-- all after the first n + k, both leave all after the first n + k
 pub twice_untouched : (old between new : List ℕ) (n k count : ℕ) → count ≡ n + k → drop n between ≡ drop n old → drop (n + k) new ≡ drop (n + k) between → drop count new ≡ drop count old
 twice_untouched old between new n k count e f g =
     ap (λ m. drop m new) e ∙ g ∙ sym (drop-drop k n between) ∙ ap (drop k) f ∙ drop-drop k n old ∙ ap (λ m. drop m old) (sym e)
 
--- where t is a line, and u is t with `more` behind it, u begins with that line
+-- where t is a line, and u is t with `more` after it, u begins with that line
 pub front_of : (line t u more : List ℕ) → t ≡ line → u ≡ t ++ more → take (length line) u ≡ line
 front_of line t u more e f = ap (take (length line)) (f ∙ ap (λ x. x ++ more) e) ∙ take-append-le (length line) line more (omega arith) ∙ take_all (length line) line (omega arith)

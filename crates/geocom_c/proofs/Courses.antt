@@ -1,7 +1,7 @@
 -- Calls on a state are events; and the calls bring the client to where its rule brings it over the steps among these events. A
--- course is what a client has sent and settled so far, and the client after that; a step is a send, a line heard, a moment told
--- or a restart. The word is the ids of a beginning's null procedures, and `left` those of them that aren't answered. `Leads`
--- says that events lead from one course to another, and `Over` that calls do, by their events.
+-- course is what a client has sent and settled so far, and the client after that; a step is a send, a line heard, a moment read
+-- or a restart. The word is the ids of a synchronization's null procedures, and `left` those of them that aren't answered.
+-- `Leads` says that events lead from one course to another, and `Over` that calls do, by their events.
 use Rattle.std.proofs.Common.{◌≡◌, ℕ, List, [], ◌∷◌, ◌++◌, map, Option, Some, None, refl, sym, ap, subst, ◌∙◌, inl, inr, append_assoc, arith}
 use Rattle.std.proofs.lemmas.Bool.{le-ltb}
 use Rattle.std.proofs.lemmas.List.{append-nil}
@@ -33,7 +33,7 @@ record Leads (width : ℕ) (x y : Course Asked) (left after : List ℕ) (front :
 leads_none : (width : ℕ) (x : Course Asked) (left : List ℕ) → Leads width x x left left []
 leads_none width x left = record { turns = λ es h. h; reached = λ es. refl; behind = λ es. refl }
 
--- lines that come to the beginning answer null procedures
+-- lines that come to the synchronization answer null procedures
 leads_came : (width : ℕ) (x : Course Asked) (lines : List (List ℕ)) (left : List ℕ) → Leads width x x left (left_by_all left lines) (map Came lines)
 leads_came width x [] left = leads_none width x left
 leads_came width x (line ∷ lines) left =
@@ -55,7 +55,7 @@ leads_both width x y z left between after front later f g =
       behind = λ es. ap (λ l. left_among left l) (append_assoc front later es) ∙ f.behind (later ++ es) ∙ g.behind es;
     }
 
--- where no id of the word is left, none is left after any lines
+-- if no id of the word is left, none is left after any lines
 stays_begun : (lines : List (List ℕ)) → left_by_all [] lines ≡ []
 stays_begun [] = refl
 stays_begun (line ∷ lines) = stays_begun lines
@@ -116,11 +116,11 @@ leads_idle width x y left same = subst (λ (z : Course Asked). Leads width x z l
 never_left : (asked : ℕ) (later : List ℕ) → asked ∷ later ≡ [] → ⊥
 never_left asked later e = cc
 
--- as long as some id is left, so that the client hasn't begun, it is a new one
+-- as long as some id is left, so that the client hasn't synchronized, it is a new one
 abbrev IsIdle : Course Asked → List ℕ → Type 0
 IsIdle x left = (left ≡ [] → ⊥) → x.client ≡ fresh
 
--- lines that a client hears once it has begun are steps of it
+-- lines that a client hears once it has synchronized are steps of it
 leads_heard : (width : ℕ) (x : Course Asked) (lines : List (List ℕ)) → Leads width x (course width x (map one.Hear lines)) [] [] (map Went (map one.Hear lines))
 leads_heard width x [] = leads_none width x []
 leads_heard width x (line ∷ lines) =
@@ -137,7 +137,7 @@ leads_expire : (width : ℕ) (x : Course Asked) (left : List ℕ) (now : ℕ) �
 leads_expire width x [] now idle = record { turns = λ es h. (refl, h); reached = λ es. refl; behind = λ es. refl }
 leads_expire width x (asked ∷ later) now idle = leads_idle width x _ (asked ∷ later) (idle_moment width x now (idle (never_left asked later)))
 
--- a restart leads to a client that begins anew
+-- a restart leads to a client that resynchronizes
 leads_restart : (width : ℕ) (x : Course Asked) (left : List ℕ) → IsIdle x left → Leads width x (goes width x one.Restart) left (anew left) (goes_by left (one.Restart ∷ []))
 leads_restart width x [] idle = record { turns = λ es h. (refl, h); reached = λ es. refl; behind = λ es. refl }
 leads_restart width x (asked ∷ later) idle = leads_idle width x _ (asked ∷ later) (idle_restart width x (idle (never_left asked later)))
@@ -257,7 +257,7 @@ over_events width calls t f =
     let it = as_events width opened calls t (λ no. refl) f in
     record { events = it.events; are = it.are; only = λ others are. only_events the_word [] calls others it.events are it.are; turns = it.turns; reached = it.reached; left = it.left }
 
--- after any calls, what was settled and what waits are, one for one and in order, the sends that weren't refused
+-- after any calls, what was settled and what is outstanding are, one for one and in order, the sends that weren't refused
 pub follows_one_for_one : (width : ℕ) (steps : List Step) (t : Stage) → CallsReach width opened steps t → IsOneForOne t.reached
 follows_one_for_one width steps t f =
     let it = over_events width steps t f in

@@ -25,12 +25,12 @@ use Rattle.geocom_c.specs.FieldWitness.{AreInField, SomeCallsAreInField, moves, 
 number : IsCall 5003 [] InstrumentNo
 number = record { number = refl; values = record { items = []; split = (0, refl); read = tt } }
 
--- a reply with id 0 alone, as what is under way, doesn't have the word, whose first id is 6
+-- a reply with id 0 alone, as what is in flight, doesn't have the word, whose first id is 6
 not_alone : {A : Type 0} → (◌≡◌ {A = ℕ} 6 0 × A) ⊎ ⊥ → ⊥
 not_alone (inl f) = absurd (omega (arith, f.0))
 not_alone (inr f) = f
 
--- after each request the instrument that counts keeps its own reply
+-- after each request the instrument that counts retains its own reply
 alike : TreatsRawsAlike counting AnyState kept_by
 alike state id call good lt = inr (counted.keeps.always state id call good lt refl)
 

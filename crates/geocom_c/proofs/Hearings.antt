@@ -55,11 +55,11 @@ some_heard width x rest bytes at e =
     sym (ap (λ ps. course width x (map one.Hear (filter_map line_in (map frame_of ps)))) (cut_some rest bytes at e).0
     ∙ frame_first width x (frame_of (rest ++ take at bytes)) (map frame_of (pieces_behind [] (drop (at + 1) bytes))))
 
--- the bytes since the last line feed are the same where the bytes through the first line feed are left out
+-- the bytes since the last line feed are the same if the bytes through the first line feed are left out
 pub some_left : (rest bytes : List ℕ) (at : ℕ) → position is_line_feed bytes ≡ Some at → rest_behind [] (drop (at + 1) bytes) ≡ rest_behind rest bytes
 some_left rest bytes at e = sym (cut_some rest bytes at e).1
 
--- where no line feed came, and the bytes were kept, all of them were fed
+-- if no line feed came, and the bytes were kept, all of them were fed
 pub fed_none : (width : ℕ) (x : Course Asked) (rest bytes : List ℕ) (state : GeocomClient) (left : List ℕ) → position is_line_feed bytes ≡ None → left ≡ []
     → StandsFor state (record { width = width; ids = x.client }) (rest ++ bytes) → FedTo width x rest bytes state left
 fed_none width x rest bytes state left e none s =
@@ -71,7 +71,7 @@ fed_none width x rest bytes state left e none s =
       behind = ap (rest_behind (rest ++ bytes)) none ∙ sym (none_left rest bytes e);
     }
 
--- where the first line feed ended a frame, which the client heard, the bytes through that line feed were fed
+-- if the first line feed ended a frame, which the client heard, the bytes through that line feed were fed
 pub fed_some : (width : ℕ) (x : Course Asked) (rest bytes : List ℕ) (state : GeocomClient) (used at : ℕ) → position is_line_feed bytes ≡ Some at → used ≡ at + 1
     → StandsFor state (behind (record { width = width; ids = x.client }) (frame_of (rest ++ take at bytes))) [] → FedTo width x rest bytes state (drop used bytes)
 fed_some width x rest bytes state used at e n s =
@@ -83,25 +83,25 @@ fed_some width x rest bytes state used at e n s =
       behind = ap (λ m. rest_behind [] (drop m bytes)) n ∙ some_left rest bytes at e;
     }
 
--- where all bytes but `left` were fed, and then all of `left` but `end`, all bytes but `end` were fed
+-- if all bytes but `left` were fed, and then all of `left` but `end`, all bytes but `end` were fed
 pub fed_on : (width : ℕ) (x : Course Asked) (rest bytes left end : List ℕ) (state new : GeocomClient) (f : FedTo width x rest bytes state left)
     → FedTo width f.reached f.now left new end → FedTo width x rest bytes new end
 fed_on width x rest bytes left end state new f g = record { reached = g.reached; now = g.now; stands = g.stands; same = g.same ∙ f.same; behind = g.behind ∙ f.behind }
 
--- what follows both where no place is found and where some place is found holds (`o` is the place, if one is found)
+-- what follows both if no place is found and if some place is found holds (`o` is the place, if one is found)
 pub either : {P : Type 0} (o : Option ℕ) → (o ≡ None → P) → ((at : ℕ) → o ≡ Some at → P) → P
 either None f g = f refl
 either (Some at) f g = g at refl
 
--- where all bytes were used, none is left
+-- if all bytes were used, none is left
 pub nothing_left : (bytes : List ℕ) (used : ℕ) → used ≡ length bytes → drop used bytes ≡ []
 nothing_left bytes used e = ap (λ n. drop n bytes) e ∙ none bytes where
-  -- a list has nothing behind as many elements as it has
+  -- a list has nothing after as many elements as it has
   none : (xs : List ℕ) → drop (length xs) xs ≡ []
   none [] = refl
   none (x ∷ xs) = none xs
 
--- where all bytes were fed, the state stands for what all of them make of the client
+-- if all bytes were fed, the state stands for what all of them make of the client
 pub fed_all : (width : ℕ) (x : Course Asked) (rest bytes left : List ℕ) (state : GeocomClient) → FedTo width x rest bytes state left → left ≡ []
     → StandsFor state (record { width = width; ids = (hearing width x rest bytes).client }) (rest_behind rest bytes)
 fed_all width x rest bytes left state f none =
@@ -117,7 +117,7 @@ pub sent_course : (width : ℕ) (x : Course Asked) (rest : List ℕ) (call : Ask
 sent_course width x rest call target None sent s is = subst (λ (t : GeocomClient). StandsFor t (record { width = width; ids = x.client }) rest) (sym is.1) s
 sent_course width x rest call target (Some q) sent s is = is.1
 
--- what follows both where two numbers are equal and where they aren't holds
+-- what follows both where two numbers are equal and if they aren't holds
 pub decided : {P : Type 0} (n m : ℕ) → (n ≡ m → P) → (n ≢ m → P) → P
 decided {P} n m f g = elim (eqb n m) as (λ v. eqb n m ≡ v → P) [
   | true ↦ λ e. f (eqb-true n m e)

@@ -75,12 +75,12 @@ items_length [] (v ∷ vs) are = absurd are
 items_length (i ∷ items) [] are = absurd are
 items_length (i ∷ items) (v ∷ vs) are = omega (arith, items_length items vs are.1)
 
--- of two texts joined, the second is left where as many bytes are dropped as the first has
+-- of two texts joined, the second is left where as many bytes are discarded as the first has
 drop_exact : (t u : List ℕ) → drop (length t) (t ++ u) ≡ u
 drop_exact [] u = refl
 drop_exact (x ∷ t) u = drop_exact t u
 
--- what stands within a front stays where more is appended
+-- what is within a front stays where more is appended
 take_drop_front : (n k : ℕ) (t u : List ℕ) → n + k ≤ length t → take k (drop n (t ++ u)) ≡ take k (drop n t)
 take_drop_front zero k t u fits = take-append-le k t u (omega (arith, fits))
 take_drop_front (suc n) k [] u fits = absurd (omega (arith, fits))
@@ -94,7 +94,7 @@ stands_here text item place o n =
       stands = ap (λ m. take place.length (drop m (text ++ item))) o ∙ ap (take place.length) (drop_exact text item) ∙ take_all place.length item (omega (arith, n));
     }
 
--- an item stands in a text where it stood, once more is appended
+-- an item stands in a text if it stood, once more is appended
 pub stands_more : (text more : List ℕ) (place : GeocomItem) (item : List ℕ) → StandsAt text place item → StandsAt (text ++ more) place item
 stands_more text more place item is =
     record {

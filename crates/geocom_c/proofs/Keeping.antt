@@ -38,7 +38,7 @@ cut_same t more h =
 abbrev pub GoAlike : List ℕ → List ℕ → Type 0
 GoAlike t rest = (more : List ℕ) → frame_of (t ++ more) ≡ frame_of (rest ++ more)
 
--- where `GoAlike` holds of the bytes kept, `t`, and those that came, `rest`, it holds of both with the piece p behind them
+-- where `GoAlike` holds of the bytes kept, `t`, and those that came, `rest`, it holds of both with the piece p after them
 pub alike_all : (t p rest : List ℕ) → GoAlike t rest → GoAlike (t ++ p) (rest ++ p)
 alike_all t p rest same more = ap frame_of (append_assoc t p more) ∙ same (p ++ more) ∙ sym (ap frame_of (append_assoc rest p more))
 
@@ -70,7 +70,7 @@ all_one P x is zero d lt = is
 all_one P x is (suc k) d lt = absurd (omega (arith, lt))
 
 module _ (bytes t p rest : List ℕ) (n f : ℕ) (is : n ≡ length t) (clean : All (λ b. b ≢ 10) t) (cleanly : All (λ b. b ≢ 10) p) (same : GoAlike t rest) where
-  -- where all of the piece `p` was kept, its f bytes after the n bytes `t` that were kept before, what is kept stands for all
+  -- if all of the piece `p` was kept, its f bytes after the n bytes `t` that were kept before, what is retained stands for all
   -- bytes that came since the last line feed, `rest` and then `p`
   pub all_rest : n + f ≤ 514 → take (n + f) bytes ≡ t ++ p → IsRest (record { length = n + f; bytes = bytes }) (rest ++ p)
   all_rest short text =
@@ -79,8 +79,8 @@ module _ (bytes t p rest : List ℕ) (n f : ℕ) (is : n ≡ length t) (clean : 
         same = λ more. ap (λ u. frame_of (u ++ more)) text ∙ alike_all t p rest same more;
       }
 
-  -- where the first f bytes of the piece `p` were kept, as many as there was room for, and its last byte in the last place,
-  -- what is kept stands for all bytes that came since the last line feed, `rest` and then `p`
+  -- if the first f bytes of the piece `p` were kept, as many as there was room for, and its last byte in the last place, what
+  -- is retained stands for all bytes that came since the last line feed, `rest` and then `p`
   pub cut_rest : (last : ℕ) → n ≤ 514 → f ≡ 514 - n → f < length p → take (n + f) bytes ≡ t ++ take f p → 513 < length bytes → last ≡ last_of p
       → IsRest (record { length = n + f; bytes = slice_set bytes 513 last }) (rest ++ p)
   cut_rest last short room more text within e =

@@ -9,7 +9,7 @@ use Rattle.gc_lines.proofs.Cutting.{goes_on}
 -- a byte at which the search stops is a line feed
 is_feed : (b : ℕ) → goes_on b ≡ false → b ≡ 10
 is_feed b e = eqb-true b 10 (flip (is_line_feed b) e) where
-  -- where the negation of a test doesn't hold, the test does
+  -- if the negation of a test doesn't hold, the test does
   flip : (v : Bool) → not v ≡ false → v ≡ true
   flip true e = refl
   flip false e = cc

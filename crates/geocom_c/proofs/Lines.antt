@@ -30,7 +30,7 @@ own_line line asked back e =
 pub never_bad : (line : List ℕ) (asked : Asked) (f : LineFault) → request_at line ≡ Err f → IsLineOf line asked → ⊥
 never_bad line asked f e is = let both : Ok is.fields ≡ Err f = sym (request_again line is.fields is.is_request) ∙ e in cc
 
--- where a line reads as the fields r, and asks for something, r has no id, and its number and parameters ask for that
+-- if a line reads as the fields r, and asks for something, r has no id, and its number and parameters ask for that
 pub read_same : (line : List ℕ) (asked : Asked) (r : RequestFields) → request_at line ≡ Ok r → IsLineOf line asked → (r.id ≡ None) × IsAsked r.rpc r.params asked
 read_same line asked r e is =
     let both : Ok is.fields ≡ Ok r = sym (request_again line is.fields is.is_request) ∙ e in

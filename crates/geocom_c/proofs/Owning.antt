@@ -1,6 +1,6 @@
 -- Each answer of a run is its own request's: it settled that request, and the instrument made it on executing that request. A
--- part is a run with what was under way when it began; `ends` is the instrument, `Good` the states that it may be in, and
--- `kept` the reply that it keeps.
+-- part is a run with what was in flight when it began; `ends` is the instrument, `Good` the states that it may be in, and
+-- `kept` the reply that it retains.
 use Rattle.std.proofs.Common.{◌≡◌, ℕ, zero, suc, ◌<◌, ◌≤◌, List, [], ◌∷◌, ◌++◌, map, length, drop, refl, arith}
 use Rattle.std.specs.Prelude.{Option, Some, slice_get}
 use Rattle.std.specs.List.{AllByRecursion}
@@ -82,7 +82,7 @@ module _ {State : Type 0} (width : ℕ) (ends : Ends State) (Good : State → Ty
   own_here p ps f safe = all_of_places (IsOwnAnswer width ends Good kept (p ∷ ps)) (drop 8 (world width ends p).wire.settled)
       (λ m x e. let at = behind_first 8 m (world width ends p).wire.settled x e in here p ps f safe at.0 x at.1 at.2)
 
-  -- an answer of a later run is its own request's in the list with one more run in front, too
+  -- an answer of a later run is its own request's in the list with one more run before it, too
   pub later_own : (p : Part State) (ps : List (Part State)) (x : Settlement Asked) → IsOwnAnswer width ends Good kept ps x → IsOwnAnswer width ends Good kept (p ∷ ps) x
   later_own p ps x own = λ line is.
       let o = own line is in

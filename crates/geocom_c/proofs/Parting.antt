@@ -1,8 +1,8 @@
--- Run after run: what calls that are runs settle, and whose the answers are. A run is the turns of a beginning and then the
--- moves of the field, and a part is a run with what was under way when it began. The word is the ids of a beginning's eight
--- null procedures, and `left` those of them that aren't answered. `ends` is the instrument, `Good` the states that it may be
--- in, and `kept` the reply that it keeps. `Turned` says which events a beginning's turns are, `Begins` and `Passes` that a run
--- has begun cleanly, and `Holds` what the law promises of runs.
+-- Run after run: what calls that are runs settle, and whose the answers are. A run is the turns of a synchronization and then
+-- the moves of the field, and a part is a run with what was in flight when it began. The word is the ids of a synchronization's
+-- eight null procedures, and `left` those of them that aren't answered. `ends` is the instrument, `Good` the states that it may
+-- be in, and `kept` the reply that it retains. `Turned` says which events a synchronization's turns are, `Begins` and `Passes`
+-- that a run has synchronized cleanly, and `Holds` what the law promises of runs.
 use Rattle.std.proofs.Common.{◌≡◌, ℕ, ◌≤◌, false, List, [], ◌∷◌, ◌++◌, map, drop, Option, Some, None, refl, sym, ◌∙◌, ap, subst, append_assoc}
 use Rattle.std.proofs.lemmas.List.{append-nil}
 use Rattle.std.specs.List.{AllByRecursion}
@@ -33,22 +33,23 @@ use Rattle.geocom_c.proofs.Owning.{all_joined, all_weaker, later_own, none_answe
 
 -- A course with the client of another, which settled these before.
 
--- course x is course y with the settlements `old` in front: the same client, and settlements that are `old` and then those of y
+-- course x is course y with the settlements `old` before it: the same client, and settlements that are `old` and then those of
+-- y
 record Behind (old : List (Settlement Asked)) (x y : Course Asked) : Type 0 where
   settled : x.settlements ≡ old ++ y.settlements
   client : x.client ≡ y.client
 
--- settlements in front stay in front over a send
+-- settlements before it stay before it over a send
 behind_send : (old : List (Settlement Asked)) (x y : Course Asked) (target : ℕ) (call : Asked) (o : Option (Sending (ById Asked))) → Behind old x y
     → Behind old (sent_on x target call o) (sent_on y target call o)
 behind_send old x y target call None h = h
 behind_send old x y target call (Some s) h = record { settled = h.settled; client = refl }
 
--- settlements in front stay in front over what a step settles
+-- settlements before it stay before it over what a step settles
 behind_settled : (old : List (Settlement Asked)) (x y : Course Asked) (s : Settled Asked (ById Asked)) → Behind old x y → Behind old (settled_on x s) (settled_on y s)
 behind_settled old x y s h = record { settled = ap (λ l. l ++ s.settlements) h.settled ∙ append_assoc old y.settlements s.settlements; client = refl }
 
--- settlements in front stay in front over a step
+-- settlements before it stay before it over a step
 behind_step : (width : ℕ) (old : List (Settlement Asked)) (x y : Course Asked) (step : Step Asked) → Behind old x y → Behind old (goes width x step) (goes width y step)
 behind_step width old x y (Send target call deadline) h =
     subst (λ c. Behind old (sent_on x target call (sends width c target call deadline)) (sent_on y target call (sends width y.client target call deadline))) (sym h.client)
@@ -60,7 +61,7 @@ behind_step width old x y (Expire now) h = record { settled = h.settled; client 
 behind_step width old x y Restart h =
     subst (λ c. Behind old (settled_on x (restarts c)) (settled_on y (restarts y.client))) (sym h.client) (behind_settled old x y (restarts y.client) h)
 
--- settlements in front stay in front over all steps
+-- settlements before it stay before it over all steps
 behind_all : (width : ℕ) (old : List (Settlement Asked)) (steps : List (Step Asked)) (x y : Course Asked) → Behind old x y → Behind old (course width x steps) (course width y steps)
 behind_all width old [] x y h = h
 behind_all width old (step ∷ steps) x y h = behind_all width old steps _ _ (behind_step width old x y step h)
@@ -91,8 +92,8 @@ no_restart : (asked : ℕ) (later : List ℕ) (steps : List (Step Asked)) (es : 
 no_restart asked later [] es h = over_none asked later h.0
 no_restart asked later (step ∷ steps) es h = over_none asked later h.0
 
--- events that come in their turn after moves of the field, of a client that has begun, come in their turn without these moves,
--- too
+-- events that come in their turn after moves of the field, of a client that has synchronized, come in their turn without these
+-- moves, too
 went_on : {State : Type 0} (ms : List (Move State)) (es : List Event) → AreInTurn [] (map Went (seen ms) ++ es) → AreInTurn [] es
 went_on [] es h = h
 went_on (Sends target call deadline ∷ ms) es h = went_on ms es h.1
@@ -104,7 +105,7 @@ went_on (field.Anew ∷ ms) es h = went_on ms es h
 went_on (field.Changes state ∷ ms) es h = went_on ms es h
 went_on (Joins line ∷ ms) es h = went_on ms es h
 
--- moves of the field, of a client that has begun, change nothing in which ids aren't answered after further events
+-- moves of the field, of a client that has synchronized, change nothing in which ids aren't answered after further events
 went_left : {State : Type 0} (ms : List (Move State)) (es : List Event) → left_among [] (map Went (seen ms) ++ es) ≡ left_among [] es
 went_left [] es = refl
 went_left (Sends target call deadline ∷ ms) es = went_left ms es
@@ -117,8 +118,8 @@ went_left (field.Changes state ∷ ms) es = went_left ms es
 went_left (Joins line ∷ ms) es = went_left ms es
 
 module _ {State : Type 0} (width : ℕ) (ends : Ends State) where
-  -- the events `front` go with turns of a beginning that lead from s to `after`: they have no step of the client, and leave of
-  -- the word what the turns leave
+  -- the events `front` go with turns of a synchronization that lead from s to `after`: they have no step of the client, and
+  -- leave of the word what the turns leave
   record Turned (s after : Model State) (front : List Event) : Type 0 where
     turns : (es : List Event) → AreInTurn s.left (front ++ es) → AreInTurn after.left es
     left : (es : List Event) → left_among s.left (front ++ es) ≡ left_among after.left es
@@ -133,7 +134,7 @@ module _ {State : Type 0} (width : ℕ) (ends : Ends State) where
         steps = λ es. refl;
       }
 
-  -- a null procedure that goes out leaves the ids as its event does
+  -- a null procedure that is sent leaves the ids as its event does
   turned_asked : (s : Model State) (left : List ℕ) → Turned s (asks s left) (asked_of left)
   turned_asked s [] = turned_same s s refl
   turned_asked s (asked ∷ later) = record { turns = λ es h. h; left = λ es. refl; steps = λ es. refl }
@@ -148,7 +149,7 @@ module _ {State : Type 0} (width : ℕ) (ends : Ends State) where
   reached_left s [] = refl
   reached_left s (x ∷ rest) = refl
 
-  -- one turn of a beginning leaves the ids as its events do
+  -- one turn of a synchronization leaves the ids as its events do
   turned_one : (s : Model State) (t : Turn State) → Turned s (turns ends s t) (event_of s t)
   turned_one s Asks = turned_asked s s.left
   turned_one s Comes = turned_front s s.down
@@ -161,7 +162,7 @@ module _ {State : Type 0} (width : ℕ) (ends : Ends State) where
   turned_one s Anew = turned_same s _ refl
   turned_one s (Changes state) = turned_same s _ refl
 
-  -- the turns of a beginning leave the ids as their events do
+  -- the turns of a synchronization leave the ids as their events do
   turned_all : (ts : List (Turn State)) (s : Model State) → Turned s (turned ends ts s) (events_of width ends s ts)
   turned_all [] s = turned_same s s refl
   turned_all (t ∷ ts) s =
@@ -176,23 +177,23 @@ module _ {State : Type 0} (width : ℕ) (ends : Ends State) where
       }
 
   module _ (Good : State → Type 0) (kept : State → Option KeptReply) (is : IsAnInstrument ends Good kept) (narrow : width ≤ 7) where
-    -- where all requests under way, marked as old or not, are the eighth null procedure, so are they without the marks
+    -- if all requests in flight, marked as old or not, are the eighth null procedure, so are they without the marks
     clean_up : (xs : List (Aged Request)) → Each (λ x. (x.old ≡ false) × (x.line ≡ eighth)) xs → Each (λ x. x ≡ eighth) (map (λ x. x.line) xs)
     clean_up [] h = tt
     clean_up (x ∷ xs) h = (h.0.1, clean_up xs h.1)
 
-    -- where all replies under way, marked as old or not, have id 7, so have they without the marks
+    -- if all replies in flight, marked as old or not, have id 7, so have they without the marks
     clean_down : (xs : List (Aged (List ℕ))) → Each (λ x. (x.old ≡ false) × (heard x.line ≡ Some 7)) xs → Each (λ line. heard line ≡ Some 7) (map (λ x. x.line) xs)
     clean_down [] h = tt
     clean_down (x ∷ xs) h = (h.0.1, clean_down xs h.1)
 
-    -- a run that has begun is faithful, and leaves lines among which the next run may begin
+    -- a run that has synchronized is faithful, and leaves lines among which the next run may begin
     record Begins (u : UnderWay State) (r : Run State) : Type 0 where
       own : IsOwnIf width ends Good kept [] (stood width ends u r) r.moves
       lines : AreLines Good (left_if width ends [] (stood width ends u r) r.moves)
       may : MayBegin (left_if width ends [] (stood width ends u r) r.moves)
 
-    -- where the word isn't under way, a run whose null procedures are all answered has begun as `Begins` says
+    -- if the word isn't in flight, a run whose null procedures are all answered has begun as `Begins` says
     begins_own : (u : UnderWay State) (r : Run State) → AreLines Good u → MayBegin u → AreTurns ends Good kept r.turns (begins u)
         → ArePossible ends Good kept (by_ids width ends) r.moves (ids_begun (leaves (stood width ends u r))) → (stood width ends u r).left ≡ [] → Begins u r
     begins_own u r lines may ts possible e =
@@ -207,7 +208,7 @@ module _ {State : Type 0} (width : ℕ) (ends : Ends State) where
           may = rows_have_not (on_line (behind width ends (leaves s) r.moves).wire) (runs_leave_rows ends Good kept is width narrow (leaves s) is_clean r.moves possible);
         }
 
-    -- where this run has begun, it has begun cleanly, and is faithful
+    -- if this run has begun, it has synchronized cleanly, and is faithful
     abbrev OwnPart : Part State → Type 0
     OwnPart p = IsOwnIf width ends Good kept (begun_at width ends p).left (begun_at width ends p) p.run.moves
 
@@ -216,7 +217,7 @@ module _ {State : Type 0} (width : ℕ) (ends : Ends State) where
     OwnAll ps ss = AllByRecursion (IsOwnAnswer width ends Good kept ps) ss
 
     -- what holds of runs (`ps`) and their events: the library settles and leaves what the runs do, each of its answers is its
-    -- own request's, and each run that has begun is faithful
+    -- own request's, and each run that has synchronized is faithful
     record Holds (ps : List (Part State)) (events : List Event) : Type 0 where
       settled : (course width begun (steps_among events)).settlements ≡ settled_over width ends ps
       client : (course width begun (steps_among events)).client ≡ client_over width ends ps
@@ -271,7 +272,7 @@ module _ {State : Type 0} (width : ℕ) (ends : Ends State) where
       done : (begun_at width ends p).left ≡ []
       turns : AreInTurn the_word rest
 
-    -- a restart comes in its turn only after a run that has begun
+    -- a restart comes in its turn only after a run that has synchronized
     passes : (p : Part State) (left : List ℕ) (rest : List Event) → (begun_at width ends p).left ≡ left → AreLines Good p.before → MayBegin p.before
         → AreTurns ends Good kept p.run.turns (begins p.before)
         → ArePossible ends Good kept (by_ids width ends) p.run.moves (ids_begun (leaves (begun_at width ends p)))
@@ -287,7 +288,8 @@ module _ {State : Type 0} (width : ℕ) (ends : Ends State) where
         let turn = (turned_all p.run.turns (begins p.before)).turns (map Went (seen p.run.moves) ++ Went Restart ∷ rest) h in
         absurd (no_restart asked later (seen p.run.moves) rest (subst (λ l. AreInTurn l (map Went (seen p.run.moves) ++ Went Restart ∷ rest)) e turn))
 
-    -- where a run has begun and a restart follows (`Passes`), and `Holds` is true of the later runs, it is true of all of them
+    -- if a run has synchronized and a restart follows (`Passes`), and `Holds` is true of the later runs, it is true of all of
+    -- them
     passed_holds : (p next : Part State) (others : List (Part State)) (rest : List Event) → IsSafeRun width ends Good kept p → Passes p rest → Holds (next ∷ others) rest
         → Holds (p ∷ next ∷ others) (events_of width ends (begins p.before) p.run.turns ++ (map Went (seen p.run.moves) ++ Went Restart ∷ rest))
     passed_holds p next others rest safe pass more =
@@ -331,7 +333,7 @@ module _ {State : Type 0} (width : ℕ) (ends : Ends State) where
           each = (subst (λ l. IsOwnIf width ends Good kept l s p.run.moves) (sym e) pass.begins.own, more.each);
         }
 
-    -- `Holds` is true of all runs, one after the other, where the word isn't under way at first
+    -- `Holds` is true of all runs, one after the other, if the word isn't in flight at first
     all_hold : (rs : List (Run State)) (u : UnderWay State) → AreLines Good u → MayBegin u → ArePossibleRuns width ends Good kept u rs
         → AllByRecursion (IsSafeRun width ends Good kept) (parts width ends u rs)
         → AreInTurn the_word (events_over width ends u rs) → Holds (parts width ends u rs) (events_over width ends u rs)
@@ -347,8 +349,8 @@ module _ {State : Type 0} (width : ℕ) (ends : Ends State) where
         passed_holds p (record { before = after; run = next }) (parts width ends (left_by_run width ends after next) others) (events_over width ends after (next ∷ others)) safe.0 pass
         (all_hold (next ∷ others) after now again possible.1 safe.1 pass.turns)
 
-    -- the law: where the calls on a state are the events of these runs, over lines among which a run may begin, and all that is sent is safe, they are as
-    -- `AreOwn` says: each answer is its own request's
+    -- the law: if the calls on a state are the events of these runs, over lines among which a run may begin, and all that is
+    -- sent is safe, they are as `AreOwn` says: each answer is its own request's
     pub owned : (calls : List call.Step) (t : Stage) → CallsReach width opened calls t → (u : UnderWay State) → AreLines Good u → MayBegin u
         → (rs : List (Run State)) → AreEvents the_word [] calls (events_over width ends u rs) → ArePossibleRuns width ends Good kept u rs
         → AllByRecursion (IsSafeRun width ends Good kept) (parts width ends u rs) → AreOwn width ends Good kept (parts width ends u rs) t

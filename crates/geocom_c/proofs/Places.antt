@@ -1,5 +1,5 @@
 -- Two lists side by side, one element further. `FirstAre Is xs ys`: the first items of `xs` go with those of `ys`, one for one,
--- where an item of `xs` and one of `ys` "go together" if `Is` holds of them.
+-- if an item of `xs` and one of `ys` "go together" if `Is` holds of them.
 use Rattle.std.proofs.Common.{◌≡◌, ℕ, zero, suc, ◌<◌, ◌≤◌, List, [], ◌∷◌, ◌++◌, length, take, refl, subst, arith}
 use Rattle.std.specs.Prelude.{Some, slice_get, slice_set}
 use Rattle.geocom_c.specs.FirstAre.{FirstAre}
@@ -9,7 +9,7 @@ module _ {A B : Type 0} (Is : A → B → Type 0) where
   pub first_none : (xs : List A) → FirstAre Is xs []
   first_none xs = tt
 
-  -- where the first items of `xs` go with `ys`, and the next one goes with y, the first ones go with `ys` and then y
+  -- if the first items of `xs` go with `ys`, and the next one goes with y, the first ones go with `ys` and then y
   pub first_more : (xs : List A) (ys : List B) (x : A) (y : B) → FirstAre Is xs ys → slice_get xs (length ys) ≡ Some x → Is x y → FirstAre Is xs (ys ++ y ∷ [])
   first_more [] [] x y are e is = cc
   first_more (a ∷ xs) [] x y are e is = let same : x ≡ a = cc in (subst (λ z. Is z y) same is, tt)
@@ -24,8 +24,8 @@ module _ {A B : Type 0} (Is : A → B → Type 0) where
   first_at (a ∷ xs) (b ∷ ys) zero x y are e f = let s : a ≡ x = cc in let t : b ≡ y = cc in subst (λ z. Is z y) s (subst (λ z. Is a z) t are.0)
   first_at (a ∷ xs) (b ∷ ys) (suc k) x y are e f = first_at xs ys k x y are.1 e f
 
-  -- where the first items of `xs` go with the first k of `ys`, and an item that goes with item k of `ys` is written to place k
-  -- of `xs`, the first items of `xs` go with the first k + 1 of `ys`
+  -- if the first items of `xs` go with the first k of `ys`, and an item that goes with item k of `ys` is written to place k of
+  -- `xs`, the first items of `xs` go with the first k + 1 of `ys`
   pub first_written : (xs : List A) (ys : List B) (k : ℕ) (x : A) (y : B) → FirstAre Is xs (take k ys) → k < length xs → slice_get ys k ≡ Some y → Is x y
       → FirstAre Is (slice_set xs k x) (take (suc k) ys)
   first_written [] ys k x y are lt f is = absurd (omega (arith, lt))

@@ -122,8 +122,8 @@ settle_by k line [] = tt
 settle_by zero line (p ∷ ps) = (met_by p line p.given_up, tt)
 settle_by (suc k) line (p ∷ ps) = (tt, settle_by k line ps)
 
--- no other line than this one answers what a client settles by it, where it has the id of place k, whether a request waits
--- there (b) or not
+-- no other line than this one answers what a client settles by it, if it has the id of place k, whether a request is
+-- outstanding there (b) or not
 chosen_by : (c : ById Asked) (line : List ℕ) (k : ℕ) (b : Bool) → AreBy line (id_settled c line k b).settlements
 chosen_by c line k true = settle_by k line c.waiting
 chosen_by c line k false = tt
@@ -145,7 +145,7 @@ lost_at [] k s e = cc
 lost_at (p ∷ ps) zero s e = let same : lost p ≡ s = cc in sym (ap (λ (x : Settlement Asked). x.outcome) same)
 lost_at (p ∷ ps) (suc k) s e = lost_at ps k s e
 
--- a reply whose id is that of a request that waits has the kind 1, of a line that settled, and the number 0
+-- a reply whose id is that of an outstanding request has the kind 1, of a line that settled, and the number 0
 pub settling : (c : ById Asked) (r : Result ReplyFields LineFault) → fits c (id_in r) ≡ true → (1 ≡ line_kind r (fits c (id_in r))) × (0 ≡ number_in r)
 settling c (Ok reply) e = (rw e refl, refl)
 settling c (Err f) e = absurd (clash e) where
@@ -153,7 +153,7 @@ settling c (Err f) e = absurd (clash e) where
   clash : false ≡ true → ⊥
   clash e = cc
 
--- a reply whose id is that of no request that waits has the kind 2, of a stray, and the number 0
+-- a reply whose id is that of no outstanding request has the kind 2, of a stray, and the number 0
 pub straying : (c : ById Asked) (r : Result ReplyFields LineFault) → IsOk r → fits c (id_in r) ≡ false → (2 ≡ line_kind r (fits c (id_in r))) × (0 ≡ number_in r)
 straying c (Ok reply) ok e = (rw e refl, refl)
 straying c (Err f) ok e = absurd (clash ok) where

@@ -1,6 +1,7 @@
--- When what calls on a state send is safe: where a request that is no call of the table is to the instrument as all others, and where each
--- call sends what is in the table. An event is a null procedure that goes out, a line that comes, or a step of a client; a run is the turns
--- of a beginning and then the moves of the field, and a part is a run with what was under way when it began.
+-- When what calls on a state send is safe: if a request that is no call of the table is to the instrument as all others, and if
+-- each call sends what is in the table. An event is a null procedure that is sent, a line that comes, or a step of a client; a
+-- run is the turns of a synchronization and then the moves of the field, and a part is a run with what was in flight when it
+-- began.
 use Rattle.std.proofs.Common.{◌≡◌, ℕ, true, List, [], ◌∷◌, ◌++◌, map, Option, Some, None, refl, sym, subst, inl, inr}
 use Rattle.std.specs.List.{AllByRecursion}
 use Rattle.gc_catalogue.specs.Asked.{is_of_table}
@@ -51,7 +52,7 @@ came : (lines : List (List ℕ)) → AreInTable (map Came lines)
 came [] = tt
 came (line ∷ lines) = (tt, came lines)
 
--- a null procedure that goes out is a call of the table
+-- a null procedure that is sent is a call of the table
 nulls : (o : Option (List ℕ)) → AreInTable (asked_by o)
 nulls None = tt
 nulls (Some line) = (tt, tt)
@@ -118,7 +119,7 @@ table_moves (field.Changes state ∷ ms) h = table_moves ms h
 table_moves (Joins line ∷ ms) h = table_moves ms h
 
 module _ {State : Type 0} (width : ℕ) (ends : Ends State) (Good : State → Type 0) (kept : State → Option KeptReply) where
-  -- where a request that is no call of the table is to the instrument as all others, each run is safe
+  -- if a request that is no call of the table is to the instrument as all others, each run is safe
   pub alike_safe : TreatsRawsAlike ends Good kept → (ps : List (Part State)) → AllByRecursion (IsSafeRun width ends Good kept) ps
   alike_safe alike [] = tt
   alike_safe alike (p ∷ ps) = ((λ m command went. inr (inl alike)), alike_safe alike ps)
@@ -137,7 +138,7 @@ module _ {State : Type 0} (width : ℕ) (ends : Ends State) (Good : State → Ty
       let own = first_of (map Went (seen r.moves)) later rest in
       ((λ m command went. inl (table_moves r.moves own)), table_safe (next ∷ others) after (rest_of (map Went (seen r.moves)) later rest).1)
 
-  -- where each call on a state sends what is in the table, the runs whose events these calls are are safe
+  -- if each call on a state sends what is in the table, the runs whose events these calls are are safe
   pub calls_safe : (calls : List Step) (u : UnderWay State) (rs : List (Run State)) → AreOfTheTable calls
       → AreEvents the_word [] calls (events_over width ends u rs) → AllByRecursion (IsSafeRun width ends Good kept) (parts width ends u rs)
   calls_safe calls u rs t are = table_safe rs u (in_table the_word [] calls (events_over width ends u rs) t are)

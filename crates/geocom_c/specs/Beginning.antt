@@ -1,5 +1,5 @@
--- A beginning over calls on a state, this project's own: what it makes of the bytes that come, and which line goes out. Its word is the ids of
--- its null procedures, in the order in which they are asked.
+-- A synchronization over calls on a state, this project's own: what it makes of the bytes that come, and which line is sent.
+-- Its word is the ids of its null procedures, in the order in which they are asked.
 use Rattle.std.specs.Prelude.{◌≡◌, ℕ, Bool, true, false, List, [], ◌∷◌, length, take, nat_eq, Option, Some, None}
 use Rattle.gc_lines.specs.Lines.{with_end}
 use Rattle.gc_lines.specs.declared.frame.Frame.{Frame}
@@ -9,8 +9,8 @@ use Rattle.gc_client.specs.Rule.{heard}
 use Rattle.geocom_c.specs.Rest.{lines_behind}
 use Rattle.geocom_c.specs.declared.answers.GeocomBeginning.{GeocomBeginning}
 
--- what isn't answered of a word after these lines, which are heard in order: a line that doesn't answer is dropped, and so
--- is each after the last answer
+-- what isn't answered of a word after these lines, which are heard in order: a line that doesn't answer is discarded, and so is
+-- each after the last answer
 abbrev pub left_by_all : List ℕ → List (List ℕ) → List ℕ
 left_by_all left [] = left
 left_by_all left (line ∷ lines) = left_by_all (left_by left (heard line)) lines
@@ -27,20 +27,20 @@ left_past left Cleared = left
 left_past left Overlong = left
 left_past left More = left
 
--- the line that goes out, where `after` are the ids that aren't answered: none while a reply is still waited for (`true`), or
+-- the line that is sent, where `after` are the ids that aren't answered: none while a reply is still waited for (`true`), or
 -- once all ids are answered
 abbrev pub given_if : Bool → List ℕ → Option (List ℕ)
 given_if true after = None
 given_if false after = asks after
 
--- the line that goes out after these bytes, by the ids that aren't answered before and after them. Without bytes it is the null
--- procedure that is asked for, the first time or again; where one was answered, it is the next one; else, and once the client has
--- begun, none goes out
+-- the line that is sent after these bytes, by the ids that aren't answered before and after them. Without bytes it is the null
+-- procedure that is asked for, the first time or again; if one was answered, it is the next one; otherwise, and once the client
+-- has synchronized, none is sent
 abbrev pub given : List ℕ → List ℕ → List ℕ → Option (List ℕ)
 given [] before after = asks after
 given (byte ∷ bytes) before after = given_if (nat_eq (length before) (length after)) after
 
--- the line stands with its CR LF at the front of `room`, and `told` has the count of these bytes; where there is none the count is 0
+-- the line is, with its CR LF, at the front of `room`, and `told` has the count of these bytes; if there is none the count is 0
 abbrev pub IsGiven : Option (List ℕ) → GeocomBeginning → List ℕ → Type 0
 IsGiven None told room = told.count ≡ 0
 IsGiven (Some line) told room = (told.count ≡ length (with_end line)) × (take told.count room ≡ with_end line)

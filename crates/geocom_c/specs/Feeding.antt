@@ -20,7 +20,7 @@ pub record HasRoom (settlements : List GeocomSettlement) (text : List ℕ) : Typ
   pub for_records : WINDOW ≤ length settlements
   pub for_text : TEXT_ROOM ≤ length text
 
--- the kind of a line, by how it reads as a reply and by whether it fits a request that waits
+-- the kind of a line, by how it reads as a reply and by whether it fits an outstanding request
 abbrev pub line_kind : Result ReplyFields LineFault → Bool → ℕ
 line_kind (Ok reply) true = SETTLED
 line_kind (Ok reply) false = STRAY
@@ -33,7 +33,7 @@ frame_kind c Cleared = CLEARED
 frame_kind c Overlong = OVERLONG
 frame_kind c More = MORE
 
--- the number of a line's fault where it is no reply, else 0
+-- the number of a line's fault if it is no reply, else 0
 abbrev pub number_in : Result ReplyFields LineFault → ℕ
 number_in (Ok reply) = 0
 number_in (Err fault) = fault_number fault
@@ -59,15 +59,15 @@ behind c Cleared = c
 behind c Overlong = c
 behind c More = c
 
--- where a line settled at least one request, by this count, it stands at the front of the text
+-- if a line settled at least one request, by this count, it is at the front of the text
 abbrev pub IsInFront : Frame → ℕ → List ℕ → Type 0
 IsInFront (Line line) count text = 0 < count → take (length line.items) text ≡ line.items
 IsInFront Cleared count text = Unit {0}
 IsInFront Overlong count text = Unit {0}
 IsInFront More count text = Unit {0}
 
--- a frame was fed: the result has its kind, its fault and the number of its settlements, a record says of each settlement how the request
--- ended, and a line that settled stands at the front of the text
+-- a frame was fed: the result has its kind, its fault and the number of its settlements, a record says of each settlement how
+-- the request ended, and a line that settled is at the front of the text
 pub record IsFed (c : Windowed Asked) (frame : Frame) (r : GeocomHeard) (records : List GeocomSettlement) (text : List ℕ) : Type 0 where
   pub fault : r.fault ≡ 0
   pub kind : r.kind ≡ frame_kind c frame

@@ -1,7 +1,7 @@
--- Some calls are such that the laws speak of them, this project's own. An old reply is under way, with the id that the first command has. It is
--- dropped, the eight null procedures are answered, two commands go out at once, and a moment passes; both are answered. Over the instrument that
--- counts the second command is for a procedure that isn't in the table, whichever it is. Then the client
--- restarts, and begins anew.
+-- Some calls are such that the laws speak of them, this project's own. An old reply is in flight, with the id that the first
+-- command has. It is discarded, the eight null procedures are answered, two commands are sent at once, and a moment passes;
+-- both are answered. Over the instrument that counts the second command is for a procedure that isn't in the table, whichever
+-- it is. Then the client restarts, and resynchronizes.
 use Rattle.std.specs.Prelude.{◌≡◌, ℕ, List, [], ◌∷◌, ◌++◌, codes, drop, Option, None}
 use Rattle.std.specs.List.{AllByRecursion}
 use Rattle.gc_lines.specs.Lines.{with_end}
@@ -34,22 +34,23 @@ use Rattle.geocom_c.specs.Steps.{AreEvents, steps_among}
 use Rattle.geocom_c.specs.declared.following.Step.{Step}
 use Rattle.geocom_c.specs.declared.following.Step.TheVariants.{Send, SendRaw, Begin, Feed, Expire, Restart}
 
--- an old reply, from before the client begins, with the id that the first command has
+-- an old reply, from before the client synchronizes, with the id that the first command has
 abbrev pub old : List ℕ
 old = codes "%R1P,0,0:0,654321"
 
--- that reply is under way, and nothing else
+-- that reply is in flight, and nothing else
 abbrev pub before : {State : Type 0} → State → UnderWay State
 before state = record { up = []; down = old ∷ []; state = state }
 
--- the calls by which each of these lines is handed to the beginning, as a reply to a null procedure; and then the calls
+-- the calls by which each of these lines is handed to the synchronization, as a reply to a null procedure; and then the calls
 -- `later`. An address is (0, 0) here, as it doesn't matter
 abbrev pub begin_calls : List (List ℕ) → List Step → List Step
 begin_calls [] later = later
 begin_calls (reply ∷ replies) later = Begin (record { ref_ptr = (0, 0); now = with_end reply }) ∷ begin_calls replies later
 
--- the calls: a first one of the beginning without bytes, then one with the old reply and one with each of these replies; two
--- commands, the second of which is this call; a moment; the lines `one` and `other` as the replies to the commands; a restart; and a beginning anew
+-- the calls: a first one of the synchronization without bytes, then one with the old reply and one with each of these replies;
+-- two commands, the second of which is this call; a moment; the lines `one` and `other` as the replies to the commands; a
+-- restart; and a resynchronization
 abbrev pub calls : List (List ℕ) → Step → List ℕ → List ℕ → List Step
 calls replies second one other =
     Begin (record { ref_ptr = (0, 0); now = [] })
@@ -66,11 +67,11 @@ calls replies second one other =
 abbrev pub beginning : {State : Type 0} → List (Turn State)
 beginning = Asks ∷ Comes ∷ drop 1 eight
 
--- the second command where it is one of the table
+-- the second command if it is one of the table
 abbrev pub table_second : Step
 table_second = Send 8 9 5003 (record { ref_ptr = (0, 0); now = [] })
 
--- the second command where it is for a procedure that isn't in the table
+-- the second command if it is for a procedure that isn't in the table
 abbrev pub raw_second : RawCall → Step
 raw_second raw = SendRaw 8 9 raw.rpc (record { ref_ptr = (0, 0); now = raw_params raw })
 
@@ -87,7 +88,8 @@ abbrev pub reached : {State : Type 0} → Ends State → State → Asked → Lis
 reached ends state asked one other = record { reached = course WINDOW begun (steps_among (events_over WINDOW ends (before state) (runs asked one other))); rest = []; left = the_word }
 
 -- all premises of the laws hold of these calls at once; both commands are answered, and the first answer was made on executing its request
-pub record AreInField {State : Type 0} (ends : Ends State) (Good : State → Type 0) (kept : State → Option KeptReply) (state : State) (replies : List (List ℕ)) (second : Step) (asked : Asked) (one other : List ℕ) : Type 0 where
+pub record AreInField {State : Type 0} (ends : Ends State) (Good : State → Type 0) (kept : State → Option KeptReply) (state : State) (replies : List (List ℕ)) (second : Step)
+    (asked : Asked) (one other : List ℕ) : Type 0 where
   pub is : IsAnInstrument ends Good kept
   pub width : IsWidth WINDOW
   pub follows : CallsReach WINDOW opened (calls replies second one other) (reached ends state asked one other)

@@ -32,7 +32,7 @@ pub record FedTo (width : ℕ) (x : Course Asked) (rest bytes : List ℕ) (state
   pub same : hearing width reached now left ≡ hearing width x rest bytes
   pub behind : rest_behind now left ≡ rest_behind rest bytes
 
--- how far calls have brought a client: its course, the bytes since the last line feed, and the ids of the beginning that
+-- how far calls have brought a client: its course, the bytes since the last line feed, and the ids of the synchronization that
 -- aren't answered
 pub record Stage : Type 0 where
   pub reached : Course Asked
@@ -48,9 +48,9 @@ pub record IsAt (width : ℕ) (s : Stage) (state : GeocomClient) : Type 0 where
   pub stands : StandsFor state (record { width = width; ids = s.reached.client }) s.rest
   pub left : left_of state ≡ s.left
 
--- over these calls, in order, the client comes from the stage s to the stage t. A send goes out only once the client has begun;
--- the lines of a begin are heard by the beginning, and not by the client; a restart of a client that has begun has it begin
--- anew
+-- over these calls, in order, the client comes from the stage s to the stage t. A send is sent only once the client has
+-- synchronized; the lines of a begin are heard by the synchronization, and not by the client; a restart of a client that has
+-- synchronized has it resynchronize
 abbrev pub CallsReach : ℕ → Stage → List Step → Stage → Type 0
 CallsReach width s [] t = t ≡ s
 CallsReach width s (Send target deadline procedure params ∷ steps) t =

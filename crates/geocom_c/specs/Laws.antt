@@ -1,8 +1,8 @@
--- What holds of calls on a state where there is an instrument at the other end, this project's own: each answer that the
--- library books is the instrument's to that very request, from the first one on. What may happen meanwhile is the field's: a
--- line of many connections that keeps order, loses lines whole and repeats a line directly after it, and an instrument that may
--- start anew and change by itself at any moment. What is under way when the client begins may be anything, but for the word of
--- a beginning. No clock has a part in it.
+-- What holds of calls on a state if there is an instrument at the other end, this project's own: each answer that the library
+-- books is the instrument's to that very request, from the first one on. What may happen meanwhile is the field's: a line of
+-- many connections that keeps order, loses lines whole and repeats a line directly after it, and an instrument that may start
+-- again and change by itself at any moment. What is in flight when the client synchronizes may be anything, but for the word of
+-- a synchronization. No clock has a part in it.
 use Rattle.std.specs.Prelude.{◌≡◌, ℕ, ◌<◌, ◌≤◌, List, [], ◌∷◌, length, Option, Some, slice_get}
 use Rattle.std.specs.List.{AllByRecursion}
 use Rattle.gc_catalogue.specs.declared.asked.Asked.{Asked}
@@ -29,12 +29,12 @@ use Rattle.geocom_c.specs.declared.following.Step.TheVariants.{Send, SendRaw, Be
 abbrev pub CallsAreEvents : Type 0
 CallsAreEvents = (width : ℕ) (calls : List Step) (t : Stage) → CallsReach width opened calls t → IsOverEvents width calls t
 
--- the word isn't under way: its ids aren't a subsequence of the ids of the replies and requests under way
+-- the word isn't in flight: its ids aren't a subsequence of the ids of the replies and requests in flight
 abbrev pub MayBegin : {State : Type 0} → UnderWay State → Type 0
 MayBegin u = IsSubsequence the_word (ids_under_way u) → ⊥
 
 module _ {State : Type 0} (width : ℕ) (ends : Ends State) (Good : State → Type 0) (kept : State → Option KeptReply) where
-  -- where the answer `line` of settlement `s` comes from, over the runs `ps`: it settled request m of run k, which has the
+  -- if the answer `line` of settlement `s` comes from, over the runs `ps`: it settled request m of run k, which has the
   -- settlement's target and call, and is none of the eight null procedures; and the instrument made this line on executing that
   -- very request
   pub record IsItsOwn (ps : List (Part State)) (s : Settlement Asked) (line : List ℕ) : Type 0 where
@@ -54,13 +54,13 @@ module _ {State : Type 0} (width : ℕ) (ends : Ends State) (Good : State → Ty
     -- executed it, and this line was its reply
     pub made_on : WasMadeOn width ends (leaves (begun_at width ends part)) part.run.moves m s.call line
 
-  -- each command that went out in a run is safe (`IsSafe`): each request of the run is a call of the table; or a request that is none is to the
-  -- instrument as all others; or the command went out behind the table
+  -- each command that was sent in a run is safe (`IsSafe`): each request of the run is a call of the table; or a request that
+  -- is none is to the instrument as all others; or the command was sent after the table
   abbrev pub IsSafeRun : Part State → Type 0
   IsSafeRun p =
       (m : ℕ) → 8 ≤ m → m < length (world width ends p).wire.sent → IsSafe width ends (leaves (begun_at width ends p)) Good kept p.run.moves m
 
-  -- where a settlement is an answer, its line was made for that very request (`IsItsOwn`)
+  -- if a settlement is an answer, its line was made for that very request (`IsItsOwn`)
   abbrev pub IsOwnAnswer : List (Part State) → Settlement Asked → Type 0
   IsOwnAnswer ps s = (line : List ℕ) → s.outcome ≡ Answered line → IsItsOwn ps s line
 
@@ -70,17 +70,18 @@ module _ {State : Type 0} (width : ℕ) (ends : Ends State) (Good : State → Ty
     -- have the same ids
     pub settled : t.reached.settlements ≡ settled_over width ends ps
     pub client : t.reached.client ≡ client_over width ends ps
-    -- the ids that the library's beginning has unanswered are those that the last run has; so its null procedures have the same
-    -- ids, too
+    -- the ids that the library's synchronization has unanswered are those that the last run has; so its null procedures have
+    -- the same ids, too
     pub left : t.left ≡ left_over width ends ps
     -- each answer is its own request's
     pub own : AllByRecursion (IsOwnAnswer ps) t.reached.settlements
-    -- and each run that has begun has begun cleanly, and is faithful: one for one, in order, acts once where the instrument keeps its reply, and
-    -- a first reply in time is booked
+    -- and each run that has synchronized has synchronized cleanly, and is faithful: one for one, in order, acts once if the
+    -- instrument retains its reply, and a first reply in time is booked
     pub each : AllByRecursion (λ p. IsOwnIf width ends Good kept (begun_at width ends p).left (begun_at width ends p) p.run.moves) ps
 
--- each answer is its own request's (`AreOwn`), for any instrument, every width, all calls on a state that are safe (`IsSafeRun`), whatever is
--- under way when the state is made, unless the word is, and all that the line and the instrument may do meanwhile
+-- each answer is its own request's (`AreOwn`), for any instrument, every width, all calls on a state that are safe
+-- (`IsSafeRun`), whatever is in flight when the state is made, unless the word is, and all that the line and the instrument may
+-- do meanwhile
 abbrev pub AnswersAreTheirOwn : Type 0 → Type 0
 AnswersAreTheirOwn State =
     (ends : Ends State) (kept : State → Option KeptReply) → IsAnInstrument ends AnyState kept →
@@ -99,8 +100,8 @@ SimulatorsAnswersAreTheirOwn =
     AllByRecursion (IsSafeRun width ends IsFittingState kept_of) (parts width ends u rs) →
     AreOwn width ends IsFittingState kept_of (parts width ends u rs) t
 
--- after a run that measured, or over a line with nothing under way: as long as fewer than six runs in a row ended while they
--- began, the next one may begin
+-- after a run that measured, or over a line with nothing in flight: as long as fewer than six runs in a row ended while they
+-- synchronized, the next one may begin
 abbrev pub FewKilledMayBegin : Type 0 → Type 0
 FewKilledMayBegin State =
     (ends : Ends State) (kept : State → Option KeptReply) → IsAnInstrument ends AnyState kept →
@@ -117,8 +118,9 @@ AreOfTheTable (Feed bytes ∷ calls) = AreOfTheTable calls
 AreOfTheTable (Expire now ∷ calls) = AreOfTheTable calls
 AreOfTheTable (Restart ∷ calls) = AreOfTheTable calls
 
--- each run is safe (`IsSafeRun`) where a request that is no call of the table is to the instrument as all others, which all instruments meet that know
--- the procedures; and, over any instrument and over the simulator, where no call on the state asks for such a procedure
+-- each run is safe (`IsSafeRun`) if a request that is no call of the table is to the instrument as all others, which all
+-- instruments meet that know the procedures; and, over any instrument and over the simulator, if no call on the state asks for
+-- such a procedure
 pub record CallsAreSafe (State : Type 0) : Type 0 where
   pub alike :
       (ends : Ends State) (kept : State → Option KeptReply) → TreatsRawsAlike ends AnyState kept →
@@ -128,7 +130,7 @@ pub record CallsAreSafe (State : Type 0) : Type 0 where
       (u : UnderWay State) (rs : List (Run State)) → AreEvents the_word [] calls (events_over width ends u rs) →
       AllByRecursion (IsSafeRun width ends AnyState kept) (parts width ends u rs)
 
--- the same of calls over the simulator, which makes its refusals of such procedures anew, and keeps what it kept
+-- the same of calls over the simulator, which makes its refusals of such procedures again, and retains what it retained
 abbrev pub SimulatorsCallsAreSafe : Type 0
 SimulatorsCallsAreSafe =
     (width : ℕ) (calls : List Step) → AreOfTheTable calls →

@@ -1,4 +1,4 @@
--- The bytes of a line under way, this project's own: what a state keeps of those since the last line feed.
+-- The bytes of an incomplete line, this project's own: what a state keeps of those since the last line feed.
 use Rattle.std.specs.Prelude.{◌≡◌, ◌≢◌, ◌≤◌, ℕ, List, ◌++◌, take, All, map}
 use Rattle.std.specs.List.{filter_map}
 use Rattle.gc_lines.specs.Frames.{frame_of, line_in, pieces_behind}

@@ -1,6 +1,6 @@
--- What the library's client does over a line, this project's own: run after run, each from one beginning to the next. A run
--- begins by its null procedures, among whatever is under way by then, and then sends. After a restart the next run begins among
--- what the run before it left.
+-- What the library's client does over a line, this project's own: run after run, each from one synchronization to the next. A
+-- run synchronizes by its null procedures, among whatever is in flight by then, and then sends. After a restart the next run
+-- begins among what the run before it left.
 use Rattle.std.specs.Prelude.{ℕ, List, [], ◌∷◌, ◌++◌, map, drop, Option}
 use Rattle.gc_catalogue.specs.declared.asked.Asked.{Asked}
 use Rattle.gc_client.specs.Beginning.{the_word}
@@ -17,17 +17,17 @@ use Rattle.geocom_c.specs.Steps.{Event, Null, Came, Went}
 
 -- What a run is to the library.
 
--- the event of a null procedure that goes out; none once the client has begun
+-- the event of a null procedure that is sent; none once the client has synchronized
 abbrev pub asked_of : List ℕ → List Event
 asked_of [] = []
 asked_of (asked ∷ later) = Null ∷ []
 
--- the event of the line in front, which comes; none where there is no line
+-- the event of the line before it, which comes; none if there is no line
 abbrev pub front_of : List (Aged (List ℕ)) → List Event
 front_of [] = []
 front_of (x ∷ rest) = Came x.line ∷ []
 
--- the event that a turn of a beginning is to the library: a turn of the line or of the instrument is none
+-- the event that a turn of a synchronization is to the library: a turn of the line or of the instrument is none
 abbrev pub event_of : {State : Type 0} → Model State → Turn State → List Event
 event_of s Asks = asked_of s.left
 event_of s Comes = front_of s.down
@@ -40,13 +40,13 @@ event_of s (Down_repeat k) = []
 event_of s Anew = []
 event_of s (Changes state) = []
 
--- a run, and what was under way when it began
+-- a run, and what was in flight when it began
 pub record Part (State : Type 0) : Type 0 where
   pub before : UnderWay State
   pub run : Run State
 
 module _ {State : Type 0} (width : ℕ) (ends : Ends State) where
-  -- the events that the turns of a beginning are to the library
+  -- the events that the turns of a synchronization are to the library
   abbrev pub events_of : Model State → List (Turn State) → List Event
   events_of s [] = []
   events_of s (t ∷ ts) = event_of s t ++ events_of (turns ends s t) ts
@@ -59,7 +59,7 @@ module _ {State : Type 0} (width : ℕ) (ends : Ends State) where
 
   -- Runs, one after the other.
 
-  -- the state of a run's beginning, once that is over or the run was ended while it began
+  -- the state of a run's synchronization, once that is over or the run was ended while it synchronized
   abbrev pub begun_at : Part State → Model State
   begun_at p = stood width ends p.before p.run
 
@@ -67,7 +67,7 @@ module _ {State : Type 0} (width : ℕ) (ends : Ends State) where
   abbrev pub world : Part State → World (ById Asked) State
   world p = behind width ends (leaves (begun_at p)) p.run.moves
 
-  -- what runs leave under way
+  -- what runs leave in flight
   abbrev pub left_by_runs : UnderWay State → List (Run State) → UnderWay State
   left_by_runs u [] = u
   left_by_runs u (r ∷ rs) = left_by_runs (left_by_run width ends u r) rs
@@ -77,7 +77,7 @@ module _ {State : Type 0} (width : ℕ) (ends : Ends State) where
   parts u [] = []
   parts u (r ∷ rs) = record { before = u; run = r } ∷ parts (left_by_run width ends u r) rs
 
-  -- what happens is possible, in the beginning of each run and after it. Whether it has begun by then is no premise
+  -- what happens is possible, in the synchronization of each run and after it. Whether it has begun by then is no premise
   abbrev pub ArePossibleRuns : (State → Type 0) → (State → Option KeptReply) → UnderWay State → List (Run State) → Type 0
   ArePossibleRuns Good kept u [] = Unit {0}
   ArePossibleRuns Good kept u (r ∷ rs) =
@@ -86,12 +86,14 @@ module _ {State : Type 0} (width : ℕ) (ends : Ends State) where
 
   -- What they settle.
 
-  -- what the library settles in a run, by the ids that aren't answered: all but the eight null procedures once it has begun, and nothing before
+  -- what the library settles in a run, by the ids that aren't answered: all but the eight null procedures once it has
+  -- synchronized, and nothing before
   abbrev pub settled_if : List ℕ → World (ById Asked) State → List (Settlement Asked)
   settled_if [] w = drop 8 w.wire.settled
   settled_if (asked ∷ later) w = []
 
-  -- what the library settles at the restart after a run: what waits, as lost, if the run has begun, else nothing
+  -- what the library settles at the restart after a run: what is outstanding, as lost, if the run has synchronized, else
+  -- nothing
   abbrev pub lost_if : List ℕ → World (ById Asked) State → List (Settlement Asked)
   lost_if [] w = map lost w.client.waiting
   lost_if (asked ∷ later) w = []
@@ -102,7 +104,7 @@ module _ {State : Type 0} (width : ℕ) (ends : Ends State) where
   settled_over (p ∷ []) = settled_if (begun_at p).left (world p)
   settled_over (p ∷ next ∷ others) = (settled_if (begun_at p).left (world p) ++ lost_if (begun_at p).left (world p)) ++ settled_over (next ∷ others)
 
-  -- the client after a run, which is new where the run hasn't begun
+  -- the client after a run, which is new if the run hasn't synchronized
   abbrev pub client_if : List ℕ → World (ById Asked) State → ById Asked
   client_if [] w = w.client
   client_if (asked ∷ later) w = fresh
@@ -113,7 +115,7 @@ module _ {State : Type 0} (width : ℕ) (ends : Ends State) where
   client_over (p ∷ []) = client_if (begun_at p).left (world p)
   client_over (p ∷ next ∷ others) = client_over (next ∷ others)
 
-  -- the ids of a beginning that aren't answered after runs: those of the last one
+  -- the ids of a synchronization that aren't answered after runs: those of the last one
   abbrev pub left_over : List (Part State) → List ℕ
   left_over [] = the_word
   left_over (p ∷ []) = (begun_at p).left

@@ -23,8 +23,8 @@ pub record Sent : Type 0 where
   pub after : List ℕ
   pub told : GeocomCount
 
--- a send that the rule refuses returns that the window is full, and changes nothing; else the line was written with its CR LF, and the state
--- is the rule's
+-- a send that the rule refuses returns that the window is full, and changes nothing; otherwise the line was written with its CR
+-- LF, and the state is the rule's
 abbrev pub IsSent : (c : Windowed Asked) (rest : List ℕ) (asked : Asked) → Option (Sending (ById Asked)) → Sent → Type 0
 IsSent c rest asked None sent = (sent.told.fault ≡ WINDOW_FULL) × (sent.new ≡ sent.old) × (sent.after ≡ sent.before)
 IsSent c rest asked (Some s) sent =

@@ -17,17 +17,17 @@ use Rattle.geocom_c.specs.declared.header.TheConstants.{ANSWERED, LATE, LOST, NO
 use Rattle.geocom_c.specs.declared.listed.GeocomItem.{GeocomItem}
 use Rattle.geocom_c.specs.declared.settled.GeocomSettlement.{GeocomSettlement}
 
--- the item stands in the text where its place says
+-- the item is in the text where its place says
 pub record StandsAt (text : List ℕ) (place : GeocomItem) (item : List ℕ) : Type 0 where
   pub within : place.offset + place.length ≤ length text
   pub stands : take place.length (drop place.offset text) ≡ item
 
--- the items of an answer are its values where a call of the table was asked; of another procedure they are texts
+-- the items of an answer are its values if a call of the table was asked; of another procedure they are texts
 abbrev pub AreReadAs : Asked → Answer → List (List ℕ) → Type 0
 AreReadAs (Table call) answer items = AreItems items (answer_fields answer).values
 AreReadAs (Raw raw) answer items = Unit {0}
 
--- `count` items of an answer are listed: they are those of the parameters, and they stand in the text
+-- `count` items of an answer are listed: they are those of the parameters, and they are in the text
 pub record AreListed (asked : Asked) (answer : Answer) (count : ℕ) (places : List GeocomItem) (text params : List ℕ) : Type 0 where
   pub items : List (List ℕ)
   pub split : IsParams params items
@@ -42,7 +42,8 @@ HasReading asked r text params (Refused code) = (r.reading ≡ REFUSED) × (r.co
 HasReading asked r text params (ComFault code) = (r.reading ≡ COM_FAULT) × (r.code ≡ code) × (r.items ≡ 0)
 HasReading asked r text params (Unreadable fault) = (r.reading ≡ UNREADABLE) × (r.code ≡ fault_number fault) × (r.items ≡ 0)
 
--- a record of an answer: its line stands at the front of the text, and the record has what the line says as a reply to what was asked
+-- a record of an answer: its line is at the front of the text, and the record has what the line says as a reply to what was
+-- asked
 pub record IsAnswered (r : GeocomSettlement) (text : List ℕ) (asked : Asked) (line : List ℕ) : Type 0 where
   pub answered : r.outcome ≡ ANSWERED
   pub length : r.line_length ≡ length line
@@ -67,8 +68,8 @@ HasOutcome r text asked (Rule.Answered line) = IsAnswered r text asked line
 HasOutcome r text asked Rule.Late = IsUnanswered r LATE
 HasOutcome r text asked Rule.Lost = IsUnanswered r LOST
 
--- a record says whom a request was for, its procedure, and how it ended; of an answer's line and its items, it says where they stand in the
--- text
+-- a record says whom a request was for, its procedure, and how it ended; of an answer's line and its items, it says where they
+-- are in the text
 pub record IsRecord (text : List ℕ) (r : GeocomSettlement) (s : Rule.Settlement Asked) : Type 0 where
   pub target : r.target ≡ s.target
   pub procedure : r.procedure ≡ (asked_request None s.call).rpc
@@ -91,7 +92,7 @@ pub record AreStanding (count : ℕ) (places : List GeocomItem) (text : List ℕ
   pub counted : count ≡ length items
   pub stand : FirstAre (StandsAt text) places items
 
--- no part of a promise: the text of a line, in which the items of a reply's parameters stand, where these are at most 16
+-- no part of a promise: the text of a line, in which the items of a reply's parameters stand, if these are at most 16
 pub record IsTold (text : List ℕ) (count : ℕ) (places : List GeocomItem) (line : List ℕ) : Type 0 where
   pub front : take (length line) text ≡ line
   pub listed : (reply : ReplyFields) (items : List (List ℕ)) → IsReply line reply → IsParams reply.params items → length items ≤ 16 → AreStanding count places text items

@@ -1,4 +1,5 @@
--- What the bytes of a state stand for: a client, the bytes since the last line feed, and how far its beginning came. This project's own.
+-- What the bytes of a state stand for: a client, the bytes since the last line feed, and how far its synchronization came. This
+-- project's own.
 use Rattle.std.specs.Prelude.{◌≡◌, ℕ, ◌<◌, ◌≤◌, List, length, take, drop, if◌then◌else◌, None}
 use Rattle.gc_lines.specs.Requests.{RequestFields, IsRequest}
 use Rattle.gc_catalogue.specs.declared.asked.Asked.{Asked}
@@ -12,8 +13,8 @@ use Rattle.geocom_c.specs.Rest.{IsRest}
 use Rattle.geocom_c.specs.declared.state.GeocomWaiting.{GeocomWaiting}
 use Rattle.geocom_c.specs.declared.state.GeocomClient.{GeocomClient}
 
--- a request line without an id, which asks for this: for a call where its number is in the table, else for the procedure with its
--- parameters as they stand
+-- a request line without an id, which asks for this: for a call where its number is in the table, else for the procedure with
+-- its parameters as they are
 pub record IsLineOf (line : List ℕ) (asked : Asked) : Type 0 where
   pub fields : RequestFields
   pub is_request : IsRequest line fields
@@ -28,14 +29,15 @@ pub record IsPlace (w : GeocomWaiting) (p : Pending Asked) : Type 0 where
   pub within : w.length ≤ 512
   pub line : IsLineOf (take w.length w.line) p.call
 
--- the numbers of a state can be a client's: the width, the next id, how many requests wait, and how many null procedures are answered
+-- the numbers of a state can be a client's: the width, the next id, how many requests are outstanding, and how many null
+-- procedures are answered
 pub record HasHead (s : GeocomClient) : Type 0 where
   pub width : IsWidth s.width
   pub digit : s.next < IDS
   pub few : s.waiting ≤ s.width
   pub part : s.answered ≤ 8
 
--- the ids of the beginning's null procedures that aren't answered
+-- the ids of the synchronization's null procedures that aren't answered
 abbrev pub left_of : GeocomClient → List ℕ
 left_of s = drop s.answered the_word
 

@@ -1,4 +1,5 @@
--- Calls as events, this project's own: what the calls that a caller makes on a state are to a beginning, and to a client that has begun.
+-- Calls as events, this project's own: what the calls that a caller makes on a state are to a synchronization, and to a client
+-- that has synchronized.
 use Rattle.std.specs.Prelude.{◌≡◌, ◌⊎◌, ℕ, List, [], ◌∷◌, ◌++◌, map, Option, Some, None}
 use Rattle.gc_lines.specs.Frames.{rest_behind}
 use Rattle.gc_catalogue.specs.declared.asked.Asked.{Asked}
@@ -17,32 +18,34 @@ use Rattle.geocom_c.specs.Rest.{lines_behind}
 use Rattle.geocom_c.specs.declared.following.Step.{Step}
 use Rattle.geocom_c.specs.declared.following.Step.TheVariants.{Send, SendRaw, Begin, Feed, Expire, Restart}
 
--- what happens to a client: while it begins, a null procedure goes out, or a line comes; once it has begun, it makes a step
+-- what happens to a client: while it synchronizes, a null procedure is sent, or a line comes; once it has synchronized, it
+-- makes a step
 pub data Event : Type 0 where
   Null : Event
   Came : (line : List ℕ) → Event
   Went : (step : one.Step Asked) → Event
 
--- the event of a line that goes out while the client begins: a null procedure is asked for. Without a line there is no event
+-- the event of a line that is sent while the client synchronizes: a null procedure is asked for. Without a line there is no
+-- event
 abbrev pub asked_by : Option (List ℕ) → List Event
 asked_by None = []
 asked_by (Some line) = Null ∷ []
 
--- the events of a begin: while the client begins, each line that the bytes end comes, and then a null procedure may go out. Once it has begun
--- there are none, and the lines are dropped
+-- the events of a begin: while the client synchronizes, each line that the bytes end comes, and then a null procedure may be
+-- sent. Once it has begun there are none, and the lines are discarded
 abbrev pub begins_by : List ℕ → List ℕ → List ℕ → List Event
 begins_by [] rest bytes = []
 begins_by (asked ∷ later) rest bytes = map Came (lines_behind rest bytes) ++ asked_by (given bytes (asked ∷ later) (left_behind (asked ∷ later) rest bytes))
 
--- the events of steps of the client: none while it begins
+-- the events of steps of the client: none while it synchronizes
 abbrev pub goes_by : List ℕ → List (one.Step Asked) → List Event
 goes_by [] steps = map Went steps
 goes_by (asked ∷ later) steps = []
 
--- these calls are these events, by the ids that aren't answered and the bytes since the last line feed. A send is a step where the client has
--- begun, and its number and parameters are a call's, with room in the window or not; a raw send where they may be asked for as they stand;
--- else it is nothing. Each line that bytes end is a step,
--- and so is a moment; a restart is one, and forgets the bytes of a line. Lines that are fed while the client begins are dropped
+-- these calls are these events, by the ids that aren't answered and the bytes since the last line feed. A send is a step if the
+-- client has synchronized, and its number and parameters are a call's, with room in the window or not; a raw send if they may
+-- be asked for as they are; otherwise it is nothing. Each line that bytes end is a step, and so is a moment; a restart is one,
+-- and forgets the bytes of a line. Lines that are fed while the client synchronizes are discarded
 abbrev pub AreEvents : List ℕ → List ℕ → List Step → List Event → Type 0
 AreEvents left rest [] events = events ≡ []
 AreEvents left rest (Send target deadline procedure params ∷ calls) events =

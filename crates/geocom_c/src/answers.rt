@@ -22,16 +22,16 @@ pub struct GeocomDeadline {
     pub is_set: u32,
 }
 
-/// What came of a beginning: a fault or 0, and how many bytes of a line are to be written.
+/// What came of a synchronization: a fault or 0, and how many bytes of a line are to be written.
 #[repr(C)]
 #[derive(Clone, Copy)]
 pub struct GeocomBeginning {
     pub fault: u32,
-    /// How many bytes of the line, with its CR LF; 0: none goes out now.
+    /// How many bytes of the line, with its CR LF; 0: none is sent now.
     pub count: u32,
     /// How many null procedures are answered, of eight.
     pub answered: u32,
-    /// 1 once all are; else 0.
+    /// 1 once all are; otherwise 0.
     pub has_begun: u32,
 }
 
@@ -45,7 +45,7 @@ pub struct GeocomHeard {
     pub count: u32,
     /// What the bytes ended: [`MORE`] to [`OVERLONG`](crate::header::OVERLONG).
     pub kind: u32,
-    /// Of a line that is no reply, the fault of its first faulty field, 1 to 5; else 0.
+    /// Of a line that is no reply, the fault of its first faulty field, 1 to 5; otherwise 0.
     pub line_fault: u32,
 }
 
@@ -80,7 +80,7 @@ pub(crate) fn begun(count: u32, answered: u8) -> GeocomBeginning
     }
 }
 
-// The fault of a beginning that heard nothing; all other fields are 0.
+// The fault of a synchronization that heard nothing; all other fields are 0.
 pub(crate) fn unbegun(fault: u32) -> GeocomBeginning
     ensures { result ≡ record { fault = fault; count = 0; answered = 0; has_begun = 0 } }
 {

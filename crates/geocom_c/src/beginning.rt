@@ -1,4 +1,5 @@
-//! The beginning: a client sends nothing before eight null procedures were answered, so that no old reply is taken for an answer.
+//! The synchronization: a client sends nothing before eight null procedures were answered, so that no old reply is taken for an
+//! answer.
 
 ghost use Rattle.std.specs.Prelude.{◌≡◌, ◌≢◌, ◌↔◌, ◌<◌, ◌≤◌, ◌+◌, ◌++◌, ℕ, Bool, List, [], length, take, drop, Some, None, true, false};
 ghost use Rattle.std.specs.List.{position};
@@ -19,7 +20,7 @@ use crate::state::{GeocomClient, load};
 use gc_client::Beginning;
 use gc_lines::Frame;
 
-// Hands the beginning the line that a frame is, if it is one.
+// Hands the synchronization the line that a frame is, if it is one.
 fn hear_frame(beginning: &mut Beginning, frame: &Frame)
     ensures { beginning.new ≡ left_past beginning.old frame.now }
 {
@@ -31,8 +32,8 @@ fn hear_frame(beginning: &mut Beginning, frame: &Frame)
     }
 }
 
-// Takes bytes through the first line feed, and hands the line that it ends to the beginning. Without a line feed all bytes are
-// kept. Returns how many were used.
+// Takes bytes through the first line feed, and hands the line that it ends to the synchronization. Without a line feed all
+// bytes are kept. Returns how many were used.
 fn hear_line(rest: &mut GeocomRest, beginning: &mut Beginning, bytes: &[u8]) -> usize
     requires { IsCut rest.old }
     ensures used { (result ≤ length bytes.now) × (0 < length bytes.now → 0 < result) }
@@ -55,7 +56,7 @@ fn hear_line(rest: &mut GeocomRest, beginning: &mut Beginning, bytes: &[u8]) -> 
     }
 }
 
-// Uses all bytes: hands each line that they end to the beginning, which drops those after the eighth answer.
+// Uses all bytes: hands each line that they end to the synchronization, which discards those after the eighth answer.
 fn hear_all(rest: &mut GeocomRest, beginning: &mut Beginning, bytes: &[u8])
     requires { IsCut rest.old }
     ensures { (r : List ℕ) → IsRest rest.old r
@@ -68,7 +69,8 @@ fn hear_all(rest: &mut GeocomRest, beginning: &mut Beginning, bytes: &[u8])
     }
 }
 
-// Writes the line of the null procedure that is asked for, with CR LF, and returns its length: 0 once the client has begun.
+// Writes the line of the null procedure that is asked for, with CR LF, and returns its length: 0 once the client has
+// synchronized.
 fn ask(beginning: &Beginning, line: &mut [u8]) -> u32
     requires { LINE_ROOM ≤ length line.old }
     ensures asked { (told : GeocomBeginning) → told.count ≡ result → IsGiven (asks beginning.now) told line.new }
@@ -99,7 +101,7 @@ fn ask_if(is_waiting: bool, beginning: &Beginning, line: &mut [u8]) -> u32
     ask(beginning, line)
 }
 
-// Whether the null procedure that went out is still waited for: bytes came, and answered none.
+// Whether the null procedure that was sent is still waited for: bytes came, and answered none.
 fn is_waiting(bytes: &[u8], before: u8, after: u8) -> bool
     requires before { before ≤ 8 }
     requires after { after ≤ 8 }
@@ -108,14 +110,14 @@ fn is_waiting(bytes: &[u8], before: u8, after: u8) -> bool
     !bytes.is_empty() && before == after
 }
 
-/// Begins: takes what came, and gives the line of the null procedure that is to go out next, with CR LF: `count` bytes of `line`. Eight null
-/// procedures are asked, one after the other, with ids 6, 5, 4, 3, 2, 1, 0 and 7. A reply with the id of the one that is asked answers it,
-/// whatever its codes and parameters. All else that comes is dropped, so no old reply is taken for the answer to a later request. Once the
-/// eighth is answered, `has_begun` is 1, and requests go out.
+/// Begins: takes what came, and gives the line of the null procedure that is to be sent next, with CR LF: `count` bytes of
+/// `line`. Eight null procedures are asked, one after the other, with ids 6, 5, 4, 3, 2, 1, 0 and 7. A reply with the id of the
+/// one that is asked answers it, whatever its codes and parameters. All else that comes is discarded, so no old reply is taken
+/// for the answer to a later request. Once the eighth is answered, `has_begun` is 1, and requests are sent.
 ///
-/// Call it without bytes for the first line, and again where nothing came in time: it gives the same line again. Where bytes came, and
-/// answered nothing, `count` is 0: read on. All bytes are used; what comes after the eighth answer is dropped, too. Once the
-/// client has begun, the call gives no line, and drops what it is handed: then bytes go to `geocom_client_feed`.
+/// Call it without bytes for the first line, and again if nothing came in time: it gives the same line again. If bytes came,
+/// and answered nothing, `count` is 0: read on. All bytes are used; what comes after the eighth answer is discarded, too. Once
+/// the client has synchronized, the call gives no line, and discards what it is handed: then bytes go to `geocom_client_feed`.
 ///
 /// Faults: 62, `line` has fewer than 514 bytes; 63, the state is no client's. After a fault nothing has changed.
 #[unsafe(no_mangle)]

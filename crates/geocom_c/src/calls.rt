@@ -1,4 +1,4 @@
-//! The calls that need no text: a new client, a moment, the earliest deadline, and how many wait.
+//! The calls that need no text: a new client, a moment, the earliest deadline, and how many are outstanding.
 
 ghost use Rattle.std.specs.Prelude.{◌≡◌, ◌≢◌, ◌↔◌, ◌<◌, ◌≤◌, ℕ, List, [], length, take, drop, Some, None, if◌then◌else◌};
 ghost use Rattle.gc_catalogue.specs.declared.asked.Asked.{Asked};
@@ -15,7 +15,7 @@ use crate::header::{NO_CLIENT, NO_ROOM, NO_WIDTH, VERSION};
 use crate::state::{GeocomClient, fresh, load, store};
 use gc_client::WINDOW;
 
-// The answer where no request has a deadline.
+// The answer if no request has a deadline.
 const UNSET: GeocomDeadline = GeocomDeadline {
     deadline: 0,
     fault: 0,

@@ -134,9 +134,9 @@ fn feed(
 
 /// Takes bytes as they come, through the first line feed, and writes a record for each request that the line settles.
 ///
-/// `used` says how many bytes were used: those through the first line feed, or all where there is none. Where some are left,
-/// call again with these. A line settles at most seven requests. Where it settles any, it is written to the front of `text`,
-/// with the items of its parameters after it; else nothing is written. After the `count` records nothing is written.
+/// `used` says how many bytes were used: those through the first line feed, or all if there is none. If some are left, call
+/// again with these. A line settles at most seven requests. If it settles any, it is written to the front of `text`, with the
+/// items of its parameters after it; otherwise nothing is written. After the `count` records nothing is written.
 ///
 /// Faults: 62, `settlements` has fewer than seven places or `text` fewer than 1024 bytes; 63, the state is no client's.
 /// After a fault nothing has changed, and nothing was used.
@@ -177,7 +177,7 @@ pub extern "C" fn geocom_client_feed(
     }
 }
 
-// How many null procedures count as answered after a restart: none where the client had begun, else those that were.
+// How many null procedures count as answered after a restart: none if the client had synchronized, else those that were.
 fn answered_anew(answered: u8) -> u8
     ensures left { drop result the_word ≡ anew (drop answered the_word) }
     ensures within { result ≤ 8 }

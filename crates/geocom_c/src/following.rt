@@ -36,7 +36,7 @@ pub enum Step<'a> {
         procedure: u16,
         params: &'a [u8],
     },
-    /// Bytes of a connection, or none, handed to the beginning.
+    /// Bytes of a connection, or none, handed to the synchronization.
     Begin(&'a [u8]),
     /// Bytes of a connection, fed until all are used.
     Feed(&'a [u8]),
@@ -44,7 +44,7 @@ pub enum Step<'a> {
     Restart,
 }
 
-// What stands in a place that no settlement was written to.
+// What is in a place that no settlement was written to.
 const VACANT: GeocomSettlement = GeocomSettlement {
     target: 0,
     procedure: 0,
@@ -56,7 +56,7 @@ const VACANT: GeocomSettlement = GeocomSettlement {
     reading: NONE,
 };
 
-// Feeds bytes through the first line feed, and returns how many were used: all where there is none, or where the feed has a fault.
+// Feeds bytes through the first line feed, and returns how many were used: all if there is none, or if the feed has a fault.
 fn feed_line(state: &mut GeocomClient, bytes: &[u8]) -> usize
     ensures used { (result ≤ length bytes.now) × (0 < length bytes.now → 0 < result) }
     ensures fed { (width : ℕ) (x : Course Asked) (rest : List ℕ) → StandsFor state.old (record { width = width; ids = x.client }) rest
@@ -136,8 +136,8 @@ fn step_at<'a>(steps: &[Step<'a>], k: usize) -> Step<'a>
 }
 
 /// Makes a client of this width, and then these calls, each with ample room. Whatever the calls are, the state stands for the
-/// client that the rule makes of them, for the bytes that came since the last line feed, and for how far its beginning came.
-/// What was settled, and after it the requests that wait, are the sends that weren't refused, in order, each once.
+/// client that the rule makes of them, for the bytes that came since the last line feed, and for how far its synchronization
+/// came. What was settled, and after it the outstanding requests, are the sends that weren't refused, in order, each once.
 pub fn follow(state: &mut GeocomClient, width: u8, steps: &[Step<'_>])
     ensures { IsWidth width → (t : Stage) × CallsReach width opened steps.now t × IsAt width t state.new × IsOneForOne t.reached }
 {

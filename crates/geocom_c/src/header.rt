@@ -1,4 +1,4 @@
-//! The numbers that `library/include/geocom.h` has too. Each of the constants has there the same name with `GEOCOM_` in front,
+//! The numbers that `library/include/geocom.h` has too. Each of the constants has there the same name with `GEOCOM_` before it,
 //! but for the faults, which are listed in its head.
 
 ghost use Rattle.std.specs.Prelude.{◌≡◌};
@@ -34,7 +34,7 @@ pub const NO_ROOM: u32 = 62;
 /// Bytes that stand for no client: a state that `geocom_client_init` never made, or that was written over.
 pub const NO_CLIENT: u32 = 63;
 
-/// The client hasn't begun: `geocom_client_begin` hasn't heard the eighth answer, at first or after a restart.
+/// The client hasn't synchronized: `geocom_client_begin` hasn't heard the eighth answer, at first or after a restart.
 pub const NOT_BEGUN: u32 = 67;
 
 /// A raw request's number is that of a procedure of the table.
@@ -45,7 +45,7 @@ pub const IN_TABLE: u32 = 68;
 /// A reply answered the request.
 pub const ANSWERED: u8 = 1;
 
-/// The reply came after the request was given up.
+/// The reply came after the request timed out.
 pub const LATE: u8 = 2;
 
 /// No reply came before that to a later request, or before a restart.
@@ -76,16 +76,16 @@ pub const MORE: u32 = 0;
 /// A line that settled requests.
 pub const SETTLED: u32 = 1;
 
-/// A reply that no request waits for.
+/// A reply that no request is outstanding for.
 pub const STRAY: u32 = 2;
 
 /// A line that is no reply.
 pub const UNREAD: u32 = 3;
 
-/// A line feed without a CR before it. What stood before it is dropped.
+/// A line feed without a CR before it. What was before it is discarded.
 pub const CLEARED: u32 = 4;
 
-/// A line of more than 512 bytes, which is dropped.
+/// A line of more than 512 bytes, which is discarded.
 pub const OVERLONG: u32 = 5;
 
 /// The constants have the values of the C header, and so have the faults of a call and of a raw request, which are

@@ -1,5 +1,5 @@
 //! The client for C, C++ and Python: a static library over `gc_client`, with the names of `library/include/geocom.h`. The state
-//! is the caller's: plain bytes of a fixed size. Whatever stands in them, a call returns. No call takes memory, starts a thread
+//! is the caller's: plain bytes of a fixed size. Whatever they hold, a call returns. No call takes memory, starts a thread
 //! or opens anything. A pointer and a length stand for a slice.
 #![tactic(auto)]
 

@@ -12,7 +12,7 @@ use arrayvec::ArrayVec;
 use gc_lines::{Line, append, read_reply};
 use gc_values::{Items, MOST_ITEMS, split};
 
-/// Where an item stands in a text.
+/// If an item stands in a text.
 #[repr(C)]
 #[derive(Clone, Copy)]
 pub struct GeocomItem {
@@ -26,7 +26,7 @@ pub(crate) const NOWHERE: GeocomItem = GeocomItem {
     length: 0,
 };
 
-// A line with the items of its parameters after it, how many these are, and where they stand.
+// A line with the items of its parameters after it, how many these are, and if they are.
 #[derive(Drop)]
 pub(crate) struct Told {
     pub text: ArrayVec<u8, TEXT_ROOM>,
@@ -34,7 +34,7 @@ pub(crate) struct Told {
     pub places: [GeocomItem; MOST_ITEMS],
 }
 
-// Appends items to a text, and writes into `places` where each stands.
+// Appends items to a text, and writes into `places` if each is.
 fn put_items(text: &mut ArrayVec<u8, TEXT_ROOM>, places: &mut [GeocomItem], items: &Items<'_>)
     requires few { length items.now ≤ length places.old }
     requires room { array_vec_len text.old + total items.now ≤ TEXT_ROOM }
@@ -52,7 +52,7 @@ fn put_items(text: &mut ArrayVec<u8, TEXT_ROOM>, places: &mut [GeocomItem], item
     }
 }
 
-// Appends the items of parameters, where these are a list, and notes how many there are and where they stand.
+// Appends the items of parameters, if these are a list, and notes how many there are and if they are.
 fn list(told: &mut Told, params: &[u8])
     requires { array_vec_len told.old.text + length params.now ≤ TEXT_ROOM }
     ensures front { (more : List ℕ) × (told.new.text.items ≡ told.old.text.items ++ more) }
@@ -68,7 +68,7 @@ fn list(told: &mut Told, params: &[u8])
     }
 }
 
-// A line, with the items of its parameters after it where it is a reply.
+// A line, with the items of its parameters after it if it is a reply.
 pub(crate) fn tell(line: &Line) -> Told
     ensures { IsTold result.text.items result.items result.places line.now.items }
 {

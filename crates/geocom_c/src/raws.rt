@@ -1,4 +1,4 @@
-//! Sending what isn't in the table: a number and parameters go out exactly as they stand, or are refused.
+//! Sending what isn't in the table: a number and parameters are sent exactly as they are, or are refused.
 
 ghost use Rattle.std.specs.Prelude.{◌≡◌, ◌≢◌, ◌↔◌, ◌<◌, ◌≤◌, ℕ, List, [], length, take, drop, Some};
 ghost use Rattle.gc_lines.specs.Lines.{with_end};
@@ -35,17 +35,17 @@ fn number_of(fault: RawFault) -> u32
     }
 }
 
-/// Sends a request for a procedure that isn't in the table, of a client that has begun, and writes its line with CR LF into `line`: `count`
-/// bytes, and nothing after these. The parameters stand in the line exactly as they are given.
+/// Sends a request for a procedure that isn't in the table, of a client that has synchronized, and writes its line with CR LF
+/// into `line`: `count` bytes, and nothing after these. The parameters stand in the line exactly as they are given.
 ///
-/// An instrument may keep its reply over a procedure that it doesn't know, and ids come round behind eight requests. Over such a one
-/// let one of the seven requests before each be an answered one of the table: behind six raw requests in a row send a null procedure, and
-/// drop what it says.
+/// An instrument may retain its reply over a procedure that it doesn't know, and ids come round after eight requests. Over such
+/// a one let one of the seven requests before each be an answered one of the table: after six raw requests in a row send a null
+/// procedure, and drop what it says.
 ///
-/// Faults: 62, `line` has fewer than 514 bytes; 63, the state is no client's; 67, the client hasn't begun; 68, the number is that of a
-/// procedure of the table; 11, a CR or LF is among the parameters; 6, the line would have more than 512 bytes with an id; 13, the number of
-/// double quotes is odd; 14, there are more than 16 parameters; 31, as many requests wait as the width allows. After a fault nothing has
-/// changed.
+/// Faults: 62, `line` has fewer than 514 bytes; 63, the state is no client's; 67, the client hasn't synchronized; 68, the
+/// number is that of a procedure of the table; 11, a CR or LF is among the parameters; 6, the line would have more than 512
+/// bytes with an id; 13, the number of double quotes is odd; 14, there are more than 16 parameters; 31, as many requests wait
+/// as the width allows. After a fault nothing has changed.
 #[unsafe(no_mangle)]
 pub extern "C" fn geocom_client_send_raw(
     state: &mut GeocomClient,

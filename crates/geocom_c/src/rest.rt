@@ -1,4 +1,4 @@
-//! The bytes of a line under way: a state keeps of them what the frame of the next line feed depends on.
+//! The bytes of an incomplete line: a state keeps of them what the frame of the next line feed depends on.
 
 ghost use Rattle.std.specs.Prelude.{◌≡◌, ◌≢◌, ◌<◌, ◌≤◌, ◌↔◌, All, ◌+◌, ◌++◌, ℕ, List, [], length, take, drop, Some, None, IsTrue};
 ghost use Rattle.std.specs.List.{position};
@@ -39,7 +39,7 @@ impl GeocomRest {
     }
 
     // How many bytes of a piece stand through its first line feed, and the frame that this ends, with the bytes that are kept
-    // in front of the piece. Without a line feed: all bytes, and `More`.
+    // before the piece. Without a line feed: all bytes, and `More`.
     pub(crate) fn frame(&self, piece: &[u8]) -> (usize, Frame)
         requires { IsCut self.now }
         ensures used { (result.0 ≤ length piece.now) × (0 < length piece.now → 0 < result.0) }
@@ -53,8 +53,8 @@ impl GeocomRest {
         assembler.take(piece)
     }
 
-    // Keeps more bytes, none of which is a line feed: as many as there is room for. Where not all fit, the last of them stands
-    // in the last place.
+    // Keeps more bytes, none of which is a line feed: as many as there is room for. If not all fit, the last of them stands in
+    // the last place.
     pub(crate) fn keep(&mut self, piece: &[u8])
         requires { IsCut self.old }
         ensures { (rest : List ℕ) → IsRest self.old rest → position is_line_feed piece.now ≡ None

@@ -23,7 +23,7 @@ use gc_catalogue::{Asked, decode_call};
 use gc_client::{Client, SlotsOf};
 use gc_lines::Request;
 
-// Sends a request, and writes its line with CR LF into `line`. Where the window is full, the fault is 31, and nothing has changed.
+// Sends a request, and writes its line with CR LF into `line`. If the window is full, the fault is 31, and nothing has changed.
 pub(crate) fn send_asked(
     state: &mut GeocomClient,
     mut client: Client<SlotsOf<Asked>>,
@@ -56,11 +56,12 @@ pub(crate) fn send_asked(
     }
 }
 
-/// Sends a request of a client that has begun, and writes its line with CR LF into `line`: `count` bytes, and nothing after
-/// these.
+/// Sends a request of a client that has synchronized, and writes its line with CR LF into `line`: `count` bytes, and nothing
+/// after these.
 ///
-/// Faults: 62, `line` has fewer than 514 bytes; 63, the state is no client's; 67, the client hasn't begun; 21, no procedure has the number; 11 to 15,
-/// the parameters don't read; 31, as many requests wait as the width allows. After a fault nothing has changed.
+/// Faults: 62, `line` has fewer than 514 bytes; 63, the state is no client's; 67, the client hasn't synchronized; 21, no
+/// procedure has the number; 11 to 15, the parameters don't read; 31, as many requests wait as the width allows. After a fault
+/// nothing has changed.
 #[unsafe(no_mangle)]
 pub extern "C" fn geocom_client_send(
     state: &mut GeocomClient,

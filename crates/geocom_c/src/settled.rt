@@ -24,14 +24,14 @@ pub struct GeocomSettlement {
     pub target: u32,
     /// The procedure that was asked for.
     pub procedure: u16,
-    /// The return code of a refusal, the communication code of a fault of communication, or the number of what is wrong
-    /// with the parameters; else 0.
+    /// The return code of a refusal, the communication code of a fault of communication, or the number of what is wrong with
+    /// the parameters; otherwise 0.
     pub code: u16,
-    /// How many bytes at the front of the text are the answer's line; 0 where there is no answer.
+    /// How many bytes at the front of the text are the answer's line; 0 if there is no answer.
     pub line_length: u16,
     /// How many items the answer's value has, or the parameters of an answer to a raw request.
     pub items: u16,
-    /// Where they stand in the text.
+    /// If they are in the text.
     pub places: [GeocomItem; MOST_ITEMS],
     /// [`ANSWERED`], [`LATE`] or [`LOST`].
     pub outcome: u8,

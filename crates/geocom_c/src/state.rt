@@ -27,8 +27,8 @@ pub struct GeocomWaiting {
     pub line: [u8; 512],
 }
 
-/// A client: the requests that wait, oldest first, the bytes of a line under way, its width, the next id, how many wait, and how many
-/// null procedures of its beginning are answered: 8 once it has begun.
+/// A client: the outstanding requests, oldest first, the bytes of an incomplete line, its width, the next id, how many are
+/// outstanding, and how many null procedures of its synchronization are answered: 8 once it has synchronized.
 #[repr(C)]
 #[derive(Clone, Copy)]
 pub struct GeocomClient {
@@ -40,7 +40,7 @@ pub struct GeocomClient {
     pub answered: u8,
 }
 
-// What stands in a place that nothing has used yet.
+// What is in a place that nothing has used yet.
 const VACANT: GeocomWaiting = GeocomWaiting {
     deadline: 0,
     target: 0,
@@ -186,7 +186,7 @@ fn write_places(places: &mut [GeocomWaiting], window: &SlotsOf<Asked>)
     }
 }
 
-// Whether the numbers of a state are a client's: its width, its next id, how many requests wait, and how many null
+// Whether the numbers of a state are a client's: its width, its next id, how many requests are outstanding, and how many null
 // procedures are answered.
 fn has_head(state: &GeocomClient) -> bool
     ensures { IsTrue result ↔ HasHead state.now }
@@ -213,7 +213,8 @@ pub(crate) fn load(state: &GeocomClient) -> Option<Client<SlotsOf<Asked>>>
     Some(Client::resume(window, state.width, state.next))
 }
 
-// Writes a client into a state. The bytes of a line under way stay, and so does the number of null procedures that are answered.
+// Writes a client into a state. The bytes of an incomplete line stay, and so does the number of null procedures that are
+// answered.
 pub(crate) fn store(state: &mut GeocomClient, client: Client<SlotsOf<Asked>>)
     ensures client { (rest : List ℕ) → IsRest state.old.rest rest → state.old.answered ≤ 8 → StandsFor state.new client rest }
     ensures rest { state.new.rest ≡ state.old.rest }

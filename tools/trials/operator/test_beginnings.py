@@ -144,5 +144,5 @@ def test_mute_line(program, what, answers, words, outcomes):
     """A line on which no reply comes is fault 46, and what was sent is lost."""
     with standing(answers) as far, measuring(program, far.port, f"--deadline 200 --quiet 200 {words}", b"7 5003\n8 5004\n") as run:
         rows, messages = finished(run, status=1, patience=15)
-        assert messages[-2:] == ["geocom: fault 46", f"geocom: 127.0.0.1:{far.port}: no reply came any more"], "the last lines"
+        assert messages[-2:] == ["geocom: fault 46", f"geocom: 127.0.0.1:{far.port}: no further reply came"], "the last lines"
         assert [row["outcome"] for row in rows] == outcomes, "the outcomes"

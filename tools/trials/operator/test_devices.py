@@ -19,8 +19,8 @@ from programs import PATIENCE, Run, ended, until
 from terminals import joined, lead, terminal
 
 NO_TERMINAL, HELD, FORBIDDEN = 58, 59, 60
-ECHOES = "geocom: the line sends back what goes out: a modem or the far end has its echo on"
-NOT_RAW = "geocom: the line changes CR to LF: it is to be raw (stty raw)"
+ECHOES = "geocom: the line echoes what is sent: a modem or the other end has its echo on"
+NOT_RAW = "geocom: the line changes CR to LF: set it to raw mode (stty raw)"
 # The times of a station where not all is answered.
 SHORTER = "--quiet 100 --deadline 300"
 NOBODY = 65534

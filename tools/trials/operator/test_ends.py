@@ -100,7 +100,7 @@ def test_stale(program):
             rows, messages = finished(run, status=1)
         lasted = time.time() - began
     assert messages[-1] == "geocom: fault 48", f"{messages} was told"
-    assert re.fullmatch(f"geocom: no good answer since {STAMP}", messages[-2]), f"{messages} was told"
+    assert re.fullmatch(f"geocom: no answer of good quality since {STAMP}", messages[-2]), f"{messages} was told"
     assert abs(moment(messages[-2][-24:]).timestamp() - began) < 1, "since when"
     assert 2.9 < lasted < 4.5, f"it lasted {lasted:.2f} s"
     assert rows and {row["quality"] for row in rows} == {"refused"}, "the qualities"

@@ -103,7 +103,7 @@ def test_full_disk(program, folder):
         with limited(program, far.port, folder / "log", "") as run:
             assert run.status() == 0, "the status"
             messages = run.messages().splitlines()
-            assert messages[-1:] == ["geocom: the log could not be written to its end"], "the last line"
+            assert messages[-1:] == ["geocom: the log could not be written completely"], "the last line"
             assert messages[-2] == counts_line(answered=2), "the counts"
             assert run.output().count(b",answered,") == 2, "how many rows"
 
@@ -111,7 +111,7 @@ def test_full_disk(program, folder):
 @pytest.mark.title("--log, a full disk, told at once")
 def test_full_disk_told_at_once(program, folder):
     """That the log can't be written is told while the station runs, once, also where it tells no signs of life."""
-    lost = "geocom: the log can't be written, and ends here: the station measures on\n"
+    lost = "geocom: the log can't be written and ends here: measuring continues\n"
     for silent in "", "--silent":
         with standing() as far:
             with limited(program, far.port, folder / "log", f"--every 2 --cycles 3 {silent}") as run:
@@ -176,7 +176,7 @@ def test_torn_line(program, folder):
                 log.write_bytes(whole + torn)
                 with measuring(program, far.port, f"--log {log} --quiet 100 --deadline 100", TWO) as run:
                     _, messages = finished(run)
-                line = f"geocom: {len(torn)} bytes of a torn line of the log were cut off"
+                line = f"geocom: {len(torn)} bytes of an incomplete line of the log were cut off"
                 assert (line in messages) == (torn != b""), f"{messages} was told of {torn!r}"
                 assert log.read_bytes().startswith(whole + b"20"), f"{log.read_bytes()[:200]!r}"
                 fresh = log.read_bytes()[len(whole) :]
@@ -187,14 +187,14 @@ def test_torn_line(program, folder):
 @pytest.mark.title("--log-bytes")
 def test_bounded_log(program, folder):
     """A log has no more bytes than it may have, over several runs; its last line says that the rest is left out, and that is told."""
-    full = "geocom: the log is full: what went or came from here on is left out of it"
+    full = "geocom: the log is full: what is sent or received from here on is not in it"
     with standing() as far:
         log = folder / "log"
         for number in range(4):
             with measuring(program, far.port, f"--log {log} --log-bytes 2000 --quiet 100 --deadline 100 --cycles 20", TWO) as run:
                 rows, messages = finished(run, counts=-2)
             expect_each_once(rows, 2, 20)
-            assert (messages.count(full), messages[-1]) == (1, "geocom: the log could not be written to its end"), f"what run {number} told"
+            assert (messages.count(full), messages[-1]) == (1, "geocom: the log could not be written completely"), f"what run {number} told"
             assert len(log.read_bytes()) <= 2000, f"it has {len(log.read_bytes())} bytes"
             if number == 0:
                 first = log.read_bytes()

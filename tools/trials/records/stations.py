@@ -18,7 +18,7 @@ PATIENCE = 20
 
 def torn_line(torn):
     """What a station says of so many bytes that it cut off."""
-    return f"geocom: {torn} bytes of a torn row were cut off\n" if torn else ""
+    return f"geocom: {torn} bytes of an incomplete row were cut off\n" if torn else ""
 
 
 def copied_line(copied):

@@ -7,8 +7,8 @@ from records import HEAD
 from stations import PATIENCE, appending, instrument, rows_in, torn_line
 
 # What is told where rows go on in a new file, and where they can't.
-MOVED = "geocom: the file of rows was moved or deleted: rows go on in a new one at its path\n"
-ASTRAY = "geocom: the file of rows was moved or deleted, and none can be had at its path: rows still go into the old one\n"
+MOVED = "geocom: the file of records was moved or deleted: rows continue in a new one at its path\n"
+ASTRAY = "geocom: the file of records was moved or deleted, and no new one can be opened at its path: rows are still written to the old one\n"
 
 
 def move(path):

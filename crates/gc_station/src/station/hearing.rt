@@ -5,7 +5,7 @@ ghost use Rattle.std.specs.Option.{option_to_list};
 ghost use Rattle.gc_lines.specs.Frames.{line_in};
 ghost use Rattle.gc_lines.specs.Lent.{lent_seen, IsLineWithin};
 ghost use Rattle.gc_lines.specs.Ports.{FailsWith};
-ghost use Rattle.gc_station.specs.Model.{Model, is_heard, with_progress, lines_came, piece_came, piece_asked, came, piece_at, moved};
+ghost use Rattle.gc_station.specs.Model.{Model, is_heard, with_progress, lines_came, piece_came, piece_asked, after_piece, piece_at, moved};
 ghost use Rattle.gc_station.specs.Progressing.{lines_asked};
 ghost use Rattle.gc_station.specs.Stations.{Refines, Took, Made, ComesTo, seen};
 ghost use Rattle.gc_station.specs.declared.progress.Action.TheVariants.{Read};
@@ -22,7 +22,7 @@ use gc_lines::{Lent, Line, PortFailed};
 use gc_links::{Came, Link, Moment};
 
 impl Station {
-    // Hears the line of a frame, if the frame is a line, and writes down what the line settles.
+    // Hears the line of a frame, if the frame is a line, and records what the line settles.
     fn hear<B: Book>(&mut self, book: &mut B, frame: Lent<'_>) -> Result<(), PortFailed>
         requires { IsLineWithin frame }
         ensures hears { (s : Model) (start : Option (List ℕ)) → Refines self.old s → Took (B.text book.old) start (B.taken book.old) s
@@ -39,11 +39,11 @@ impl Station {
         }
         let of_table = ends_with_table(self.settled.as_slice());
         self.progress.catch_up(of_table, self.client.waiting());
-        self.progress.note(is_reply(hearing));
+        self.progress.note_line(is_reply(hearing));
         Ok(())
     }
 
-    // Hears the lines of a piece, in order, and writes down what they settle.
+    // Hears the lines of a piece, in order, and records what they settle.
     fn listen<B: Book>(&mut self, book: &mut B, piece: &[u8]) -> Result<(), PortFailed>
         ensures listens { (s : Model) (start : Option (List ℕ)) → Refines self.old s → Took (B.text book.old) start (B.taken book.old) s
             → ComesTo (B.text book.old) s.records self.new start (B.taken book.new) (piece_came piece.now s) result }
@@ -62,8 +62,8 @@ impl Station {
         Ok(())
     }
 
-    // Hears a frame's line, if it has one, while the station begins: a reply with the first id that is left answers its null
-    // procedure.
+    // Hears a frame's line, if it has one, while the station synchronizes: a reply with the first id that is left answers its
+    // null procedure.
     fn hear_null(&mut self, frame: Lent<'_>)
         requires { IsLineWithin frame }
         ensures { self.new ≡ record self.old { progress = lines_asked self.old.progress (option_to_list (line_in (lent_seen frame.entry))) } }
@@ -73,7 +73,7 @@ impl Station {
         }
     }
 
-    // Hears the lines of a piece, in order, while the station begins.
+    // Hears the lines of a piece, in order, while the station synchronizes.
     fn listen_null(&mut self, piece: &[u8])
         ensures { (s : Model) → Refines self.old s → Refines self.new (piece_asked piece.now s) }
     {
@@ -86,11 +86,11 @@ impl Station {
         }
     }
 
-    // Hears the lines of a piece: as those of a beginning, or as the client's. In a phase in which nothing is heard it drops
-    // them.
+    // Hears the lines of a piece: as those of a synchronization, or as the client's. In a phase in which nothing is heard it
+    // discards them.
     fn take_lines<B: Book>(&mut self, book: &mut B, piece: &[u8]) -> Result<(), PortFailed>
         ensures takes { (s : Model) (start : Option (List ℕ)) → Refines self.old s → Took (B.text book.old) start (B.taken book.old) s
-            → ComesTo (B.text book.old) s.records self.new start (B.taken book.new) (came (is_heard s.progress.phase) s.progress.word piece.now s) result }
+            → ComesTo (B.text book.old) s.records self.new start (B.taken book.new) (after_piece (is_heard s.progress.phase) s.progress.word piece.now s) result }
         ensures fails { FailsWith result (B.failed book.old) (B.failed book.new) }
         ensures form { B.text book.new ≡ B.text book.old }
     {
@@ -104,8 +104,7 @@ impl Station {
         self.listen(book, piece)
     }
 
-    // Takes a piece and the moment that was read after it: requests whose deadline has come are given up, then the piece is
-    // heard.
+    // Takes a piece and the moment that was read after it: requests whose deadline has come time out, then the piece is heard.
     fn take_piece<B: Book>(
         &mut self,
         book: &mut B,
@@ -120,15 +119,15 @@ impl Station {
         ensures form { B.text book.new ≡ B.text book.old }
     {
         let before = self.commands();
-        self.progress.tell(now);
+        self.progress.note_moment(now);
         self.client.expire(now.elapsed);
         self.fresh = self.fresh.min(now.elapsed);
         if let Err(failed) = self.take_lines(book, piece) {
             return Err(failed);
         }
         let after = self.waiting();
-        self.progress.give(plan, until, before, after);
-        self.progress.reckon_early(plan, after.commands);
+        self.progress.note_bytes(plan, until, before, after);
+        self.progress.note_early(plan, after.commands);
         Ok(())
     }
 
@@ -153,7 +152,7 @@ impl Station {
             Came::Silence(moment) => {
                 self.client.expire(moment.elapsed);
                 self.fresh = self.fresh.min(moment.elapsed);
-                self.progress.be_silent(plan, until, moment);
+                self.progress.note_silence(plan, until, moment);
                 Ok(())
             }
             Came::End => {

@@ -24,7 +24,8 @@ use gc_lines::{Line, append};
 use gc_links::Link;
 use gc_texts::{Task, Wish};
 
-// A request that is to go out: for this command, with how many milliseconds it waits, and its mark, if it is of a command of the text.
+// A request that is to be sent: for this command, with how many milliseconds it waits, and its mark, if it is of a command of
+// the text.
 #[derive(Clone, Copy)]
 pub(crate) struct Asking {
     pub(crate) command: Wish,
@@ -32,7 +33,7 @@ pub(crate) struct Asking {
     pub(crate) mark: Option<Mark>,
 }
 
-// The command of a task where its request goes out at this moment.
+// The command of a task where its request is sent at this moment.
 fn command_at(task: &Task, utc: u64) -> Wish
     ensures { result ≡ command_at utc task.entry.now }
 {
@@ -53,7 +54,7 @@ fn null_command() -> Wish
 }
 
 impl Station {
-    // Notes, where a write was cut, that the connection is to be closed. `requests`: as `requests_out` counts them.
+    // Notes, if a write was cut, that the connection is to be closed. `requests`: as `requests_out` counts them.
     fn cut(&mut self, put: Result<(), usize>, requests: usize)
         ensures { self.new ≡ record self.old { progress = cut_progress put requests self.old.progress } }
     {
@@ -69,12 +70,12 @@ impl Station {
     {
         let requests = self.requests_out(plan, commands);
         let put = link.put(b"\n");
-        self.progress.clear();
+        self.progress.note_cleared();
         self.cut(put, requests);
     }
 
     // Sends a request, which has this mark and waits for `wait` milliseconds. `Err`: the write was cut, with the number of
-    // bytes that went out.
+    // bytes that were sent.
     fn ask<L: Link>(
         &mut self,
         link: &mut L,
@@ -110,8 +111,8 @@ impl Station {
         link.put(text.as_slice())
     }
 
-    // A station begins by null procedures, one after the other, one for each id of the word. Puts the request line of the first
-    // of them that isn't answered yet. `Err`: the write was cut, with the number of bytes that went out.
+    // A station synchronizes by null procedures, one after the other, one for each id of the word. Puts the request line of the
+    // first of them that isn't answered yet. `Err`: the write was cut, with the number of bytes that were sent.
     fn put_null<L: Link>(&self, link: &mut L) -> Result<(), usize>
         requires { has_begun self.now.progress ≡ false }
         ensures tells { Tells (L.acts link.old) (L.acts link.new) (put_as result (null_text self.now.progress.word) ∷ []) }
@@ -134,7 +135,7 @@ impl Station {
     {
         let requests = self.requests_out(plan, commands);
         let put = self.put_null(link);
-        self.progress.ask_null(plan);
+        self.progress.note_null(plan);
         self.cut(put, requests);
     }
 
@@ -151,15 +152,15 @@ impl Station {
         let requests = self.requests_out(plan, commands);
         let mark = self.mark(plan, commands);
         let task = &commands[self.place(commands)];
-        let next_is_chained = self.is_chained_behind(1, commands);
-        let others = self.others_behind(1, commands);
+        let next_is_chained = self.is_chained_after(1, commands);
+        let others = self.others_after(1, commands);
         let command = command_at(task, mark.sent);
         let put = self.ask(link, &command, task.deadline, Some(mark));
-        self.progress.send(next_is_chained, others);
+        self.progress.note_sent(next_is_chained, others);
         self.cut(put, requests);
     }
 
-    // The request for the next command of the set-up, if the list has one; else for a null procedure.
+    // The request for the next command of the setup, if the list has one; otherwise for a null procedure.
     fn next_setup(&self, plan: &Plan, commands: &[Task]) -> Asking
         ensures { result ≡ setup_asked plan.now (mark_setup commands.now self.now.progress) (drop self.now.progress.prepared commands.now) }
     {
@@ -178,7 +179,7 @@ impl Station {
         }
     }
 
-    // Sends the next command of the set-up, if the list has one; else a null procedure.
+    // Sends the next command of the setup, if the list has one; otherwise a null procedure.
     pub(super) fn prepare<L: Link>(&mut self, link: &mut L, plan: &Plan, commands: &[Task])
         requires width { self.old.client.width ≡ WINDOW }
         requires room { length self.old.client.ids.waiting < WINDOW }
@@ -189,11 +190,11 @@ impl Station {
         let requests = self.requests_out(plan, commands);
         let asking = self.next_setup(plan, commands);
         let put = self.ask(link, &asking.command, asking.wait, asking.mark);
-        self.progress.prepare(plan);
+        self.progress.note_setup(plan);
         self.cut(put, requests);
     }
 
-    // Sends a null procedure after requests that are all given up: its reply settles them.
+    // Sends a null procedure after requests that have all timed out: its reply settles them.
     pub(super) fn flush<L: Link>(&mut self, link: &mut L, plan: &Plan, commands: &[Task])
         requires width { self.old.client.width ≡ WINDOW }
         requires room { length self.old.client.ids.waiting < WINDOW }
@@ -203,7 +204,7 @@ impl Station {
     {
         let requests = self.requests_out(plan, commands);
         let put = self.ask(link, &null_command(), plan.deadline, None);
-        self.progress.ask();
+        self.progress.note_request();
         self.cut(put, requests);
     }
 }

@@ -4,4 +4,4 @@ pub returns-in-Ok-clause-asked : goal.returns-in-Ok-clause-asked
 returns-in-Ok-clause-asked g c = rw (c.head.ensures, c.sign.ensures, c.form_of_rows-form.ensures) at c.in-Ok.ensures.asked
 
 pub returns-in-Ok-clause-told : goal.returns-in-Ok-clause-told
-returns-in-Ok-clause-told g c = (c.in-Ok.copied, rw (c.torn.ensures) at c.tell_opened-told.ensures)
+returns-in-Ok-clause-told g c = (c.in-Ok.copied, rw (c.torn.ensures) at c.report_opened-told.ensures)

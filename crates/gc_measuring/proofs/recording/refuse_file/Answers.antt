@@ -8,14 +8,14 @@ use Rattle.gc_measuring.proofs.recording.refuse_file.Goals as goal
 pub returns : goal.returns
 returns g c =
     record {
-      told = IfOk-weaker c.tell_rotation.result _ _
+      told = IfOk-weaker c.report_rotation.result _ _
           (λ status told.
-          let t = IfOk-at_ok _ told.0 c.tell_counts-ended.ensures.told in (
+          let t = IfOk-at_ok _ told.0 c.report_counts-ended.ensures.told in (
             t.0,
             Appends-trans _ _ _ _ _
-                (subst (λ fault. Appends (g.E.Write.contents c.args.messages.now) (g.E.Write.contents c.tell_counts-ended.new.messages) (fault_line (run_fault_text fault)))
+                (subst (λ fault. Appends (g.E.Write.contents c.args.messages.now) (g.E.Write.contents c.report_counts-ended.new.messages) (fault_line (run_fault_text fault)))
                 c.fault_of_unfit.ensures t.1)
                 told.1,
           ))
-          c.tell_rotation.ensures.told;
+          c.report_rotation.ensures.told;
     }

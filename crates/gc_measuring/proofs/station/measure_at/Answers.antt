@@ -7,11 +7,11 @@ use Rattle.gc_measuring.proofs.station.measure_at.Goals as goal
 
 pub returns-in-Err-clause-told : goal.returns-in-Err-clause-told
 returns-in-Err-clause-told g c =
-    IfOk-weaker c.tell_counts-ended.result _ _
+    IfOk-weaker c.report_counts-ended.result _ _
     (λ status told. record {
       end = Err (Run c.in-Err.fault);
       between = c.args.streams.messages;
-      behind = c.tell_counts-ended.new.messages;
+      behind = c.report_counts-ended.new.messages;
       is_lost = false;
       logged = none_is_lost _;
       ran = inr (c.in-Err.fault, refl, c.in-Err.ensures.fault, refl, refl, refl, refl, refl);
@@ -19,7 +19,7 @@ returns-in-Err-clause-told g c =
       counts = told;
       loss = refl;
     })
-    c.tell_counts-ended.ensures.told
+    c.report_counts-ended.ensures.told
 
 pub returns-in-None-clause-told : goal.returns-in-None-clause-told
 returns-in-None-clause-told g c =

@@ -4,7 +4,7 @@ use Rattle.gc_catalogue.specs.declared.answer.Reading.TheVariants.{Refused}
 use Rattle.gc_catalogue.specs.declared.asked.Asked.{Asked}
 use Rattle.gc_station.specs.Tallies.{total}
 use Rattle.gc_station.specs.declared.progress.Progress.{Progress}
-use Rattle.gc_station.specs.Runs.{stood}
+use Rattle.gc_station.specs.Runs.{state_after}
 use Rattle.gc_station.specs.Scopes.{Scope}
 use Rattle.gc_station.specs.Model.{opening}
 use Rattle.gc_station.proofs.Readings.{stood_reads, are_same}
@@ -51,7 +51,7 @@ returns-in-Err-step g c =
           (c.loop-unsynced.invariant.went reads are) in
           let w = went_same plan commands scope (g.B.Book.text c.args.book.now) told (g.L.Link.acts c.loop-unsynced.link) taken (g.B.Book.taken c.sync.new.self)
           (g.B.Book.taken c.tell_overrun-told.new.book) c.loop-unsynced.station c.tell_overrun-told.ensures.taken kept in
-          let s = stood plan commands scope w.acts in
+          let s = state_after plan commands scope w.acts in
           let same = are_same s.reads reads (stood_reads plan commands scope w.acts) are in
           inl (went_wrong plan commands scope (g.B.Book.text c.args.book.now) told (g.L.Link.acts c.loop-unsynced.link) (g.L.Link.acts c.step.new.link)
           (g.L.Link.acts c.close-in-Err-step.new.self) taken (g.B.Book.taken c.tell_overrun-told.new.book)
@@ -66,7 +66,7 @@ returns-in-Err-step g c =
           (g.B.Book.taken c.sync.new.self) c.loop-unsynced.station c.args.kept.now.turns c.loop-unsynced.kept.turns c.sync.ensures.same (c.loop-unsynced.invariant.noted reads are) in
           let n = noted_same plan commands scope text told taken (g.L.Link.acts c.loop-unsynced.link) (g.B.Book.taken c.sync.new.self)
           (g.B.Book.taken c.tell_overrun-told.new.book) c.loop-unsynced.station c.args.kept.now.turns c.loop-unsynced.kept.turns c.tell_overrun-told.ensures.taken m in
-          let s = stood plan commands scope n.went.acts in
+          let s = state_after plan commands scope n.went.acts in
           let same = are_same s.reads reads (stood_reads plan commands scope n.went.acts) are in
           noted_wrong plan commands scope text told taken (g.L.Link.acts c.loop-unsynced.link) (g.L.Link.acts c.step.new.link)
           (g.L.Link.acts c.close-in-Err-step.new.self) (g.B.Book.taken c.tell_overrun-told.new.book)
@@ -117,7 +117,7 @@ loop-unsynced-preserved g c =
           (c.loop-unsynced.invariant.went reads are) in
           let w = went_same plan commands scope (g.B.Book.text c.args.book.now) told (g.L.Link.acts c.loop-unsynced.link) taken (g.B.Book.taken c.sync.new.self)
           (g.B.Book.taken c.tell_overrun-told.new.book) c.loop-unsynced.station c.tell_overrun-told.ensures.taken kept in
-          let s = stood plan commands scope w.acts in
+          let s = state_after plan commands scope w.acts in
           let same = are_same s.reads reads (stood_reads plan commands scope w.acts) are in
           went_on plan commands scope (g.B.Book.text c.args.book.now) told (g.L.Link.acts c.loop-unsynced.link) (g.L.Link.acts c.step.new.link) taken
           (g.B.Book.taken c.tell_overrun-told.new.book) (g.B.Book.taken c.step.new.book) c.loop-unsynced.station c.step.new.self c.action-action.result w
@@ -129,7 +129,7 @@ loop-unsynced-preserved g c =
           (g.B.Book.taken c.sync.new.self) c.loop-unsynced.station c.args.kept.now.turns c.loop-unsynced.kept.turns c.sync.ensures.same (c.loop-unsynced.invariant.noted reads are) in
           let n = noted_same plan commands scope text told taken (g.L.Link.acts c.loop-unsynced.link) (g.B.Book.taken c.sync.new.self)
           (g.B.Book.taken c.tell_overrun-told.new.book) c.loop-unsynced.station c.args.kept.now.turns c.loop-unsynced.kept.turns c.tell_overrun-told.ensures.taken m in
-          let s = stood plan commands scope n.went.acts in
+          let s = state_after plan commands scope n.went.acts in
           let same = are_same s.reads reads (stood_reads plan commands scope n.went.acts) are in
           noted_on plan commands scope text told taken (g.L.Link.acts c.loop-unsynced.link) (g.L.Link.acts c.step.new.link)
           (g.B.Book.taken c.tell_overrun-told.new.book) (g.B.Book.taken c.step.new.book) (g.B.Book.is_durable c.tell_overrun-told.new.book)
@@ -168,7 +168,7 @@ returns-in-Stop-clause-ran g c reads are =
     let w = went_kept plan commands scope (g.B.Book.text c.args.book.now) (g.L.Link.acts c.args.link.now) (g.L.Link.acts c.loop-unsynced.link)
     (g.B.Book.taken c.args.book.now) (g.B.Book.taken c.loop-unsynced.book) (g.B.Book.taken c.sync.new.self) c.loop-unsynced.station c.sync.ensures.same
     (c.loop-unsynced.invariant.went reads are) in
-    let s = stood plan commands scope w.acts in
+    let s = state_after plan commands scope w.acts in
     let same = are_same s.reads reads (stood_reads plan commands scope w.acts) are in
     record {
       acts = w.acts;

@@ -2,7 +2,7 @@ use Rattle.std.proofs.Common.{[], ◌∷◌, ◌+◌, ◌++◌, take, drop, map,
 use Rattle.gc_lines.proofs.Known.{Appends-is}
 use Rattle.gc_client.specs.Settlements.{settlement_seen}
 use Rattle.gc_station.specs.Attempts.{listed_by}
-use Rattle.gc_station.specs.Marks.{records_of, last_well, fresh_behind}
+use Rattle.gc_station.specs.Marks.{records_of, last_well, fresh_after}
 use Rattle.gc_station.specs.Records.{texts_of}
 use Rattle.gc_station.specs.Tallies.{tallied}
 use Rattle.gc_station.proofs.Records.{listed-none, listed_more, records-none, front_more, front_left, texts_more, part_behind, tallied_more, last_more, fresh_more}
@@ -18,7 +18,7 @@ loop-settlement-init g c =
       tally = λ reads are. sym (ap (tallied c.args.tally.now) (records-none reads c.args.now.utc c.args.marks.now.items));
       well = λ reads are. sym (ap (last_well c.args.well.now) (records-none reads c.args.now.utc c.args.marks.now.items));
       listed = λ reads are. sym (listed-none reads c.args.listed.now c.args.marks.now.items);
-      fresh = λ reads are. sym (ap (fresh_behind c.args.now.elapsed c.args.fresh.now) (records-none reads c.args.now.utc c.args.marks.now.items));
+      fresh = λ reads are. sym (ap (fresh_after c.args.now.elapsed c.args.fresh.now) (records-none reads c.args.now.utc c.args.marks.now.items));
       marks = refl;
       form = refl;
       failed = refl;

@@ -4,7 +4,7 @@ use Rattle.gc_catalogue.specs.declared.answer.Reading.{Reading}
 use Rattle.gc_catalogue.specs.declared.asked.Asked.{Asked}
 use Rattle.gc_client.specs.Settlements.{settlement_seen}
 use Rattle.gc_station.specs.Attempts.{listed_by}
-use Rattle.gc_station.specs.Marks.{records_of, last_well, fresh_behind}
+use Rattle.gc_station.specs.Marks.{records_of, last_well, fresh_after}
 use Rattle.gc_station.specs.Records.{Record, texts_of}
 use Rattle.gc_station.specs.Scopes.{AreReadings}
 use Rattle.gc_station.specs.Tallies.{tallied}
@@ -21,7 +21,7 @@ invariant-loop-settlement g l = record {
   well : (reads : Asked → List ℕ → Reading) → AreReadings reads → l.well ≡ last_well l.initial.well
       (records_of reads l.now.utc l.initial.marks.items (map settlement_seen (take l.settlement-index l.settlements)));
   listed : (reads : Asked → List ℕ → Reading) → AreReadings reads → l.listed ≡ listed_by reads l.initial.listed l.initial.marks.items (map settlement_seen (take l.settlement-index l.settlements));
-  fresh : (reads : Asked → List ℕ → Reading) → AreReadings reads → l.fresh ≡ fresh_behind l.now.elapsed l.initial.fresh
+  fresh : (reads : Asked → List ℕ → Reading) → AreReadings reads → l.fresh ≡ fresh_after l.now.elapsed l.initial.fresh
       (records_of reads l.now.utc l.initial.marks.items (map settlement_seen (take l.settlement-index l.settlements)));
   marks : l.marks.items ≡ drop l.settlement-index l.initial.marks.items;
   form : g.B.Book.text l.book ≡ g.B.Book.text l.initial.book;

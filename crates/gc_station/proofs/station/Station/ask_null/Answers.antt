@@ -18,8 +18,8 @@ returns g c text known =
       tells = c.put_null-put.ensures.tells;
       goes = λ s start stands so. (
         put_puts put line (null_text s.progress.word) (ap (λ (p : Progress). null_text p.word) stands.progress) c.put_null-put.ensures.part,
-        put_stands put line c.requests_out-requests.result (requests_out plan commands s.progress) (with_progress (null_sent plan)) s (record old { progress = c.ask_null.new.self }) c.cut.new.self
-            (stands_with old c.ask_null.new.self (null_sent plan) s stands c.ask_null.ensures) c.cut.ensures
+        put_stands put line c.requests_out-requests.result (requests_out plan commands s.progress) (with_progress (null_sent plan)) s (record old { progress = c.note_null.new.self }) c.cut.new.self
+            (stands_with old c.note_null.new.self (null_sent plan) s stands c.note_null.ensures) c.cut.ensures
             (c.requests_out-requests.ensures ∙ ap (requests_out plan commands) stands.progress),
         put_took text start known put line (requests_out plan commands s.progress) (with_progress (null_sent plan)) s so,
       );

@@ -18,7 +18,7 @@ returns g c text known =
       goes = λ s start stands so. (
         put_puts put feed feed refl c.put-put.ensures.part,
         put_stands put feed c.requests_out-requests.result (requests_out plan commands s.progress) (with_progress cleared) s
-            (record old { progress = c.clear.new.self }) c.cut.new.self (stands_with old c.clear.new.self cleared s stands c.clear.ensures) c.cut.ensures
+            (record old { progress = c.note_cleared.new.self }) c.cut.new.self (stands_with old c.note_cleared.new.self cleared s stands c.note_cleared.ensures) c.cut.ensures
             (c.requests_out-requests.ensures ∙ ap (requests_out plan commands) stands.progress),
         put_took text start known put feed (requests_out plan commands s.progress) (with_progress cleared) s so,
       );

@@ -26,10 +26,10 @@ returns g c text known =
         put_puts put line (request_text s.client (Table NullProc)) (ap (λ (k : Wish). request_text old.client.ids k.call) c.null_command.ensures
             ∙ ap (λ (ids : ById Asked). request_text ids (Table NullProc)) stands.ids) c.ask-put.ensures.part,
         put_stands put line c.requests_out-requests.result (requests_out plan commands s.progress)
-            (λ (x : Model). with_progress asking (asks_null plan x)) s (record c.ask-put.new.self { progress = c.ask.new.self }) c.cut.new.self
-            (stands_with c.ask-put.new.self c.ask.new.self asking (asks_null plan s)
+            (λ (x : Model). with_progress asking (asks_null plan x)) s (record c.ask-put.new.self { progress = c.note_request.new.self }) c.cut.new.self
+            (stands_with c.ask-put.new.self c.note_request.new.self asking (asks_null plan s)
             (asks_stands old c.ask-put.new.self s plan.deadline one other None stands c.requires.room c.null_command.ensures c.ask-put.ensures.asks)
-            c.ask.ensures) c.cut.ensures
+            c.note_request.ensures) c.cut.ensures
             (c.requests_out-requests.ensures ∙ ap (requests_out plan commands) stands.progress),
         put_took text start known put line (requests_out plan commands s.progress) (λ (x : Model). with_progress asking (asks_null plan x)) s so,
       );

@@ -28,11 +28,12 @@ returns-clause-hears g c s start stands so =
     (λ are. c.in_default-write.ensures.wrote s.reads start s.records are (so are)) c.in_default-write.ensures.after c.in_default-write.ensures.tally c.in_default-write.ensures.well
     c.in_default-write.ensures.listed c.in_default-write.ensures.fresh in
     let after = c.in_default-write.ensures.after in
-    let table = c.ends_with_table-of_table.ensures ∙ ap (λ l. ends_with_table (map settlement_seen l)) c.as_slice.ensures.value ∙ ap (λ (st : Station). ends_with_table (map settlement_seen st.settled.items)) after ∙ ap ends_with_table same in
+    let table = c.ends_with_table-of_table.ensures ∙ ap (λ l. ends_with_table (map settlement_seen l)) c.as_slice.ensures.value ∙ ap
+    (λ (st : Station). ends_with_table (map settlement_seen st.settled.items)) after ∙ ap ends_with_table same in
     let waits = c.waiting.ensures.waiting ∙ ap (λ (st : Station). length st.client.ids.waiting) after ∙ ap (λ w. length w.ids.waiting) client ∙ ap (λ y. length y.client.waiting) seen in
     let caught = with_caught c.write.new.self c.catch_up.new.self c.ends_with_table-of_table.result (ends_with_table x.settlements) c.waiting.result (length x.client.waiting) (settles x s) t.0
     table waits c.catch_up.ensures in
-    rw c.in-Line.is (with_noted (record c.write.new.self { progress = c.catch_up.new.self }) c.note.new.self c.is_reply.result (is_reply line) (line_settles x s) caught reply c.note.ensures, t.1)
+    rw c.in-Line.is (with_noted (record c.write.new.self { progress = c.catch_up.new.self }) c.note_line.new.self c.is_reply.result (is_reply line) (line_settles x s) caught reply c.note_line.ensures, t.1)
 
 pub returns-in-Err-clause-hears : goal.returns-in-Err-clause-hears
 returns-in-Err-clause-hears g c s start stands so =

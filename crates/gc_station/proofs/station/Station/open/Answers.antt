@@ -2,7 +2,7 @@ use Rattle.std.proofs.Common.{ap, ◌∙◌}
 use Rattle.gc_station.specs.declared.cause.Cause.TheVariants as cause
 use Rattle.gc_links.specs.Acts.{Unopened}
 use Rattle.gc_station.specs.Marks.{commands_in}
-use Rattle.gc_station.specs.Progressing.{again}
+use Rattle.gc_station.specs.Progressing.{after_failure}
 use Rattle.gc_station.proofs.station.Station.open.Goals as goal
 
 pub returns-in-Err : goal.returns-in-Err
@@ -15,8 +15,8 @@ returns-in-Err g c commands text known =
       goes = λ s start stands so. (
         tt,
         record {
-          progress = c.try_again.ensures ∙ ap (λ n. again plan n cause.Open old.progress) (c.commands-commands.ensures ∙ ap commands_in stands.marks)
-              ∙ ap (again plan (commands_in s.marks) cause.Open) stands.progress;
+          progress = c.try_again.ensures ∙ ap (λ n. after_failure plan n cause.Open old.progress) (c.commands-commands.ensures ∙ ap commands_in stands.marks)
+              ∙ ap (after_failure plan (commands_in s.marks) cause.Open) stands.progress;
           ids = stands.ids;
           width = stands.width;
           marks = stands.marks;

@@ -2,8 +2,8 @@ use Rattle.std.proofs.Common.{ap, ◌∙◌}
 use Rattle.gc_links.specs.Acts.{Told}
 use Rattle.gc_station.specs.declared.progress.Progress.{Progress}
 use Rattle.gc_station.specs.Marks.{commands_in}
-use Rattle.gc_station.specs.Model.{is_chained_behind, others_behind, passes_next, with_passes}
-use Rattle.gc_station.specs.Progressing.{reckoned_early, passed}
+use Rattle.gc_station.specs.Model.{is_chained_after, others_after, passes_next, with_passes}
+use Rattle.gc_station.specs.Progressing.{reckoned_early, attempts_left_out}
 use Rattle.gc_station.specs.Stations.{Refines}
 use Rattle.gc_station.proofs.Hearing.{stands_expired}
 use Rattle.gc_station.proofs.station.Station.pass.Goals as goal
@@ -15,7 +15,7 @@ returns-in-Ok g c text known =
     let commands = c.args.commands.now in
     let m = c.in-Ok.moment in
     let n = old.progress.next_others in
-    let goes_on : Progress → Progress = λ p. passed (is_chained_behind p.next_others commands p) (others_behind p.next_others commands p) m p in
+    let goes_on : Progress → Progress = λ p. attempts_left_out (is_chained_after p.next_others commands p) (others_after p.next_others commands p) m p in
     record {
       act = Told m;
       tells = c.in-Ok.ensures;
@@ -34,13 +34,13 @@ returns-in-Ok g c text known =
           } in
           let waiting = c.commands-waiting.ensures ∙ ap commands_in stands.marks in
           let progress =
-          c.reckon_early.ensures ∙ ap (λ k. reckoned_early plan k c.pass.new.self) waiting
-          ∙ ap (reckoned_early plan (commands_in s.marks)) (c.pass.ensures
-          ∙ ap (λ b. passed b c.others_behind-others.result m old.progress) c.is_chained_behind-next_is_chained.ensures
-          ∙ ap (λ k. passed (is_chained_behind n commands old.progress) k m old.progress) c.others_behind-others.ensures
+          c.note_early.ensures ∙ ap (λ k. reckoned_early plan k c.leave_out.new.self) waiting
+          ∙ ap (reckoned_early plan (commands_in s.marks)) (c.leave_out.ensures
+          ∙ ap (λ b. attempts_left_out b c.others_after-others.result m old.progress) c.is_chained_after-next_is_chained.ensures
+          ∙ ap (λ k. attempts_left_out (is_chained_after n commands old.progress) k m old.progress) c.others_after-others.ensures
           ∙ ap goes_on stands.progress) in (
             tt,
-            stands_expired old c.reckon_early.new.self (reckoned_early plan (commands_in s.marks) (goes_on s.progress)) c.expire.new.self c.min-self.result m
+            stands_expired old c.note_early.new.self (reckoned_early plan (commands_in s.marks) (goes_on s.progress)) c.expire.new.self c.min-self.result m
                 (with_passes (passes_next plan commands s.progress) s) there progress c.expire.ensures.client c.min-self.ensures,
             so,
           );

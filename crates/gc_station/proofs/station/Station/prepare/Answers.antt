@@ -31,8 +31,8 @@ returns g c text known =
           let first = setup_stands plan c.ask-put.new.self s asking mark list is asked in (
             put_puts put line (text_or_null s.progress.moment.utc s.client list) (ap (λ (ids : ById Asked). request_text ids asking.command.call) stands.ids
                 ∙ ap (λ (a : Asking). request_text s.client a.command.call) is ∙ setup_text plan s.client mark list) c.ask-put.ensures.part,
-            put_stands put line c.requests_out-requests.result (requests_out plan commands s.progress) f s (record c.ask-put.new.self { progress = c.prepare.new.self }) c.cut.new.self
-                (stands_with c.ask-put.new.self c.prepare.new.self (setup_sent plan) (asks_setup plan commands s) first c.prepare.ensures) c.cut.ensures
+            put_stands put line c.requests_out-requests.result (requests_out plan commands s.progress) f s (record c.ask-put.new.self { progress = c.note_setup.new.self }) c.cut.new.self
+                (stands_with c.ask-put.new.self c.note_setup.new.self (setup_sent plan) (asks_setup plan commands s) first c.note_setup.ensures) c.cut.ensures
                 (c.requests_out-requests.ensures ∙ ap (requests_out plan commands) stands.progress),
             put_took text start known put line (requests_out plan commands s.progress) f s (setup_took plan text start known s mark list so),
           );

@@ -4,12 +4,12 @@ use Rattle.gc_station.specs.declared.cause.Cause.TheVariants.{Clock}
 use Rattle.gc_station.specs.declared.progress.Progress.{Progress}
 use Rattle.gc_station.specs.declared.station.Station.{Station}
 use Rattle.gc_links.specs.Acts.{Told, Untold}
-use Rattle.gc_station.specs.Attempts.{listed_behind}
+use Rattle.gc_station.specs.Attempts.{listed_after}
 use Rattle.gc_texts.specs.Endings.{Missed, Skipped}
 use Rattle.gc_station.specs.Marks.{commands_in}
 use Rattle.gc_station.specs.Progressing.{failing, skipped, reckoned_early}
 use Rattle.gc_station.specs.Records.{Record, texts_of}
-use Rattle.gc_station.specs.Model.{Model, place_next, mark_next, is_chained_behind_next, others_behind_next, skip_listed, skips, with_progress, with_listed, with_records}
+use Rattle.gc_station.specs.Model.{Model, place_next, mark_next, is_chained_after_next, others_after_next, skip_listed, skips, with_progress, with_listed, with_records}
 use Rattle.gc_station.specs.Stations.{Refines, Took}
 use Rattle.gc_station.proofs.Hearing.{stands_expired}
 use Rattle.gc_station.proofs.Making.{stands_with, drop_some, skips_unwell, skipped_stands, none_skipped}
@@ -31,27 +31,29 @@ returns-in_default-clause-does g c =
       tells = c.in-Ok.ensures;
       goes = λ s start stands so.
           let q = s.progress in
-          let next_is_chained = is_chained_behind_next commands q in
-          let behind = others_behind_next commands q in
+          let next_is_chained = is_chained_after_next commands q in
+          let behind = others_after_next commands q in
           let listed = skip_listed plan commands s (Told m) in
           let is = stands.progress in
           let same = ap (λ (x : Station). x.progress) c.in_default.ensures.after ∙ is in
-          let here_stands : Refines mid (with_listed listed (with_records rs s)) = skipped_stands old mid s rs (listed_behind old.listed (mark_next plan commands p).expected None (if p.missed then Missed else Skipped)) listed stands
+          let here_stands : Refines mid (with_listed listed (with_records rs s)) = skipped_stands old mid s rs
+          (listed_after old.listed (mark_next plan commands p).expected None (if p.missed then Missed else Skipped)) listed stands
           (λ b. skips_unwell b p m (mark_next plan commands p) (drop (place_next commands p) commands) here.0 here.1 here.2)
-          (λ are. ap (λ b. listed_behind b (mark_next plan commands p).expected None (if p.missed then Missed else Skipped)) (stands.listed are)
-          ∙ ap (λ (x : Progress). listed_behind s.listed (mark_next plan commands x).expected None (if x.missed then Missed else Skipped)) is)
+          (λ are. ap (λ b. listed_after b (mark_next plan commands p).expected None (if p.missed then Missed else Skipped)) (stands.listed are)
+          ∙ ap (λ (x : Progress). listed_after s.listed (mark_next plan commands x).expected None (if x.missed then Missed else Skipped)) is)
           c.in_default.ensures.after in
           let rs' = ap (λ (x : Progress). skips plan commands x (Told m)) is in
-          let there : Refines mid (with_listed listed (with_records (skips plan commands q (Told m)) s)) = subst (λ (xs : List Record). Refines mid (with_listed listed (with_records xs s))) rs' here_stands in
+          let there : Refines mid (with_listed listed (with_records (skips plan commands q (Told m)) s)) = subst
+          (λ (xs : List Record). Refines mid (with_listed listed (with_records xs s))) rs' here_stands in
           let waiting = c.commands-waiting.ensures ∙ ap commands_in there.marks in
           let progress =
-          c.reckon_early.ensures ∙ ap (λ n. reckoned_early plan n c.skip.new.self) waiting
+          c.note_early.ensures ∙ ap (λ n. reckoned_early plan n c.skip.new.self) waiting
           ∙ ap (reckoned_early plan (commands_in s.marks)) (c.skip.ensures
-          ∙ ap (λ b. skipped b c.others_behind-others.result m mid.progress) (c.is_chained_behind-next_is_chained.ensures ∙ ap (is_chained_behind_next commands) same)
-          ∙ ap (λ n. skipped next_is_chained n m mid.progress) (c.others_behind-others.ensures ∙ ap (others_behind_next commands) same)
+          ∙ ap (λ b. skipped b c.others_after-others.result m mid.progress) (c.is_chained_after-next_is_chained.ensures ∙ ap (is_chained_after_next commands) same)
+          ∙ ap (λ n. skipped next_is_chained n m mid.progress) (c.others_after-others.ensures ∙ ap (others_after_next commands) same)
           ∙ ap (skipped next_is_chained behind m) same) in (
             tt,
-            stands_expired mid c.reckon_early.new.self (reckoned_early plan (commands_in s.marks) (skipped next_is_chained behind m q)) c.expire.new.self c.min-self.result m
+            stands_expired mid c.note_early.new.self (reckoned_early plan (commands_in s.marks) (skipped next_is_chained behind m q)) c.expire.new.self c.min-self.result m
                 (with_listed listed (with_records (skips plan commands q (Told m)) s)) there progress c.expire.ensures.client c.min-self.ensures,
             λ are. subst (λ (xs : List Record). Appends start (g.B.Book.taken c.write_skipped.new.book)
                 (texts_of (g.B.Book.text c.args.book.now) (s.records ++ xs))) rs' (c.in_default.ensures.wrote start s.records (so are)),

@@ -5,7 +5,7 @@ pub returns-in-Err-clause-does : goal.returns-in-Err-clause-does
 returns-in-Err-clause-does g c =
     on_then c.args.action _ _
     (breaks_step c.args.plan.now c.args.commands.now c.args.action (g.B.Book.text c.args.book.now) (g.L.Link.acts c.args.link.now)
-    (g.L.Link.acts c.perform.new.link) (g.B.Book.taken c.args.book.now) (g.B.Book.taken c.perform.new.book) c.args.self.now c.turn.new.self c.turn.ensures)
+    (g.L.Link.acts c.perform.new.link) (g.B.Book.taken c.args.book.now) (g.B.Book.taken c.perform.new.book) c.args.self.now c.take_turn.new.self c.take_turn.ensures)
     c.in-Err.ensures.does
 
 pub returns-clause-does : goal.returns-clause-does
@@ -13,5 +13,5 @@ returns-clause-does g c =
     on_then c.args.action _ _
     (λ does. makes_step c.args.plan.now c.args.commands.now c.args.action (g.B.Book.text c.args.book.now) (g.L.Link.acts c.args.link.now)
     (g.L.Link.acts c.perform.new.link) (g.B.Book.taken c.args.book.now) (g.B.Book.taken c.perform.new.book) (g.B.Book.taken c.end.new.book)
-    c.args.self.now c.perform.new.self c.end.new.self c.turn.new.self c.end.result c.turn.ensures does (rw c.in_default.ensures.form at c.end.ensures.ends))
+    c.args.self.now c.perform.new.self c.end.new.self c.take_turn.new.self c.end.result c.take_turn.ensures does (rw c.in_default.ensures.form at c.end.ensures.ends))
     c.in_default.ensures.does

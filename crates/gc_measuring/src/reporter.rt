@@ -16,7 +16,7 @@ use gc_words::Watch;
 use std::io::{self, Write};
 
 /// The messages of a station, with what was seen of the station and reported so far.
-pub(crate) struct Teller<E> {
+pub(crate) struct Reporter<E> {
     watch: Watch,
     signs: Signs,
     // What was reported of the station's files.
@@ -24,10 +24,10 @@ pub(crate) struct Teller<E> {
     messages: E,
 }
 
-impl<E: Write> Teller<E> {
+impl<E: Write> Reporter<E> {
     /// Nothing was reported yet.
-    pub(crate) fn new(watch: Watch, messages: E) -> Teller<E> {
-        Teller {
+    pub(crate) fn new(watch: Watch, messages: E) -> Reporter<E> {
+        Reporter {
             watch,
             signs: Signs::new(watch),
             files: FilesTold::new(),
@@ -38,7 +38,7 @@ impl<E: Write> Teller<E> {
     /// Writes at the start how many commands there are, and to which place they go.
     pub(crate) fn begin(&mut self, place: Place<'_>, count: usize) {
         if self.watch != Watch::Nobody {
-            let _ = tell_start(place, count, &mut self.messages);
+            let _ = report_start(place, count, &mut self.messages);
         }
     }
 
@@ -50,7 +50,7 @@ impl<E: Write> Teller<E> {
     }
 
     /// Writes before an act what is new of the link, the line and the files.
-    pub(crate) fn tell(&mut self, noticed: Noticed, health: LinkHealth, moment: Moment) {
+    pub(crate) fn report(&mut self, noticed: Noticed, health: LinkHealth, moment: Moment) {
         let Noticed {
             odd,
             is_lost,
@@ -58,19 +58,19 @@ impl<E: Write> Teller<E> {
             ..
         } = noticed;
         let _ = self.signs.see(health, is_lost, moment, &mut self.messages);
-        let _ = self.signs.tell_odd(odd, &mut self.messages);
-        self.tell_files(files, moment);
+        let _ = self.signs.report_odd(odd, &mut self.messages);
+        self.report_files(files, moment);
     }
 
-    // Writes what became of the files, also where no signs of life are written.
-    fn tell_files(&mut self, files: FilesSeen, moment: Moment) {
+    // Writes what became of the files, also if no signs of life are written.
+    fn report_files(&mut self, files: FilesSeen, moment: Moment) {
         if let Some(news) = self.files.news(files, moment) {
             let _ = self.signs.clear(&mut self.messages);
-            let _ = news.tell(&mut self.messages);
+            let _ = news.report(&mut self.messages);
         }
     }
 
-    /// Writes that a cycle was not done when the next was due, where a line of this kind may be written.
+    /// Writes that a cycle was not done when the next was due, if a line of this kind may be written.
     pub(crate) fn overran(&mut self, cycle: u64) {
         if self.signs.may_tell_late() {
             let _ = self.signs.clear(&mut self.messages);
@@ -78,15 +78,15 @@ impl<E: Write> Teller<E> {
         }
     }
 
-    /// Writes why a run ended that is stale, also where no signs of life are written: since when no answer of a good quality came, in
-    /// milliseconds since 1970.
+    /// Writes why a run ended that is stale, also if no signs of life are written: since when no answer of a good quality came,
+    /// in milliseconds since 1970.
     pub(crate) fn stale(&mut self, since: u64) {
-        let _ = self.signs.tell_stale(since, &mut self.messages);
+        let _ = self.signs.report_stale(since, &mut self.messages);
     }
 
     /// Writes at the end what wasn't reported yet, and hands the messages back.
     pub(crate) fn end(self) -> E {
-        let Teller {
+        let Reporter {
             watch: _,
             mut signs,
             files: _,
@@ -98,7 +98,7 @@ impl<E: Write> Teller<E> {
 }
 
 // Writes the line of a station's start: how many commands there are, to which place they go, and what the station waits for first.
-fn tell_start<E: Write>(place: Place<'_>, count: usize, messages: &mut E) -> io::Result<()> {
+fn report_start<E: Write>(place: Place<'_>, count: usize, messages: &mut E) -> io::Result<()> {
     let commands = if count == 1 { "command" } else { "commands" };
     writeln!(
         messages,

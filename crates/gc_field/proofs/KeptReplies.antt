@@ -1,0 +1,121 @@
+-- What an instrument's retained reply is to: the last request that it was handed and knows (`table`), or a later one. And what
+-- it means that a line is vouched for: it was made for its request, as that request's call was executed. The id of request n is
+-- n
+-- - `since`, modulo 8.
+use Rattle.std.proofs.Common.{◌≡◌, ℕ, ◌+◌, ◌-◌, ◌%◌, ◌<◌, ◌≤◌, ◌⊎◌, inl, inr, Bool, true, false, List, [], ◌∷◌, ◌++◌, Option, Some, None, refl, sym, ap, subst, arith}
+use Rattle.std.specs.Prelude.{slice_get}
+use Rattle.gc_catalogue.specs.declared.asked.Asked.{Asked}
+use Rattle.gc_instrument.specs.State.{KeptReply}
+use Rattle.gc_world.specs.Clients.{ByNumber}
+use Rattle.gc_world.specs.Order.{Each, Rising, numbers}
+use Rattle.gc_world.specs.Record.{IsReplyTo}
+use Rattle.gc_field.specs.World.{Request, Sent, Numbered, Ends, World}
+use Rattle.gc_world.proofs.Booked.{Has}
+use Rattle.gc_world.proofs.Rows.{each_more}
+use Rattle.gc_field.proofs.Once.{IsUnknown, true_is_not}
+
+-- no request in flight has a number below that of the front one
+pub rising_each : (low : ℕ) (xs : List (Numbered Request)) → Rising low (numbers xs) → Each (λ x. low ≤ x.number + 1) xs
+rising_each low [] h = tt
+rising_each low (x ∷ xs) h = (h.0, each_more (λ y. x.number + 1 ≤ y.number + 1) (λ y. low ≤ y.number + 1) (λ y k. omega (arith, k, h.0)) xs (rising_each (x.number + 1) xs h.1))
+
+-- of numbers that never fall, those after n never fall either, and none of them is below n
+pub rising_tail : (low n : ℕ) (xs ys : List ℕ) → Rising low (xs ++ n ∷ ys) → (low ≤ n + 1) × Rising (n + 1) ys
+rising_tail low n [] ys h = h
+rising_tail low n (x ∷ xs) ys h = let r = rising_tail (x + 1) n xs ys h.1 in (omega (arith, h.0, r.0), r.1)
+
+-- What is kept.
+
+-- the retained reply `k` is to request `number`, which is `table` or a later one, but before `top`: it has that request's id,
+-- and the property P
+pub record IsKept (P : ℕ → List ℕ → Type 0) (since top table : ℕ) (k : KeptReply) : Type 0 where
+  pub number : ℕ
+  pub recent : since ≤ number
+  pub before : number < top
+  pub behind : table ≤ number
+  pub id : k.id ≡ (number - since) % 8
+  pub line : P number k.line
+
+-- if anything is retained, `IsKept` holds of it
+abbrev pub KeptIs : (ℕ → List ℕ → Type 0) → ℕ → ℕ → ℕ → Option KeptReply → Type 0
+KeptIs P since top table None = Unit {0}
+KeptIs P since top table (Some k) = IsKept P since top table k
+
+-- where P implies Q, `KeptIs` of P gives `KeptIs` of Q
+pub kept_more : (P Q : ℕ → List ℕ → Type 0) → ((n : ℕ) (line : List ℕ) → P n line → Q n line) → (since top table : ℕ) (k : Option KeptReply)
+    → KeptIs P since top table k → KeptIs Q since top table k
+kept_more P Q f since top table None h = tt
+kept_more P Q f since top table (Some k) h = record { number = h.number; recent = h.recent; before = h.before; behind = h.behind; id = h.id; line = f h.number k.line h.line }
+
+-- if nothing is retained, `KeptIs` holds
+pub kept_none : (P : ℕ → List ℕ → Type 0) (since top table : ℕ) (k : Option KeptReply) → k ≡ None → KeptIs P since top table k
+kept_none P since top table k e = subst (λ k. KeptIs P since top table k) (sym e) tt
+
+-- if nothing is retained, or this line with the id of request n, `KeptIs` holds
+pub kept_one : (P : ℕ → List ℕ → Type 0) (since top table n id : ℕ) (line : List ℕ) (k : Option KeptReply) → since ≤ n → n < top → table ≤ n → id ≡ (n - since) % 8
+    → P n line → (k ≡ None) ⊎ (k ≡ Some (record { id = id; line = line })) → KeptIs P since top table k
+kept_one P since top table n id line k recent before behind own p (inl none) = kept_none P since top table k none
+kept_one P since top table n id line k recent before behind own p (inr e) =
+    subst (λ k. KeptIs P since top table k) (sym e) (record { number = n; recent = recent; before = before; behind = behind; id = own; line = p })
+
+-- where what was kept stays, or nothing is kept any more, `KeptIs` lasts
+pub kept_still : (P : ℕ → List ℕ → Type 0) (since top table : ℕ) (k after : Option KeptReply) → (after ≡ None) ⊎ (after ≡ k) → KeptIs P since top table k → KeptIs P since top table after
+kept_still P since top table k after (inl none) h = kept_none P since top table after none
+kept_still P since top table k after (inr same) h = subst (λ k. KeptIs P since top table k) (sym same) h
+
+-- where more requests were handed, and none of them is known, `KeptIs` lasts
+kept_longer : (P : ℕ → List ℕ → Type 0) (since top next table : ℕ) (k : Option KeptReply) → top ≤ next → KeptIs P since top table k → KeptIs P since next table k
+kept_longer P since top next table None le h = tt
+kept_longer P since top next table (Some k) le h = record { number = h.number; recent = h.recent; before = omega (arith, h.before, le); behind = h.behind; id = h.id; line = h.line }
+
+-- The newest known request.
+
+-- the number of the newest known request, once request n was handed; `known` says whether that is known
+abbrev pub newest : Bool → ℕ → ℕ → ℕ
+newest true n table = n
+newest false n table = table
+
+-- the newest known request is none before
+pub newest_up : (known : Bool) (n table : ℕ) → table ≤ n → table ≤ newest known n table
+newest_up true n table le = le
+newest_up false n table le = omega arith
+
+-- the newest known request isn't later than the last one
+pub newest_low : (known : Bool) (n table : ℕ) → table ≤ n → newest known n table ≤ n
+newest_low true n table le = omega arith
+newest_low false n table le = le
+
+-- request n isn't later than the newest known one (`table`), or it isn't known
+abbrev pub IsDealt : (Asked → Bool) → List Sent → ℕ → ℕ → Type 0
+IsDealt knows sent table n = (n ≤ table) ⊎ IsUnknown knows sent n
+
+-- the request handed last is `IsDealt`
+pub newest_dealt : (knows : Asked → Bool) (sent : List Sent) (known : Bool) (n table : ℕ) → ((known ≡ false) → IsUnknown knows sent n) → IsDealt knows sent (newest known n table) n
+newest_dealt knows sent true n table f = inl (omega arith)
+newest_dealt knows sent false n table f = inr (f refl)
+
+-- what is retained after request n was handed is its own line, or nothing; or, if it isn't known, what was kept: so `KeptIs`
+-- holds then
+pub kept_handed : (P Q : ℕ → List ℕ → Type 0) → ((n : ℕ) (line : List ℕ) → P n line → Q n line) → (since top table n id : ℕ) (known : Bool) (line : List ℕ) (k after : Option KeptReply)
+    → since ≤ n → top ≤ n + 1 → table ≤ n → id ≡ (n - since) % 8 → Q n line
+    → ((after ≡ None) ⊎ (after ≡ Some (record { id = id; line = line }))) ⊎ ((known ≡ false) × (after ≡ k)) → KeptIs P since top table k
+    → KeptIs Q since (n + 1) (newest known n table) after
+kept_handed P Q f since top table n id known line k after recent le low own p (inl now) h =
+    kept_one Q since (n + 1) (newest known n table) n id line after recent (omega arith) (newest_low known n table low) own p now
+kept_handed P Q f since top table n id known line k after recent le low own p (inr same) h =
+    subst (λ t. KeptIs Q since (n + 1) t after) (sym (ap (λ b. newest b n table) same.0))
+    (kept_longer Q since top (n + 1) table after le (kept_more P Q f since top table after (kept_still P since top table k after (inr same.1) h)))
+
+-- the line was made for request n, as its call was executed, and has the property M
+pub record IsVouched {State : Type 0} (ends : Ends State) (Good : State → Type 0) (M : ℕ → Asked → List ℕ → Type 0) (sent : List Sent) (executed : List ℕ)
+    (made : List (Numbered (List ℕ))) (n : ℕ) (line : List ℕ) : Type 0 where
+  pub among : Has (record { number = n; line = line }) made
+  pub acted : Has n executed
+  pub request : Sent
+  pub found : slice_get sent n ≡ Some request
+  pub reply : IsReplyTo ends Good request.call line
+  pub on : M n request.call line
+
+-- if the instrument executes the front request, x, when that is handed to it, its reply has the property M
+abbrev pub IsOn : {State : Type 0} → Ends State → (ℕ → Asked → List ℕ → Type 0) → World (ByNumber Asked) State → Numbered Request → Type 0
+IsOn ends M w x = (ends.handed w.wire.state x.line.id x.line.call).executed ≡ true → M x.number x.line.call (ends.handed w.wire.state x.line.id x.line.call).reply

@@ -1,0 +1,299 @@
+-- Which names the parts of a record's object have, so that what is found under a name in one part isn't found in another. A
+-- member is a name with its value; of members with one name the last is found.
+use Rattle.std.proofs.Common.{◌≡◌, ℕ, ℤ, cond, List, [], ◌∷◌, ◌++◌, Option, Some, None, refl, ap, ◌∙◌, subst}
+use Rattle.std.specs.Prelude.{codes}
+use Rattle.std.specs.Fmt.{decimal}
+use Rattle.std.specs.List.{AllByRecursion}
+use Rattle.std.specs.Str.{bytes_eq}
+use Rattle.json.specs.Find.{get_member, later_or}
+use Rattle.json.specs.Json as json
+use Rattle.gc_catalogue.specs.Answers.{answer_fields}
+use Rattle.gc_catalogue.specs.declared.answer.Answer.{Answer}
+use Rattle.gc_catalogue.specs.declared.answer.Answer.TheVariants.{Nothing, Short, Version, Long, Name, Date, Temperature, Place, Height, Angles, Measured, MeasuredMode}
+use Rattle.gc_catalogue.specs.declared.asked.Asked.{Asked}
+use Rattle.gc_catalogue.specs.declared.asked.Asked.TheVariants.{Table, Raw}
+use Rattle.gc_catalogue.specs.declared.call.Call.{Call}
+use Rattle.gc_catalogue.specs.declared.call.Call.TheVariants.{GetFace, GetPrism}
+use Rattle.gc_texts.specs.Endings.{End, Answered, Unreadable, Elsewhere, Late, Lost, Skipped, Missed, word_of, line_of, quality_text}
+use Rattle.gc_texts.specs.Logs.{escaped}
+use Rattle.gc_texts.specs.declared.wish.Wish.{Wish}
+use Rattle.gc_texts.specs.declared.quality.Quality.{Quality}
+use Rattle.gc_texts.specs.declared.quality.Quality.TheVariants as quality
+use Rattle.gc_rows.specs.JsonLines.{Member, Text, Number, Texts, ending_members, item_members, answer_members, quantity_members, attempt_members, sent_members, values_members, what_members, without_zeros, worded_members}
+use Rattle.gc_rows.specs.Items.{split_items}
+use Rattle.gc_rows.specs.Laws.{members_read, texts_read}
+use Rattle.gc_rows.specs.Quantities.{column_of, quantity_names}
+use Rattle.gc_rows.specs.Rows.{code_of, com_of, moment_text, procedure_of, values_of}
+use Rattle.gc_rows.specs.declared.when.When.{When}
+use Rattle.gc_promise.specs.Objects.{text_of}
+use Rattle.gc_promise.proofs.Plain.{moment_plain}
+
+-- Members one after the other: the last of a name is found.
+
+-- what is found under a name among members
+abbrev pub find : List ℕ → List Member → Option json.Json
+find key ms = get_member key (members_read ms)
+
+-- `later_or` takes the later of two results of a search, if something was found there, and else the earlier one. Here there is
+-- no earlier one
+pub later_none : (o : Option json.Json) → o ≡ later_or o None
+later_none None = refl
+later_none (Some j) = refl
+
+-- `later_or` is associative
+later_three : (a b c : Option json.Json) → later_or (later_or a b) c ≡ later_or a (later_or b c)
+later_three None b c = refl
+later_three (Some j) b c = refl
+
+-- what is found under a name among two lists of members, joined, is what is found among the second, `ys`, if it is there, and
+-- else what is found among the first
+pub find_both : (key : List ℕ) (xs ys : List Member) → find key (xs ++ ys) ≡ later_or (find key ys) (find key xs)
+find_both key [] ys = later_none (find key ys)
+find_both key (Text name bytes ∷ xs) ys =
+    let this = cond (bytes_eq name key) (Some (json.string (escaped bytes))) None in
+    ap (λ (o : Option json.Json). later_or o this) (find_both key xs ys) ∙ later_three (find key ys) (find key xs) this
+find_both key (Number name digits ∷ xs) ys =
+    let this = cond (bytes_eq name key) (Some (json.number digits)) None in
+    ap (λ (o : Option json.Json). later_or o this) (find_both key xs ys) ∙ later_three (find key ys) (find key xs) this
+find_both key (Texts name texts ∷ xs) ys =
+    let this = cond (bytes_eq name key) (Some (json.array (texts_read texts))) None in
+    ap (λ (o : Option json.Json). later_or o this) (find_both key xs ys) ∙ later_three (find key ys) (find key xs) this
+
+-- Which names the parts of a record's members have.
+
+-- no member has one of these names
+abbrev pub LacksAll : List Member → List (List ℕ) → Type 0
+LacksAll ms keys = AllByRecursion (λ (key : List ℕ). find key ms ≡ None) keys
+
+-- the names of members of a record that aren't quantities
+abbrev pub firsts : List (List ℕ)
+firsts = codes "cycle" ∷ codes "place" ∷ codes "target" ∷ codes "procedure" ∷ codes "outcome" ∷ codes "rc_com" ∷ codes "rc" ∷ codes "values" ∷ codes "sent" ∷ []
+
+-- no member for a quantity of this answer has one of the names of `firsts`. `came` are the parameters of the reply, as its line
+-- has them
+abbrev IsApart : Call → Answer → List ℕ → Type 0
+IsApart call answer came = LacksAll (values_members (column_of call answer) (answer_fields answer).values came) firsts
+
+-- `IsApart` holds of an answer that is a whole number
+long_apart : (call : Call) (n : ℤ) (came : List ℕ) → IsApart call (Long n) came
+long_apart GetFace n came = (refl, (refl, (refl, (refl, (refl, (refl, (refl, (refl, (refl, tt)))))))))
+long_apart GetPrism n came = (refl, (refl, (refl, (refl, (refl, (refl, (refl, (refl, (refl, tt)))))))))
+long_apart call n came = (refl, (refl, (refl, (refl, (refl, (refl, (refl, (refl, (refl, tt)))))))))
+
+-- `IsApart` holds of each answer
+answer_apart : (call : Call) (answer : Answer) (came : List ℕ) → IsApart call answer came
+answer_apart call Nothing came = (refl, (refl, (refl, (refl, (refl, (refl, (refl, (refl, (refl, tt)))))))))
+answer_apart call (Short n) came = (refl, (refl, (refl, (refl, (refl, (refl, (refl, (refl, (refl, tt)))))))))
+answer_apart call (Version release version subversion) came = (refl, (refl, (refl, (refl, (refl, (refl, (refl, (refl, (refl, tt)))))))))
+answer_apart call (Long n) came = long_apart call n came
+answer_apart call (Name name) came = (refl, (refl, (refl, (refl, (refl, (refl, (refl, (refl, (refl, tt)))))))))
+answer_apart call (Date d) came = (refl, (refl, (refl, (refl, (refl, (refl, (refl, (refl, (refl, tt)))))))))
+answer_apart call (Temperature t) came = (refl, (refl, (refl, (refl, (refl, (refl, (refl, (refl, (refl, tt)))))))))
+answer_apart call (Place s) came = (refl, (refl, (refl, (refl, (refl, (refl, (refl, (refl, (refl, tt)))))))))
+answer_apart call (Height h) came = (refl, (refl, (refl, (refl, (refl, (refl, (refl, (refl, (refl, tt)))))))))
+answer_apart call (Angles hz v) came = (refl, (refl, (refl, (refl, (refl, (refl, (refl, (refl, (refl, tt)))))))))
+answer_apart call (Measured hz v distance) came = (refl, (refl, (refl, (refl, (refl, (refl, (refl, (refl, (refl, tt)))))))))
+answer_apart call (MeasuredMode hz v distance mode) came = (refl, (refl, (refl, (refl, (refl, (refl, (refl, (refl, (refl, tt)))))))))
+
+-- the member for a reply's items has none of the names of `firsts`
+items_apart : (items : Option (List (List ℕ))) → LacksAll (item_members items) firsts
+items_apart None = (refl, (refl, (refl, (refl, (refl, (refl, (refl, (refl, (refl, tt)))))))))
+items_apart (Some texts) = (refl, (refl, (refl, (refl, (refl, (refl, (refl, (refl, (refl, tt)))))))))
+
+-- no member for an answer's quantity or items has one of the names of `firsts`
+columns_apart : (asked : Asked) (answer : Answer) (line : List ℕ) → LacksAll (answer_members asked answer line) firsts
+columns_apart (Table call) answer line = answer_apart call answer (values_of line)
+columns_apart (Raw raw) answer line = items_apart (split_items (values_of line))
+
+-- no member for a quantity or for items has one of the names of `firsts`
+pub quantities_apart : (call : Asked) (end : End) → LacksAll (quantity_members call end) firsts
+quantities_apart call (Answered quality (Some answer) line) = columns_apart call answer line
+quantities_apart call (Answered quality None line) = (refl, (refl, (refl, (refl, (refl, (refl, (refl, (refl, (refl, tt)))))))))
+quantities_apart call (Unreadable line fault) = (refl, (refl, (refl, (refl, (refl, (refl, (refl, (refl, (refl, tt)))))))))
+quantities_apart call (Elsewhere line) = (refl, (refl, (refl, (refl, (refl, (refl, (refl, (refl, (refl, tt)))))))))
+quantities_apart call Late = (refl, (refl, (refl, (refl, (refl, (refl, (refl, (refl, (refl, tt)))))))))
+quantities_apart call Lost = (refl, (refl, (refl, (refl, (refl, (refl, (refl, (refl, (refl, tt)))))))))
+quantities_apart call Skipped = (refl, (refl, (refl, (refl, (refl, (refl, (refl, (refl, (refl, tt)))))))))
+quantities_apart call Missed = (refl, (refl, (refl, (refl, (refl, (refl, (refl, (refl, (refl, tt)))))))))
+
+-- the member for a quality has none of the names of `firsts`, and no name of a quantity
+pub worded_apart : (word : List ℕ) → LacksAll (worded_members word) firsts
+worded_apart [] = (refl, (refl, (refl, (refl, (refl, (refl, (refl, (refl, (refl, tt)))))))))
+worded_apart (b ∷ bs) = (refl, (refl, (refl, (refl, (refl, (refl, (refl, (refl, (refl, tt)))))))))
+
+pub worded_without : (word : List ℕ) → LacksAll (worded_members word) quantity_names
+worded_without [] =
+    (refl, (refl, (refl, (refl, (refl, (refl, (refl, (refl, (refl, (refl, (refl, (refl, (refl, (refl, (refl, (refl, (refl, (refl, (refl, (refl, (refl, (refl, (refl, (refl, tt))))))))))))))))))))))))
+worded_without (b ∷ bs) =
+    (refl, (refl, (refl, (refl, (refl, (refl, (refl, (refl, (refl, (refl, (refl, (refl, (refl, (refl, (refl, (refl, (refl, (refl, (refl, (refl, (refl, (refl, (refl, (refl, tt))))))))))))))))))))))))
+
+-- what two lists of members lack, both together lack
+pub lacks_both : (xs ys : List Member) (keys : List (List ℕ)) → LacksAll xs keys → LacksAll ys keys → LacksAll (xs ++ ys) keys
+lacks_both xs ys [] a b = tt
+lacks_both xs ys (key ∷ keys) a b =
+    (find_both key xs ys ∙ ap (λ (o : Option json.Json). later_or o (find key xs)) b.0 ∙ ap (later_or None) a.0, lacks_both xs ys keys a.1 b.1)
+
+-- the attempt has none of the names of `firsts`
+pub attempt_apart : (when : When) → LacksAll (attempt_members when) firsts
+attempt_apart when = (refl, (refl, (refl, (refl, (refl, (refl, (refl, (refl, (refl, tt)))))))))
+
+-- the attempt has no name of a quantity
+pub attempt_without : (when : When) → LacksAll (attempt_members when) quantity_names
+attempt_without when =
+    (refl, (refl, (refl, (refl, (refl, (refl, (refl, (refl, (refl, (refl, (refl, (refl, (refl, (refl, (refl, (refl, (refl, (refl, (refl, (refl, (refl, (refl, (refl, (refl, tt))))))))))))))))))))))))
+
+-- the member for a reply's items has no name of a quantity
+pub items_without : (items : Option (List (List ℕ))) → LacksAll (item_members items) quantity_names
+items_without None =
+    (refl, (refl, (refl, (refl, (refl, (refl, (refl, (refl, (refl, (refl, (refl, (refl, (refl, (refl, (refl, (refl, (refl, (refl, (refl, (refl, (refl, (refl, (refl, (refl, tt))))))))))))))))))))))))
+items_without (Some texts) =
+    (refl, (refl, (refl, (refl, (refl, (refl, (refl, (refl, (refl, (refl, (refl, (refl, (refl, (refl, (refl, (refl, (refl, (refl, (refl, (refl, (refl, (refl, (refl, (refl, tt))))))))))))))))))))))))
+
+-- the word of a quality is found under `quality`, if there is one
+pub worded_found : (o : Option Quality) → text_of (find (codes "quality") (worded_members (quality_text o))) ≡ quality_text o
+worded_found (Some quality.Fine) = refl
+worded_found (Some quality.Warning) = refl
+worded_found (Some quality.Refused) = refl
+worded_found None = refl
+
+-- no member for a quantity or for items has the name `quality`
+long_unqualified : (call : Call) (n : ℤ) (came : List ℕ) → find (codes "quality") (values_members (column_of call (Long n)) (answer_fields (Long n)).values came) ≡ None
+long_unqualified GetFace n came = refl
+long_unqualified GetPrism n came = refl
+long_unqualified call n came = refl
+
+answer_unqualified : (call : Call) (answer : Answer) (came : List ℕ) → find (codes "quality") (values_members (column_of call answer) (answer_fields answer).values came) ≡ None
+answer_unqualified call (Long n) came = long_unqualified call n came
+answer_unqualified call answer came = refl
+
+items_unqualified : (items : Option (List (List ℕ))) → find (codes "quality") (item_members items) ≡ None
+items_unqualified None = refl
+items_unqualified (Some texts) = refl
+
+columns_unqualified : (asked : Asked) (answer : Answer) (line : List ℕ) → find (codes "quality") (answer_members asked answer line) ≡ None
+columns_unqualified (Table call) answer line = answer_unqualified call answer (values_of line)
+columns_unqualified (Raw raw) answer line = items_unqualified (split_items (values_of line))
+
+pub quantities_unqualified : (call : Asked) (end : End) → find (codes "quality") (quantity_members call end) ≡ None
+quantities_unqualified call (Answered quality (Some answer) line) = columns_unqualified call answer line
+quantities_unqualified call end = refl
+
+-- no member on how a command ended, on the command, or on when has the name `quality`
+pub ending_unqualified : (end : End) → find (codes "quality") (ending_members end) ≡ None
+ending_unqualified (Answered quality answer line) = refl
+ending_unqualified (Unreadable line fault) = refl
+ending_unqualified (Elsewhere line) = refl
+ending_unqualified Late = refl
+ending_unqualified Lost = refl
+ending_unqualified Skipped = refl
+ending_unqualified Missed = refl
+
+pub what_unqualified : (command : Wish) (name : List ℕ) → find (codes "quality") (what_members command name) ≡ None
+what_unqualified command [] = refl
+what_unqualified command (b ∷ bs) = refl
+
+pub moment_unqualified : (sent : Option ℕ) (time cycle place : List ℕ)
+    → find (codes "quality") (sent_members sent ++ (Text (codes "time") time ∷ Number (codes "cycle") cycle ∷ Number (codes "place") place ∷ [])) ≡ None
+moment_unqualified None time cycle place = refl
+moment_unqualified (Some utc) time cycle place = refl
+
+-- no member on how a command ended has one of these five names
+pub ending_apart : (end : End) → LacksAll (ending_members end) (codes "cycle" ∷ codes "place" ∷ codes "target" ∷ codes "procedure" ∷ codes "sent" ∷ [])
+ending_apart (Answered quality answer line) = (refl, (refl, (refl, (refl, (refl, tt)))))
+ending_apart (Unreadable line fault) = (refl, (refl, (refl, (refl, (refl, tt)))))
+ending_apart (Elsewhere line) = (refl, (refl, (refl, (refl, (refl, tt)))))
+ending_apart Late = (refl, (refl, (refl, (refl, (refl, tt)))))
+ending_apart Lost = (refl, (refl, (refl, (refl, (refl, tt)))))
+ending_apart Skipped = (refl, (refl, (refl, (refl, (refl, tt)))))
+ending_apart Missed = (refl, (refl, (refl, (refl, (refl, tt)))))
+
+-- no member on how a command ended has the name of a quantity
+pub ending_without : (end : End) → LacksAll (ending_members end) quantity_names
+ending_without (Answered quality answer line) =
+    (refl, (refl, (refl, (refl, (refl, (refl, (refl, (refl, (refl, (refl, (refl, (refl, (refl, (refl, (refl, (refl, (refl, (refl, (refl, (refl, (refl, (refl, (refl, (refl, tt))))))))))))))))))))))))
+ending_without (Unreadable line fault) =
+    (refl, (refl, (refl, (refl, (refl, (refl, (refl, (refl, (refl, (refl, (refl, (refl, (refl, (refl, (refl, (refl, (refl, (refl, (refl, (refl, (refl, (refl, (refl, (refl, tt))))))))))))))))))))))))
+ending_without (Elsewhere line) =
+    (refl, (refl, (refl, (refl, (refl, (refl, (refl, (refl, (refl, (refl, (refl, (refl, (refl, (refl, (refl, (refl, (refl, (refl, (refl, (refl, (refl, (refl, (refl, (refl, tt))))))))))))))))))))))))
+ending_without Late =
+    (refl, (refl, (refl, (refl, (refl, (refl, (refl, (refl, (refl, (refl, (refl, (refl, (refl, (refl, (refl, (refl, (refl, (refl, (refl, (refl, (refl, (refl, (refl, (refl, tt))))))))))))))))))))))))
+ending_without Lost =
+    (refl, (refl, (refl, (refl, (refl, (refl, (refl, (refl, (refl, (refl, (refl, (refl, (refl, (refl, (refl, (refl, (refl, (refl, (refl, (refl, (refl, (refl, (refl, (refl, tt))))))))))))))))))))))))
+ending_without Skipped =
+    (refl, (refl, (refl, (refl, (refl, (refl, (refl, (refl, (refl, (refl, (refl, (refl, (refl, (refl, (refl, (refl, (refl, (refl, (refl, (refl, (refl, (refl, (refl, (refl, tt))))))))))))))))))))))))
+ending_without Missed =
+    (refl, (refl, (refl, (refl, (refl, (refl, (refl, (refl, (refl, (refl, (refl, (refl, (refl, (refl, (refl, (refl, (refl, (refl, (refl, (refl, (refl, (refl, (refl, (refl, tt))))))))))))))))))))))))
+
+-- no member on a command has the name `cycle`, `place` or `sent`
+pub what_apart : (command : Wish) (name : List ℕ) → LacksAll (what_members command name) (codes "cycle" ∷ codes "place" ∷ codes "sent" ∷ [])
+what_apart command [] = (refl, (refl, (refl, tt)))
+what_apart command (b ∷ bs) = (refl, (refl, (refl, tt)))
+
+-- no member on a command has the name of a quantity
+pub what_without : (command : Wish) (name : List ℕ) → LacksAll (what_members command name) quantity_names
+what_without command [] =
+    (refl, (refl, (refl, (refl, (refl, (refl, (refl, (refl, (refl, (refl, (refl, (refl, (refl, (refl, (refl, (refl, (refl, (refl, (refl, (refl, (refl, (refl, (refl, (refl, tt))))))))))))))))))))))))
+what_without command (b ∷ bs) =
+    (refl, (refl, (refl, (refl, (refl, (refl, (refl, (refl, (refl, (refl, (refl, (refl, (refl, (refl, (refl, (refl, (refl, (refl, (refl, (refl, (refl, (refl, (refl, (refl, tt))))))))))))))))))))))))
+
+-- no member on when and where has the name of a quantity
+pub moment_without : (sent : Option ℕ) (time cycle place : List ℕ)
+    → LacksAll (sent_members sent ++ (Text (codes "time") time ∷ Number (codes "cycle") cycle ∷ Number (codes "place") place ∷ [])) quantity_names
+moment_without None time cycle place =
+    (refl, (refl, (refl, (refl, (refl, (refl, (refl, (refl, (refl, (refl, (refl, (refl, (refl, (refl, (refl, (refl, (refl, (refl, (refl, (refl, (refl, (refl, (refl, (refl, tt))))))))))))))))))))))))
+moment_without (Some utc) time cycle place =
+    (refl, (refl, (refl, (refl, (refl, (refl, (refl, (refl, (refl, (refl, (refl, (refl, (refl, (refl, (refl, (refl, (refl, (refl, (refl, (refl, (refl, (refl, (refl, (refl, tt))))))))))))))))))))))))
+
+-- a record's cycle and place are found among the members on when and where
+pub moment_found : (sent : Option ℕ) (time cycle place : List ℕ) → let ms = sent_members sent ++ (Text (codes "time") time ∷ Number (codes "cycle") cycle ∷ Number (codes "place") place ∷ []) in
+    (find (codes "cycle") ms ≡ Some (json.number cycle)) × (find (codes "place") ms ≡ Some (json.number place))
+moment_found None time cycle place = (refl, refl)
+moment_found (Some utc) time cycle place = (refl, refl)
+
+-- where only the members on when and where have something under a name, that is what is found
+pub moments_found : (o : Option json.Json) → later_or (later_or (later_or (later_or None None) None) o) None ≡ o
+moments_found None = refl
+moments_found (Some j) = refl
+
+-- when a request was sent is found among the members on when and where
+pub sent_found : (sent : Option ℕ) (time cycle place : List ℕ)
+    → text_of (find (codes "sent") (sent_members sent ++ (Text (codes "time") time ∷ Number (codes "cycle") cycle ∷ Number (codes "place") place ∷ []))) ≡ moment_text sent
+sent_found None time cycle place = refl
+sent_found (Some utc) time cycle place = moment_plain (Some utc)
+
+-- the target and the procedure are found among the members on a command
+pub what_found : (command : Wish) (name : List ℕ)
+    → (find (codes "target") (what_members command name) ≡ Some (json.number (decimal command.target)))
+    × (find (codes "procedure") (what_members command name) ≡ Some (json.number (decimal (procedure_of command.call))))
+what_found command [] = (refl, refl)
+what_found command (b ∷ bs) = (refl, refl)
+
+-- the word of the ending is found under `outcome`
+pub outcome_found : (end : End) → find (codes "outcome") (ending_members end) ≡ Some (json.string (escaped (word_of end)))
+outcome_found (Answered quality answer line) = refl
+outcome_found (Unreadable line fault) = refl
+outcome_found (Elsewhere line) = refl
+outcome_found Late = refl
+outcome_found Lost = refl
+outcome_found Skipped = refl
+outcome_found Missed = refl
+
+-- the codes and parameters of this line are found among these members
+record IsFound (ms : List Member) (line : List ℕ) : Type 0 where
+  rc_com : find (codes "rc_com") ms ≡ Some (json.number (without_zeros (com_of line)))
+  rc : find (codes "rc") ms ≡ Some (json.number (without_zeros (code_of line)))
+  values : find (codes "values") ms ≡ Some (json.string (escaped (values_of line)))
+
+-- two lines are equal where `Some` of the one equals `Some` of the other
+some_line : (x y : List ℕ) → Some x ≡ Some y → x ≡ y
+some_line x y e = cc
+
+-- the codes and parameters of the line that ended a command are found among the members on its ending
+pub line_found : (end : End) (line : List ℕ) → line_of end ≡ Some line → IsFound (ending_members end) line
+line_found (Answered quality answer l) line e = subst (IsFound (ending_members (Answered quality answer l))) (some_line l line e) (record { rc_com = refl; rc = refl; values = refl })
+line_found (Unreadable l fault) line e = subst (IsFound (ending_members (Unreadable l fault))) (some_line l line e) (record { rc_com = refl; rc = refl; values = refl })
+line_found (Elsewhere l) line e = subst (IsFound (ending_members (Elsewhere l))) (some_line l line e) (record { rc_com = refl; rc = refl; values = refl })
+line_found Late line e = cc
+line_found Lost line e = cc
+line_found Skipped line e = cc
+line_found Missed line e = cc

@@ -1,0 +1,117 @@
+-- What each action's act does to the place in a cycle and to the fields on chains: it leaves them, breaks the chain, goes on to
+-- the next command, leaves out attempts, or begins a cycle. And which actions leave the connection open. An act is one call on
+-- the link, with its result.
+use Rattle.std.proofs.Common.{◌≡◌, ◌⊎◌, inl, inr, ℕ, ◌-◌, Bool, true, false, List, [], refl, sym, ap, ◌∙◌, subst}
+use Rattle.gc_texts.specs.declared.tasks.Task.{Task}
+use Rattle.gc_station.specs.declared.cause.Cause.{Cause}
+use Rattle.gc_station.specs.declared.cause.Cause.TheVariants as cause
+use Rattle.gc_station.specs.declared.plan.Plan.{Plan}
+use Rattle.gc_station.specs.declared.progress.Action.{Action}
+use Rattle.gc_station.specs.declared.progress.Action.TheVariants.{Begin, Renew, Open, Send, Skip, Pass, Read, Close, Stop, Prepare}
+use Rattle.gc_station.specs.declared.progress.Progress.{Progress}
+use Rattle.gc_links.specs.Acts.{Act, Told, Cut, Opened}
+use Rattle.gc_station.specs.Quiet.{KeepsOpen}
+use Rattle.gc_station.specs.Progressing.{failing}
+use Rattle.gc_station.specs.Model.{Model, requests_out, Performs, waiting_of, is_chained_after_next, is_chained_after, with_rest, moved, cycle_length}
+use Rattle.gc_station.proofs.Walk.{closed_along, is_prepared, is_sent, moved_changed, walk}
+
+-- What an act does to the place in a cycle, and to the chain that is there.
+
+-- from p to q the next command stays the same, and so do the fields that chains look at, but that the chain may break
+pub record Still (p q : Progress) : Type 0 where
+  pub left : q.left ≡ p.left
+  pub unsent : q.unsent ≡ p.unsent
+  pub missed : q.missed ≡ p.missed
+  pub next_is_chained : q.next_is_chained ≡ p.next_is_chained
+  pub chain_unbroken : q.chain_unbroken ≡ true → p.chain_unbroken ≡ true
+
+-- q has one command less to be sent than p, and the next one of q waits for the answer of the one before it as `next_is_chained`
+-- says
+pub record Next (next_is_chained : Bool) (p q : Progress) : Type 0 where
+  pub left : q.left ≡ p.left
+  pub unsent : q.unsent ≡ p.unsent - 1
+  pub missed : q.missed ≡ p.missed
+  pub is_bound : q.next_is_chained ≡ next_is_chained
+
+-- q is at the beginning of a cycle of `count` commands: all are unsent, and no chain has begun
+pub record Anew (count : ℕ) (q : Progress) : Type 0 where
+  pub unsent : q.unsent ≡ count
+  pub chain_unbroken : q.chain_unbroken ≡ false
+
+-- q has the further attempts of a chain left out that the next command of p begins; the next one of q waits as
+-- `is_chained_after` says
+pub record Past (commands : List Task) (p q : Progress) : Type 0 where
+  pub left : q.left ≡ p.left
+  pub unsent : q.unsent ≡ p.unsent - p.next_others
+  pub missed : q.missed ≡ p.missed
+  pub is_bound : q.next_is_chained ≡ is_chained_after p.next_others commands p
+  pub chain_unbroken : q.chain_unbroken ≡ false
+
+-- what an act of an action does to the fields on chains, from p to q: it leaves them, breaks the chain, goes on to the next
+-- command, leaves out attempts, or begins a cycle. If an action has two cases, the first is that the clock couldn't be read
+abbrev pub Steps : Plan → List Task → Action → Progress → Progress → Type 0
+Steps plan commands Begin p q = Still p q ⊎ Anew (cycle_length plan commands) q
+Steps plan commands Renew p q = Still p q ⊎ (Still p q × (q.chain_unbroken ≡ false))
+Steps plan commands Send p q = Next (is_chained_after_next commands p) p q
+Steps plan commands Skip p q = Still p q ⊎ (Next (is_chained_after_next commands p) p q × (q.chain_unbroken ≡ false))
+Steps plan commands Pass p q = Still p q ⊎ Past commands p q
+Steps plan commands Prepare p q = Still p q × (q.chain_unbroken ≡ false)
+Steps plan commands (Close why) p q = Still p q × (q.chain_unbroken ≡ false)
+Steps plan commands _ p q = Still p q
+
+-- if these fields are the same, `Still` holds
+still : (p q : Progress) → q.left ≡ p.left → q.unsent ≡ p.unsent → q.missed ≡ p.missed → q.next_is_chained ≡ p.next_is_chained → q.chain_unbroken ≡ p.chain_unbroken → Still p q
+still p q left unsent missed next_is_chained chain_unbroken = record { left = left; unsent = unsent; missed = missed; next_is_chained = next_is_chained; chain_unbroken = λ e. sym chain_unbroken ∙ e }
+
+-- if these fields are the same, but for a chain that is broken in q, `Still` holds, and q's chain is broken
+pub broken : (p q : Progress) → q.left ≡ p.left → q.unsent ≡ p.unsent → q.missed ≡ p.missed → q.next_is_chained ≡ p.next_is_chained → q.chain_unbroken ≡ false → Still p q × (q.chain_unbroken ≡ false)
+broken p q left unsent missed next_is_chained chain_unbroken = (
+  record {
+    left = left;
+    unsent = unsent;
+    missed = missed;
+    next_is_chained = next_is_chained;
+    chain_unbroken =
+        λ e. let both : true ≡ false = sym e ∙ chain_unbroken in cc;
+  },
+  chain_unbroken,
+)
+
+-- an act of each action does to these fields what `Steps` says
+pub moved_steps : (plan : Plan) (commands : List Task) (action : Action) (s : Model) (act : Act)
+    → Steps plan commands action s.progress (moved plan commands action s act).progress
+moved_steps plan commands Begin s (Told m) = inr (record { unsent = refl; chain_unbroken = refl })
+moved_steps plan commands Begin s act = inl (still s.progress _ refl refl refl refl refl)
+moved_steps plan commands Renew s (Told m) = inr (broken s.progress _ refl refl refl refl refl)
+moved_steps plan commands Renew s act = inl (still s.progress _ refl refl refl refl refl)
+moved_steps plan commands Open s Opened = still s.progress _ refl refl refl refl refl
+moved_steps plan commands Open s act = (broken s.progress _ refl refl refl refl refl).0
+moved_steps plan commands Prepare s (Cut bytes n) =
+    subst (λ (x : Model). Still s.progress (failing (cause.Write (requests_out plan commands s.progress) n) x.progress) × (x.progress.chain_unbroken ≡ false)) (is_prepared plan commands s)
+    (broken s.progress _ refl refl refl refl refl)
+moved_steps plan commands Prepare s act =
+    subst (λ (x : Model). Still s.progress x.progress × (x.progress.chain_unbroken ≡ false)) (is_prepared plan commands s) (broken s.progress _ refl refl refl refl refl)
+moved_steps plan commands Send s (Cut bytes n) =
+    subst (λ (x : Model). Next (is_chained_after_next commands s.progress) s.progress (failing (cause.Write (requests_out plan commands s.progress) n) x.progress)) (is_sent plan commands s)
+    (record { left = refl; unsent = refl; missed = refl; is_bound = refl })
+moved_steps plan commands Send s act =
+    subst (λ (x : Model). Next (is_chained_after_next commands s.progress) s.progress x.progress) (is_sent plan commands s) (record { left = refl; unsent = refl; missed = refl; is_bound = refl })
+moved_steps plan commands Skip s (Told m) = inr (record { left = refl; unsent = refl; missed = refl; is_bound = refl }, refl)
+moved_steps plan commands Skip s act = inl (still s.progress _ refl refl refl refl refl)
+moved_steps plan commands Pass s (Told m) = inr (record { left = refl; unsent = refl; missed = refl; is_bound = refl; chain_unbroken = refl })
+moved_steps plan commands Pass s act = inl (still s.progress _ refl refl refl refl refl)
+moved_steps plan commands (Close why) s act =
+    closed_along (λ (q : Progress). Still s.progress q × (q.chain_unbroken ≡ false)) plan (waiting_of (with_rest [] s)) why s.progress
+    (broken s.progress _ refl refl refl refl refl) (broken s.progress _ refl refl refl refl refl)
+moved_steps plan commands action s act =
+    let is = moved_changed plan commands action s act in
+    still s.progress _ (ap (λ (x : Model). x.progress.left) is) (ap (λ (x : Model). x.progress.unsent) is) (ap (λ (x : Model). x.progress.missed) is)
+    (ap (λ (x : Model). x.progress.next_is_chained) is)
+    (ap (λ (x : Model). x.progress.chain_unbroken) is)
+
+-- no act but that of a close closes the connection
+pub stays_open : (plan : Plan) (commands : List Task) (next : Action) (s : Model) (act : Act) → Performs commands s next act → ((why : Cause) → next ≡ Close why → ⊥) → KeepsOpen act
+stays_open plan commands (Read until) s act o other = walk plan commands (λ a (t : Model). KeepsOpen a) (Read until) s act o (λ bytes m. tt, λ m. tt, tt, tt, tt)
+stays_open plan commands (Close why) s act o other = absurd (other why refl)
+stays_open plan commands (Stop why) s act o other = absurd o
+stays_open plan commands next s act o other = walk plan commands (λ a (t : Model). KeepsOpen a) next s act o (λ m. tt, λ n. tt)

@@ -1,0 +1,135 @@
+-- Whether a command of an attempt ended as the rule of its chain names, by the ends that records have: `listed` of a model is
+-- what its records say.
+use Rattle.std.proofs.Common.{◌≡◌, ◌⊎◌, inl, inr, ℕ, ◌+◌, ◌||◌, Bool, true, false, List, [], ◌∷◌, ◌++◌, Option, if◌then◌else◌, nat_eq, refl, sym, ap, ◌∙◌, arith}
+use Rattle.std.specs.List.{AllByRecursion}
+use Rattle.std.proofs.lemmas.Bool.Decides.{nat_tests}
+use Rattle.gc_catalogue.specs.declared.answer.Answer.{Answer}
+use Rattle.gc_catalogue.specs.declared.answer.Reading.{Reading}
+use Rattle.gc_catalogue.specs.declared.asked.Asked.{Asked}
+use Rattle.gc_client.specs.Rule
+use Rattle.gc_texts.specs.Again.{is_named, has_code}
+use Rattle.gc_texts.specs.Endings.{End, Answered, Unreadable, Elsewhere, Late, Lost, Skipped, Missed}
+use Rattle.gc_texts.specs.Zeroed.{as_zero}
+use Rattle.gc_texts.specs.declared.again.Again.{Again}
+use Rattle.gc_texts.specs.declared.near.Expected.{Expected}
+use Rattle.gc_texts.specs.declared.quality.Quality.{Quality}
+use Rattle.gc_texts.specs.declared.tasks.Task.{Task}
+use Rattle.gc_station.specs.Attempts.{code_in, code_of}
+use Rattle.gc_station.specs.Marks.{end_of, answer_as}
+use Rattle.gc_station.specs.Model.{in_attempt}
+use Rattle.gc_station.specs.Records.{Record}
+use Rattle.gc_station.specs.Retries.{turn_as, rule_as, code_said, is_listed, HasListed}
+use Rattle.gc_station.specs.Answers.{answer_of}
+use Rattle.gc_station.proofs.Facts.{or_true}
+use Rattle.gc_station.proofs.Meets.{answer_line}
+use Rattle.gc_station.proofs.SentAt.{some_is}
+
+-- What ends name.
+
+-- an answered command ended by the line of its reply
+answered_line : (expected : Expected) (x zeroed : Reading) (q : Quality) (line l : List ℕ) (said : Option Answer) → answer_as expected x zeroed line ≡ Answered q said l → line ≡ l
+answered_line expected x zeroed q line l said e = some_is line l (sym (answer_line expected x zeroed line) ∙ ap answer_of e)
+
+-- if a request's outcome makes it answered, its code is that of the line
+pub code_there : (reads : Asked → List ℕ → Reading) (expected : Expected) (call : Asked) (outcome : Rule.Outcome) (q : Quality) (said : Option Answer) (l : List ℕ)
+    → end_of reads expected call outcome ≡ Answered q said l → code_of reads call outcome ≡ code_in (reads call l)
+code_there reads expected call (Rule.Answered line) q said l e = ap (λ k. code_in (reads call k)) (answered_line expected (reads call line) (reads call (as_zero line)) q line l said e)
+code_there reads expected call Rule.Late q said l e = cc
+code_there reads expected call Rule.Lost q said l e = cc
+
+-- whether an end is named hangs on its code only if it is answered
+pub named_by : (reads : Asked → List ℕ → Reading) (again : Again) (call : Asked) (code : Option ℕ) (end : End)
+    → ((q : Quality) (said : Option Answer) (l : List ℕ) → end ≡ Answered q said l → code ≡ code_in (reads call l)) → is_named again code end ≡ is_named again (code_said reads call end) end
+named_by reads again call code (Answered q said l) is = ap (has_code again.codes) (is q said l refl)
+named_by reads again call code (Unreadable line fault) is = refl
+named_by reads again call code (Elsewhere line) is = refl
+named_by reads again call code Late is = refl
+named_by reads again call code Lost is = refl
+named_by reads again call code Skipped is = refl
+named_by reads again call code Missed is = refl
+
+-- What records list.
+
+-- whether a command of the attempt that the last of these records is of ended as its rule names; if there is none, b
+abbrev pub any_listed : (Asked → List ℕ → Reading) → List Task → Bool → List Record → Bool
+any_listed reads commands b [] = b
+any_listed reads commands b (r ∷ rs) = any_listed reads commands ((if nat_eq r.turn.link 0 then false else b) || is_listed reads commands r) rs
+
+-- what two lists of records list is what the second does after the first
+pub any_append : (reads : Asked → List ℕ → Reading) (commands : List Task) (xs ys : List Record) (b : Bool)
+    → any_listed reads commands b (xs ++ ys) ≡ any_listed reads commands (any_listed reads commands b xs) ys
+any_append reads commands [] ys b = refl
+any_append reads commands (x ∷ xs) ys b = any_append reads commands xs ys ((if nat_eq x.turn.link 0 then false else b) || is_listed reads commands x)
+
+-- no attempt begins with these records
+abbrev GoOn : List Record → Type 0
+GoOn rs = AllByRecursion (λ (r : Record). r.turn.link ≡ 0 → ⊥) rs
+
+-- if the records list, one of them is listed, or none begins an attempt and b is true
+has_of : (reads : Asked → List ℕ → Reading) (commands : List Task) (rs : List Record) (b : Bool) → any_listed reads commands b rs ≡ true → ((b ≡ true) × GoOn rs) ⊎ HasListed reads commands rs
+has_of reads commands [] b e = inl (e, tt)
+has_of reads commands (r ∷ rs) b e = by_rest (has_of reads commands rs ((if nat_eq r.turn.link 0 then false else b) || is_listed reads commands r) e) where
+  -- a link that isn't 0 by its test isn't 0
+  not_first : (n : ℕ) → nat_eq n 0 ≡ false → n ≡ 0 → ⊥
+  not_first n t is = grind (arith, nat_tests, t, is)
+
+  -- the lemma above for the first record, by its tests
+  by_tests : (first listed : Bool) → nat_eq r.turn.link 0 ≡ first → is_listed reads commands r ≡ listed → ((if first then false else b) || listed) ≡ true → GoOn rs
+      → ((b ≡ true) × GoOn (r ∷ rs)) ⊎ HasListed reads commands (r ∷ rs)
+  by_tests first true t l is all = inr (record { front = []; one = r; behind = rs; order = refl; listed = l; same = all })
+  by_tests true false t l is all = cc
+  by_tests false false t l is all = inl (left b is, (not_first r.turn.link t, all)) where
+    -- a disjunction with a false second part is its first
+    left : (b : Bool) → (b || false) ≡ true → b ≡ true
+    left true e = refl
+    left false e = cc
+
+  -- the lemma above, by what the others list
+  by_rest : ((((if nat_eq r.turn.link 0 then false else b) || is_listed reads commands r) ≡ true) × GoOn rs) ⊎ HasListed reads commands rs
+      → ((b ≡ true) × GoOn (r ∷ rs)) ⊎ HasListed reads commands (r ∷ rs)
+  by_rest (inl it) = by_tests (nat_eq r.turn.link 0) (is_listed reads commands r) refl refl it.0 it.1
+  by_rest (inr h) = inr (record { front = r ∷ h.front; one = h.one; behind = h.behind; order = ap (λ xs. r ∷ xs) h.order; listed = h.listed; same = h.same })
+
+-- where records list from none on, one of them is listed
+pub listed_has : (reads : Asked → List ℕ → Reading) (commands : List Task) (rs : List Record) → any_listed reads commands false rs ≡ true → HasListed reads commands rs
+listed_has reads commands rs e = by_case (has_of reads commands rs false e) where
+  -- the lemma above, of which one case can't be
+  by_case : ((false ≡ true) × GoOn rs) ⊎ HasListed reads commands rs → HasListed reads commands rs
+  by_case (inl it) = cc
+  by_case (inr h) = h
+
+-- what is listed stays so after records that begin no attempt
+stays_listed : (reads : Asked → List ℕ → Reading) (commands : List Task) (rs : List Record) → GoOn rs → any_listed reads commands true rs ≡ true
+stays_listed reads commands [] all = refl
+stays_listed reads commands (r ∷ rs) all = by_test (λ b. stays_listed reads commands rs all.1) (nat_eq r.turn.link 0) refl where
+  -- a link that is 0 by its test is 0
+  is_first : (n : ℕ) → nat_eq n 0 ≡ true → n ≡ 0
+  is_first n t = grind (arith, nat_tests, t)
+
+  -- the lemma above, whether the first record begins an attempt
+  by_test : (Bool → any_listed reads commands true rs ≡ true) → (first : Bool) → nat_eq r.turn.link 0 ≡ first
+      → any_listed reads commands ((if first then false else true) || is_listed reads commands r) rs ≡ true
+  by_test ih true t = absurd (all.0 (is_first r.turn.link t))
+  by_test ih false t = ih true
+
+-- if one of the records is listed, they list
+pub has_listed : (reads : Asked → List ℕ → Reading) (commands : List Task) (rs : List Record) (b : Bool) → HasListed reads commands rs → any_listed reads commands b rs ≡ true
+has_listed reads commands rs b h =
+    ap (any_listed reads commands b) h.order ∙ any_append reads commands h.front (h.one ∷ h.behind) b
+    ∙ ap (λ x. any_listed reads commands ((if nat_eq h.one.turn.link 0 then false else any_listed reads commands b h.front) || x) h.behind) h.listed
+    ∙ ap (λ x. any_listed reads commands x h.behind) (or_true (if nat_eq h.one.turn.link 0 then false else any_listed reads commands b h.front)) ∙ stays_listed reads commands h.behind h.same
+
+-- what is expected of a command's answer, of which the text says this; if it is of the setup (`true`), in this attempt
+abbrev pub expected_as : Bool → ℕ → Expected → Expected
+expected_as true attempt expected = in_attempt attempt expected
+expected_as false attempt expected = expected
+
+-- its turn is that of the command
+pub turn_expected : (b : Bool) (attempt : ℕ) (expected : Expected) → (expected_as b attempt expected).turn ≡ turn_as b attempt expected.turn
+turn_expected true attempt expected = refl
+turn_expected false attempt expected = refl
+
+-- its rule is that of the command
+pub rule_expected : (b : Bool) (attempt : ℕ) (expected : Expected) → (expected_as b attempt expected).again ≡ rule_as b expected.again
+rule_expected true attempt expected = refl
+rule_expected false attempt expected = refl

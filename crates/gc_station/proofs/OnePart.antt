@@ -1,0 +1,97 @@
+-- While a station doesn't resynchronize, all its acts are of one part: a request, and the acts after it. An act is one call on
+-- the link, with its result. A part reaches from one synchronization to the next.
+use Rattle.std.proofs.Common.{◌≡◌, suc, ◌+◌, ◌-◌, ◌&&◌, ◌||◌, Bool, true, false, not, List, [], ◌∷◌, ◌++◌, length, drop, nat_eq, refl, sym, ap, subst, arith}
+use Rattle.gc_texts.specs.declared.tasks.Task.{Task}
+use Rattle.gc_station.specs.declared.plan.Plan.{Plan}
+use Rattle.gc_station.specs.declared.progress.Action.{Action}
+use Rattle.gc_station.specs.declared.progress.Action.TheVariants.{Send}
+use Rattle.gc_station.specs.declared.progress.Phase.TheVariants as phase
+use Rattle.gc_station.specs.declared.progress.Progress.{Progress}
+use Rattle.gc_links.specs.Acts.{Act}
+use Rattle.gc_station.specs.Deciding.{has_begun, is_up}
+use Rattle.gc_station.specs.Links.{parts}
+use Rattle.gc_station.specs.Parts.{Part, acting, ends_part, in_front, parts_of}
+use Rattle.gc_station.specs.Progressing.{cycle_begun, is_over, is_over_in}
+use Rattle.gc_station.specs.Reasons.{IsFor}
+use Rattle.gc_station.specs.Runs.{state_after}
+use Rattle.gc_station.specs.Scopes.{Scope}
+use Rattle.gc_station.specs.Model.{Model, Performs, Puts, Runs, opening, action_at, waiting_of, place_next, first_text, after, after_all}
+use Rattle.gc_station.proofs.Chaining.{StaysBegun}
+use Rattle.gc_station.proofs.Facts.{action_for}
+use Rattle.gc_station.proofs.Going.{after_all-append, runs_behind}
+use Rattle.gc_station.proofs.Turns.{over_stays}
+use Rattle.gc_station.proofs.SentAt.{joined_length}
+
+-- While a station doesn't resynchronize, all its acts are of one part.
+
+-- the first acts of a run are a run
+pub runs_front : (plan : Plan) (commands : List Task) (s : Model) (xs ys : List Act) → Runs plan commands s (xs ++ ys) → Runs plan commands s xs
+runs_front plan commands s [] ys h = tt
+runs_front plan commands s (act ∷ xs) ys h = (h.0, runs_front plan commands (after plan commands s act) xs ys h.1)
+
+-- if a run isn't over after acts, it isn't before them, as no act follows a run that is over
+goes_on : (plan : Plan) (commands : List Task) (u : Model) (acts : List Act) (b : Bool) → is_over u.progress ≡ b → Runs plan commands u acts
+    → is_over (after_all plan commands u acts).progress ≡ false → is_over u.progress ≡ false
+goes_on plan commands u acts false e runs end = e
+goes_on plan commands u [] true e runs end = end
+goes_on plan commands u (act ∷ acts) true e runs end = absurd (over_stays plan commands u act e runs.0)
+
+-- if the station has synchronized after an act, and the run isn't over, the act ends no part
+neither : (cycle_begun later over : Bool) → later ≡ true → over ≡ false → (cycle_begun && (not later || over)) ≡ false
+neither true true over a o = o
+neither true false over a o = cc
+neither false later over a o = refl
+
+-- acts after each of which the station has synchronized are one part, if the run isn't over
+single : (plan : Plan) (commands : List Task) (s : Model) (acts : List Act) → Runs plan commands s acts → StaysBegun plan commands s acts
+    → is_over (after_all plan commands s acts).progress ≡ false → length (parts_of plan commands s acts) ≡ 1
+single plan commands s [] runs keeps end = refl
+single plan commands s (act ∷ acts) runs keeps end =
+    let u = after plan commands s act in
+    let p = acting plan commands s (action_at plan s) act in
+    let over = goes_on plan commands u acts (is_over u.progress) refl runs.1 end in
+    let ends : ends_part plan commands s act ≡ false = neither (has_begun s.progress) (has_begun u.progress) (is_over u.progress) keeps.0 over in
+    subst (λ b. length (in_front p b (parts_of plan commands u acts)) ≡ 1) (sym ends) (joined_length p (parts_of plan commands u acts) 0 (single plan commands u acts runs.1 keeps.1 end))
+
+-- lists of as many parts stay so with one act more before both
+front_length : (p : Part) (b : Bool) (ps qs : List Part) → length ps ≡ length qs → length (in_front p b ps) ≡ length (in_front p b qs)
+front_length p true ps qs e = ap suc e
+front_length p false [] [] e = refl
+front_length p false [] (y ∷ qs) e = absurd (omega (arith, e))
+front_length p false (x ∷ ps) [] e = absurd (omega (arith, e))
+front_length p false (x ∷ ps) (y ∷ qs) e = e
+
+-- acts that are one part add no part to those of the acts before them: they go on in the last one
+parts_more : (plan : Plan) (commands : List Task) (s : Model) (xs ys : List Act) → length (parts_of plan commands (after_all plan commands s xs) ys) ≡ 1
+    → length (parts_of plan commands s (xs ++ ys)) ≡ length (parts_of plan commands s xs)
+parts_more plan commands s [] ys one = one
+parts_more plan commands s (act ∷ xs) ys one =
+    front_length (acting plan commands s (action_at plan s) act) (ends_part plan commands s act)
+    (parts_of plan commands (after plan commands s act) (xs ++ ys)) (parts_of plan commands (after plan commands s act) xs)
+    (parts_more plan commands (after plan commands s act) xs ys one)
+
+-- in the phase `Ready` the run isn't over
+over_ready : (p : Progress) → p.phase ≡ phase.Ready → is_over p ≡ false
+over_ready p is = ap (λ at. is_over_in at || (not (is_up at) && nat_eq p.turns 0)) is
+
+-- if a command is next, the conditions of `Send` hold
+pub needs_send : (plan : Plan) (s : Model) → action_at plan s ≡ Send → IsFor plan s.progress (waiting_of s) Send
+needs_send plan s is = subst (λ (o : Action). IsFor plan s.progress (waiting_of s) o) is (action_for plan s.progress (waiting_of s))
+
+-- an act that sends puts the line of the next command
+pub puts_text : (commands : List Task) (plan : Plan) (s : Model) (act : Act) → action_at plan s ≡ Send → Performs commands s (action_at plan s) act
+    → Puts (first_text s.progress.moment.utc s.client (drop (place_next commands s.progress) commands)) act
+puts_text commands plan s act is obeys = subst (λ (o : Action). Performs commands s o act) is obeys
+
+-- a request and the acts after it, in which the station doesn't resynchronize, are of one part
+pub same_part : (plan : Plan) (commands : List Task) (scope : Scope) (before between : List Act) (request : Act)
+    → Runs plan commands (opening plan scope) (before ++ request ∷ between) → action_at plan (state_after plan commands scope before) ≡ Send
+    → StaysBegun plan commands (state_after plan commands scope before) (request ∷ between)
+    → action_at plan (state_after plan commands scope (before ++ request ∷ between)) ≡ Send
+    → length (parts plan commands scope (before ++ request ∷ between)) ≡ length (parts plan commands scope before)
+same_part plan commands scope before between request runs sends keeps next =
+    let s = state_after plan commands scope before in
+    let on = runs_behind plan commands (opening plan scope) before (request ∷ between) runs in
+    let last = over_ready (state_after plan commands scope (before ++ request ∷ between)).progress (needs_send plan (state_after plan commands scope (before ++ request ∷ between)) next).0 in
+    let end = subst (λ (t : Model). is_over t.progress ≡ false) (after_all-append plan commands (opening plan scope) before (request ∷ between)) last in
+    parts_more plan commands (opening plan scope) before (request ∷ between) (single plan commands s (request ∷ between) on keeps end)

@@ -1,0 +1,91 @@
+-- The lines of a piece: none of them reads as a reply, or the line was alive at the moment of the piece. `alive` is the moment
+-- since which no reply line came, and `asked` whether a request was sent after the last reply line.
+use Rattle.std.proofs.Common.{◌≡◌, ℕ, ◌⊎◌, inl, inr, Bool, true, false, List, [], ◌∷◌, Option, None, Result, Ok, Err, if◌then◌else◌, refl, ap, ◌∙◌}
+use Rattle.std.specs.List.{AllByRecursion}
+use Rattle.gc_lines.specs.declared.fault.LineFault.{LineFault}
+use Rattle.gc_lines.specs.Replies.{ReplyFields}
+use Rattle.gc_lines.specs.Readers.{reply_at}
+use Rattle.gc_client.specs.Beginning.{is_answered, left_by}
+use Rattle.gc_client.specs.Rule.{heard, id_in}
+use Rattle.gc_station.specs.declared.progress.Progress.{Progress}
+use Rattle.gc_station.specs.Progressing.{line_asked, lines_asked}
+use Rattle.gc_station.specs.Silences.{IsNoReply}
+use Rattle.gc_station.specs.Model.{Model, line_came, lines_came, is_ok, is_reply}
+use Rattle.gc_station.proofs.Walk.{lines_along}
+
+-- The lines of a piece: none reads as a reply, or the line was alive at the moment of the piece.
+
+-- lines that are heard leave the moment read last
+pub lines_moment : (s : Model) (lines : List (List ℕ)) → (lines_came s lines).progress.moment ≡ s.progress.moment
+lines_moment s lines = lines_along (λ (t : Model). t.progress.moment ≡ s.progress.moment) (λ t line e. e) s lines refl
+
+-- for lines that the client hears, from the model to this progress: none of them is a reply, and `alive` and `asked` stay as in
+-- the model; or the line was alive at the moment read last, and no request was sent since
+abbrev pub Alive : Model → List (List ℕ) → Progress → Type 0
+Alive s lines p = (AllByRecursion IsNoReply lines × (p.alive ≡ s.progress.alive) × (p.asked ≡ s.progress.asked)) ⊎ ((p.alive ≡ s.progress.moment.elapsed) × (p.asked ≡ false))
+
+-- `Alive` holds after lines that the client hears
+pub lines_alive : (s : Model) (lines : List (List ℕ)) → Alive s lines (lines_came s lines).progress
+lines_alive s [] = inl (tt, refl, refl)
+lines_alive s (line ∷ others) = on (is_reply line) refl (lines_alive (line_came s line) others) where
+  -- where the line is a reply (`true`), the line was alive at this moment; otherwise `alive` stays
+  here : (b : Bool) → is_reply line ≡ b → (line_came s line).progress.alive ≡ (if b then s.progress.moment.elapsed else s.progress.alive)
+  here b e = ap (λ (x : Bool). if x then s.progress.moment.elapsed else s.progress.alive) e
+
+  -- where the line is a reply (`true`), no request was sent since; otherwise `asked` stays
+  asks : (b : Bool) → is_reply line ≡ b → (line_came s line).progress.asked ≡ (if b then false else s.progress.asked)
+  asks b e = ap (λ (x : Bool). if x then false else s.progress.asked) e
+
+  -- `Alive` holds with one line more before it
+  on : (b : Bool) → is_reply line ≡ b → Alive (line_came s line) others (lines_came (line_came s line) others).progress → Alive s (line ∷ others) (lines_came (line_came s line) others).progress
+  on b e (inr now) = inr now
+  on true e (inl none) = inr (none.1 ∙ here true e, none.2 ∙ asks true e)
+  on false e (inl none) = inl ((e, none.0), none.1 ∙ here false e, none.2 ∙ asks false e)
+
+-- a line that doesn't read as a reply has no id
+no_reply : (line : List ℕ) → is_reply line ≡ false → heard line ≡ None
+no_reply line e = by_reply (reply_at line) e where
+  -- the lemma above, by how the line reads
+  by_reply : (r : Result ReplyFields LineFault) → is_ok r ≡ false → id_in r ≡ None
+  by_reply (Ok fields) e = cc
+  by_reply (Err fault) e = refl
+
+-- a line without an id answers no null procedure
+left_same : (word : List ℕ) (id : Option ℕ) → id ≡ None → left_by word id ≡ word
+left_same [] id e = refl
+left_same (asked ∷ others) id e = ap (λ (i : Option ℕ). left_by (asked ∷ others) i) e
+
+-- a line without an id leaves `again`, the moment at which the null procedure is sent again
+again_same : (word : List ℕ) (id : Option ℕ) (again : ℕ) → id ≡ None → (if is_answered word id then 0 else again) ≡ again
+again_same [] id again e = refl
+again_same (asked ∷ others) id again e = ap (λ (i : Option ℕ). if is_answered (asked ∷ others) i then 0 else again) e
+
+-- as `Alive`, for lines that the synchronization hears, from one progress to another: if none of them is a reply, the ids that
+-- are left (`word`) and the next null procedure's moment (`again`) stay, too
+abbrev pub AliveAsked : Progress → List (List ℕ) → Progress → Type 0
+AliveAsked p lines q =
+    (AllByRecursion IsNoReply lines × (q.alive ≡ p.alive) × (q.asked ≡ p.asked) × (q.word ≡ p.word) × (q.again ≡ p.again)) ⊎ ((q.alive ≡ p.moment.elapsed) × (q.asked ≡ false))
+
+-- `AliveAsked` holds after lines that the synchronization hears
+pub asked_alive : (p : Progress) (lines : List (List ℕ)) → AliveAsked p lines (lines_asked p lines)
+asked_alive p [] = inl (tt, refl, refl, refl, refl)
+asked_alive p (line ∷ others) = on (is_reply line) refl (asked_alive (line_asked p line) others) where
+  -- the progress after all lines
+  q : Progress
+  q = lines_asked (line_asked p line) others
+
+  -- where the line is a reply (`true`), the line was alive at this moment; otherwise `alive` stays
+  here : (b : Bool) → is_reply line ≡ b → (line_asked p line).alive ≡ (if b then p.moment.elapsed else p.alive)
+  here b e = ap (λ (x : Bool). if x then p.moment.elapsed else p.alive) e
+
+  -- where the line is a reply (`true`), no request was sent since; otherwise `asked` stays
+  asks : (b : Bool) → is_reply line ≡ b → (line_asked p line).asked ≡ (if b then false else p.asked)
+  asks b e = ap (λ (x : Bool). if x then false else p.asked) e
+
+  -- `AliveAsked` holds with one line more before it
+  on : (b : Bool) → is_reply line ≡ b → AliveAsked (line_asked p line) others q → AliveAsked p (line ∷ others) q
+  on b e (inr now) = inr now
+  on true e (inl none) = inr (none.1 ∙ here true e, none.2 ∙ asks true e)
+  on false e (inl none) =
+      let silent = no_reply line e in
+      inl ((e, none.0), none.1 ∙ here false e, none.2 ∙ asks false e, none.3 ∙ left_same p.word (heard line) silent, none.4 ∙ again_same p.word (heard line) p.again silent)

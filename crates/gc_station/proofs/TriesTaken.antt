@@ -1,0 +1,101 @@
+-- Each end of a connection takes a try at most, and only a read that settles a command gives tries back. An act is one call on
+-- the link, with its result.
+use Rattle.std.proofs.Common.{◌≡◌, ◌⊎◌, inl, inr, ℕ, ◌+◌, ◌-◌, ◌<◌, ◌≤◌, Bool, true, false, not, List, [], ◌∷◌, if◌then◌else◌, nat_lt, refl, ap, arith, ◌&&◌}
+use Rattle.std.proofs.lemmas.Bool.{ltb-true, ltb-false}
+use Rattle.gc_texts.specs.declared.tasks.Task.{Task}
+use Rattle.gc_links.specs.declared.link.Moment.{Moment}
+use Rattle.gc_station.specs.declared.plan.Plan.{Plan}
+use Rattle.gc_station.specs.declared.cause.Cause.{Cause}
+use Rattle.gc_station.specs.declared.progress.Phase.{Phase}
+use Rattle.gc_station.specs.declared.progress.Phase.TheVariants as phase
+use Rattle.gc_station.specs.declared.progress.Action.{Action}
+use Rattle.gc_station.specs.declared.progress.Action.TheVariants as actions
+use Rattle.gc_station.specs.declared.progress.Progress.{Progress}
+use Rattle.gc_station.specs.declared.progress.Until.{Until}
+use Rattle.gc_station.specs.declared.progress.Waiting.{Waiting}
+use Rattle.gc_links.specs.Acts.{Act, Gave}
+use Rattle.gc_station.specs.Deciding.{has_begun}
+use Rattle.gc_station.specs.Marks.{commands_in}
+use Rattle.gc_station.specs.Progressing.{is_spared, turned, moment_noted, time_passed, quieted, closed}
+use Rattle.gc_station.specs.Model.{Model, waiting_of, with_progress, with_moment, lines_completed, after_piece, is_heard, piece_at, Performs, moved, after}
+use Rattle.gc_station.specs.Tries.{ends_in}
+use Rattle.gc_station.proofs.Words.{begins_before}
+use Rattle.gc_station.proofs.Walk.{asked_along, came_along, closed_along, moved_changed, quieted_along, walk}
+
+-- Each end of a connection takes a try at most, and only a read gives tries back.
+
+-- what a piece does, from s to t: as many commands had their turn; the station doesn't resynchronize by it; and either fewer
+-- commands are outstanding, the setup is done, and all tries are left, or as many are outstanding or more, or the setup isn't
+-- done, and the tries stay
+pub record Hears (plan : Plan) (s t : Model) : Type 0 where
+  pub left : t.progress.left ≡ s.progress.left
+  pub unsent : t.progress.unsent ≡ s.progress.unsent
+  pub begins : has_begun t.progress ≡ false → has_begun s.progress ≡ false
+  pub tries : ((commands_in t.marks < commands_in s.marks) × (t.progress.preparing ≡ false) × (t.progress.tries ≡ plan.retries))
+      ⊎ (((commands_in s.marks ≤ commands_in t.marks) ⊎ (t.progress.preparing ≡ true)) × (t.progress.tries ≡ s.progress.tries))
+
+-- what an act does to the tries, from s to t: a read that gave bytes does what `Hears` says; any other act takes at most one
+-- try for each connection that ends by it or couldn't be made
+abbrev pub Took : Plan → Model → Act → Model → Type 0
+Took plan s (Gave bytes m) t = Hears plan s t
+Took plan s act t = s.progress.tries ≤ t.progress.tries + ends_in (act ∷ [])
+
+-- after a read either fewer commands are outstanding, the setup is done, and all tries are left; or as many or more are
+-- outstanding (`b`: fewer do), or the setup isn't done (`on`), and the tries stay
+given_back : (b on : Bool) (after before retries new old : ℕ) → nat_lt after before ≡ b → new ≡ old
+    → ((after < before) × (on ≡ false) × ((if b && not on then retries else new) ≡ retries)) ⊎ (((before ≤ after) ⊎ (on ≡ true)) × ((if b && not on then retries else new) ≡ old))
+given_back true false after before retries new old e same = inl (ltb-true after before e, refl, refl)
+given_back true true after before retries new old e same = inr (inr refl, same)
+given_back false on after before retries new old e same = inr (inl (ltb-false after before e), same)
+
+-- a read that gave bytes does to the tries what `Hears` says
+gave_took : (plan : Plan) (until : Until) (s : Model) (bytes : List ℕ) (m : Moment) → Hears plan s (piece_at plan until bytes m s)
+gave_took plan until s bytes m =
+    let heard = is_heard s.progress.phase in
+    let mid = with_moment m (with_progress (moment_noted m) s) in
+    let is = moved_changed plan [] (actions.Read until) s (Gave bytes m) in
+    let t = after_piece heard s.progress.word bytes mid in
+    record {
+      left = ap (λ (x : Model). x.progress.left) is;
+      unsent = ap (λ (x : Model). x.progress.unsent) is;
+      begins = λ e. begins_before heard s.progress.word bytes mid refl e;
+      tries = given_back (nat_lt (commands_in t.marks) (commands_in s.marks)) t.progress.preparing (commands_in t.marks) (commands_in s.marks) plan.retries t.progress.tries s.progress.tries refl
+          (came_along (λ (x : Model). x.progress.tries ≡ s.progress.tries) (λ x line e. e) heard s.progress.word bytes mid refl
+          (asked_along (λ (q : Progress). q.tries ≡ s.progress.tries) (λ q line e. e) mid.progress (lines_completed s.rest bytes) refl) refl);
+    }
+
+-- a read that gave nothing leaves the tries
+silent_took : (plan : Plan) (at : Phase) (p : Progress) → (quieted plan at p).tries ≡ p.tries
+silent_took plan at p = quieted_along (λ (q : Progress). q.tries ≡ p.tries) plan at p refl refl refl
+
+-- at most one try is taken, whether it is spared (b) or not
+one_less : (b : Bool) (n : ℕ) → n ≤ (if b then n else n - 1) + 1
+one_less true n = omega arith
+one_less false n = omega arith
+
+-- a close takes at most one try
+close_took : (plan : Plan) (w : Waiting) (why : Cause) (p : Progress) → p.tries ≤ (closed plan w why p).tries + 1
+close_took plan w why p =
+    closed_along (λ (q : Progress). p.tries ≤ q.tries + 1) plan w why p (omega arith) (one_less (is_spared plan why p) p.tries)
+
+-- an act of each action does to the tries what `Took` says
+pub took_moved : (plan : Plan) (commands : List Task) (next : Action) (s : Model) (act : Act) → Performs commands s next act
+    → Took plan (with_progress turned s) act (moved plan commands next (with_progress turned s) act)
+took_moved plan commands (actions.Read until) s act o =
+    walk plan commands (Took plan (with_progress turned s)) (actions.Read until) (with_progress turned s) act o (
+      λ bytes m. gave_took plan until (with_progress turned s) bytes m,
+      λ m. let same =
+          silent_took plan s.progress.phase (time_passed until m (turned s.progress)) in omega (arith, same),
+      omega arith,
+      omega arith,
+      omega arith,
+    )
+took_moved plan commands (actions.Close why) s act o = walk plan commands (Took plan (with_progress turned s)) (actions.Close why)
+    (with_progress turned s) act o (close_took plan (waiting_of s) why (turned s.progress))
+took_moved plan commands (actions.Stop why) s act o = absurd o
+took_moved plan commands next s act o = walk plan commands (Took plan (with_progress turned s)) next (with_progress turned s) act o (λ m. omega arith, λ n. omega arith)
+
+-- the turn that an act takes takes no try
+pub untook : (plan : Plan) (s t : Model) (act : Act) → Took plan (with_progress turned s) act t → Took plan s act t
+untook plan s t (Gave bytes m) h = record { left = h.left; unsent = h.unsent; begins = h.begins; tries = h.tries }
+untook plan s t act h = h

@@ -1,0 +1,408 @@
+//! What a station does next, by how far it is and what is outstanding. All decisions are made here, by looking at nothing else.
+//!
+//! The table lists the actions that may be next in each phase, of which the first that fits is taken, and the phase after each.
+//! In all phases but `Closing` and `Over` two come first: if no turn is left, `Close(Turns)`, or without a connection
+//! `Stop(Turns)`; and where something was sent, or a connection was closed or couldn't be made, since a moment was read
+//! (`stale`), `ReadClock`, which times out the requests whose deadline has come, and changes no phase. Between these two, with
+//! or without a connection: if no answer of a good quality was recorded for as long as the plan allows, `Close(Stale)`; and if
+//! the end of the run was asked for and the station rests (`is_resting`), `Close(Stopped)`.
+//!
+//! | Phase | Where | Action | What the action does | Next phase |
+//! |---|---|---|---|---|
+//! | `Down` | | `Open` | makes a connection | `Clearing`; if none could be made, as after `Close(Open)` |
+//! | `Pausing` | | `Read(Limit)` | waits | `Down`, once the pause is over and a connection is wanted |
+//! | `Clearing` | | `Clear` | sends a lone line feed | `Draining`; `Ready` if the station synchronizes |
+//! | `Draining` | | `Read(Limit)` | discards what comes | `Ready`, once nothing came for the quiet time |
+//! | `Ready`: the station synchronizes | no command is unsent, and no cycle is left | `Close(Done)` | closes the connection | `Over(Done)` |
+//! | | the cycle is done, and the next isn't due | `Read(Due)` | hears what comes | `Ready` |
+//! | | the line is dead | `Close(Dead)` | closes the connection | as below |
+//! | | the null procedure of the first id that isn't answered is to be sent, for the first time or again at its deadline | `Ask` | sends it | `Ready` |
+//! | | else | `Read(Limit)` | hears what comes | `Ready`; the station has synchronized once the eighth is answered |
+//! | `Ready`: the station has synchronized | the end of the run was asked for, the station is between two chains, and something hasn't timed out | as if the station waits | | |
+//! | | the setup isn't done, no command is unsent, none is outstanding, and no cycle is left | `Close(Done)` | closes the connection | `Over(Done)` |
+//! | | the setup isn't done, the cycle is done, and the next isn't due | `Read(Due)` | hears what comes | `Ready` |
+//! | | the setup isn't done, and nothing of it was sent | as if the next command may be sent, with `Prepare` for `Send` | | |
+//! | | the setup isn't done, commands are outstanding, and all outstanding requests have timed out | with room `Flush`, else as if the station waits | sends a null procedure after them | `Ready` |
+//! | | the setup isn't done, commands are outstanding, and something hasn't timed out | as if the station waits | | |
+//! | | the setup isn't done, no command is outstanding, and the last one was answered well | as if the next command may be sent, with `Prepare` for `Send` | | |
+//! | | the setup isn't done, no command is outstanding, and the last one wasn't answered well | `Close(SetUp)` | closes the connection | as below |
+//! | | the setup is done, a command is unsent, which isn't `next_is_chained` and begins no further attempt | as if the next command may be sent | | |
+//! | | commands are outstanding, and all outstanding requests have timed out | with room `Flush`, else as if the station waits | sends a null procedure after them | `Ready` |
+//! | | commands are outstanding, and something hasn't timed out | as if the station waits | | |
+//! | | no command is outstanding, the next one begins a further attempt of its chain, and a command of the attempt before ended as its rule names | as if the next command may be sent | | |
+//! | | no command is outstanding, and the next one begins a further attempt otherwise, or in a missed cycle | `Pass` | reads the clock, and leaves out this attempt and those after it | `Ready` |
+//! | | no command is outstanding, one is unsent, and may be sent | as if the next command may be sent | | |
+//! | | no command is outstanding, one is unsent, and may not be sent | `Skip` | reads the clock, and records the command as skipped | `Ready` |
+//! | | no command is outstanding or is unsent, and no cycle is left | `Close(Done)` | closes the connection | `Over(Done)` |
+//! | | no command is outstanding or is unsent, and the next cycle is due | `Begin` | reads the clock, and begins the cycle | `Ready` |
+//! | | no command is outstanding or is unsent, and the next cycle isn't due | `Read(Due)` | hears what comes | `Ready` |
+//! | the next command may be sent | one of the seven requests before it is a call of the table that a reply ended | with room `Send`, else as if the station waits | sends the next command | `Ready` |
+//! | | else, if all outstanding requests have timed out, or nothing is outstanding | with room `Flush`, else as if the station waits | sends a null procedure before it | `Ready` |
+//! | | else | as if the station waits | | |
+//! | the station waits | the line is dead | `Close(Dead)` | closes the connection | as below |
+//! | | all outstanding requests have timed out | `Renew` | reads the clock, and resynchronizes: all outstanding requests are lost | the same |
+//! | | else | `Read(Limit)` | hears what comes | the same |
+//! | `Closing` | | `Close` for its cause | closes the connection | for `Done`, `Clock`, `Turns`, `Stale` and `Stopped`: `Over` for that cause. Else `Over(Done)` if nothing is left to be sent and no command is outstanding, `Pausing` if a try is left or none is needed, and else `Over` for that cause |
+//! | `Over` | | `Stop` for its cause | does nothing: the run is over | |
+//!
+//! If a call of the link fails, or a write is cut, `Closing` for that cause follows, and without a connection `Over`.
+
+ghost use Rattle.std.specs.Prelude.{◌≡◌};
+ghost use Rattle.gc_station.specs.Deciding.{is_dead, is_due, goes_on, is_finished, has_room, may_go, waits_for_all, action_again, action_of, action_on, action_ready, action_begun, action_beginning, action_next, action_room, action_sent, action_settled, action_done, action_waiting, is_stale, is_between, is_resting, is_stopping, is_held_back, action_cycle, action_prepare, action_turn, action_preparing, is_preparing};
+
+use crate::cause::Cause;
+use crate::plan::Plan;
+use crate::progress::{Action, Phase, Progress, Until, Waiting, patience_of, width};
+use gc_client::WINDOW;
+
+impl Progress {
+    // Whether the line is dead: a request is outstanding, or a null procedure of the synchronization was sent on this
+    // connection, and no reply line came for `patience_of`.
+    fn is_dead(&self, plan: &Plan, waiting: Waiting) -> bool
+        ensures { result ≡ is_dead plan.now self.now waiting }
+    {
+        (waiting.all > 0 || self.again > 0)
+            && patience_of(plan) <= self.moment.elapsed.saturating_sub(self.alive)
+    }
+
+    // Whether no answer of a good quality was recorded for as long as the plan allows.
+    fn is_stale(&self, plan: &Plan, waiting: Waiting) -> bool
+        ensures { result ≡ is_stale plan.now self.now waiting }
+    {
+        plan.stale > 0 && plan.stale <= self.moment.elapsed.saturating_sub(waiting.fresh)
+    }
+
+    // Whether the station is between two chains: no command of the cycle is left, or the next one begins a chain, or the setup
+    // comes first.
+    fn is_between(&self) -> bool
+        ensures { result ≡ is_between self.now }
+    {
+        self.unsent == 0 || !self.next_is_chained || self.preparing
+    }
+
+    // Whether the run may end here if that is asked for: there is no connection, or the station synchronizes, or it is between
+    // two chains and nothing is in flight that hasn't timed out.
+    fn is_resting(&self, waiting: Waiting) -> bool
+        ensures { result ≡ is_resting self.now waiting }
+    {
+        !self.phase.is_up() || !self.has_begun() || (waiting.current == 0 && self.is_between())
+    }
+
+    // Whether the run ends now because that was asked for.
+    fn is_stopping(&self, waiting: Waiting) -> bool
+        ensures { result ≡ is_stopping self.now waiting }
+    {
+        self.stops && self.is_resting(waiting)
+    }
+
+    // Whether no further chain begins, because the end of the run was asked for, though something is in flight that hasn't
+    // timed out.
+    fn is_held_back(&self, waiting: Waiting) -> bool
+        ensures { result ≡ is_held_back self.now waiting }
+    {
+        (self.stops && self.is_between()) && waiting.current > 0
+    }
+
+    // Whether the next cycle is due: the first at once, and each other one `every` milliseconds after the one before it began.
+    pub(crate) fn is_due(&self, plan: &Plan) -> bool
+        ensures { result ≡ is_due plan.now self.now }
+    {
+        if self.left == plan.cycles {
+            return true;
+        }
+        plan.every <= self.moment.elapsed.saturating_sub(self.began)
+    }
+
+    // Whether commands are left that needn't wait for a due moment: some of this cycle, or the next cycle is due.
+    pub(crate) fn goes_on(&self, plan: &Plan) -> bool
+        ensures { result ≡ goes_on plan.now self.now }
+    {
+        self.unsent > 0 || self.is_due(plan)
+    }
+
+    // The next action, where `waiting` counts the outstanding requests.
+    pub(crate) fn action(&self, plan: &Plan, waiting: Waiting) -> Action
+        ensures { result ≡ action_of plan.now self.now waiting }
+    {
+        match self.phase {
+            Phase::Over(cause) => Action::Stop(cause),
+            Phase::Closing(cause) => Action::Close(cause),
+            _ => self.action_on(plan, waiting),
+        }
+    }
+
+    // The next action if the connection isn't to be closed and the run isn't over.
+    fn action_on(&self, plan: &Plan, waiting: Waiting) -> Action
+        ensures { result ≡ action_on plan.now self.now waiting }
+    {
+        if self.turns == 0 {
+            return if self.phase.is_up() {
+                Action::Close(Cause::Turns)
+            } else {
+                Action::Stop(Cause::Turns)
+            };
+        }
+        if self.is_stale(plan, waiting) {
+            return Action::Close(Cause::Stale);
+        }
+        if self.is_stopping(waiting) {
+            return Action::Close(Cause::Stopped);
+        }
+        if self.stale {
+            return Action::ReadClock;
+        }
+        match self.phase {
+            Phase::Down => Action::Open,
+            Phase::Pausing => Action::Read(Until::Limit),
+            Phase::Clearing => Action::Clear,
+            Phase::Draining => Action::Read(Until::Limit),
+            Phase::Ready => self.action_ready(plan, waiting),
+            Phase::Closing(cause) => Action::Close(cause),
+            Phase::Over(cause) => Action::Stop(cause),
+        }
+    }
+
+    // The next action of the phase `Ready`: the synchronization's until its eighth null procedure is answered, then the
+    // commands'.
+    fn action_ready(&self, plan: &Plan, waiting: Waiting) -> Action
+        ensures { result ≡ action_ready plan.now self.now waiting }
+    {
+        if self.has_begun() {
+            self.action_begun(plan, waiting)
+        } else {
+            self.action_beginning(plan, waiting)
+        }
+    }
+
+    // Whether no command of any cycle is left to be sent, and none is outstanding: `commands` is how many are outstanding.
+    pub(crate) fn is_finished(&self, commands: usize) -> bool
+        ensures { result ≡ is_finished commands self.now }
+    {
+        self.left == 0 && self.unsent == 0 && commands == 0
+    }
+
+    // The next action while the station synchronizes: to send the null procedure of the first id that isn't answered, for the
+    // first time or again at its deadline. Nothing is sent between cycles, nor if no command is left to be sent after the
+    // synchronization.
+    fn action_beginning(&self, plan: &Plan, waiting: Waiting) -> Action
+        ensures { result ≡ action_beginning plan.now self.now waiting }
+    {
+        if self.is_finished(waiting.commands) {
+            Action::Close(Cause::Done)
+        } else if self.is_idle(plan) {
+            Action::Read(Until::Due)
+        } else if self.is_dead(plan, waiting) {
+            Action::Close(Cause::Dead)
+        } else if self.again <= self.moment.elapsed {
+            Action::Ask
+        } else {
+            Action::Read(Until::Limit)
+        }
+    }
+
+    // The next action when the next command may be sent: `Send`, if there is room and one of the seven requests before it is a
+    // call of the table that a reply ended. Else a null procedure is sent first (`Flush`), once no request is in flight that
+    // hasn't timed out: an instrument that retains the reply to its last call of the table may still send that reply for the
+    // next id.
+    fn action_next(&self, plan: &Plan, waiting: Waiting) -> Action
+        ensures { result ≡ action_next plan.now self.now waiting }
+    {
+        if self.behind < WINDOW {
+            self.action_room(plan, waiting, Action::Send)
+        } else if waiting.current == 0 {
+            self.action_room(plan, waiting, Action::Flush)
+        } else {
+            self.action_waiting(plan, waiting)
+        }
+    }
+
+    // The next action once the station has synchronized: that of a station that waits, if the end of the run was asked for and
+    // only requests in flight are left; that of the setup until it is done; and then that of the cycle.
+    fn action_begun(&self, plan: &Plan, waiting: Waiting) -> Action
+        ensures { result ≡ action_begun plan.now self.now waiting }
+    {
+        if self.is_held_back(waiting) {
+            self.action_waiting(plan, waiting)
+        } else if self.is_preparing(plan, waiting) {
+            self.action_preparing(plan, waiting)
+        } else {
+            self.action_cycle(plan, waiting)
+        }
+    }
+
+    // Whether the setup is still to be done: no command of a cycle had its turn since the connection was made and the station
+    // synchronized, and a command of the setup wasn\'t sent yet, or the last one sent is outstanding, or wasn\'t answered well.
+    fn is_preparing(&self, plan: &Plan, waiting: Waiting) -> bool
+        ensures { result ≡ is_preparing plan.now self.now waiting }
+    {
+        self.preparing && !(plan.setup <= self.prepared && waiting.commands == 0 && waiting.well)
+    }
+
+    // The next action if the next command of the setup may be sent: as for a command of the cycle.
+    fn action_prepare(&self, plan: &Plan, waiting: Waiting) -> Action
+        ensures { result ≡ action_prepare plan.now self.now waiting }
+    {
+        if WINDOW > self.behind {
+            self.action_room(plan, waiting, Action::Prepare)
+        } else if waiting.current == 0 {
+            self.action_room(plan, waiting, Action::Flush)
+        } else {
+            self.action_waiting(plan, waiting)
+        }
+    }
+
+    // The next action when the setup\'s next command has its turn. There always is one, since the setup is done once the last
+    // one was answered well.
+    fn action_turn(&self, plan: &Plan, waiting: Waiting) -> Action
+        ensures { result ≡ action_turn plan.now self.now waiting }
+    {
+        if self.prepared < plan.setup {
+            self.action_prepare(plan, waiting)
+        } else {
+            Action::Read(Until::Limit)
+        }
+    }
+
+    // The next action while the setup isn't done. Nothing is sent if no command is left to be sent after it, nor between
+    // cycles. Its first command is sent as soon as there is room, and each other one once the one before it was answered well.
+    // If it wasn't, the connection is closed: the setup begins with its first command on the next one.
+    fn action_preparing(&self, plan: &Plan, waiting: Waiting) -> Action
+        ensures { result ≡ action_preparing plan.now self.now waiting }
+    {
+        let commands = waiting.commands;
+        if self.is_finished(commands) {
+            Action::Close(Cause::Done)
+        } else if self.is_idle(plan) {
+            Action::Read(Until::Due)
+        } else if self.prepared == 0 {
+            self.action_turn(plan, waiting)
+        } else if waiting.commands == 0 {
+            if waiting.well {
+                self.action_turn(plan, waiting)
+            } else {
+                Action::Close(Cause::SetUp)
+            }
+        } else if waiting.current == 0 {
+            self.action_room(plan, waiting, Action::Flush)
+        } else {
+            self.action_waiting(plan, waiting)
+        }
+    }
+
+    // The next action once the station has synchronized and its setup is done: that of `action_next`, if there is a command
+    // that needn't wait for the answer of the command before it; otherwise that of `action_sent`.
+    fn action_cycle(&self, plan: &Plan, waiting: Waiting) -> Action
+        ensures { result ≡ action_cycle plan.now self.now waiting }
+    {
+        if self.unsent > 0 && !self.waits_for_all() {
+            self.action_next(plan, waiting)
+        } else {
+            self.action_sent(plan, waiting)
+        }
+    }
+
+    // The next action if no command may be sent before those that are outstanding are settled: all of the cycle were sent, or
+    // the next one is chained or begins a further attempt. Where commands are outstanding, and all outstanding requests have
+    // timed out, a null procedure is sent, whose reply settles them.
+    fn action_sent(&self, plan: &Plan, waiting: Waiting) -> Action
+        ensures { result ≡ action_sent plan.now self.now waiting }
+    {
+        if waiting.commands == 0 {
+            self.action_settled(plan, waiting)
+        } else if waiting.current == 0 {
+            self.action_room(plan, waiting, Action::Flush)
+        } else {
+            self.action_waiting(plan, waiting)
+        }
+    }
+
+    // The next action if each command that was sent is settled.
+    fn action_settled(&self, plan: &Plan, waiting: Waiting) -> Action
+        ensures { result ≡ action_settled plan.now self.now waiting }
+    {
+        if self.unsent == 0 {
+            self.action_done(plan)
+        } else if self.next_others > 0 {
+            self.action_again(plan, waiting)
+        } else if self.may_go(waiting) {
+            self.action_next(plan, waiting)
+        } else {
+            Action::Skip
+        }
+    }
+
+    // Whether the next command is sent only once all that were sent are settled: it is chained, or begins a further attempt.
+    fn waits_for_all(&self) -> bool
+        ensures { result ≡ waits_for_all self.now }
+    {
+        self.next_is_chained || self.next_others > 0
+    }
+
+    // The next action if the next command begins a further attempt of its chain, and all that were sent are settled: it is sent
+    // if a command of the attempt before ended as its rule names. Else, and in a missed cycle, in which each command counts as
+    // chained, this attempt and those after it are left out.
+    fn action_again(&self, plan: &Plan, waiting: Waiting) -> Action
+        ensures { result ≡ action_again plan.now self.now waiting }
+    {
+        if waiting.listed && !self.next_is_chained {
+            self.action_next(plan, waiting)
+        } else {
+            Action::Pass
+        }
+    }
+
+    // Whether the next command of a chain may be sent: the one before it was answered well, and since that was sent no
+    // connection was closed, and the station didn't resynchronize.
+    fn may_go(&self, waiting: Waiting) -> bool
+        ensures { result ≡ may_go self.now waiting }
+    {
+        waiting.well && self.chain_unbroken
+    }
+
+    // `action`, which sends a request, if there is room for one; otherwise the action of a station that waits.
+    fn action_room(&self, plan: &Plan, waiting: Waiting, action: Action) -> Action
+        ensures { result ≡ action_room plan.now self.now waiting action }
+    {
+        if waiting.has_room(plan) {
+            action
+        } else {
+            self.action_waiting(plan, waiting)
+        }
+    }
+
+    // The next action if each command of the cycle is settled.
+    fn action_done(&self, plan: &Plan) -> Action
+        ensures { result ≡ action_done plan.now self.now }
+    {
+        if self.left == 0 {
+            Action::Close(Cause::Done)
+        } else if self.is_due(plan) {
+            Action::Begin
+        } else {
+            Action::Read(Until::Due)
+        }
+    }
+
+    // The next action if nothing may be sent.
+    fn action_waiting(&self, plan: &Plan, waiting: Waiting) -> Action
+        ensures { result ≡ action_waiting plan.now self.now waiting }
+    {
+        if self.is_dead(plan, waiting) {
+            Action::Close(Cause::Dead)
+        } else if waiting.current == 0 {
+            Action::Renew
+        } else {
+            Action::Read(Until::Limit)
+        }
+    }
+}
+
+impl Waiting {
+    // Whether another request may be sent: fewer are in flight than `width` allows, and fewer are outstanding in all than the
+    // window has places.
+    pub(crate) fn has_room(self, plan: &Plan) -> bool
+        ensures { result ≡ has_room plan.now self }
+    {
+        self.current < usize::from(width(plan)) && self.all < WINDOW
+    }
+}

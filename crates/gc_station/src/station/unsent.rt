@@ -1,0 +1,124 @@
+//! Commands that a station doesn't send: one that is recorded as skipped or missed, and further attempts that aren't needed.
+
+ghost use Rattle.std.specs.Prelude.{◌≡◌, ℕ, ◌<◌, ◌≤◌, ◌++◌, List, length, Option, None, OnOk, false, if◌then◌else◌};
+ghost use Rattle.std.specs.Io.KnownBytes.{Appends};
+ghost use Rattle.gc_lines.specs.Ports.{FailsWith};
+ghost use Rattle.gc_links.specs.Acts.{Told};
+ghost use Rattle.gc_texts.specs.Endings.{Missed, Skipped};
+ghost use Rattle.gc_station.specs.Attempts.{listed_after};
+ghost use Rattle.gc_station.specs.Records.{Record, texts_of, WritesAll};
+ghost use Rattle.gc_station.specs.Model.{mark_next, skips, moved};
+ghost use Rattle.gc_station.specs.Stations.{Does, Made, seen};
+ghost use Rattle.gc_station.specs.Tallies.{tallied};
+ghost use Rattle.gc_station.specs.declared.progress.Action.TheVariants.{Skip, Pass};
+
+use super::Station;
+use crate::book::Book;
+use crate::cause::Cause;
+use crate::plan::Plan;
+use crate::writing::is_listed;
+use gc_lines::PortFailed;
+use gc_links::{Link, Moment};
+use gc_texts::{Ending, Stamp, Task};
+
+impl Station {
+    // Reads the clock, and records the next command without sending it. A clock that can't be read is noted, as by
+    // `read_clock`, and nothing is written. `Err`: the book failed.
+    pub(super) fn skip<L: Link, B: Book>(
+        &mut self,
+        link: &mut L,
+        book: &mut B,
+        plan: &Plan,
+        commands: &[Task],
+    ) -> Result<(), PortFailed>
+        requires unsent { 0 < self.old.progress.unsent }
+        requires within { self.old.progress.unsent ≤ length commands.now }
+        ensures does { Made commands.now Skip (moved plan.now commands.now Skip) (seen (L.acts link.old) (B.text book.old) (B.taken book.old) self.old) (seen (L.acts link.new) (B.text book.old) (B.taken book.new) self.new) result }
+        ensures fails { FailsWith result (B.failed book.old) (B.failed book.new) }
+        ensures form { B.text book.new ≡ B.text book.old }
+    {
+        match link.now() {
+            Ok(moment) => {
+                if let Err(failed) = self.write_skipped(book, plan, commands, moment) {
+                    return Err(failed);
+                }
+                let waiting = self.commands();
+                let next_is_chained = self.is_chained_after(1, commands);
+                let others = self.others_after(1, commands);
+                self.progress.skip(next_is_chained, others, moment);
+                self.progress.note_early(plan, waiting);
+                self.client.expire(moment.elapsed);
+                self.fresh = self.fresh.min(moment.elapsed);
+                Ok(())
+            }
+            Err(_) => {
+                self.progress.fail(Cause::Clock);
+                Ok(())
+            }
+        }
+    }
+
+    // Reads the clock, and leaves out the further attempts of a chain that the next command begins. A clock that can't be read
+    // is noted, as by `read_clock`, and nothing is left out.
+    pub(super) fn pass<L: Link>(&mut self, link: &mut L, plan: &Plan, commands: &[Task])
+        ensures { (text : Record → List ℕ) (known : Option (List ℕ))
+            → Does plan.now commands.now Pass (seen (L.acts link.old) text known self.old) (seen (L.acts link.new) text known self.new) }
+    {
+        match link.now() {
+            Ok(moment) => {
+                let waiting = self.commands();
+                let count = self.progress.next_others;
+                let next_is_chained = self.is_chained_after(count, commands);
+                let others = self.others_after(count, commands);
+                self.progress.leave_out(next_is_chained, others, moment);
+                self.progress.note_early(plan, waiting);
+                self.client.expire(moment.elapsed);
+                self.fresh = self.fresh.min(moment.elapsed);
+            }
+            Err(_) => self.progress.fail(Cause::Clock),
+        }
+    }
+
+    // Writes the record of the next command, which isn't sent: it is skipped, or its cycle is missed.
+    fn write_skipped<B: Book>(
+        &mut self,
+        book: &mut B,
+        plan: &Plan,
+        commands: &[Task],
+        moment: Moment,
+    ) -> Result<(), PortFailed>
+        requires unsent { 0 < self.old.progress.unsent }
+        requires within { self.old.progress.unsent ≤ length commands.now }
+        ensures wrote { (start : Option (List ℕ)) (before : List Record) → Appends start (B.taken book.old) (texts_of (B.text book.old) before)
+            → WritesAll (B.text book.old) before (before ++ skips plan.now commands.now self.old.progress (Told moment)) start (B.taken book.new) result }
+        ensures after { OnOk result (self.new ≡ record self.old {
+          tally = tallied self.old.tally (skips plan.now commands.now self.old.progress (Told moment));
+          well = false;
+          listed = listed_after self.old.listed (mark_next plan.now commands.now self.old.progress).expected None (if self.old.progress.missed then Missed else Skipped);
+        }) }
+        ensures fails { FailsWith result (B.failed book.old) (B.failed book.new) }
+        ensures form { B.text book.new ≡ B.text book.old }
+    {
+        let mark = self.mark(plan, commands);
+        let task = &commands[self.place(commands)];
+        let stamp = Stamp {
+            sent: None,
+            utc: self.progress.skipped_at(moment),
+            cycle: mark.cycle,
+            place: mark.place,
+            turn: mark.expected.turn,
+        };
+        let ending = if self.progress.missed {
+            Ending::Missed
+        } else {
+            Ending::Skipped
+        };
+        if let Err(failed) = book.write(stamp, &task.command, ending) {
+            return Err(failed);
+        }
+        self.tally.count(mark.cycle, mark.expected.turn, ending);
+        self.well = false;
+        self.listed = is_listed(self.listed, &mark.expected, None, ending);
+        Ok(())
+    }
+}
