@@ -20,6 +20,7 @@ use gc_values::{Listed, Quick};
 
 /// Appends the reply line of an answer, with each double rounded to the places. It fits in a line, whatever the answer
 /// is, and reads back. With a return code other than 0, `answer` has to be `Nothing`.
+#[inline(always)]
 pub fn encode_answer_onto<const N: usize>(
     out: &mut ArrayVec<u8, N>,
     id: u8,
