@@ -6,7 +6,7 @@
 
 int main(int count, char **words) {
     static const char row[] =
-        "2026-11-22T23:08:00.000Z,2026-11-22T23:08:27.103Z,2026-11-22T23:08:27.123Z,1,0,7,,5003,answered,,0,0,123456\n";
+        "2026-11-22T23:08:00.000Z,2026-11-22T23:08:27.103Z,2026-11-22T23:08:27.123Z,1,0,7,,5003,answered,,0,0,123456,ok,1\n";
     if (count < 3) return 2;
     int file = open(words[2], O_WRONLY | O_APPEND | O_CREAT, 0666);
     if (file < 0) return 1;

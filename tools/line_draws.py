@@ -1,4 +1,4 @@
-"""The generator of a bad line, as `docs/FORMATS.md`, "What a seed draws", defines it: splitmix64, by places. What is drawn for a line
+"""The generator of a bad line, as `docs/BAD-LINES.md`, defines it: splitmix64, by places. What is drawn for a line
 follows from the seed, the direction and the line's number alone, whatever came before it, and when."""
 
 MASK = 2**64 - 1

@@ -1,4 +1,4 @@
-"""The text of a bad line: its words, what it refuses, and what it decides for a line. `docs/FORMATS.md`, "Bad lines"."""
+"""The text of a bad line: its words, what it refuses, and what it decides for a line. `docs/BAD-LINES.md`."""
 
 import re
 from typing import NamedTuple
@@ -12,7 +12,7 @@ MOST_PLACE = 4_294_967_295
 SHARE = re.compile(r"[0-9]{1,3}(\.[0-9]{1,3})?")
 NUMBER = re.compile(r"[0-9]{1,10}")
 
-# What happens to a line: words with their numbers, as `docs/FORMATS.md` has them behind a line's place.
+# What happens to a line: words with their numbers, as `docs/BAD-LINES.md` has them for one line.
 Fate = dict[str, int]
 
 

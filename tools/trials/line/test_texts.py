@@ -77,7 +77,7 @@ def test_read():
     assert text_of(b"").fate(1, "up", 1, 20) == {}
 
 
-@pytest.mark.title("draws, the numbers of docs/FORMATS.md")
+@pytest.mark.title("draws, the numbers of docs/BAD-LINES.md")
 def test_draws():
     assert [mixed(n * GOLDEN) for n in (1, 2, 3)] == [0xE220A8397B1DCDAF, 0x6E789E6AA1B965F4, 0x06C45D188009454F], "splitmix64 from 0"
     assert [draw(7, "up", 1, place).bits for place in (1, 2, 3)] == [0xB8B4C2977EABCE45, 0xA65305FD338EC8FE, 0x8CA3CBB6CA63129B]

@@ -33,7 +33,7 @@ LONE = (5, 2028, "")
 COMMANDS = [*((target, rpc, form.format(hz=hz, v=v)) for target, (hz, v) in PRISMS.items() for rpc, form in CHAIN), LONE]
 RAW = {18005, 2167, 2028}
 DEADLINE = 400
-# What the line does, in both directions, as `docs/FORMATS.md`, "Bad lines", has it.
+# What the line does, in both directions, as `docs/BAD-LINES.md` has it.
 LINE = b"delay 0 20\nlose 1.5\nrepeat 1\nlate 1 450 900\nhold 0.1 1500\nclose 0.15\nrefuse 20 700\nkeep 50 0 300\nrestart 0.05\npieces 20 30\n"
 
 
