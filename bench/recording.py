@@ -1,5 +1,5 @@
 #!/usr/bin/env python3
-"""A recording of a line, the same each time: each request of the mixed stream with its reply behind it.
+"""A recording of a line, the same each time: each request of the mixed stream with its reply after it.
 Usage: recording.py PROGRAM BYTES     PROGRAM is geocom, which makes the replies; at least that many bytes"""
 import os
 import subprocess

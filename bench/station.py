@@ -3,7 +3,7 @@ plain readings take by the width, from the first command's request to the last r
 
     station.py GEOCOM
 
-Lines take a constant time each way. The runs, twenty of the first kind with seeds of their own, stand beside one another, since
+Lines take a constant time each way. The runs, twenty of the first kind with seeds of their own, are beside one another, since
 all that they do is wait.
 """
 

@@ -70,7 +70,7 @@ def bearing(easting, northing):
 
 
 def arc_tangent(tangent):
-    """By its series, behind three halvings."""
+    """By its series, after three halvings."""
     for _ in range(3):
         tangent /= 1 + (1 + tangent * tangent).sqrt()
     term, total, number = tangent, Decimal(0), 1

@@ -1,5 +1,5 @@
 """A device whose line goes to a port of 127.0.0.1: makes a pseudo terminal with LINK as its name, and carries what comes and goes
-between it and one connection to PORT, until that ends. What is under way in it goes over closes of the device.
+between it and one connection to PORT, until that ends. What is in flight in it goes over closes of the device.
 
     bridge.py LINK PORT
 """

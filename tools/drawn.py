@@ -1,6 +1,6 @@
 """What is drawn of a file of rows: of each target its quantities over time, face by face, and what its commands came to.
 
-What was measured in face II is turned over, so that both faces stand beside one another, and directions are joined over the circle's
+What was measured in face II is turned over, so that both faces are beside one another, and directions are joined over the circle's
 end. Numbers are floats here: a picture has no more places.
 """
 

@@ -28,7 +28,7 @@ def text_of(file):
 
 
 def word_of(head):
-    """The word that a check has for an `impl` or a trait, where it is plain: the type's name, and that of the trait behind it."""
+    """The word that a check has for an `impl` or a trait, where it is plain: the type's name, and that of the trait after it."""
     head = head.replace("->", "")
     while (bare := re.sub(r"<[^<>]*>", "", head)) != head:
         head = bare
@@ -49,7 +49,7 @@ def functions_of(crate, path, proved):
             word = None
         told = FUNCTION.match(line)
         if told and bool(word) == bool(told[1]):
-            # its head goes on until it opens its body, or something else stands as far left as it began
+            # its head goes on until it opens its body, or something else is as far left as it began
             start, head = at, at
             while left[start] != left[at] or not lines[start].endswith("{"):
                 start += 1
@@ -59,7 +59,7 @@ def functions_of(crate, path, proved):
                 # (a check places what the function ensures at its first attribute)
                 while head and lines[head - 1] and left[head - 1] >= left[at] and not lines[head - 1].endswith(("{", "}", ";")):
                     head -= 1
-                # (the methods of a type are named by its own module, wherever they stand)
+                # (the methods of a type are named by its own module, wherever they are)
                 name = "::".join([*module, *([word] if word else []), told[2]])
                 names = [it for it in proved if it == name] or [it for it in proved if word and it.endswith(f"::{word}::{told[2]}")]
                 end = next(it for it in range(start, len(lines)) if left[it] == left[at] and lines[it].strip() == "}")

@@ -27,7 +27,7 @@ class Moved(Exception):
 
 class Sink:
     """What takes the rows. `place(source)` is how far it has come in a source, and `take(source, rows, before, behind)` books rows
-    with the place behind them, or neither."""
+    with the place after them, or neither."""
 
     def look(self):
         """Looks whether it is still there, where that can be known without a row."""
@@ -49,19 +49,19 @@ class Following:
     def __init__(self, said):
         self.said = said
         self.is_folder = os.path.isdir(said.file)
-        # What is wrong with a file was told, and may pass; a file that is refused isn't looked at again.
+        # What is wrong with a file was reported, and may pass; a file that is refused isn't looked at again.
         self.files, self.known, self.told, self.refused = {}, set(), {}, set()
         self.is_away = False
 
     def paths(self):
-        """The files; of a folder also those that were there, so that it is told where one was taken away."""
+        """The files; of a folder also those that were there, so that it is reported where one was taken away."""
         if not self.is_folder:
             return [self.said.file]
         found = glob.glob(os.path.join(glob.escape(self.said.file), "*"))
         return sorted({*self.known, *(path for path in found if path.endswith(ENDINGS))} - self.refused)
 
     def source(self, path):
-        """What the sink calls a file. A name for a folder stands in front of each of its files' names."""
+        """What the sink calls a file. A name for a folder comes before each of its files' names."""
         name = self.said.source
         name = os.path.abspath(path) if name is None else f"{name}/{os.path.basename(path)}" if self.is_folder else name
         # No sink takes a name that is no UTF-8.
@@ -89,14 +89,14 @@ class Following:
         return True
 
     def tell(self, path, why):
-        """Tells what is wrong with a file, once."""
+        """Reports what is wrong with a file, once."""
         text = why if path in why else f"{path}: {why}"
         if self.told.get(path) != text:
             tell(text)
         self.told[path] = text
 
     def leave(self, path, why):
-        """Tells in a folder what is wrong with a file, and leaves it: for good, where it can be read."""
+        """Reports in a folder what is wrong with a file, and leaves it: for good, where it can be read."""
         if not self.is_folder:
             raise why
         self.tell(path, str(why))
@@ -107,7 +107,7 @@ class Following:
             self.files.pop(path).close()
 
     def round(self, sink):
-        """A batch of each file; whether there was one. In a folder a file that is refused is told, and the others go on."""
+        """A batch of each file; whether there was one. In a folder a file that is refused is reported, and the others go on."""
         came = False
         for path in self.paths():
             try:
@@ -149,7 +149,7 @@ class Following:
 
 
 def follow(said, connect):
-    """Hands each row over once, over restarts of this program and of the station. A sink that is away is told once, and tried again;
+    """Hands each row over once, over restarts of this program and of the station. A sink that is away is reported once, and tried again;
     with `once` it is the end."""
     following = Following(said)
     while True:
@@ -182,7 +182,7 @@ def words(does, *others):
 
 
 def main(said, connect):
-    """Follows as it was said; what is refused is told in one line, with status 1."""
+    """Follows as the options say; what is refused is reported in one line, with status 1."""
     # A folder may have more files than a program may have open at first.
     resource.setrlimit(resource.RLIMIT_NOFILE, [resource.getrlimit(resource.RLIMIT_NOFILE)[1]] * 2)
     try:
@@ -198,6 +198,6 @@ def main(said, connect):
 
 
 def wants(package):
-    """Ends with a line that tells which package of Debian is missing."""
+    """Ends with a line that says which package of Debian is missing."""
     tell(f"Debian's package {package} is missing")
     sys.exit(1)

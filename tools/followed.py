@@ -1,4 +1,4 @@
-"""A file of rows that is followed from a place on: how far it was taken, the whole rows behind that, and what is refused.
+"""A file of rows that is followed from a place on: how far it was taken, the whole rows after that, and what is refused.
 
 A place is how many bytes of a file were taken, how many rows, and the digest of those bytes. So a file that was cut, edited or replaced
 is refused, and nothing is taken from it. A file is a table, whose columns are found by their names, or has an object of JSON on each line.
@@ -76,7 +76,7 @@ class Followed:
                 head += data
                 if b"\n" in head:
                     self.begin(head[: head.index(b"\n")])
-            # The last line stands before the place, and is looked at before each further read.
+            # The last line is before the place, and is looked at before each further read.
             self.last = (self.last + data)[-65536:]
         if self.digest.hexdigest() != place.sha256:
             raise Refused(f"{path} has other bytes before byte {place.bytes} than were taken of it: it was edited or replaced")
@@ -106,7 +106,7 @@ class Followed:
         return here.st_size
 
     def go_over(self):
-        """Goes on in the file that took this one's place, where that begins with all its whole rows: a station that starts behind a kill or
+        """Goes on in the file that took this one's place, where that begins with all its whole rows: a station that starts after a kill or
         a failed sync puts such a copy there."""
         try:
             other = Followed(self.path, self.place)
@@ -124,7 +124,7 @@ class Followed:
         self.file, self.form = other.file, other.form
 
     def next(self):
-        """The next rows, at most a batch, and the place behind them. A line without its line feed is left for later."""
+        """The next rows, at most a batch, and the place after them. A line without its line feed is left for later."""
         if self.look() == self.place.bytes:
             return [], (self.place,)
         begin = self.place.bytes - len(self.last)
@@ -140,7 +140,7 @@ class Followed:
             try:
                 row = self.row(line, self.place.rows + len(rows) + 1, taken + len(line) + 1)
             except Refused:
-                # What stands before it is taken first.
+                # What is before it is taken first.
                 if taken == self.place.bytes:
                     raise
                 break

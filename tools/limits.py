@@ -35,7 +35,7 @@ class Limit:
     of: int
 
     def key(self):
-        """What stands for it in the state: another limit begins anew."""
+        """What stands for it in the state: another limit starts afresh."""
         return json.dumps([self.target, self.column, *map(str, (self.reference, self.tolerance, self.outside, self.of))])
 
 
@@ -126,19 +126,19 @@ def shown(number):
 class Watch:
     """What is known of the limits from the rows so far. `vars` of it is the state that is kept."""
 
-    # Of each limit whether the last good rows of earlier cycles were outside, and those of the cycle that is under way, each with its place.
+    # Of each limit whether the last good rows of earlier cycles were outside, and those of the current cycle, each with its place.
     windows: dict = field(default_factory=dict)
     now: dict = field(default_factory=dict)
-    # Of each silence how many cycles it lasts; the cycle that is under way, and the places and targets that had a good row in it.
+    # Of each silence how many cycles it lasts; the current cycle, and the places and targets that had a good row in it.
     silent: dict = field(default_factory=dict)
     names: dict = field(default_factory=dict)
     cycle: list = None
     good: list = field(default_factory=list)
-    # The places and attempts of the cycle that is under way.
+    # The places and attempts of the current cycle.
     taken: list = field(default_factory=list)
 
     def take(self, limits, fields):
-        """Takes a row; gives the lines that are to be told."""
+        """Takes a row; gives the lines that are to be reported."""
         if records.is_of_setup(fields):
             return []
         lines = self.begin(limits, fields)
@@ -198,8 +198,8 @@ class Watch:
         return f"target {limit.target}" + (f" ({name})" if name else "")
 
     def is_behind(self, fields):
-        """Whether a row comes behind those that were taken, by its run, its cycle, its place and its attempt. The attempts of a chain stand
-        one behind the other, so within a cycle places may go back."""
+        """Whether a row comes after those that were taken, by its run, its cycle, its place and its attempt. The attempts of a chain come
+        one after the other, so within a cycle places may go back."""
         at = [fields.get("run", ""), int(fields["cycle"])]
         if self.cycle is None or at != self.cycle:
             return self.cycle is None or at > self.cycle

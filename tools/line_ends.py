@@ -166,7 +166,7 @@ class Named:
 
 
 class Serial:
-    """A serial device, at whose other end the client is. A close of the line only loses what is under way."""
+    """A serial device, at whose other end the client is. A close of the line only loses what is in flight."""
 
     listener: socket.socket | None = None
 
@@ -184,7 +184,7 @@ class Serial:
 
 
 class Far:
-    """The instrument, at an address or a device. Its connection outlives the client's, so it doesn't start anew with them."""
+    """The instrument, at an address or a device. Its connection outlives the client's, so it doesn't restart with them."""
 
     def __init__(self, where: tuple[str, int] | str) -> None:
         self.where = where
@@ -201,7 +201,7 @@ class Far:
             self.link = None
 
     def restart(self) -> None:
-        """The connection ends, and begins again behind all that was on its way: a simulator starts anew with each."""
+        """The connection ends, and begins again after all that was on its way: a simulator restarts with each."""
         if self.link and not isinstance(self.where, str):
             for _ in self.link.drained(False):
                 pass

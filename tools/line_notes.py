@@ -64,7 +64,7 @@ class Drill:
             self.is_over = True
 
     def moment(self) -> int:
-        """The moment, in milliseconds; requests whose deadlines are past are given up first."""
+        """The moment, in milliseconds; requests whose deadlines are past time out first."""
         now = round(1000 * (self.clock() - self.began))
         if past := [one for one in self.due if one <= now]:
             self.due = self.due[len(past) :]
@@ -77,7 +77,7 @@ class Drill:
             self.stop("a second connection was made")
 
     def came(self, way: str, line: bytes, fate: Fate, index: int) -> None:
-        """A line came, behind so many that are under way."""
+        """A line came, after so many that are in flight."""
         now = self.moment()
         if way == "up":
             found = REQUEST.fullmatch(line)

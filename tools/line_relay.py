@@ -1,6 +1,6 @@
 """A bad line: carries lines between one client at a time and an instrument, and does to them what a text says.
 
-Each direction keeps its order, over connections too. A line goes once its moment has come and all before it have gone. What is under way
+Each direction keeps its order, over connections too. A line goes once its moment has come and all before it have gone. What is in flight
 where a connection ends is lost, or is kept and comes on the next one, before all that is new. The instrument's connection lives on.
 """
 
@@ -29,7 +29,7 @@ class Relay:
         self.counts: collections.Counter[str] = collections.Counter()
         # Until when nothing goes; how the connection ends, and for how long none is made then.
         self.still, self.is_reset, self.refuse = 0.0, False, 0
-        # Whether the instrument is to start anew, and whether it is away.
+        # Whether the instrument is to restart, and whether it is away.
         self.is_anew = self.is_away = False
 
     # What a user of it may do otherwise.
@@ -153,7 +153,7 @@ class Relay:
                 self.counts["idle"] += 1
                 return "line"
             for end in select.select([near, self.far.link], [], [], self.wake())[0]:
-                # It may have started anew meanwhile.
+                # It may have restarted meanwhile.
                 if end is not near and end is not self.far.link:
                     continue
                 data = end.read()
@@ -163,7 +163,7 @@ class Relay:
                 self.hear(self.up if end is near else self.down, data)
 
     def finish(self, near: Link, why: str) -> None:
-        """Ends the client's connection. What is under way is lost, or kept."""
+        """Ends the client's connection. What is in flight is lost, or kept."""
         if why != "client":
             for data in near.drained(self.is_reset):
                 self.hear(self.up, data)
@@ -174,7 +174,7 @@ class Relay:
         self.notes.ended(b"closed" if why == "client" else b"ended")
         self.up.rest = self.down.gone = b""
         for way in (self.up, self.down):
-            # Behind the front of a line nothing comes of what is kept.
+            # After the front of a line nothing comes of what is kept.
             way.queue = collections.deque(item for item in way.queue if self.is_kept(item) and not way.gone)
             self.counts["keep"] += len(way.queue)
 
@@ -205,7 +205,7 @@ class Relay:
         self.notes.far_ended(b"ended")
 
     def is_reached(self) -> bool:
-        """Whether the instrument is there; that it isn't is told once."""
+        """Whether the instrument is there; that it isn't is reported once."""
         if self.far.link:
             return True
         try:

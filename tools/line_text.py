@@ -21,7 +21,7 @@ class Faulty(Exception):
 
 
 class Word(NamedTuple):
-    """A word: what stands behind it, and behind it at a place, and the place of its draw, where it has one. P is a share of a hundred, MS
+    """A word: what follows it, and after it at a place, and the place of its draw, where it has one. P is a share of a hundred, MS
     milliseconds, FROM and TO such, and BYTES and N numbers."""
 
     behind: str
@@ -83,7 +83,7 @@ def number_of(kind: str, said: str) -> int:
 
 
 def numbers_of(word: str, form: str, said: list[str]) -> list[int]:
-    """The numbers behind a word."""
+    """The numbers after a word."""
     kinds = form.split()
     if len(said) != len(kinds):
         raise Faulty(f"behind {word} stands {form or 'nothing'} here")
@@ -158,7 +158,7 @@ class Text:
         if (way, line) in self.places:
             return dict(self.places[way, line])
         fate: Fate = {}
-        # What comes behind a close is decided behind it.
+        # What comes after a close is decided after it.
         for word, numbers in sorted(self.words[way].items(), key=lambda one: one[0] == "refuse"):
             drawn = draw(seed, way, line, WORDS[word].draw or 0)
             if word != "delay" and not drawn.happens(numbers[0]):
@@ -176,7 +176,7 @@ class Text:
             elif word == "pieces":
                 fate[word] = drawn.among(1, numbers[1])
             else:
-                # Of `hold` and `refuse` so long; of the others nothing stands behind their share.
+                # Of `hold` and `refuse` so long; of the others nothing follows their share.
                 fate[word] = sum(numbers[1:])
         return fate
 

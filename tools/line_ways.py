@@ -4,14 +4,14 @@ import collections
 from dataclasses import dataclass
 from typing import Any
 
-# Behind so many bytes without a line feed they go on as they are.
+# After so many bytes without a line feed they go on as they are.
 LONGEST = 4096
 
 
 @dataclass
 class Item:
     """A line on its way, in pieces, from a moment on. `of` is what a user of the relay wants to know of it; `end` says whether the
-    connection ends before or behind it, and `kept` how long behind the next connection's begin it goes where it is kept."""
+    connection ends before or after it, and `kept` how long after the next connection's begin it goes where it is kept."""
 
     at: float
     pieces: collections.deque[bytes]

@@ -28,7 +28,7 @@ def entry(number, name, parameters, answer, simulated):
 
 
 def told(simulated):
-    """What the simulated instrument makes of it, behind `The simulated instrument`."""
+    """What the simulated instrument makes of it, after `The simulated instrument`."""
     if simulated.startswith("constant"):
         return "has a " + simulated
     return simulated

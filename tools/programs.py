@@ -61,7 +61,7 @@ def processor_seconds(pid):
 
 
 class Run:
-    """A program under way. Its standard streams are files, so that no pipe fills up; they are taken away in the end.
+    """A running program. Its standard streams are files, so that no pipe fills up; they are taken away in the end.
 
     `closed` are the numbers of the streams that it begins without. `shell` is what bash does before it, as `ulimit`. The `options`
     are those of `subprocess.Popen`.
@@ -112,7 +112,7 @@ class Run:
         self.process.send_signal(number)
 
     def terminate(self, patience=PATIENCE):
-        """Its status, behind a SIGTERM."""
+        """Its status, after a SIGTERM."""
         self.process.terminate()
         return self.status(patience)
 

@@ -11,7 +11,7 @@ from records import COLUMNS, GOOD
 # How a number is spelt, for python and for PostgreSQL. What isn't spelt so is no quantity.
 NUMBER = r"^[-+]?(?:[0-9]+\.?[0-9]*|\.[0-9]+)(?:[eE][-+]?[0-9]{1,3})?$"
 POINT = ["hz_rad", "v_rad", "distance_m"]
-# Of each procedure that measures or tells a quantity, what stands at each place of its values.
+# Of each procedure that measures or returns a quantity, what is at each place of its values.
 QUANTITIES = {
     2107: ["hz_rad", "v_rad"],
     2108: POINT,
@@ -45,7 +45,7 @@ HAS_VALUES = f"""(quality IN ({', '.join(f"'{word}'" for word in GOOD)})
 
 
 def view(item, cast):
-    """The columns of a view: what tells a row from others, and between its place and its attempt a column a quantity. `item` gives the SQL of the value at a place, and
+    """The columns of a view: what distinguishes a row from others, and between its place and its attempt a column a quantity. `item` gives the SQL of the value at a place, and
     `cast` that of its number."""
     columns = [", ".join(["source", "line", *COLUMNS[: COLUMNS.index("outcome")]])]
     for name in NAMES:
@@ -55,5 +55,5 @@ def view(item, cast):
                 cases.setdefault(names.index(name), []).append(str(procedure))
         whens = " ".join(f"WHEN procedure IN ({', '.join(of)}) THEN {cast(item(place))}" for place, of in cases.items())
         columns.append(f"CASE {whens} END AS {name}")
-    # (it stands last: PostgreSQL adds columns to a view there alone)
+    # (it comes last: PostgreSQL adds columns to a view there alone)
     return ",\n    ".join([*columns, "attempt"])

@@ -7,7 +7,7 @@ import datetime
 import json
 import re
 
-# The columns of a station's rows, of which the last ones stand last in every table. Further ones are handed on under their names.
+# The columns of a station's rows, of which the last ones come last in every table. Further ones are handed on under their names.
 LAST = ["quality", "attempt"]
 COLUMNS = [
     "run", "sent", "time", "cycle", "place", "target", "name", "procedure", "outcome", "fault", "rc_com", "rc", "values", *LAST,
@@ -22,7 +22,7 @@ ANSWER_COLUMNS = [
 
 
 def with_columns(columns):
-    """The columns of a table that has these, too: they stand in front of the last ones."""
+    """The columns of a table that has these, too: they come before the last ones."""
     return [*COLUMNS[: -len(LAST)], *columns, *LAST]
 
 
@@ -88,7 +88,7 @@ def is_list(field):
 
 
 def members_of(line):
-    """The members of an object of JSON, each as the text that stands there, and those of a list joined by commas."""
+    """The members of an object of JSON, each as the text that is there, and those of a list joined by commas."""
     try:
         members = json.loads(printable(line), object_pairs_hook=list, parse_int=str, parse_float=str)
     except (ValueError, RecursionError):
@@ -142,8 +142,8 @@ class Table:
                 raise NoRow(f"has no column {column}")
 
     def row(self, line):
-        """The fields of a row, by the names of their columns; nothing of the names themselves, which stand again where the rows of
-        several starts were put one behind the other."""
+        """The fields of a row, by the names of their columns; nothing of the names themselves, which are repeated where the rows of
+        several starts were put one after the other."""
         if line == self.head:
             return None
         fields = fields_of(line)
@@ -167,7 +167,7 @@ def form_of(line, needed=NEEDED):
 
 
 def is_of_setup(fields):
-    """Whether a row is one of the set-up: it stands in no cycle, and its attempts are counted over the run."""
+    """Whether a row is one of the set-up: it is in no cycle, and its attempts are counted over the run."""
     return fields.get("cycle") == "0"
 
 

@@ -22,7 +22,7 @@ ADDED = [
 NAMES = records.with_columns(ADDED)
 DECIMAL = re.compile(r"[-+]?[0-9]+(\.[0-9]+)?")
 TARGET = re.compile(r"[0-9]+")
-# The lines of a site: how many numbers each has at least and at most, and whether a target stands in front of them.
+# The lines of a site: how many numbers each has at least and at most, and whether a target comes before them.
 LINES = {
     "station": (3, 4, False), "orientation": (1, 1, False), "reference": (2, 2, True), "reflector": (1, 1, True),
     "atmosphere": (3, 3, False), "carrier": (2, 2, False), "earth": (2, 2, False), "flat": (0, 0, False),
@@ -35,7 +35,7 @@ class Faulty(Exception):
 
 @dataclass
 class Site:
-    """Where the instrument stands and how its readings are reduced."""
+    """Where the instrument is and how its readings are reduced."""
 
     station: tuple = None
     height_of_instrument: Decimal = Decimal(0)
@@ -227,7 +227,7 @@ def listed(numbers, unit):
 
 
 def row_of(site, target, orientation):
-    """The row of a target with pairs: it stands as one of face I that has no errors."""
+    """The row of a target with pairs: it is as one of face I that has no errors."""
     row = {**dict.fromkeys(NAMES, ""), **{name: target.last.get(name, "") for name in records.COLUMNS}}
     values = [written(target.hz, "rad"), written(target.v, "rad"), written(target.distance, "m")]
     row.update(zip(ADDED[4:7], (written(each, "m") for each in place_of(site, target, orientation))))
@@ -262,7 +262,7 @@ def rows_of_cycle(site, rows):
 
 class Cycles:
     """Parts rows into cycles. One is over with the row of the text's last command, which is known once a cycle of the same run was
-    followed by another one, where its chain can't go out again; and else with the first row of the next. Rows of the set-up are in none."""
+    followed by another one, where its chain can't be repeated; and else with the first row of the next. Rows of the set-up are in none."""
 
     def __init__(self):
         self.at, self.rows, self.last_place = None, [], None
@@ -285,8 +285,8 @@ class Cycles:
         return over
 
     def is_settled(self):
-        """Whether the last chain can't go out again: it is among the last rows of one target, and each of them is fine. (A warning or a
-        refusal may be what a chain goes out again for.)"""
+        """Whether the last chain can't be repeated: it is among the last rows of one target, and each of them is fine. (A warning or a
+        refusal may be what a chain is repeated for.)"""
         target = self.rows[-1]["target"]
         last = itertools.takewhile(lambda row: row["target"] == target, reversed(records.last_attempts(self.rows)))
         return all(quantities.has_values(row) and row.get("quality") != "warning" for row in last)

@@ -2,8 +2,8 @@
 
 It is a table with one header, or has an object of JSON on each line. It has so many whole cycles at least, nine rows each, all
 answered and with what the simulated instrument measures, in order; and cycles that follow one another are so many seconds apart. Each
-command was sent behind the beginning of its run and before its end was told, the cycles of a run follow one another from 1, and a run
-begins behind the one before it.
+command was sent after the beginning of its run and before its end was reported, the cycles of a run follow one another from 1, and a run
+begins after the one before it.
 """
 
 import sys
@@ -20,7 +20,7 @@ def moment(row, column="time"):
 
 
 def runs_of(rows):
-    """The rows of each run, in order. A run's rows stand together."""
+    """The rows of each run, in order. A run's rows are together."""
     runs = {}
     for row in rows:
         runs.setdefault(row["run"], []).append(row)

@@ -17,7 +17,7 @@ def make(folder, **options):
         sys.exit(f"{command}: Debian's package python3-pytest is missing")
     if options.get("program") and not os.access(options["program"], os.X_OK):
         sys.exit(f"{command}: no program at {options['program']}")
-    # Behind a SIGTERM, as behind a Ctrl-C, what was begun is ended.
+    # After a SIGTERM, as after a Ctrl-C, what was begun is ended.
     signal.signal(signal.SIGTERM, signal.default_int_handler)
     words = [f"--{name.replace('_', '-')}={value}" for name, value in options.items() if value is not None]
     status = pytest.main([str(TRIALS / folder), "-c", str(TRIALS / "pytest.ini"), *words])

@@ -38,7 +38,7 @@ def folder():
 
 @pytest.fixture
 def note(record_property):
-    """Takes a figure, which stands in the line of the trial."""
+    """Takes a figure, which is in the line of the trial."""
     return lambda text: record_property("note", text)
 
 

@@ -1,4 +1,4 @@
-"""A far end of a trial's own: it stands in the place of the instrument, and answers each request as the trial has it."""
+"""A far end of a trial's own: it is in the place of the instrument, and answers each request as the trial has it."""
 
 import re
 import socket
@@ -10,7 +10,7 @@ from dataclasses import dataclass
 from programs import free_port
 
 REQUEST = re.compile(rb"%R1Q,(\d+),(\d):([^\r\n]*)\r$")
-# What a good instrument answers, behind the colon.
+# What a good instrument answers, after the colon.
 GOOD = {0: b"0", 5003: b"0,123456", 5004: b'0,"GEOCOM SIM"', 2011: b"0,1.65", 2026: b"0,0", 2107: b"0,2.25,1.6",
         9027: b"0", 17017: b"0,2.25,1.625,110.0625,2"}
 # What closes the connection in place of a reply.
@@ -31,7 +31,7 @@ class Request:
     utc: float
 
     def reply(self, behind):
-        """The line of its reply, with this behind the colon."""
+        """The line of its reply, with this after the colon."""
         return b"%%R1P,0,%d:%s\r\n" % (self.id, behind)
 
 
@@ -52,7 +52,7 @@ def closes(_):
 
 class FarEnd:
     """A far end that listens on a port of an address. `answers` gives of each request the bytes of its reply, `LOSES` or `CLOSES`.
-    `says` gives of each connection what comes on it unasked: pairs of the seconds behind its begin, and of bytes."""
+    `says` gives of each connection what comes on it unasked: pairs of the seconds after its begin, and of bytes."""
 
     def __init__(self, answers, says, address="127.0.0.1"):
         self.answers, self.says, self.address = answers, says, address
@@ -84,7 +84,7 @@ class FarEnd:
             self.thread.join()
 
     def serve(self, listener):
-        """Serves one connection behind the other, as a line has one."""
+        """Serves one connection after the other, as a line has one."""
         while True:
             try:
                 near, _ = listener.accept()

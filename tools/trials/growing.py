@@ -19,12 +19,12 @@ RUN = b"2026-11-24T19:59:50.000Z"
 
 
 def stamp(moment):
-    """A moment as it stands in a row."""
+    """A moment as a row has it."""
     return moment_text(moment).encode()
 
 
 def row(chance, number):
-    """A row: its number, counted from 0, stands in its time and its cycle."""
+    """A row: its number, counted from 0, is in its time and its cycle."""
     moment = BEGIN + datetime.timedelta(milliseconds=number * 20_000)
     target, name, hz, v, distance = TARGETS[number // len(COMMANDS) % len(TARGETS)]
     place = number % (len(COMMANDS) * len(TARGETS))
@@ -109,7 +109,7 @@ class Growing:
                     self.add(file)
 
     def add(self, file):
-        """Adds a row: in one piece, in two, or torn first, as behind a crash, and cut off at the next start."""
+        """Adds a row: in one piece, in two, or torn first, as after a crash, and cut off at the next start."""
         line = self.line(self.chance, self.rows)
         how = self.chance.random()
         cut = self.chance.randint(1, len(line) - 1)

@@ -15,12 +15,12 @@ START = re.compile(r"geocom: \d+ commands? for .*: waits until eight null proced
 
 
 def measuring(program, place, words, commands, **options):
-    """A station under way, which writes rows to its standard output."""
+    """A running station, which writes rows to its standard output."""
     return Run([program, "station", place, "--csv", *words.split()], commands, **options)
 
 
 def finished(run, status=0, patience=PATIENCE, counts=-1):
-    """Its rows, and its messages beside its counts and the line of its start, once it has ended with this status. The counts stand on
+    """Its rows, and its messages beside its counts and the line of its start, once it has ended with this status. The counts rest on
     the last line, or on that of this index."""
     assert run.status(patience) == status, f"its messages are {run.messages()!r}"
     rows = rows_of(run.output())

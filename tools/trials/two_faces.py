@@ -86,8 +86,8 @@ class Month:
         return HEAD + b"".join(row for rows in self.rows(seed) for row in rows)
 
     def tables_of_attempts(self):
-        """Two files that come to the same: in one each chain goes out twice, since its last command is refused at first, and the set-up
-        goes out between; its first attempt measures what is wrong. The other has the second attempts alone."""
+        """Two files that come to the same: in one each chain is sent twice, since its last command is refused at first, and the set-up
+        is sent between; its first attempt measures what is wrong. The other has the second attempts alone."""
         wrong, refused = replace(self, index=0.001), replace(self, bad={target: (range(1, self.cycles + 1), "refused") for target in self.targets})
         both, last = [HEAD], [HEAD]
         for first, behind, again in zip(wrong.rows(), refused.rows(), self.rows()):

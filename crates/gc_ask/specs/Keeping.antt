@@ -43,9 +43,8 @@ Grows None new more = Unit {0}
 Grows (Some ends) None more = ⊥
 Grows (Some ends) (Some all) more = all ≡ ends ++ more
 
--- `most` callers were served, whatever became of each; where all lines were written (`told`), the messages grew by the line of
--- each fault, and by nothing else. `old` and `new` are the ends of connections that were known before and after, where they are
--- known
+-- `most` callers were served, whatever became of each. If all lines were written (`told`), the messages grew by the line of
+-- each fault, and by nothing else. `old` and `new` say how the connections before and after this ended, if that is known
 pub record Kept (most : ℕ) (told : Bool) (old new : Option (List End)) (messages_old messages_new : Option (List ℕ)) : Type 0 where
   pub ends : List End
   pub count : length ends ≡ most

@@ -81,8 +81,8 @@ pub fn keep<C: Callers, E: Write>(callers: &mut C, most: u64, messages: &mut E) 
     told
 }
 
-// Where the connection with this number ended with a fault, writes the line of the fault, and else nothing. `told` says whether
-// all earlier lines were written. The result says whether all lines were, this one included.
+// Writes the line of the fault if the connection with this number ended with one. `told` says whether all earlier lines were
+// written. Returns whether all lines were, this one included.
 fn tell_end<E: Write>(
     end: Result<(), CallerFault>,
     number: u64,

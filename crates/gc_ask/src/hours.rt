@@ -1,5 +1,6 @@
-//! What the two ends share of a connection that an instrument with delays serves: when the last bytes came, until when the
-//! instrument is busy, and what came before it got free. The clock of serving is read here alone.
+//! The state that the two ends of a connection share while an instrument whose replies take time is served over it: when the
+//! last bytes came, until when the instrument is busy, and what arrived meanwhile. Serving reads its clock here and nowhere
+//! else.
 
 ghost use Rattle.std.specs.Prelude.{◌≤◌, length};
 
@@ -10,8 +11,9 @@ use std::{io, thread};
 
 /// The clock of an instrument whose replies take time. Its moments are milliseconds since it was made.
 ///
-/// The instrument notes until when it is busy. The writing end of a connection waits until then, and takes in what has come by then,
-/// where that is to be dropped. The reading end hands that on, and notes when bytes came.
+/// The instrument notes until when it is busy. The writing end of a connection waits until then. If what arrives meanwhile
+/// is to be dropped, the writing end first reads it in, and the reading end passes it on as early. The reading end notes
+/// when bytes came.
 #[derive(Drop)]
 pub struct Hours {
     start: Instant,
@@ -26,7 +28,8 @@ pub struct Hours {
     early: RefCell<Early>,
 }
 
-// Bytes that came while the instrument was busy: how many of them were handed on. Of more than 8192 bytes the rest counts as come later.
+// Bytes that came while the instrument was busy, and how many of them were handed on. It holds 8192 bytes; further ones
+// count as arriving later.
 #[derive(Drop)]
 struct Early {
     bytes: ArrayVec<u8, 8192>,

@@ -1,10 +1,10 @@
--- The acts of a link: each call adds what came of it, in the order of the calls. This project's own.
+-- The acts of a link: each call adds its result, in the order of the calls. This project's own.
 use Rattle.std.specs.Prelude.{◌≡◌, ℕ, ◌<◌, ◌≤◌, List, ◌++◌, length, take, Option, Some, None, Result, Ok, Err}
 use Rattle.gc_links.specs.declared.link.Came.{Came}
 use Rattle.gc_links.specs.declared.link.Came.TheVariants.{Bytes, Silence, End, Failure, NoMoment}
 use Rattle.gc_links.specs.declared.link.Moment.{Moment}
 
--- one call of a link, and what came of it
+-- one call of a link, and its result
 pub data Act : Type 0 where
   -- the clock was read
   Told : (moment : Moment) → Act

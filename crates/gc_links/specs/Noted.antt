@@ -1,4 +1,4 @@
--- The act that a note is.
+-- The act for which each note of a history stands: this project's own.
 use Rattle.gc_links.specs.Acts as act
 use Rattle.gc_links.specs.Acts.{Act}
 use Rattle.gc_links.specs.declared.history.Note.{Note}

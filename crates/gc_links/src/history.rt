@@ -1,4 +1,4 @@
-//! The history of a link: what its calls came to, in order. It is there for proofs alone: no code reads it, and it takes no
+//! The history of a link: the results of its calls, in order. It exists for proofs alone: no code reads it, and it takes no
 //! memory.
 
 ghost use Rattle.std.specs.Prelude.{◌≡◌, [], ◌∷◌, ◌++◌, List};

@@ -16,7 +16,7 @@ pub struct Moment {
     pub stops: bool,
 }
 
-/// What a read of a link came to, with the moment after it.
+/// The result of a read of a link, with the moment after it.
 #[derive(Clone, Copy, Debug, PartialEq, Eq)]
 pub enum Came {
     /// This many bytes came.
@@ -38,7 +38,7 @@ pub trait Link {
     ghost use Rattle.std.specs.Prelude.{List, Option};
     ghost use Rattle.gc_links.specs.Acts.{Act};
 
-    /// What its calls came to so far, where that is known.
+    /// The acts of its calls so far, if they are known.
     ghost acts: { Self → Option (List Act) };
 
     /// Reads the clock.

@@ -1,5 +1,5 @@
-//! A link whose acts are known, over any other link. Each call is that of the link inside, and what it came to is added to a
-//! history, which costs nothing.
+//! A wrapper that makes the acts of any link known to proofs: each call is passed on to the link inside, and its result is
+//! noted in a history that exists in proofs alone.
 
 ghost use Rattle.std.specs.Prelude.{◌≡◌, []};
 ghost use Rattle.gc_links.specs.Acts.{IsWithin, came_as};
@@ -9,7 +9,7 @@ use crate::history::{History, Note};
 use crate::link::{Came, Link, Moment};
 use gc_lines::PortFailed;
 
-/// A link whose acts are known, whatever link it uses.
+/// A link that notes the acts of the link inside.
 #[derive(Drop)]
 pub struct Telling<L> {
     /// The link inside.

@@ -1,4 +1,4 @@
--- What `list_trouble` reports of parameters with a fault names what is at fault in them (`IsCallTrouble`). `rpc` is the
+-- What `parameters_trouble` reports of parameters with a fault names what is at fault in them (`IsCallTrouble`). `rpc` is the
 -- procedure's number.
 use Rattle.std.proofs.Common.{◌≡◌, ℕ, List, refl, subst, sym}
 use Rattle.gc_catalogue.specs.Calls.{IsRefusal}
@@ -6,20 +6,20 @@ use Rattle.gc_catalogue.specs.declared.fault.CallFault.{CallFault}
 use Rattle.gc_catalogue.specs.declared.fault.CallFault.TheVariants.{Parameters}
 use Rattle.gc_values.specs.declared.fault.ValueFault.{ValueFault}
 use Rattle.gc_values.specs.declared.fault.ValueFault.TheVariants as fault
-use Rattle.gc_texts.specs.Troubles.{IsCallTrouble, list_trouble}
+use Rattle.gc_texts.specs.Troubles.{IsCallTrouble, parameters_trouble}
 use Rattle.gc_texts.specs.declared.trouble.Trouble.{Trouble}
 
--- where the procedure refuses the parameters with the fault `e`, what `list_trouble` reports of `e` is what is at fault in
+-- where the procedure refuses the parameters with the fault `e`, what `parameters_trouble` reports of `e` is what is at fault in
 -- the procedure's number and these parameters
-of_fault : (rpc : ℕ) (params : List ℕ) (e : ValueFault) → IsRefusal rpc params (Parameters e) → IsCallTrouble rpc params (list_trouble rpc e)
-of_fault rpc params fault.Spelling refused = record { fault = fault.Spelling; refused = refused; is = refl }
-of_fault rpc params fault.Range refused = record { fault = fault.Range; refused = refused; is = refl }
-of_fault rpc params fault.OpenQuote refused = record { fault = fault.OpenQuote; refused = refused; is = refl }
-of_fault rpc params fault.TooMany refused = record { fault = fault.TooMany; refused = refused; is = refl }
-of_fault rpc params fault.Count refused = record { fault = fault.Count; refused = refused; is = refl }
+trouble_of_fault : (rpc : ℕ) (params : List ℕ) (e : ValueFault) → IsRefusal rpc params (Parameters e) → IsCallTrouble rpc params (parameters_trouble rpc e)
+trouble_of_fault rpc params fault.Spelling refused = record { fault = fault.Spelling; refused = refused; is = refl }
+trouble_of_fault rpc params fault.Range refused = record { fault = fault.Range; refused = refused; is = refl }
+trouble_of_fault rpc params fault.OpenQuote refused = record { fault = fault.OpenQuote; refused = refused; is = refl }
+trouble_of_fault rpc params fault.TooMany refused = record { fault = fault.TooMany; refused = refused; is = refl }
+trouble_of_fault rpc params fault.Count refused = record { fault = fault.Count; refused = refused; is = refl }
 
--- where the procedure refuses the parameters with `of`, which is the fault `e`, and `t` is what `list_trouble` reports of
+-- where the procedure refuses the parameters with `of`, which is the fault `e`, and `t` is what `parameters_trouble` reports of
 -- `e`, then `t` is what is at fault in number and parameters
-pub list_is : (rpc : ℕ) (params : List ℕ) (of : CallFault) (e : ValueFault) (t : Trouble) → IsRefusal rpc params of → of ≡ Parameters e → t ≡ list_trouble rpc e → IsCallTrouble rpc params t
-list_is rpc params of e t refused same is =
-    subst (λ (x : Trouble). IsCallTrouble rpc params x) (sym is) (of_fault rpc params e (subst (λ (f : CallFault). IsRefusal rpc params f) same refused))
+pub trouble_of_refusal : (rpc : ℕ) (params : List ℕ) (of : CallFault) (e : ValueFault) (t : Trouble) → IsRefusal rpc params of → of ≡ Parameters e → t ≡ parameters_trouble rpc e → IsCallTrouble rpc params t
+trouble_of_refusal rpc params of e t refused same is =
+    subst (λ (x : Trouble). IsCallTrouble rpc params x) (sym is) (trouble_of_fault rpc params e (subst (λ (f : CallFault). IsRefusal rpc params f) same refused))

@@ -2,64 +2,62 @@
 -- codes that are accepted there, whether commands are chained there, and the target of the row that a command may continue
 -- there. A row is a run of commands for one target, which a line `chained` or `unchained` ends. `Says` says that a mode is
 -- what these lines say.
-use Rattle.std.proofs.Common.{◌≡◌, inl, inr, ◌+◌, ◌*◌, ◌≤◌, nat_lt, if◌then◌else◌, arith, ℕ, zero, suc, ◌&&◌, Bool, true, false, List, [], ◌∷◌, ◌++◌, length, map, Option, Some, None, refl, sym, ap, ◌∙◌, subst, append_assoc, append-nil}
+use Rattle.std.proofs.Common.{◌≡◌, inl, inr, ◌+◌, ◌≤◌, nat_lt, if◌then◌else◌, arith, ℕ, ◌&&◌, Bool, true, false, List, [], ◌∷◌, ◌++◌, length, map, Option, Some, None, refl, sym, ap, ◌∙◌, subst, append_assoc, append-nil}
 use Rattle.std.specs.List.{AllByRecursion}
-use Rattle.std.proofs.lemmas.Bool.{eqb-true, eq-eqb}
+use Rattle.std.proofs.lemmas.Bool.{eq-eqb, and_parts, and_from}
 use Rattle.std.proofs.lemmas.List.{length-map, length-append, map-append}
-use Rattle.gc_texts.specs.Chained.{section_behind, setup_commands, cycle_commands, SaysNoDeadline, IsDeadlineBehind, SaysNoMode, mode_line, IsModeBehind, SaysNoCodes, AreAcceptedBehind, SaysNoRetry, IsRetryBehind, KeepsChains, EndsWithTarget, GoesOut, CommandsGoOutSo}
-use Rattle.gc_texts.specs.Attempts.{in_attempt, attempts_from, attempts, laid_behind, laid_out}
+use Rattle.gc_texts.specs.Chained.{section_after, setup_commands, cycle_commands, SaysNoDeadline, IsDeadlineAfter, SaysNoChaining, chaining_line, IsChainingAfter, SaysNoCodes, AreAcceptedAfter, SaysNoRetry, IsRetryAfter, KeepsRow, EndsInRowOf, IsTaskOf, TasksFollowTheirLines}
+use Rattle.gc_texts.specs.Attempts.{in_attempt, laid_out}
 use Rattle.gc_texts.specs.Repeats.{RetriesHold}
 use Rattle.gc_texts.specs.Retries.{no_retry}
 use Rattle.gc_texts.specs.declared.again.Again.{Again}
 use Rattle.gc_texts.specs.declared.retry.Retry.{Retry}
-use Rattle.gc_texts.specs.declared.tasks.Planned.{Planned}
+use Rattle.gc_texts.specs.declared.attempts.Planned.{Planned}
 use Rattle.gc_texts.specs.Again.{no_again}
 use Rattle.gc_texts.specs.Nears.{near_of}
-use Rattle.gc_texts.specs.Tasks.{IsTasks, opening, behind, goes_on, joined, turn_at, task_at, setup_at, setup_of, planned_at, planned_of, tasks_of, placed}
+use Rattle.gc_texts.specs.Tasks.{IsTasks, opening, mode_after, continues_row, is_chained, turn_at, task_at, setup_at, setup_of, planned_at, planned_of, tasks_of, placed}
 use Rattle.gc_texts.specs.declared.codes.Codes.{Codes}
 use Rattle.gc_texts.specs.declared.wish.Wish.{Wish}
 use Rattle.gc_texts.specs.declared.name.Name.{Name}
 use Rattle.gc_texts.specs.declared.near.Near.{Near}
 use Rattle.gc_texts.specs.declared.task_line.TaskLine.{TaskLine}
 use Rattle.gc_texts.specs.declared.task_line.TaskLine.TheVariants as says
-use Rattle.gc_texts.specs.declared.tasks.Mode.{Mode}
+use Rattle.gc_texts.specs.declared.mode.Mode.{Mode}
 use Rattle.gc_texts.specs.declared.tasks.Task.{Task}
-
--- the mode after these lines, where `mode` holds before the first
-abbrev behind_all : Mode → List TaskLine → Mode
-behind_all mode [] = mode
-behind_all mode (line ∷ later) = behind_all (behind mode line) later
+use Rattle.gc_texts.proofs.TaskReading.{mode_after_lines}
+use Rattle.gc_texts.proofs.FirstAttempts.{chains_have_first}
+use Rattle.gc_texts.proofs.TaskLaws.{continued_row}
 
 -- the mode after `xs` and then `ys` is the mode after `ys`, where the mode after `xs` holds before them
-behind_both : (mode : Mode) (xs ys : List TaskLine) → behind_all mode (xs ++ ys) ≡ behind_all (behind_all mode xs) ys
-behind_both mode [] ys = refl
-behind_both mode (x ∷ xs) ys = behind_both (behind mode x) xs ys
+mode_after_both : (mode : Mode) (xs ys : List TaskLine) → mode_after_lines mode (xs ++ ys) ≡ mode_after_lines (mode_after_lines mode xs) ys
+mode_after_both mode [] ys = refl
+mode_after_both mode (x ∷ xs) ys = mode_after_both (mode_after mode x) xs ys
 
 -- the set-up of `xs` and then `ys` is that of `xs`, and then that of `ys`, where the mode after `xs` holds before `ys`
-setup_both : (mode : Mode) (xs ys : List TaskLine) → setup_of mode (xs ++ ys) ≡ setup_of mode xs ++ setup_of (behind_all mode xs) ys
+setup_both : (mode : Mode) (xs ys : List TaskLine) → setup_of mode (xs ++ ys) ≡ setup_of mode xs ++ setup_of (mode_after_lines mode xs) ys
 setup_both mode [] ys = refl
 setup_both mode (x ∷ xs) ys =
-    ap (λ ts. setup_at mode x ++ ts) (setup_both (behind mode x) xs ys) ∙ sym (append_assoc (setup_at mode x) (setup_of (behind mode x) xs) (setup_of (behind_all (behind mode x) xs) ys))
+    ap (λ ts. setup_at mode x ++ ts) (setup_both (mode_after mode x) xs ys) ∙ sym (append_assoc (setup_at mode x) (setup_of (mode_after mode x) xs) (setup_of (mode_after_lines (mode_after mode x) xs) ys))
 
 -- the cycle's commands of `xs` and then `ys` are those of `xs`, and then those of `ys`
-planned_both : (mode : Mode) (xs ys : List TaskLine) → planned_of mode (xs ++ ys) ≡ planned_of mode xs ++ planned_of (behind_all mode xs) ys
+planned_both : (mode : Mode) (xs ys : List TaskLine) → planned_of mode (xs ++ ys) ≡ planned_of mode xs ++ planned_of (mode_after_lines mode xs) ys
 planned_both mode [] ys = refl
 planned_both mode (x ∷ xs) ys =
-    ap (λ ts. planned_at mode x ++ ts) (planned_both (behind mode x) xs ys) ∙ sym (append_assoc (planned_at mode x) (planned_of (behind mode x) xs) (planned_of (behind_all (behind mode x) xs) ys))
+    ap (λ ts. planned_at mode x ++ ts) (planned_both (mode_after mode x) xs ys) ∙ sym (append_assoc (planned_at mode x) (planned_of (mode_after mode x) xs) (planned_of (mode_after_lines (mode_after mode x) xs) ys))
 
 -- the section after lines is the mode's
-section_is : (mode : Mode) (lines : List TaskLine) → (behind_all mode lines).setup ≡ section_behind mode.setup lines
+section_is : (mode : Mode) (lines : List TaskLine) → (mode_after_lines mode lines).setup ≡ section_after mode.setup lines
 section_is mode [] = refl
-section_is mode (says.Command c now ∷ later) = section_is (behind mode (says.Command c now)) later
-section_is mode (says.Deadline d ∷ later) = section_is (behind mode (says.Deadline d)) later
-section_is mode (says.Chained ∷ later) = section_is (behind mode says.Chained) later
-section_is mode (says.Unchained ∷ later) = section_is (behind mode says.Unchained) later
-section_is mode (says.Naming n ∷ later) = section_is (behind mode (says.Naming n)) later
-section_is mode (says.Standing n ∷ later) = section_is (behind mode (says.Standing n)) later
-section_is mode (says.Accepting cs ∷ later) = section_is (behind mode (says.Accepting cs)) later
-section_is mode (says.Retrying r ∷ later) = section_is (behind mode (says.Retrying r)) later
-section_is mode (says.AtStart ∷ later) = section_is (behind mode says.AtStart) later
-section_is mode (says.EachCycle ∷ later) = section_is (behind mode says.EachCycle) later
+section_is mode (says.Command c now ∷ later) = section_is (mode_after mode (says.Command c now)) later
+section_is mode (says.Deadline d ∷ later) = section_is (mode_after mode (says.Deadline d)) later
+section_is mode (says.Chained ∷ later) = section_is (mode_after mode says.Chained) later
+section_is mode (says.Unchained ∷ later) = section_is (mode_after mode says.Unchained) later
+section_is mode (says.Naming n ∷ later) = section_is (mode_after mode (says.Naming n)) later
+section_is mode (says.Standing n ∷ later) = section_is (mode_after mode (says.Standing n)) later
+section_is mode (says.Accepting cs ∷ later) = section_is (mode_after mode (says.Accepting cs)) later
+section_is mode (says.Retrying r ∷ later) = section_is (mode_after mode (says.Retrying r)) later
+section_is mode (says.AtStart ∷ later) = section_is (mode_after mode says.AtStart) later
+section_is mode (says.EachCycle ∷ later) = section_is (mode_after mode says.EachCycle) later
 
 -- one task more or none
 setup_one : (b : Bool) (t : Task) (ts : List Task) (n : ℕ) → length ts ≡ n → length ((if b then t ∷ [] else []) ++ ts) ≡ (if b then 1 else 0) + n
@@ -69,54 +67,57 @@ setup_one false t ts n e = omega (arith, e)
 -- the set-up of lines has as many tasks as there are commands of it
 setup_count : (mode : Mode) (lines : List TaskLine) → length (setup_of mode lines) ≡ setup_commands mode.setup lines
 setup_count mode [] = refl
-setup_count mode (says.Command c now ∷ later) = setup_one mode.setup (task_at mode c now) (setup_of (behind mode (says.Command c now)) later) (setup_commands mode.setup later) (setup_count (behind mode (says.Command c now)) later)
-setup_count mode (says.Deadline d ∷ later) = setup_count (behind mode (says.Deadline d)) later
-setup_count mode (says.Chained ∷ later) = setup_count (behind mode says.Chained) later
-setup_count mode (says.Unchained ∷ later) = setup_count (behind mode says.Unchained) later
-setup_count mode (says.Naming n ∷ later) = setup_count (behind mode (says.Naming n)) later
-setup_count mode (says.Standing n ∷ later) = setup_count (behind mode (says.Standing n)) later
-setup_count mode (says.Accepting cs ∷ later) = setup_count (behind mode (says.Accepting cs)) later
-setup_count mode (says.Retrying r ∷ later) = setup_count (behind mode (says.Retrying r)) later
-setup_count mode (says.AtStart ∷ later) = setup_count (behind mode says.AtStart) later
-setup_count mode (says.EachCycle ∷ later) = setup_count (behind mode says.EachCycle) later
+setup_count mode (says.Command c now ∷ later) = setup_one mode.setup (task_at mode c now) (setup_of (mode_after mode (says.Command c now)) later) (setup_commands mode.setup later)
+    (setup_count (mode_after mode (says.Command c now)) later)
+setup_count mode (says.Deadline d ∷ later) = setup_count (mode_after mode (says.Deadline d)) later
+setup_count mode (says.Chained ∷ later) = setup_count (mode_after mode says.Chained) later
+setup_count mode (says.Unchained ∷ later) = setup_count (mode_after mode says.Unchained) later
+setup_count mode (says.Naming n ∷ later) = setup_count (mode_after mode (says.Naming n)) later
+setup_count mode (says.Standing n ∷ later) = setup_count (mode_after mode (says.Standing n)) later
+setup_count mode (says.Accepting cs ∷ later) = setup_count (mode_after mode (says.Accepting cs)) later
+setup_count mode (says.Retrying r ∷ later) = setup_count (mode_after mode (says.Retrying r)) later
+setup_count mode (says.AtStart ∷ later) = setup_count (mode_after mode says.AtStart) later
+setup_count mode (says.EachCycle ∷ later) = setup_count (mode_after mode says.EachCycle) later
 
 -- a command counts where its section is counted
-count_up : (b : Bool) (n m k : ℕ) → m ≡ (if b then n + 1 else n) + k → m ≡ n + ((if b then 1 else 0) + k)
-count_up true n m k e = omega (arith, e)
-count_up false n m k e = omega (arith, e)
+counted_in_section : (b : Bool) (n m k : ℕ) → m ≡ (if b then n + 1 else n) + k → m ≡ n + ((if b then 1 else 0) + k)
+counted_in_section true n m k e = omega (arith, e)
+counted_in_section false n m k e = omega (arith, e)
 
 -- the same, of the other section
-count_other : (b : Bool) (n m k : ℕ) → m ≡ (if b then n else n + 1) + k → m ≡ n + ((if b then 0 else 1) + k)
-count_other true n m k e = omega (arith, e)
-count_other false n m k e = omega (arith, e)
+counted_in_other_section : (b : Bool) (n m k : ℕ) → m ≡ (if b then n else n + 1) + k → m ≡ n + ((if b then 0 else 1) + k)
+counted_in_other_section true n m k e = omega (arith, e)
+counted_in_other_section false n m k e = omega (arith, e)
 
 -- the mode counts the commands of the set-up
-begun_is : (mode : Mode) (lines : List TaskLine) → (behind_all mode lines).begun ≡ mode.begun + setup_commands mode.setup lines
+begun_is : (mode : Mode) (lines : List TaskLine) → (mode_after_lines mode lines).begun ≡ mode.begun + setup_commands mode.setup lines
 begun_is mode [] = omega arith
-begun_is mode (says.Command c now ∷ later) = count_up mode.setup mode.begun (behind_all (behind mode (says.Command c now)) later).begun (setup_commands mode.setup later) (begun_is (behind mode (says.Command c now)) later)
-begun_is mode (says.Deadline d ∷ later) = begun_is (behind mode (says.Deadline d)) later
-begun_is mode (says.Chained ∷ later) = begun_is (behind mode says.Chained) later
-begun_is mode (says.Unchained ∷ later) = begun_is (behind mode says.Unchained) later
-begun_is mode (says.Naming n ∷ later) = begun_is (behind mode (says.Naming n)) later
-begun_is mode (says.Standing n ∷ later) = begun_is (behind mode (says.Standing n)) later
-begun_is mode (says.Accepting cs ∷ later) = begun_is (behind mode (says.Accepting cs)) later
-begun_is mode (says.Retrying r ∷ later) = begun_is (behind mode (says.Retrying r)) later
-begun_is mode (says.AtStart ∷ later) = begun_is (behind mode says.AtStart) later
-begun_is mode (says.EachCycle ∷ later) = begun_is (behind mode says.EachCycle) later
+begun_is mode (says.Command c now ∷ later) = counted_in_section mode.setup mode.begun (mode_after_lines (mode_after mode (says.Command c now)) later).begun (setup_commands mode.setup later)
+    (begun_is (mode_after mode (says.Command c now)) later)
+begun_is mode (says.Deadline d ∷ later) = begun_is (mode_after mode (says.Deadline d)) later
+begun_is mode (says.Chained ∷ later) = begun_is (mode_after mode says.Chained) later
+begun_is mode (says.Unchained ∷ later) = begun_is (mode_after mode says.Unchained) later
+begun_is mode (says.Naming n ∷ later) = begun_is (mode_after mode (says.Naming n)) later
+begun_is mode (says.Standing n ∷ later) = begun_is (mode_after mode (says.Standing n)) later
+begun_is mode (says.Accepting cs ∷ later) = begun_is (mode_after mode (says.Accepting cs)) later
+begun_is mode (says.Retrying r ∷ later) = begun_is (mode_after mode (says.Retrying r)) later
+begun_is mode (says.AtStart ∷ later) = begun_is (mode_after mode says.AtStart) later
+begun_is mode (says.EachCycle ∷ later) = begun_is (mode_after mode says.EachCycle) later
 
 -- the mode counts the commands of the cycle
-place_is : (mode : Mode) (lines : List TaskLine) → (behind_all mode lines).place ≡ mode.place + cycle_commands mode.setup lines
+place_is : (mode : Mode) (lines : List TaskLine) → (mode_after_lines mode lines).place ≡ mode.place + cycle_commands mode.setup lines
 place_is mode [] = omega arith
-place_is mode (says.Command c now ∷ later) = count_other mode.setup mode.place (behind_all (behind mode (says.Command c now)) later).place (cycle_commands mode.setup later) (place_is (behind mode (says.Command c now)) later)
-place_is mode (says.Deadline d ∷ later) = place_is (behind mode (says.Deadline d)) later
-place_is mode (says.Chained ∷ later) = place_is (behind mode says.Chained) later
-place_is mode (says.Unchained ∷ later) = place_is (behind mode says.Unchained) later
-place_is mode (says.Naming n ∷ later) = place_is (behind mode (says.Naming n)) later
-place_is mode (says.Standing n ∷ later) = place_is (behind mode (says.Standing n)) later
-place_is mode (says.Accepting cs ∷ later) = place_is (behind mode (says.Accepting cs)) later
-place_is mode (says.Retrying r ∷ later) = place_is (behind mode (says.Retrying r)) later
-place_is mode (says.AtStart ∷ later) = place_is (behind mode says.AtStart) later
-place_is mode (says.EachCycle ∷ later) = place_is (behind mode says.EachCycle) later
+place_is mode (says.Command c now ∷ later) = counted_in_other_section mode.setup mode.place (mode_after_lines (mode_after mode (says.Command c now)) later).place (cycle_commands mode.setup later)
+    (place_is (mode_after mode (says.Command c now)) later)
+place_is mode (says.Deadline d ∷ later) = place_is (mode_after mode (says.Deadline d)) later
+place_is mode (says.Chained ∷ later) = place_is (mode_after mode says.Chained) later
+place_is mode (says.Unchained ∷ later) = place_is (mode_after mode says.Unchained) later
+place_is mode (says.Naming n ∷ later) = place_is (mode_after mode (says.Naming n)) later
+place_is mode (says.Standing n ∷ later) = place_is (mode_after mode (says.Standing n)) later
+place_is mode (says.Accepting cs ∷ later) = place_is (mode_after mode (says.Accepting cs)) later
+place_is mode (says.Retrying r ∷ later) = place_is (mode_after mode (says.Retrying r)) later
+place_is mode (says.AtStart ∷ later) = place_is (mode_after mode says.AtStart) later
+place_is mode (says.EachCycle ∷ later) = place_is (mode_after mode says.EachCycle) later
 
 -- what holds of each of these lines, and of one more, holds of each line of the longer list
 all_more : (P : TaskLine → Type 0) (xs : List TaskLine) (line : TaskLine) → AllByRecursion P xs → P line → AllByRecursion P (xs ++ line ∷ [])
@@ -127,59 +128,67 @@ all_more P (x ∷ xs) line all here = (all.0, all_more P xs line all.1 here)
 -- sets them says; where none does, they are `deadline`, none, and `chained`. Where the mode has a row, the row's target is that
 -- of the last command
 record Says (deadline : ℕ) (chained : Bool) (lines : List TaskLine) (mode : Mode) : Type 0 where
-  deadline_is : IsDeadlineBehind deadline lines mode.deadline
-  mode_is : IsModeBehind chained lines mode.chained
-  accepted_are : AreAcceptedBehind lines mode.accepted
-  retry_is : IsRetryBehind lines mode.retry
-  row : (target : ℕ) → mode.row ≡ Some target → EndsWithTarget lines target
+  deadline_is : IsDeadlineAfter deadline lines mode.deadline
+  mode_is : IsChainingAfter chained lines mode.chained
+  accepted_are : AreAcceptedAfter lines mode.accepted
+  retry_is : IsRetryAfter lines mode.retry
+  row : (target : ℕ) → mode.row ≡ Some target → EndsInRowOf lines target
 
 -- where `d` is the deadline after some lines, it is the deadline after one more, too, if that line says no deadline
-more_deadline : (deadline d : ℕ) (lines : List TaskLine) (line : TaskLine) → SaysNoDeadline line → IsDeadlineBehind deadline lines d → IsDeadlineBehind deadline (lines ++ line ∷ []) d
+more_deadline : (deadline d : ℕ) (lines : List TaskLine) (line : TaskLine) → SaysNoDeadline line → IsDeadlineAfter deadline lines d → IsDeadlineAfter deadline (lines ++ line ∷ []) d
 more_deadline deadline d lines line none (inl given) = inl (all_more SaysNoDeadline lines line given.0 none, given.1)
 more_deadline deadline d lines line none (inr (before, between, at, without)) =
     inr (before, between ++ line ∷ [], ap (λ xs. xs ++ line ∷ []) at ∙ append_assoc before (says.Deadline d ∷ between) (line ∷ []), all_more SaysNoDeadline between line without none)
 
 -- a line that says no codes leaves the accepted codes as they were
-more_codes : (accepted : Codes) (lines : List TaskLine) (line : TaskLine) → SaysNoCodes line → AreAcceptedBehind lines accepted → AreAcceptedBehind (lines ++ line ∷ []) accepted
+more_codes : (accepted : Codes) (lines : List TaskLine) (line : TaskLine) → SaysNoCodes line → AreAcceptedAfter lines accepted → AreAcceptedAfter (lines ++ line ∷ []) accepted
 more_codes accepted lines line none (inl given) = inl (all_more SaysNoCodes lines line given.0 none, given.1)
 more_codes accepted lines line none (inr (before, between, at, without)) =
     inr (before, between ++ line ∷ [], ap (λ xs. xs ++ line ∷ []) at ∙ append_assoc before (says.Accepting accepted ∷ between) (line ∷ []), all_more SaysNoCodes between line without none)
 
 -- a line that sets no retry leaves it as it was
-more_retry : (retry : Retry) (lines : List TaskLine) (line : TaskLine) → SaysNoRetry line → IsRetryBehind lines retry → IsRetryBehind (lines ++ line ∷ []) retry
+more_retry : (retry : Retry) (lines : List TaskLine) (line : TaskLine) → SaysNoRetry line → IsRetryAfter lines retry → IsRetryAfter (lines ++ line ∷ []) retry
 more_retry retry lines line none (inl given) = inl (all_more SaysNoRetry lines line given.0 none, given.1)
 more_retry retry lines line none (inr (before, between, at, without)) =
     inr (before, between ++ line ∷ [], ap (λ xs. xs ++ line ∷ []) at ∙ append_assoc before (says.Retrying retry ∷ between) (line ∷ []), all_more SaysNoRetry between line without none)
 
 -- whether commands are chained is the same after one more line that is neither `chained` nor `unchained`
-more_mode : (chained b : Bool) (lines : List TaskLine) (line : TaskLine) → SaysNoMode line → IsModeBehind chained lines b → IsModeBehind chained (lines ++ line ∷ []) b
-more_mode chained b lines line none (inl given) = inl (all_more SaysNoMode lines line given.0 none, given.1)
+more_mode : (chained b : Bool) (lines : List TaskLine) (line : TaskLine) → SaysNoChaining line → IsChainingAfter chained lines b → IsChainingAfter chained (lines ++ line ∷ []) b
+more_mode chained b lines line none (inl given) = inl (all_more SaysNoChaining lines line given.0 none, given.1)
 more_mode chained b lines line none (inr (before, between, at, without)) =
-    inr (before, between ++ line ∷ [], ap (λ xs. xs ++ line ∷ []) at ∙ append_assoc before (mode_line b ∷ between) (line ∷ []), all_more SaysNoMode between line without none)
+    inr (before, between ++ line ∷ [], ap (λ xs. xs ++ line ∷ []) at ∙ append_assoc before (chaining_line b ∷ between) (line ∷ []), all_more SaysNoChaining between line without none)
 
 -- where the last command of some lines is for a target, with no line `chained` or `unchained` after it, the same holds after
--- one more line that is neither, and no command (`KeepsChains`)
-more_row : (lines : List TaskLine) (line : TaskLine) (target : ℕ) → KeepsChains line → EndsWithTarget lines target → EndsWithTarget (lines ++ line ∷ []) target
-more_row lines line target keeps (before, command, now, between, at, all, same) =
-    (before, command, now, between ++ line ∷ [], ap (λ xs. xs ++ line ∷ []) at ∙ append_assoc before (says.Command command now ∷ between) (line ∷ []), all_more KeepsChains between line all keeps, same)
+-- one more line that is neither, and no command (`KeepsRow`)
+more_row : (lines : List TaskLine) (line : TaskLine) (target : ℕ) → KeepsRow line → EndsInRowOf lines target → EndsInRowOf (lines ++ line ∷ []) target
+more_row lines line target keeps (before, command, now, between, at, all, same) = (
+  before,
+  command,
+  now,
+  between ++ line ∷ [],
+  ap (λ xs. xs ++ line ∷ []) at
+      ∙ append_assoc before (says.Command command now ∷ between) (line ∷ []),
+  all_more KeepsRow between line all keeps,
+  same,
+)
 
 -- a mode without a row has no row of a target, so nothing has to be shown of one
-no_row : (lines : List TaskLine) (target : ℕ) → None ≡ Some target → EndsWithTarget lines target
+no_row : (lines : List TaskLine) (target : ℕ) → None ≡ Some target → EndsInRowOf lines target
 no_row lines target e = cc
 
 -- equal rows are of equal targets
-some_row : (a b : ℕ) → Some a ≡ Some b → a ≡ b
-some_row a b e = cc
+some_injective : (a b : ℕ) → Some a ≡ Some b → a ≡ b
+some_injective a b e = cc
 
 -- where `mode` is what `lines` say (`Says`), the mode after one more line is what all of them say. `deadline` and `chained`
 -- are what holds before all lines
-says_more : (deadline : ℕ) (chained : Bool) (lines : List TaskLine) (mode : Mode) (line : TaskLine) → Says deadline chained lines mode → Says deadline chained (lines ++ line ∷ []) (behind mode line)
+says_more : (deadline : ℕ) (chained : Bool) (lines : List TaskLine) (mode : Mode) (line : TaskLine) → Says deadline chained lines mode → Says deadline chained (lines ++ line ∷ []) (mode_after mode line)
 says_more deadline chained lines mode (says.Command c now) h = record {
   deadline_is = more_deadline deadline mode.deadline lines (says.Command c now) tt h.deadline_is;
   mode_is = more_mode chained mode.chained lines (says.Command c now) tt h.mode_is;
   accepted_are = more_codes mode.accepted lines (says.Command c now) tt h.accepted_are;
   retry_is = more_retry mode.retry lines (says.Command c now) tt h.retry_is;
-  row = λ target e. (lines, c, now, [], refl, tt, some_row c.target target e);
+  row = λ target e. (lines, c, now, [], refl, tt, some_injective c.target target e);
 }
 says_more deadline chained lines mode (says.Deadline d) h = record {
   deadline_is = inr (lines, [], refl, tt);
@@ -247,145 +256,77 @@ says_more deadline chained lines mode says.EachCycle h = record {
 
 -- where a mode is what the lines `done` say (`Says`), the mode after further lines is what all of these lines say
 says_all : (deadline : ℕ) (chained : Bool) (done : List TaskLine) (mode : Mode) (lines : List TaskLine) → Says deadline chained done mode
-    → Says deadline chained (done ++ lines) (behind_all mode lines)
+    → Says deadline chained (done ++ lines) (mode_after_lines mode lines)
 says_all deadline chained done mode [] h = subst (λ xs. Says deadline chained xs mode) (sym (append-nil done)) h
 says_all deadline chained done mode (line ∷ later) h =
-    subst (λ xs. Says deadline chained xs (behind_all (behind mode line) later)) (append_assoc done (line ∷ []) later)
-    (says_all deadline chained (done ++ line ∷ []) (behind mode line) later (says_more deadline chained done mode line h))
+    subst (λ xs. Says deadline chained xs (mode_after_lines (mode_after mode line) later)) (append_assoc done (line ∷ []) later)
+    (says_all deadline chained (done ++ line ∷ []) (mode_after mode line) later (says_more deadline chained done mode line h))
 
 -- before all lines the opening mode holds, which has the caller's deadline and chaining: no line has said otherwise
 says_opening : (deadline : ℕ) (chained : Bool) → Says deadline chained [] (opening deadline chained)
 says_opening deadline chained = record { deadline_is = inl (tt, refl); mode_is = inl (tt, refl); accepted_are = inl (tt, refl); retry_is = inl (tt, refl); row = λ target e. no_row [] target e }
 
 -- lines that are deadlines, names, places and accepted codes leave the row as it is
-row_stays : (mode : Mode) (lines : List TaskLine) → AllByRecursion KeepsChains lines → (behind_all mode lines).row ≡ mode.row
+row_stays : (mode : Mode) (lines : List TaskLine) → AllByRecursion KeepsRow lines → (mode_after_lines mode lines).row ≡ mode.row
 row_stays mode [] keeps = refl
 row_stays mode (says.Command c now ∷ later) keeps = absurd keeps.0
-row_stays mode (says.Deadline d ∷ later) keeps = row_stays (behind mode (says.Deadline d)) later keeps.1
+row_stays mode (says.Deadline d ∷ later) keeps = row_stays (mode_after mode (says.Deadline d)) later keeps.1
 row_stays mode (says.Chained ∷ later) keeps = absurd keeps.0
 row_stays mode (says.Unchained ∷ later) keeps = absurd keeps.0
 row_stays mode (says.Naming n ∷ later) keeps = row_stays mode later keeps.1
 row_stays mode (says.Standing n ∷ later) keeps = row_stays mode later keeps.1
-row_stays mode (says.Accepting cs ∷ later) keeps = row_stays (behind mode (says.Accepting cs)) later keeps.1
+row_stays mode (says.Accepting cs ∷ later) keeps = row_stays (mode_after mode (says.Accepting cs)) later keeps.1
 row_stays mode (says.Retrying r ∷ later) keeps = absurd keeps.0
 row_stays mode (says.AtStart ∷ later) keeps = absurd keeps.0
 row_stays mode (says.EachCycle ∷ later) keeps = absurd keeps.0
 
 -- where the last command of lines is for a target, with neither `chained` nor `unchained` after it, the row after them is of
 -- that target
-row_of : (mode : Mode) (lines : List TaskLine) (target : ℕ) → EndsWithTarget lines target → (behind_all mode lines).row ≡ Some target
+row_of : (mode : Mode) (lines : List TaskLine) (target : ℕ) → EndsInRowOf lines target → (mode_after_lines mode lines).row ≡ Some target
 row_of mode lines target (before, command, now, between, at, keeps, same) =
-    ap (λ xs. (behind_all mode xs).row) at ∙ ap (λ (m : Mode). m.row) (behind_both mode before (says.Command command now ∷ between))
-    ∙ row_stays (behind (behind_all mode before) (says.Command command now)) between keeps ∙ ap Some same
+    ap (λ xs. (mode_after_lines mode xs).row) at ∙ ap (λ (m : Mode). m.row) (mode_after_both mode before (says.Command command now ∷ between))
+    ∙ row_stays (mode_after (mode_after_lines mode before) (says.Command command now)) between keeps ∙ ap Some same
 
 -- whether commands are chained is the same before and after lines of which none is `chained` or `unchained`
-mode_stays : (mode : Mode) (lines : List TaskLine) → AllByRecursion SaysNoMode lines → (behind_all mode lines).chained ≡ mode.chained
+mode_stays : (mode : Mode) (lines : List TaskLine) → AllByRecursion SaysNoChaining lines → (mode_after_lines mode lines).chained ≡ mode.chained
 mode_stays mode [] none = refl
-mode_stays mode (says.Command c now ∷ later) none = mode_stays (behind mode (says.Command c now)) later none.1
-mode_stays mode (says.Deadline d ∷ later) none = mode_stays (behind mode (says.Deadline d)) later none.1
+mode_stays mode (says.Command c now ∷ later) none = mode_stays (mode_after mode (says.Command c now)) later none.1
+mode_stays mode (says.Deadline d ∷ later) none = mode_stays (mode_after mode (says.Deadline d)) later none.1
 mode_stays mode (says.Chained ∷ later) none = absurd none.0
 mode_stays mode (says.Unchained ∷ later) none = absurd none.0
 mode_stays mode (says.Naming n ∷ later) none = mode_stays mode later none.1
 mode_stays mode (says.Standing n ∷ later) none = mode_stays mode later none.1
-mode_stays mode (says.Accepting cs ∷ later) none = mode_stays (behind mode (says.Accepting cs)) later none.1
-mode_stays mode (says.Retrying r ∷ later) none = mode_stays (behind mode (says.Retrying r)) later none.1
-mode_stays mode (says.AtStart ∷ later) none = mode_stays (behind mode says.AtStart) later none.1
-mode_stays mode (says.EachCycle ∷ later) none = mode_stays (behind mode says.EachCycle) later none.1
+mode_stays mode (says.Accepting cs ∷ later) none = mode_stays (mode_after mode (says.Accepting cs)) later none.1
+mode_stays mode (says.Retrying r ∷ later) none = mode_stays (mode_after mode (says.Retrying r)) later none.1
+mode_stays mode (says.AtStart ∷ later) none = mode_stays (mode_after mode says.AtStart) later none.1
+mode_stays mode (says.EachCycle ∷ later) none = mode_stays (mode_after mode says.EachCycle) later none.1
 
 -- after `chained` commands are chained, and after `unchained` they aren't
-mode_said : (mode : Mode) (b : Bool) → (behind mode (mode_line b)).chained ≡ b
+mode_said : (mode : Mode) (b : Bool) → (mode_after mode (chaining_line b)).chained ≡ b
 mode_said mode true = refl
 mode_said mode false = refl
 
 -- whether commands are chained after some lines is as the last line `chained` or `unchained` among them says, or as it was
 -- before them
-mode_of : (mode : Mode) (lines : List TaskLine) (b : Bool) → IsModeBehind mode.chained lines b → (behind_all mode lines).chained ≡ b
+mode_of : (mode : Mode) (lines : List TaskLine) (b : Bool) → IsChainingAfter mode.chained lines b → (mode_after_lines mode lines).chained ≡ b
 mode_of mode lines b (inl given) = mode_stays mode lines given.0 ∙ sym given.1
 mode_of mode lines b (inr (before, between, at, none)) =
-    ap (λ xs. (behind_all mode xs).chained) at ∙ ap (λ (m : Mode). m.chained) (behind_both mode before (mode_line b ∷ between))
-    ∙ mode_stays (behind (behind_all mode before) (mode_line b)) between none ∙ mode_said (behind_all mode before) b
-
--- where `a && b` is true, both are
-both_true : (a b : Bool) → (a && b) ≡ true → (a ≡ true) × (b ≡ true)
-both_true true b e = (refl, e)
-both_true false b e = cc
-
--- where both are true, `a && b` is
-true_both : (a b : Bool) → a ≡ true → b ≡ true → (a && b) ≡ true
-true_both true b e f = f
-true_both false b e f = e
-
--- a row that a command for a target continues is the row of that target
-goes_row : (row : Option ℕ) (target : ℕ) → goes_on row target ≡ true → row ≡ Some target
-goes_row None target e = cc
-goes_row (Some before) target e = ap Some (eqb-true before target e)
+    ap (λ xs. (mode_after_lines mode xs).chained) at ∙ ap (λ (m : Mode). m.chained) (mode_after_both mode before (chaining_line b ∷ between))
+    ∙ mode_stays (mode_after (mode_after_lines mode before) (chaining_line b)) between none ∙ mode_said (mode_after_lines mode before) b
 
 -- a command for a target continues the row of that target
-row_goes : (row : Option ℕ) (target : ℕ) → row ≡ Some target → goes_on row target ≡ true
-row_goes row target e = ap (λ r. goes_on r target) e ∙ eq-eqb target target refl
-
--- among these tasks is the first attempt of a command of the cycle
-record Among (p : Planned) (tasks : List Task) : Type 0 where
-  earlier : List Task
-  again : Again
-  commands : ℕ
-  others : List Task
-  are : tasks ≡ earlier ++ in_attempt 1 again commands p ∷ others
-
--- it is so with tasks in front, too
-among_behind : (p : Planned) (front tasks : List Task) → Among p tasks → Among p (front ++ tasks)
-among_behind p front tasks h =
-    record { earlier = front ++ h.earlier; again = h.again; commands = h.commands; others = h.others; are = ap (λ ts. front ++ ts) h.are ∙ sym (append_assoc front h.earlier (in_attempt 1 h.again h.commands p ∷ h.others)) }
-
--- it is so with tasks after, too
-among_before : (p : Planned) (tasks later : List Task) → Among p tasks → Among p (tasks ++ later)
-among_before p tasks later h =
-    record { earlier = h.earlier; again = h.again; commands = h.commands; others = h.others ++ later; are = ap (λ ts. ts ++ later) h.are ∙ append_assoc h.earlier (in_attempt 1 h.again h.commands p ∷ h.others) later }
-
--- the first attempt of a chain has each of its commands
-among_first : (again : Again) (commands : ℕ) (c d : List Planned) (p : Planned) → Among p (map (in_attempt 1 again commands) (c ++ p ∷ d))
-among_first again commands c d p =
-    record { earlier = map (in_attempt 1 again commands) c; again = again; commands = commands; others = map (in_attempt 1 again commands) d; are = map-append (in_attempt 1 again commands) c (p ∷ d) }
-
--- the attempts of a chain have the first of each of its commands
-among_attempts : (times : ℕ) (again : Again) (c d : List Planned) (p : Planned) → Among p (attempts_from 1 times again (c ++ p ∷ d))
-among_attempts zero again c d p = among_first no_again (length (c ++ p ∷ d)) c d p
-among_attempts (suc n) again c d p =
-    among_before p (map (in_attempt 1 again (length (c ++ p ∷ d) * suc (suc n))) (c ++ p ∷ d)) (attempts_from 2 n again (c ++ p ∷ d)) (among_first again (length (c ++ p ∷ d) * suc (suc n)) c d p)
-
--- the chains have the first attempt of each command of the chain that was begun
-among_chain : (retry : Retry) (c d later : List Planned) (p : Planned) → Among p (laid_behind retry (c ++ p ∷ d) later)
-among_chain retry c d [] p = among_attempts retry.times retry.again c d p
-among_chain retry c d (q ∷ later) p = by_chained (among_chain retry c (d ++ q ∷ []) later p) q.task.chained where
-  -- by whether the next goes on with the chain
-  by_chained : Among p (laid_behind retry (c ++ p ∷ (d ++ q ∷ [])) later) → (b : Bool)
-      → Among p (if b then laid_behind retry ((c ++ p ∷ d) ++ q ∷ []) later else attempts retry (c ++ p ∷ d) ++ laid_behind q.retry (q ∷ []) later)
-  by_chained on true = subst (λ l. Among p (laid_behind retry l later)) (sym (append_assoc c (p ∷ d) (q ∷ []))) on
-  by_chained on false = among_before p (attempts retry (c ++ p ∷ d)) (laid_behind q.retry (q ∷ []) later) (among_attempts retry.times retry.again c d p)
-
--- the chains have the first attempt of each command
-among_all : (retry : Retry) (chain front later : List Planned) (p : Planned) → Among p (laid_behind retry chain (front ++ p ∷ later))
-among_all retry chain [] later p = by_chained p.task.chained where
-  -- by whether it goes on with the chain
-  by_chained : (b : Bool) → Among p (if b then laid_behind retry (chain ++ p ∷ []) later else attempts retry chain ++ laid_behind p.retry (p ∷ []) later)
-  by_chained true = among_chain retry chain [] later p
-  by_chained false = among_behind p (attempts retry chain) (laid_behind p.retry (p ∷ []) later) (among_chain p.retry [] [] later p)
-among_all retry chain (q ∷ front) later p = by_chained (among_all retry (chain ++ q ∷ []) front later p) (among_all q.retry (q ∷ []) front later p) q.task.chained where
-  -- by whether the next goes on with the chain
-  by_chained : Among p (laid_behind retry (chain ++ q ∷ []) (front ++ p ∷ later)) → Among p (laid_behind q.retry (q ∷ []) (front ++ p ∷ later)) → (b : Bool)
-      → Among p (if b then laid_behind retry (chain ++ q ∷ []) (front ++ p ∷ later) else attempts retry chain ++ laid_behind q.retry (q ∷ []) (front ++ p ∷ later))
-  by_chained on anew true = on
-  by_chained on anew false = among_behind p (attempts retry chain) (laid_behind q.retry (q ∷ []) (front ++ p ∷ later)) anew
+row_continued : (row : Option ℕ) (target : ℕ) → row ≡ Some target → continues_row row target ≡ true
+row_continued row target e = ap (λ r. continues_row r target) e ∙ eq-eqb target target refl
 
 -- what a command of the cycle is chained by
-cycle_joined : (mode : Mode) (target : ℕ) → mode.setup ≡ false → joined mode target ≡ (mode.chained && goes_on mode.row target)
-cycle_joined mode target e = ap (λ b. if b then nat_lt 0 mode.begun else mode.chained && goes_on mode.row target) e
+cycle_joined : (mode : Mode) (target : ℕ) → mode.setup ≡ false → is_chained mode target ≡ (mode.chained && continues_row mode.row target)
+cycle_joined mode target e = ap (λ b. if b then nat_lt 0 mode.begun else mode.chained && continues_row mode.row target) e
 
 -- a task of a command is sent as the lines before it say, whatever its rule, its place and its count of others
 module _ (deadline : ℕ) (chained : Bool) (front : List TaskLine) (command : Wish) (now : Bool) (near : Option Near) (again : Again) (others : ℕ) where
   -- the mode before the command
   abbrev mode : Mode
-  mode = behind_all (opening deadline chained) front
+  mode = mode_after_lines (opening deadline chained) front
 
   -- its task
   abbrev its_task : Task
@@ -393,11 +334,11 @@ module _ (deadline : ℕ) (chained : Bool) (front : List TaskLine) (command : Wi
       record {
         command = command;
         deadline = mode.deadline;
-        chained = joined mode command.target;
+        chained = is_chained mode command.target;
         near = near;
         accepted = mode.accepted;
         again = again;
-        turn = turn_at mode (joined mode command.target);
+        turn = turn_at mode (is_chained mode command.target);
         others = others;
         now = now;
       }
@@ -406,7 +347,7 @@ module _ (deadline : ℕ) (chained : Bool) (front : List TaskLine) (command : Wi
   said_so : Says deadline chained front mode
   said_so = says_all deadline chained [] (opening deadline chained) front (says_opening deadline chained)
 
-  goes_out : GoesOut deadline chained front command now its_task
+  goes_out : IsTaskOf deadline chained front command now its_task
   goes_out =
       record {
         asks = refl;
@@ -419,7 +360,7 @@ module _ (deadline : ℕ) (chained : Bool) (front : List TaskLine) (command : Wi
             let begun : mode.begun ≡ setup_commands false front = let counted = begun_is (opening deadline chained) front in omega (arith, counted) in
             record {
               place = ap (λ b. if b then mode.begun else mode.place) setup ∙ begun;
-              chained = ap (λ b. if b then nat_lt 0 mode.begun else mode.chained && goes_on mode.row command.target) setup ∙ ap (nat_lt 0) begun;
+              chained = ap (λ b. if b then nat_lt 0 mode.begun else mode.chained && continues_row mode.row command.target) setup ∙ ap (nat_lt 0) begun;
             };
         in_cycle = λ e.
             let cycle : mode.setup ≡ false = section_is (opening deadline chained) front ∙ e in
@@ -428,9 +369,10 @@ module _ (deadline : ℕ) (chained : Bool) (front : List TaskLine) (command : Wi
             record {
               place = ap (λ b. if b then mode.begun else mode.place) cycle ∙ place;
               only = λ is.
-                  let both = both_true mode.chained (goes_on mode.row command.target) (sym so ∙ is) in
-                  (subst (λ b. IsModeBehind chained front b) both.0 said_so.mode_is, said_so.row command.target (goes_row mode.row command.target both.1));
-              found = λ a b. so ∙ true_both mode.chained (goes_on mode.row command.target) (mode_of (opening deadline chained) front true a) (row_goes mode.row command.target (row_of (opening deadline chained) front command.target b));
+                  let both = and_parts mode.chained (continues_row mode.row command.target) (sym so ∙ is) in
+                  (subst (λ b. IsChainingAfter chained front b) both.0 said_so.mode_is, said_so.row command.target (continued_row mode.row command.target both.1));
+              found = λ a b. so ∙ and_from mode.chained (continues_row mode.row command.target) (mode_of (opening deadline chained) front true a)
+                  (row_continued mode.row command.target (row_of (opening deadline chained) front command.target b));
             };
       }
 
@@ -440,7 +382,7 @@ module _
     (front later : List TaskLine) (command : Wish) (now : Bool) (at : is.said ≡ front ++ says.Command command now ∷ later) where
   -- the mode before the command
   abbrev here : Mode
-  here = behind_all (opening deadline chained) front
+  here = mode_after_lines (opening deadline chained) front
 
   -- the task of the command, before it has its place
   abbrev own : Task
@@ -454,7 +396,7 @@ module _
   planned = planned_of (opening deadline chained) front
 
   abbrev next : Mode
-  next = behind here (says.Command command now)
+  next = mode_after here (says.Command command now)
 
   -- all tasks
   abbrev all : Bool → List Task
@@ -466,15 +408,16 @@ module _
   all_are : (b : Bool) → here.setup ≡ b → tasks ≡ map (placed nears) (all b)
   all_are b e =
       is.tasks_are ∙ ap (λ said. map (placed nears) (tasks_of (opening deadline chained) said)) at
-      ∙ ap (λ ts. map (placed nears) (ts ++ laid_out (planned_of (opening deadline chained) (front ++ says.Command command now ∷ later)))) (setup_both (opening deadline chained) front (says.Command command now ∷ later))
+      ∙ ap (λ ts. map (placed nears) (ts ++ laid_out (planned_of (opening deadline chained) (front
+      ++ says.Command command now ∷ later)))) (setup_both (opening deadline chained) front (says.Command command now ∷ later))
       ∙ ap (λ ps. map (placed nears) ((setups ++ setup_of here (says.Command command now ∷ later)) ++ laid_out ps)) (planned_both (opening deadline chained) front (says.Command command now ∷ later))
       ∙ ap (λ t. map (placed nears) (all t)) e
 
   -- by the section
   by_section : (b : Bool) → here.setup ≡ b
       → (earlier : List Task) × (task : Task) × (others : List Task) × (tasks ≡ earlier ++ task ∷ others)
-      × (section_behind false front ≡ true → length earlier ≡ setup_commands false front) × (section_behind false front ≡ false → setup ≤ length earlier)
-      × GoesOut deadline chained front command now task × (task.near ≡ near_of command.target nears)
+      × (section_after false front ≡ true → length earlier ≡ setup_commands false front) × (section_after false front ≡ false → setup ≤ length earlier)
+      × IsTaskOf deadline chained front command now task × (task.near ≡ near_of command.target nears)
   by_section true e =
       let rest = setup_of next later ++ laid_out (planned ++ planned_of next later) in (
         map (placed nears) setups,
@@ -488,16 +431,18 @@ module _
       )
   by_section false e =
       let p : Planned = record { task = own; retry = here.retry } in
-      let among = among_all no_retry [] planned (planned_of next later) p in
+      let among = chains_have_first no_retry [] planned (planned_of next later) p in
       let in_front = setups ++ setup_of next later in
       let many : setup ≡ length in_front =
       is.setup_is ∙ ap (λ said. length (setup_of (opening deadline chained) said)) at ∙ ap length (setup_both (opening deadline chained) front (says.Command command now ∷ later))
       ∙ ap (λ b. length (setups ++ ((if b then own ∷ [] else []) ++ setup_of next later))) e in
-      let long : length (map (placed nears) (in_front ++ among.earlier)) ≡ length in_front + length among.earlier = length-map (in_front ++ among.earlier) (placed nears) ∙ length-append in_front among.earlier in (
+      let long : length (map (placed nears) (in_front ++ among.earlier)) ≡ length in_front + length among.earlier = length-map (in_front ++ among.earlier) (placed nears)
+      ∙ length-append in_front among.earlier in (
         map (placed nears) (in_front ++ among.earlier),
         placed nears (in_attempt 1 among.again among.commands p),
         map (placed nears) among.others,
-        all_are false e ∙ ap (λ ts. map (placed nears) (in_front ++ ts)) among.are ∙ ap (map (placed nears)) (sym (append_assoc in_front among.earlier (in_attempt 1 among.again among.commands p ∷ among.others)))
+        all_are false e ∙ ap (λ ts. map (placed nears) (in_front ++ ts)) among.are
+            ∙ ap (map (placed nears)) (sym (append_assoc in_front among.earlier (in_attempt 1 among.again among.commands p ∷ among.others)))
             ∙ map-append (placed nears) (in_front ++ among.earlier) (in_attempt 1 among.again among.commands p ∷ among.others),
         (λ s. let bad : false ≡ true = sym e ∙ section_is (opening deadline chained) front ∙ s in cc),
         (λ s. omega (arith, many, long)),
@@ -506,21 +451,21 @@ module _
       )
 
 -- the law: each command is sent as the lines before it say
-pub go_out_so : CommandsGoOutSo
+pub go_out_so : TasksFollowTheirLines
 go_out_so text deadline chained setup tasks names nears is front later command now at =
-    by_section text deadline chained setup tasks names nears is front later command now at (behind_all (opening deadline chained) front).setup refl
+    by_section text deadline chained setup tasks names nears is front later command now at (mode_after_lines (opening deadline chained) front).setup refl
 
 -- the law: a command of the cycle has the retry that the last line `retry` before it says
 pub retries_hold : RetriesHold
 retries_hold deadline chained front later command now cycle =
     let first = opening deadline chained in
-    let mode = behind_all first front in
+    let mode = mode_after_lines first front in
     let said : Says deadline chained front mode = says_all deadline chained [] first front (says_opening deadline chained) in
     let p : Planned = record { task = task_at mode command now; retry = mode.retry } in (
       p,
-      planned_of (behind mode (says.Command command now)) later,
+      planned_of (mode_after mode (says.Command command now)) later,
       planned_both first front (says.Command command now ∷ later)
-          ∙ ap (λ b. planned_of first front ++ ((if b then [] else p ∷ []) ++ planned_of (behind mode (says.Command command now)) later)) (section_is first front ∙ cycle),
+          ∙ ap (λ b. planned_of first front ++ ((if b then [] else p ∷ []) ++ planned_of (mode_after mode (says.Command command now)) later)) (section_is first front ∙ cycle),
       refl,
       said.retry_is,
     )

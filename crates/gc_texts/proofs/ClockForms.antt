@@ -13,7 +13,7 @@ use Rattle.gc_values.proofs.ParamLists.{one_list, joined_params}
 use Rattle.gc_texts.specs.Commands.{IsCommand}
 use Rattle.gc_texts.specs.Cuts.{Lacks, before, behind}
 use Rattle.gc_texts.specs.TaskLines.{SetsClock}
-use Rattle.gc_texts.specs.Troubles.{wanted}
+use Rattle.gc_texts.specs.Troubles.{parameter_count}
 use Rattle.gc_texts.specs.Wishes.{AsksFor, IsWish}
 use Rattle.gc_texts.specs.declared.commands.Command.{Command}
 use Rattle.gc_texts.specs.declared.wish.Wish.{Wish}
@@ -61,14 +61,15 @@ pub no_now : (call : Call) → IsCall 5007 (codes "now") call → ⊥
 no_now call is =
     let one : is.values.items ≡ codes "now" ∷ [] = one_list (codes "now") is.values.items (codes "now" ∷ []) is.values.split (joined_params (codes "now" ∷ []) (now_is, tt) (omega arith, tt)) in
     let many : length is.values.items ≡ length (call_fields call).values = as_many is.values.items (call_fields call).values is.values.read in
-    let six : 6 ≡ length (call_fields call).values = ap wanted (sym is.number) ∙ wanted_is call in
+    let six : 6 ≡ length (call_fields call).values = ap parameter_count (sym is.number) ∙ wanted_is call in
     let single : length is.values.items ≡ 1 = ap length one in
     omega (arith, many, six, single)
 
 -- a command's line doesn't end in `5007 now`
 pub command_is_no_clock : (line : List ℕ) (command : Command) → IsCommand line command → behind 32 line ≡ codes "5007 now" → ⊥
 command_is_no_clock line command is e =
-    let procedure : is.procedure ≡ codes "5007 now" = sym (behind_mark 32 is.target_text is.procedure (digits_lack_spaces is.target_text is.target_is.names.digits)) ∙ ap (behind 32) (sym is.line_is) ∙ e in
+    let procedure : is.procedure ≡ codes "5007 now" = sym (behind_mark 32 is.target_text is.procedure (digits_lack_spaces is.target_text is.target_is.names.digits))
+    ∙ ap (behind 32) (sym is.line_is) ∙ e in
     let p = is.procedure_is in
     let parts = procedure_parts is.procedure (codes "5007") (Some (codes "now")) command.call (procedure, spaceless) p in
     let rpc : p.rpc ≡ 5007 = p.number.names.value ∙ ap number (sym parts.0) in

@@ -12,8 +12,8 @@ use Rattle.gc_texts.proofs.OneReading.{one_procedure, one_list}
 use Rattle.gc_texts.proofs.Procedures.{one_number}
 
 -- equal texts within `Some` are equal
-some_is : (a b : List ℕ) → Some a ≡ Some b → a ≡ b
-some_is a b e = cc
+some_injective : (a b : List ℕ) → Some a ≡ Some b → a ≡ b
+some_injective a b e = cc
 
 -- the parts of a line that has the form of a command
 module _ (line : List ℕ) (command : Command) (is : IsCommand line command) where
@@ -32,7 +32,7 @@ module _ (line : List ℕ) (command : Command) (is : IsCommand line command) whe
   -- what follows the first space of a command's line is a call
   pub has_call : (target procedure : List ℕ) → Cuts 32 line target (Some procedure) → ((c : Call) → IsProcedure procedure c → ⊥) → ⊥
   has_call target procedure cut none = none command.call (subst (λ (p : List ℕ). IsProcedure p command.call)
-      (sym (some_is procedure is.procedure (the_cut target (Some procedure) cut).1)) is.procedure_is)
+      (sym (some_injective procedure is.procedure (the_cut target (Some procedure) cut).1)) is.procedure_is)
 
 -- two commands with equal targets and equal calls are equal
 same_command : (c d : Command) → c.target ≡ d.target → c.call ≡ d.call → c ≡ d

@@ -20,20 +20,20 @@ has_direction shape.MeasuredMode = true
 has_direction _ = false
 
 -- an answer has a direction exactly where its shape has one
-by_answer : (answer : Answer) → is_some (direction_of answer) ≡ has_direction (answer_fields answer).shape
-by_answer Nothing = refl
-by_answer answer = refl
+answer_has_direction : (answer : Answer) → is_some (direction_of answer) ≡ has_direction (answer_fields answer).shape
+answer_has_direction Nothing = refl
+answer_has_direction answer = refl
 
 -- a call asks for a direction exactly where the shape of its answer has one
-by_call : (call : Call) → asks_direction call ≡ has_direction (call_fields call).answer
-by_call NullProc = refl
-by_call call = refl
+call_asks_direction : (call : Call) → asks_direction call ≡ has_direction (call_fields call).answer
+call_asks_direction NullProc = refl
+call_asks_direction call = refl
 
 -- the calls that ask for a direction are those of these procedures
-numbered : (call : Call) → asks_direction call ≡ list_any (λ n. n == (call_fields call).number) (2107 ∷ 2108 ∷ 2117 ∷ 17017 ∷ [])
-numbered NullProc = refl
-numbered call = refl
+direction_procedures : (call : Call) → asks_direction call ≡ list_any (λ n. n == (call_fields call).number) (2107 ∷ 2108 ∷ 2117 ∷ 17017 ∷ [])
+direction_procedures NullProc = refl
+direction_procedures call = refl
 
 -- the law: the answers that have a direction are those of the four procedures
 pub directed : DirectionsAreAskedFor
-directed = record { answers = λ call answer of. by_answer answer ∙ ap has_direction of ∙ sym (by_call call); procedures = numbered }
+directed = record { answers = λ call answer of. answer_has_direction answer ∙ ap has_direction of ∙ sym (call_asks_direction call); procedures = direction_procedures }

@@ -4,7 +4,7 @@ use Rattle.gc_values.specs.Directions.{is_place, is_tolerance}
 use Rattle.gc_values.specs.declared.decimal.Decimal.{Decimal}
 use Rattle.gc_values.specs.declared.fault.ValueFault.{ValueFault}
 use Rattle.gc_values.proofs.DecimalLaws.{spells_unique}
-use Rattle.gc_texts.specs.Nears.{IsDouble, AreWords}
+use Rattle.gc_texts.specs.Nears.{IsDouble, AreNearWords}
 use Rattle.gc_texts.specs.declared.near.Near.{Near}
 
 -- the reading of a text doesn't both fail and give a number
@@ -12,19 +12,19 @@ pub no_double : (r : Result Decimal ValueFault) (e : ValueFault) (d : Decimal) �
 no_double r e d failed read = let bad : ◌≡◌ {A = Result Decimal ValueFault} (Err e) (Ok d) = sym failed ∙ read in cc
 
 -- no test is both true and false
-never : (b : Bool) → b ≡ true → b ≡ false → ⊥
-never b e f = let bad : true ≡ false = sym e ∙ f in cc
+not_both_values : (b : Bool) → b ≡ true → b ≡ false → ⊥
+not_both_values b e f = let bad : true ≡ false = sym e ∙ f in cc
 
 -- what can't be of four words that say where a target is
-module _ (target hz v tolerance : List ℕ) (near : Near) (are : AreWords target hz v tolerance near) where
+module _ (target hz v tolerance : List ℕ) (near : Near) (are : AreNearWords target hz v tolerance near) where
   -- where the numbers that two words write are no direction of a place, the four words say no place
   pub no_place : (h w : Decimal) → IsDouble hz h → IsDouble v w → is_place (record { hz = h; v = w }) ≡ false → ⊥
   no_place h w is_h is_w isnt =
       let one = spells_unique hz near.place.hz h are.hz_is is_h in
       let other = spells_unique v near.place.v w are.v_is is_w in
-      never (is_place near.place) are.place_is
+      not_both_values (is_place near.place) are.place_is
       (ap (λ x. is_place (record { hz = x; v = near.place.v })) one ∙ ap (λ x. is_place (record { hz = h; v = x })) other ∙ isnt)
 
   -- where the number that the last word writes is no tolerance, the four words say no place
   pub no_tolerance : (t : Decimal) → IsDouble tolerance t → is_tolerance t ≡ false → ⊥
-  no_tolerance t is isnt = never (is_tolerance near.tolerance) are.tolerance_in (ap is_tolerance (spells_unique tolerance near.tolerance t are.tolerance_is is) ∙ isnt)
+  no_tolerance t is isnt = not_both_values (is_tolerance near.tolerance) are.tolerance_in (ap is_tolerance (spells_unique tolerance near.tolerance t are.tolerance_is is) ∙ isnt)

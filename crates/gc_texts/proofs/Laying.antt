@@ -1,10 +1,10 @@
 -- How far the chains of a text are laid out: which attempts were appended to the tasks before (`old`).
 use Rattle.std.proofs.Common.{◌≡◌, ◌<◌, ◌≤◌, ◌+◌, ◌-◌, ◌*◌, ℕ, zero, suc, Bool, true, false, get_or, take, drop, List, [], ◌∷◌, ◌++◌, length, map, arith, refl, ap, subst, sym, ◌∙◌, append_assoc, if◌then◌else◌}
 use Rattle.gc_texts.specs.Again.{no_again}
-use Rattle.gc_texts.specs.Attempts.{in_attempt, attempts_from, attempts, laid_behind, laid_out}
+use Rattle.gc_texts.specs.Attempts.{in_attempt, attempts_from, attempts, laid_from, laid_out}
 use Rattle.gc_texts.specs.Retries.{no_retry}
 use Rattle.gc_texts.specs.declared.retry.Retry.{Retry}
-use Rattle.gc_texts.specs.declared.tasks.Planned.{Planned}
+use Rattle.gc_texts.specs.declared.attempts.Planned.{Planned}
 use Rattle.gc_texts.specs.declared.tasks.Task.{Task}
 
 -- the attempts before this one were appended; with this one and those after it, all are
@@ -43,7 +43,7 @@ part_of cycle from to = take (to - from) (drop from cycle)
 -- the chains before the one that begins at `from` were appended; with it and those after it, all are. It has the commands up
 -- to `place`
 pub record Lays (old now : List Task) (cycle : List Planned) (retry : Retry) (from place : ℕ) : Type 0 where
-  pub same : old ++ laid_out cycle ≡ now ++ laid_behind retry (part_of cycle from place) (drop place cycle)
+  pub same : old ++ laid_out cycle ≡ now ++ laid_from retry (part_of cycle from place) (drop place cycle)
   pub order : from ≤ place
   pub within : place ≤ length cycle
 
@@ -52,20 +52,20 @@ pub lays_none : (tasks : List Task) (cycle : List Planned) → Lays tasks tasks 
 lays_none tasks cycle = record { same = refl; order = omega arith; within = omega arith }
 
 -- a place of a list has its element there, and the others after it
-here : (xs : List Planned) (i : ℕ) (x : Planned) → i < length xs → x ≡ get_or xs i x → drop i xs ≡ x ∷ drop (i + 1) xs
-here [] i x below is = absurd (omega (arith, below))
-here (y ∷ xs) zero x below is = ap (λ z. z ∷ xs) (sym is)
-here (y ∷ xs) (suc i) x below is = here xs i x (omega (arith, below)) is ∙ ap (λ n. x ∷ drop n (y ∷ xs)) (next i) where
+drop_at : (xs : List Planned) (i : ℕ) (x : Planned) → i < length xs → x ≡ get_or xs i x → drop i xs ≡ x ∷ drop (i + 1) xs
+drop_at [] i x below is = absurd (omega (arith, below))
+drop_at (y ∷ xs) zero x below is = ap (λ z. z ∷ xs) (sym is)
+drop_at (y ∷ xs) (suc i) x below is = drop_at xs i x (omega (arith, below)) is ∙ ap (λ n. x ∷ drop n (y ∷ xs)) (next i) where
   -- the place after the next
   next : (i : ℕ) → suc (i + 1) ≡ suc i + 1
   next i = omega arith
 
 -- the first n + 1 elements are the first n, and the next
-one_more : (xs : List Planned) (n : ℕ) (x : Planned) (rest : List Planned) → drop n xs ≡ x ∷ rest → take (suc n) xs ≡ take n xs ++ x ∷ []
-one_more [] zero x rest is = cc
-one_more [] (suc n) x rest is = cc
-one_more (y ∷ xs) zero x rest is = let same : y ≡ x = cc in ap (λ z. z ∷ []) same
-one_more (y ∷ xs) (suc n) x rest is = ap (λ zs. y ∷ zs) (one_more xs n x rest is)
+take_next : (xs : List Planned) (n : ℕ) (x : Planned) (rest : List Planned) → drop n xs ≡ x ∷ rest → take (suc n) xs ≡ take n xs ++ x ∷ []
+take_next [] zero x rest is = cc
+take_next [] (suc n) x rest is = cc
+take_next (y ∷ xs) zero x rest is = let same : y ≡ x = cc in ap (λ z. z ∷ []) same
+take_next (y ∷ xs) (suc n) x rest is = ap (λ zs. y ∷ zs) (take_next xs n x rest is)
 
 -- an empty list is empty without elements, too
 drop_empty : (n : ℕ) → drop {A = Planned} n [] ≡ []
@@ -81,18 +81,21 @@ drop_both (x ∷ xs) (suc m) n = drop_both xs m n ∙ ap (λ k. drop k (x ∷ xs
   sum : (m n : ℕ) → suc (m + n) ≡ suc m + n
   sum m n = omega arith
 
-module _ (old now : List Task) (cycle : List Planned) (retry : Retry) (from place : ℕ) (planned : Planned) (h : Lays old now cycle retry from place) (below : place < length cycle) (is : planned ≡ get_or cycle place planned) where
+module _ (old now : List Task) (cycle : List Planned) (retry : Retry) (from place : ℕ) (planned : Planned) (h : Lays old now cycle retry from place) (below : place < length cycle)
+    (is : planned ≡ get_or cycle place planned) where
   -- what is left begins with the command
   left_is : drop place cycle ≡ planned ∷ drop (place + 1) cycle
-  left_is = here cycle place planned below is
+  left_is = drop_at cycle place planned below is
 
   -- with it, what was begun and what is left
   same_with : (b : Bool) → planned.task.chained ≡ b
       → old ++ laid_out cycle
-      ≡ now ++ (if b then laid_behind retry (part_of cycle from place ++ planned ∷ []) (drop (place + 1) cycle) else attempts retry (part_of cycle from place) ++ laid_behind planned.retry (planned ∷ []) (drop (place + 1) cycle))
+      ≡ now ++ (if b then laid_from retry (part_of cycle from place ++ planned ∷ []) (drop (place + 1) cycle) else attempts retry (part_of cycle from place)
+      ++ laid_from planned.retry (planned ∷ []) (drop (place + 1) cycle))
   same_with b e =
-      h.same ∙ ap (λ l. now ++ laid_behind retry (part_of cycle from place) l) left_is
-      ∙ ap (λ t. now ++ (if t then laid_behind retry (part_of cycle from place ++ planned ∷ []) (drop (place + 1) cycle) else attempts retry (part_of cycle from place) ++ laid_behind planned.retry (planned ∷ []) (drop (place + 1) cycle))) e
+      h.same ∙ ap (λ l. now ++ laid_from retry (part_of cycle from place) l) left_is
+      ∙ ap (λ t. now ++ (if t then laid_from retry (part_of cycle from place ++ planned ∷ []) (drop (place + 1) cycle) else attempts retry (part_of cycle from place)
+      ++ laid_from planned.retry (planned ∷ []) (drop (place + 1) cycle))) e
 
   -- a chained command goes on with the chain
   pub lays_on : planned.task.chained ≡ true → Lays old now cycle retry from (place + 1)
@@ -102,9 +105,9 @@ module _ (old now : List Task) (cycle : List Planned) (retry : Retry) (from plac
       let next : place + 1 - from ≡ suc (place - from) = omega (arith, order) in
       let grown : part_of cycle from (place + 1) ≡ part_of cycle from place ++ planned ∷ [] =
       ap (λ n. take n (drop from cycle)) next
-      ∙ one_more (drop from cycle) (place - from) planned (drop (place + 1) cycle) (drop_both cycle from (place - from) ∙ ap (λ n. drop n cycle) gap ∙ left_is) in
+      ∙ take_next (drop from cycle) (place - from) planned (drop (place + 1) cycle) (drop_both cycle from (place - from) ∙ ap (λ n. drop n cycle) gap ∙ left_is) in
       record {
-        same = same_with true e ∙ ap (λ c. now ++ laid_behind retry c (drop (place + 1) cycle)) (sym grown);
+        same = same_with true e ∙ ap (λ c. now ++ laid_from retry c (drop (place + 1) cycle)) (sym grown);
         order = omega (arith, order);
         within = omega (arith, below);
       }
@@ -115,9 +118,9 @@ module _ (old now : List Task) (cycle : List Planned) (retry : Retry) (from plac
       let next : place + 1 - place ≡ 1 = omega arith in
       let alone : part_of cycle place (place + 1) ≡ planned ∷ [] = ap (λ n. take n (drop place cycle)) next ∙ ap (take 1) left_is in
       record {
-        same = same_with false e ∙ sym (append_assoc now (attempts retry (part_of cycle from place)) (laid_behind planned.retry (planned ∷ []) (drop (place + 1) cycle)))
-            ∙ ap (λ ts. ts ++ laid_behind planned.retry (planned ∷ []) (drop (place + 1) cycle)) (sym more)
-            ∙ ap (λ c. new ++ laid_behind planned.retry c (drop (place + 1) cycle)) (sym alone);
+        same = same_with false e ∙ sym (append_assoc now (attempts retry (part_of cycle from place)) (laid_from planned.retry (planned ∷ []) (drop (place + 1) cycle)))
+            ∙ ap (λ ts. ts ++ laid_from planned.retry (planned ∷ []) (drop (place + 1) cycle)) (sym more)
+            ∙ ap (λ c. new ++ laid_from planned.retry c (drop (place + 1) cycle)) (sym alone);
         order = omega arith;
         within = omega (arith, below);
       }
@@ -133,4 +136,4 @@ none_left (x ∷ xs) (suc i) few = none_left xs i (omega (arith, few))
 pub lays_last : (old now new : List Task) (cycle : List Planned) (retry : Retry) (from place : ℕ) → Lays old now cycle retry from place → length cycle ≤ place
     → new ≡ now ++ attempts retry (part_of cycle from place) → new ≡ old ++ laid_out cycle
 lays_last old now new cycle retry from place h done more =
-    more ∙ ap (λ l. now ++ laid_behind retry (part_of cycle from place) l) (sym (none_left cycle place done)) ∙ sym h.same
+    more ∙ ap (λ l. now ++ laid_from retry (part_of cycle from place) l) (sym (none_left cycle place done)) ∙ sym h.same

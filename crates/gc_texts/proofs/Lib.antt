@@ -23,6 +23,7 @@ mod FaultLines
 pub mod Logs
 pub mod LogStamps
 mod Moments
+mod FirstAttempts
 mod Chained
 pub mod Placing
 mod Directed

@@ -7,7 +7,7 @@ use Rattle.std.specs.Str.Parse.{AllDigits}
 use Rattle.std.proofs.Math.Nat.{div-add-mod}
 use Rattle.std.proofs.lemmas.Fmt.{decimal_is_IsNumeral}
 use Rattle.std.proofs.lemmas.Str.Parse.{digit_from_value}
-use Rattle.std.proofs.lemmas.Bool.{cond_both, ltb-true}
+use Rattle.std.proofs.lemmas.Bool.{cond_both, ltb-true, and_parts}
 use Rattle.std.proofs.lemmas.List.Elements.{recursion_from_All, All-from_recursion, All-append}
 use Rattle.gc_texts.specs.Cuts.{Lacks}
 use Rattle.gc_texts.specs.Laws.{LogLinesReadBack, LogLinesArePrintable}
@@ -29,13 +29,13 @@ abbrev pub IsShown : ℕ → Type 0
 IsShown b = (32 ≤ b) × (b ≤ 126)
 
 -- a byte from 33 to 126 is printable, and no space
-ink : (b : ℕ) → 32 < b → b ≤ 126 → IsInk b
-ink b above below = record { above = above; below = below }
+byte_is_ink : (b : ℕ) → 32 < b → b ≤ 126 → IsInk b
+byte_is_ink b above below = record { above = above; below = below }
 
 -- digits are printable, and none is a space
 digits_ink : (ds : List ℕ) → AllDigits 10 ds → AllByRecursion IsInk ds
 digits_ink [] digits = tt
-digits_ink (d ∷ ds) digits = let r = digit_from_value d digits.0 in (ink d (omega (arith, r.0)) (omega (arith, r.1)), digits_ink ds digits.1)
+digits_ink (d ∷ ds) digits = let r = digit_from_value d digits.0 in (byte_is_ink d (omega (arith, r.0)) (omega (arith, r.1)), digits_ink ds digits.1)
 
 -- a number in decimal is printable, without a space
 decimal_ink : (n : ℕ) → n < 2 ^ 64 → All IsInk (decimal n)
@@ -43,19 +43,19 @@ decimal_ink n h = All-from_recursion IsInk (decimal n) (digits_ink (decimal n) (
 
 -- a text of one byte from 33 to 126 is printable, without a space
 one_ink : (b : ℕ) → 32 < b → b ≤ 126 → All IsInk (b ∷ [])
-one_ink b above below = All-from_recursion IsInk (b ∷ []) (ink b above below, tt)
+one_ink b above below = All-from_recursion IsInk (b ∷ []) (byte_is_ink b above below, tt)
 
 -- two digits are printable, without a space
 two_ink : (n : ℕ) → n < 100 → All IsInk (two_digits n)
-two_ink n h = All-from_recursion IsInk (two_digits n) (ink (48 + n / 10) (omega arith) (omega (arith, h, div-add-mod n 10)), (ink (48 + n % 10) (omega arith) (omega arith), tt))
+two_ink n h = All-from_recursion IsInk (two_digits n) (byte_is_ink (48 + n / 10) (omega arith) (omega (arith, h, div-add-mod n 10)), (byte_is_ink (48 + n % 10) (omega arith) (omega arith), tt))
 
 -- three digits are printable, without a space
 three_ink : (n : ℕ) → n < 1000 → All IsInk (three_digits n)
 three_ink n h = All-append IsInk ((48 + n / 100) ∷ []) (two_digits (n % 100)) (one_ink (48 + n / 100) (omega arith) (omega (arith, h, div-add-mod n 100))) (two_ink (n % 100) (omega arith))
 
 -- two printable texts without a space, one after the other, are one printable text without a space
-both : (xs ys : List ℕ) → All IsInk xs → All IsInk ys → All IsInk (xs ++ ys)
-both xs ys = All-append IsInk xs ys
+ink_append : (xs ys : List ℕ) → All IsInk xs → All IsInk ys → All IsInk (xs ++ ys)
+ink_append xs ys = All-append IsInk xs ys
 
 -- the month of a date is at most 12, its day at most 31, and its year at most `year`
 record IsWithin (d : Date) (year : ℕ) : Type 0 where
@@ -87,10 +87,10 @@ date_within n = later_within n (record { year = 1970; month = 1; day = 1 }) 1970
 date_ink : (d : Date) → d.year < 2 ^ 64 → d.month < 100 → d.day < 100 → All IsInk (date_text d)
 date_ink d year month day =
     let dash = one_ink 45 (omega arith) (omega arith) in
-    let first = both (decimal d.year) (45 ∷ []) (decimal_ink d.year year) dash in
-    let second = both (decimal d.year ++ 45 ∷ []) (two_digits d.month) first (two_ink d.month month) in
-    let third = both (decimal d.year ++ 45 ∷ [] ++ two_digits d.month) (45 ∷ []) second dash in
-    both (decimal d.year ++ 45 ∷ [] ++ two_digits d.month ++ 45 ∷ []) (two_digits d.day) third (two_ink d.day day)
+    let first = ink_append (decimal d.year) (45 ∷ []) (decimal_ink d.year year) dash in
+    let second = ink_append (decimal d.year ++ 45 ∷ []) (two_digits d.month) first (two_ink d.month month) in
+    let third = ink_append (decimal d.year ++ 45 ∷ [] ++ two_digits d.month) (45 ∷ []) second dash in
+    ink_append (decimal d.year ++ 45 ∷ [] ++ two_digits d.month ++ 45 ∷ []) (two_digits d.day) third (two_ink d.day day)
 
 -- the text of a time is printable, without a space
 time_ink : (millis : ℕ) → millis < 86400000 → All IsInk (time_text millis)
@@ -101,13 +101,13 @@ time_ink millis h =
     let colon = one_ink 58 (omega arith) (omega arith) in
     let point = one_ink 46 (omega arith) (omega arith) in
     let rest = three_digits (millis % 1000) in
-    let least : All IsInk (46 ∷ rest) = both (46 ∷ []) rest point (three_ink (millis % 1000) (omega arith)) in
+    let least : All IsInk (46 ∷ rest) = ink_append (46 ∷ []) rest point (three_ink (millis % 1000) (omega arith)) in
     let third : All IsInk (58 ∷ (two_digits (millis / 1000 % 60) ++ 46 ∷ rest)) =
-    both (58 ∷ []) (two_digits (millis / 1000 % 60) ++ 46 ∷ rest) colon (both (two_digits (millis / 1000 % 60)) (46 ∷ rest) seconds least) in
+    ink_append (58 ∷ []) (two_digits (millis / 1000 % 60) ++ 46 ∷ rest) colon (ink_append (two_digits (millis / 1000 % 60)) (46 ∷ rest) seconds least) in
     let second : All IsInk (58 ∷ (two_digits (millis / 60000 % 60) ++ 58 ∷ (two_digits (millis / 1000 % 60) ++ 46 ∷ rest))) =
-    both (58 ∷ []) (two_digits (millis / 60000 % 60) ++ 58 ∷ (two_digits (millis / 1000 % 60) ++ 46 ∷ rest)) colon
-    (both (two_digits (millis / 60000 % 60)) (58 ∷ (two_digits (millis / 1000 % 60) ++ 46 ∷ rest)) minutes third) in
-    both (two_digits (millis / 3600000)) (58 ∷ (two_digits (millis / 60000 % 60) ++ 58 ∷ (two_digits (millis / 1000 % 60) ++ 46 ∷ rest))) hours second
+    ink_append (58 ∷ []) (two_digits (millis / 60000 % 60) ++ 58 ∷ (two_digits (millis / 1000 % 60) ++ 46 ∷ rest)) colon
+    (ink_append (two_digits (millis / 60000 % 60)) (58 ∷ (two_digits (millis / 1000 % 60) ++ 46 ∷ rest)) minutes third) in
+    ink_append (two_digits (millis / 3600000)) (58 ∷ (two_digits (millis / 60000 % 60) ++ 58 ∷ (two_digits (millis / 1000 % 60) ++ 46 ∷ rest))) hours second
 
 -- a stamp's bytes are printable, and none is a space
 stamp_ink : (utc : ℕ) → utc < 2 ^ 64 → All IsInk (stamp_text utc)
@@ -116,10 +116,10 @@ stamp_ink utc h =
     let d = date_within days in
     let few : days < 2 ^ 63 = omega (arith, h, div-add-mod utc 86400000) in
     let moment = time_text (utc % 86400000) in
-    let first = both (date_text (date_of days)) (84 ∷ []) (date_ink (date_of days) (omega (arith, few, d.years)) (omega (arith, d.month))
+    let first = ink_append (date_text (date_of days)) (84 ∷ []) (date_ink (date_of days) (omega (arith, few, d.years)) (omega (arith, d.month))
     (omega (arith, d.day))) (one_ink 84 (omega arith) (omega arith)) in
-    let second = both (date_text (date_of days) ++ 84 ∷ []) moment first (time_ink (utc % 86400000) (omega arith)) in
-    both (date_text (date_of days) ++ 84 ∷ [] ++ moment) (90 ∷ []) second (one_ink 90 (omega arith) (omega arith))
+    let second = ink_append (date_text (date_of days) ++ 84 ∷ []) moment first (time_ink (utc % 86400000) (omega arith)) in
+    ink_append (date_text (date_of days) ++ 84 ∷ [] ++ moment) (90 ∷ []) second (one_ink 90 (omega arith) (omega arith))
 
 -- a text whose bytes are printable, and none a space, lacks the space
 ink_lacks : (bs : List ℕ) → AllByRecursion IsInk bs → Lacks 32 bs
@@ -135,21 +135,11 @@ ink_prints (b ∷ bs) h = ((omega (arith, h.0.above), h.0.below), ink_prints bs 
 digit_ink : (n : ℕ) → n < 16 → IsShown (hex_digit n)
 digit_ink n h = cond_both (nat_lt n 10) (48 + n) (87 + n) IsShown (λ e. (omega (arith, h), omega (arith, h))) (λ e. (omega (arith, h), omega (arith, h)))
 
--- where `a && b` is true, a is
-and_left : (a b : Bool) → (a && b) ≡ true → a ≡ true
-and_left true b e = refl
-and_left false b e = e
-
--- where `a && b` is true, b is
-and_right : (a b : Bool) → (a && b) ≡ true → b ≡ true
-and_right true b e = e
-and_right false b e = let bad : false ≡ true = e in cc
-
 -- a byte that a log writes as it is, is printable
 as_it_is_prints : (b : ℕ) → is_as_it_is b ≡ true → IsShown b
 as_it_is_prints b e =
-    let bounds = and_left (nat_lt 31 b && nat_lt b 127) (not (b == 92)) e in
-    (omega (arith, ltb-true 31 b (and_left (nat_lt 31 b) (nat_lt b 127) bounds)), omega (arith, ltb-true b 127 (and_right (nat_lt 31 b) (nat_lt b 127) bounds)))
+    let bounds = and_parts (nat_lt 31 b) (nat_lt b 127) (and_parts (nat_lt 31 b && nat_lt b 127) (not (b == 92)) e).0 in
+    (omega (arith, ltb-true 31 b bounds.0), omega (arith, ltb-true b 127 bounds.1))
 
 -- the first of a byte's two digits of base 16 is below 16
 high_digit : (b : ℕ) → b < 256 → b / 16 < 16

@@ -78,21 +78,21 @@ one_byte b c s t xs ys small few (as_digits is so) (as_digits was to) e =
     (omega (arith, high, low, div-add-mod b 16, div-add-mod c 16), cc)
 
 -- the escaped form of a byte isn't empty
-some_text : (b : ℕ) (s xs : List ℕ) → IsEscape b s → s ++ xs ≡ [] → ⊥
-some_text b s xs (as_it_is is so) e = let bad : b ∷ xs ≡ [] = sym (ap (λ z. z ++ xs) so) ∙ e in cc
-some_text b s xs (as_digits is so) e = let bad : 92 ∷ 120 ∷ hex_digit (b / 16) ∷ hex_digit (b % 16) ∷ xs ≡ [] = sym (ap (λ z. z ++ xs) so) ∙ e in cc
+escape_not_empty : (b : ℕ) (s xs : List ℕ) → IsEscape b s → s ++ xs ≡ [] → ⊥
+escape_not_empty b s xs (as_it_is is so) e = let bad : b ∷ xs ≡ [] = sym (ap (λ z. z ++ xs) so) ∙ e in cc
+escape_not_empty b s xs (as_digits is so) e = let bad : 92 ∷ 120 ∷ hex_digit (b / 16) ∷ hex_digit (b % 16) ∷ xs ≡ [] = sym (ap (λ z. z ++ xs) so) ∙ e in cc
 
 -- `all` are the bytes `bytes`, which were read, and then `more`, whose escaped form is `left`
-record IsBehind (bytes left all : List ℕ) : Type 0 where
+record IsRestOf (bytes left all : List ℕ) : Type 0 where
   more : List ℕ
   joins : all ≡ bytes ++ more
   are : AllByRecursion IsByte more
   so : left ≡ escaped more
 
 -- where the first bytes of a text were read, what is left is the escaped form of the others
-behind_bytes : (bytes left all : List ℕ) → AllByRecursion IsByte bytes → AllByRecursion IsByte all → escaped bytes ++ left ≡ escaped all → IsBehind bytes left all
+behind_bytes : (bytes left all : List ℕ) → AllByRecursion IsByte bytes → AllByRecursion IsByte all → escaped bytes ++ left ≡ escaped all → IsRestOf bytes left all
 behind_bytes [] left all h k e = record { more = all; joins = refl; are = k; so = e }
-behind_bytes (b ∷ bs) left [] h k e = absurd (some_text b (escape b) (escaped bs ++ left) (escapes b) (sym (append_assoc (escape b) (escaped bs) left) ∙ e))
+behind_bytes (b ∷ bs) left [] h k e = absurd (escape_not_empty b (escape b) (escaped bs ++ left) (escapes b) (sym (append_assoc (escape b) (escaped bs) left) ∙ e))
 behind_bytes (b ∷ bs) left (c ∷ cs) h k e =
     let one = one_byte b c (escape b) (escape c) (escaped bs ++ left) (escaped cs) h.0 k.0 (escapes b) (escapes c) (sym (append_assoc (escape b) (escaped bs) left) ∙ e) in
     let next = behind_bytes bs left cs h.1 k.1 one.1 in
@@ -126,20 +126,20 @@ reads_no_more text bytes left h some none all are e =
     no_more left k.more some none k.are k.so
 
 -- where a text isn't empty, and is the escaped form of bytes, there is at least one byte
-too_many : (left more : List ℕ) → left ≢ [] → left ≡ escaped more → 0 < length more
-too_many left [] some e = absurd (some e)
-too_many left (b ∷ bs) some e = omega arith
+some_bytes_left : (left more : List ℕ) → left ≢ [] → left ≡ escaped more → 0 < length more
+some_bytes_left left [] some e = absurd (some e)
+some_bytes_left left (b ∷ bs) some e = omega arith
 
 -- where 514 bytes were read and something is left, the text isn't the escaped form of at most 514 bytes
 pub reads_too_many : (text bytes left : List ℕ) → ReadsBytes text bytes left → left ≢ [] → 514 ≤ length bytes → (all : List ℕ) → length all ≤ 514 → All IsByte all → text ≡ escaped all → ⊥
 reads_too_many text bytes left h some full all room are e =
     let k = behind_bytes bytes left all (recursion_from_All IsByte bytes h.are) (recursion_from_All IsByte all are) (sym h.so ∙ e) in
-    omega (arith, full, room, ap length k.joins, length-append bytes k.more, too_many left k.more some k.so)
+    omega (arith, full, room, ap length k.joins, length-append bytes k.more, some_bytes_left left k.more some k.so)
 
 -- `ys` are `xs` and then `more`: where the escaped form of `more` is empty, `ys` are `xs`
 none_left : (xs ys more : List ℕ) → ys ≡ xs ++ more → [] ≡ escaped more → xs ≡ ys
 none_left xs ys [] joins so = sym (joins ∙ append-nil xs)
-none_left xs ys (b ∷ bs) joins so = absurd (some_text b (escape b) (escaped bs) (escapes b) (sym so))
+none_left xs ys (b ∷ bs) joins so = absurd (escape_not_empty b (escape b) (escaped bs) (escapes b) (sym so))
 
 -- two lists of bytes with the same escaped form are the same
 pub one_text : (xs ys : List ℕ) → All IsByte xs → All IsByte ys → escaped xs ≡ escaped ys → xs ≡ ys
@@ -201,17 +201,17 @@ mark_from [] = Link
 mark_from (b ∷ bs) = cond (b == 62) (by_end bs Went WentPart) (cond (b == 60) (by_end bs Came CamePart) Link)
 
 -- the text of a mark is read as that mark
-marked : (m : LogMark) → mark_from (mark_text m) ≡ m
+mark_reads_back : (m : LogMark) → mark_from (mark_text m) ≡ m
 unfolding by_end mark_from
-marked Went = refl
-marked WentPart = refl
-marked Came = refl
-marked CamePart = refl
-marked Link = refl
+mark_reads_back Went = refl
+mark_reads_back WentPart = refl
+mark_reads_back Came = refl
+mark_reads_back CamePart = refl
+mark_reads_back Link = refl
 
 -- two marks with the same text are the same
 one_mark : (m k : LogMark) → mark_text m ≡ mark_text k → m ≡ k
-one_mark m k e = sym (marked m) ∙ ap mark_from e ∙ marked k
+one_mark m k e = sym (mark_reads_back m) ∙ ap mark_from e ∙ mark_reads_back k
 
 -- a text is a log line in one way at most
 pub one_reading : (text : List ℕ) (m k : List ℕ) (a b : LogMark) (xs ys : List ℕ) → IsLogLine text m a xs → IsLogLine text k b ys → (m ≡ k) × (a ≡ b) × (xs ≡ ys)

@@ -7,20 +7,20 @@ use Rattle.gc_texts.specs.Stamps.{next_day, days_after, date_of, two_digits, thr
 use Rattle.gc_texts.proofs.Dates.{days_sum}
 
 -- a tens and b ones are written as the digit of a and the digit of b
-two : (a b : ℕ) → b < 10 → two_digits (a * 10 + b) ≡ digit a ∷ digit b ∷ []
-two a b h =
+two_digits_are : (a b : ℕ) → b < 10 → two_digits (a * 10 + b) ≡ digit a ∷ digit b ∷ []
+two_digits_are a b h =
     let n = a * 10 + b in
     let first : n / 10 ≡ a = omega (arith, h, div-add-mod n 10) in
     let second : n % 10 ≡ b = omega (arith, h, div-add-mod n 10) in
     ap (λ x. digit x ∷ digit (n % 10) ∷ []) first ∙ ap (λ x. digit a ∷ digit x ∷ []) second
 
 -- a hundreds, b tens and c ones are written as the digits of a, b and c
-three : (a b c : ℕ) → b < 10 → c < 10 → three_digits (a * 100 + b * 10 + c) ≡ digit a ∷ digit b ∷ digit c ∷ []
-three a b c h k =
+three_digits_are : (a b c : ℕ) → b < 10 → c < 10 → three_digits (a * 100 + b * 10 + c) ≡ digit a ∷ digit b ∷ digit c ∷ []
+three_digits_are a b c h k =
     let n = a * 100 + b * 10 + c in
     let first : n / 100 ≡ a = omega (arith, h, k, div-add-mod n 100) in
     let rest : n % 100 ≡ b * 10 + c = omega (arith, h, k, div-add-mod n 100) in
-    ap (λ x. digit x ∷ two_digits (n % 100)) first ∙ ap (λ x. digit a ∷ two_digits x) rest ∙ ap (λ xs. digit a ∷ xs) (two b c k)
+    ap (λ x. digit x ∷ two_digits (n % 100)) first ∙ ap (λ x. digit a ∷ two_digits x) rest ∙ ap (λ xs. digit a ∷ xs) (two_digits_are b c k)
 
 -- the text of a time of day, given in milliseconds, is its hours, minutes, seconds and milliseconds, with colons (58) and a
 -- point (46) between them
@@ -40,8 +40,8 @@ time hours minutes seconds more m s k =
     ∙ ap (λ x. two_digits hours ++ 58 ∷ (two_digits minutes ++ 58 ∷ (two_digits seconds ++ 46 ∷ three_digits x))) d
 
 -- a stamp with this text of its date and this text of its time
-abbrev parts : List ℕ → List ℕ → List ℕ
-parts date time = date ++ codes "T" ++ time ++ codes "Z"
+abbrev stamp_of : List ℕ → List ℕ → List ℕ
+stamp_of date time = date ++ codes "T" ++ time ++ codes "Z"
 
 -- the stamp of a moment is its date, and its hour, minute, second and millisecond in two, two, two and three digits
 moment : (days hours minutes seconds more : ℕ) → hours < 24 → minutes < 60 → seconds < 60 → more < 1000
@@ -51,8 +51,8 @@ moment days hours minutes seconds more h m s k =
     let n = millis_of days hours minutes seconds more in
     let day : n / 86400000 ≡ days = omega (arith, h, m, s, k, div-add-mod n 86400000) in
     let rest : n % 86400000 ≡ hours * 3600000 + minutes * 60000 + seconds * 1000 + more = omega (arith, h, m, s, k, div-add-mod n 86400000) in
-    ap (λ x. parts (date_text (date_of x)) (time_text (n % 86400000))) day
-    ∙ ap (λ x. parts (date_text (date_of days)) x) (ap time_text rest ∙ time hours minutes seconds more m s k)
+    ap (λ x. stamp_of (date_text (date_of x)) (time_text (n % 86400000))) day
+    ∙ ap (λ x. stamp_of (date_text (date_of days)) x) (ap time_text rest ∙ time hours minutes seconds more m s k)
 
 -- the date of day `days + 1` is the day after the date of day `days`
 next : (days : ℕ) → date_of (days + 1) ≡ next_day (date_of days)
@@ -66,4 +66,4 @@ first = refl
 
 -- the law: the text of a stamp reads as its moment
 pub are_moments : StampsAreMoments
-are_moments = record { moment = moment; two = two; three = three; first = first; next = next }
+are_moments = record { moment = moment; two = two_digits_are; three = three_digits_are; first = first; next = next }

@@ -6,12 +6,12 @@ use Rattle.gc_catalogue.specs.Calls.{IsCall}
 use Rattle.gc_catalogue.proofs.CallLaws.{one_call}
 use Rattle.gc_texts.specs.Cuts.{Cuts, Lacks}
 use Rattle.gc_texts.specs.LineForms.{Form, AreItems}
-use Rattle.gc_texts.specs.Procedures.{IsNumber, IsProcedure, behind_number}
+use Rattle.gc_texts.specs.Procedures.{IsNumber, IsProcedure, params_text_of}
 use Rattle.gc_texts.proofs.Cutting.{digits_lack_spaces}
 use Rattle.gc_texts.proofs.Procedures.{one_number, procedure_parts}
 
 -- digits without a space, and the parameters after them, are cut at the first space
-cut_text : (text digits : List ℕ) (params : Option (List ℕ)) → text ≡ digits ++ behind_number params → Lacks 32 digits → Cuts 32 text digits params
+cut_text : (text digits : List ℕ) (params : Option (List ℕ)) → text ≡ digits ++ params_text_of params → Lacks 32 digits → Cuts 32 text digits params
 cut_text text digits None e lacks = (e ∙ append-nil digits, lacks)
 cut_text text digits (Some params) e lacks = (e, lacks)
 

@@ -1,6 +1,6 @@
 -- Where targets are, as lines of a text say it, and what follows for the tasks of a target and for an answer.
-use Rattle.std.proofs.Common.{◌≡◌, ℕ, zero, suc, ◌+◌, take, drop, ◌<◌, get_or, slice_set, arith, ◌==◌, ◌&&◌, ◌||◌, not, nat_lt, List, [], ◌∷◌, ◌++◌, length, map, Option, Some, None, Bool, true, false, cond, refl, sym, ap, ◌∙◌, subst, append_assoc, append-nil}
-use Rattle.std.proofs.lemmas.Bool.{eq-eqb}
+use Rattle.std.proofs.Common.{◌≡◌, ℕ, zero, suc, ◌+◌, take, drop, ◌<◌, get_or, slice_set, arith, ◌==◌, ◌&&◌, not, nat_lt, List, [], ◌∷◌, ◌++◌, length, map, Option, Some, None, Bool, true, false, cond, refl, sym, ap, ◌∙◌, subst, append_assoc, append-nil}
+use Rattle.std.proofs.lemmas.Bool.{eq-eqb, and_parts, or_parts}
 use Rattle.gc_catalogue.specs.declared.answer.Answer.{Answer}
 use Rattle.gc_values.specs.Directions.{is_near, IsNear}
 use Rattle.gc_values.specs.declared.direction.Direction.{Direction}
@@ -14,11 +14,6 @@ use Rattle.gc_texts.specs.declared.task_line.TaskLine.{TaskLine}
 use Rattle.gc_texts.specs.declared.task_line.TaskLine.TheVariants as says
 use Rattle.gc_texts.specs.declared.tasks.Task.{Task}
 
--- where `a && b` is true, b is
-both_true : (a b : Bool) → (a && b) ≡ true → b ≡ true
-both_true true b e = e
-both_true false b e = cc
-
 -- where `not b` is true, b is false
 not_true : (b : Bool) → not b ≡ true → b ≡ false
 not_true true e = cc
@@ -29,20 +24,15 @@ not_true false e = refl
 unsaid : (names : List Name) (nears : List Near) (front later : List TaskLine) (near : Near) → MayFollow names nears (front ++ says.Standing near ∷ later)
     → is_said near.target (nears ++ nears_of front) ≡ false
 unsaid names nears [] later near follow =
-    ap (is_said near.target) (append-nil nears) ∙ not_true (is_said near.target nears) (both_true (nat_lt (length nears) 64) (not (is_said near.target nears)) follow.0)
+    ap (is_said near.target) (append-nil nears) ∙ not_true (is_said near.target nears) (and_parts (nat_lt (length nears) 64) (not (is_said near.target nears)) follow.0).1
 unsaid names nears (line ∷ front) later near follow =
     ap (is_said near.target) (sym (append_assoc nears (near_at line) (nears_of front))) ∙ unsaid (names ++ name_at line) (nears ++ near_at line) front later near follow.1
-
--- where `a || b` is false, both are
-none_of : (a b : Bool) → (a || b) ≡ false → (a ≡ false) × (b ≡ false)
-none_of true b e = cc
-none_of false b e = (refl, e)
 
 -- where none of `nears` is a target's place, and the next place is that target's, that is the place that is found
 found_near : (nears others : List Near) (near : Near) → is_said near.target nears ≡ false → near_of near.target (nears ++ near ∷ others) ≡ Some near
 found_near [] others near unsaid = ap (λ b. cond b (Some near) (near_of near.target others)) (eq-eqb near.target near.target refl)
 found_near (n ∷ nears) others near unsaid =
-    let apart = none_of (n.target == near.target) (is_said near.target nears) unsaid in
+    let apart = or_parts (n.target == near.target) (is_said near.target nears) unsaid in
     ap (λ b. cond b (Some n) (near_of near.target (nears ++ near ∷ others))) apart.0 ∙ found_near nears others near apart.1
 
 -- the lines `xs` and then `ys` give the places of `xs`, and after them those of `ys`
@@ -51,22 +41,22 @@ nears_both [] ys = refl
 nears_both (x ∷ xs) ys = ap (λ ns. near_at x ++ ns) (nears_both xs ys) ∙ sym (append_assoc (near_at x) (nears_of xs) (nears_of ys))
 
 -- equal lists have equal first tasks
-first_is : (t u : Task) (ts us : List Task) → ◌≡◌ {A = List Task} (t ∷ ts) (u ∷ us) → t ≡ u
-first_is t u ts us e = cc
+head_same : (t u : Task) (ts us : List Task) → ◌≡◌ {A = List Task} (t ∷ ts) (u ∷ us) → t ≡ u
+head_same t u ts us e = cc
 
 -- equal lists have equal tasks after the first
-others_are : (t u : Task) (ts us : List Task) → ◌≡◌ {A = List Task} (t ∷ ts) (u ∷ us) → ts ≡ us
-others_are t u ts us e = cc
+tail_same : (t u : Task) (ts us : List Task) → ◌≡◌ {A = List Task} (t ∷ ts) (u ∷ us) → ts ≡ us
+tail_same t u ts us e = cc
 
 -- once all tasks were given their places, each has the place of its target, if there is one
 placed_so : (nears : List Near) (tasks earlier others : List Task) (task : Task) → map (placed nears) tasks ≡ earlier ++ task ∷ others → task.near ≡ near_of task.command.target nears
 placed_so nears [] [] others task e = cc
 placed_so nears [] (t ∷ ts) others task e = cc
 placed_so nears (t ∷ tasks) [] others task e =
-    let same = first_is (placed nears t) task (map (placed nears) tasks) others e in
+    let same = head_same (placed nears t) task (map (placed nears) tasks) others e in
     ap (λ (u : Task). u.near) (sym same) ∙ ap (λ (u : Task). near_of u.command.target nears) same
 placed_so nears (t ∷ tasks) (u ∷ earlier) others task e =
-    placed_so nears tasks earlier others task (others_are (placed nears t) u (map (placed nears) tasks) (earlier ++ task ∷ others) e)
+    placed_so nears tasks earlier others task (tail_same (placed nears t) u (map (placed nears) tasks) (earlier ++ task ∷ others) e)
 
 -- the law: a place holds for all commands of its target
 pub places_hold : PlacesHoldForAll

@@ -6,11 +6,11 @@ use Rattle.std.proofs.lemmas.List.{append-nil}
 use Rattle.gc_catalogue.specs.declared.call.Call.{Call}
 use Rattle.gc_catalogue.specs.Calls.{IsCall}
 use Rattle.gc_texts.specs.Cuts.{Cuts, Lacks}
-use Rattle.gc_texts.specs.Procedures.{IsNumber, IsProcedure, IsMore, behind_number}
+use Rattle.gc_texts.specs.Procedures.{IsNumber, IsProcedure, HasBytes, params_text_of}
 use Rattle.gc_texts.proofs.Cutting.{cut_found, cut_none, digits_lack_spaces}
 
 -- the first space of a procedure's text follows its digits
-cut_params : (text front digits : List ℕ) (rest params : Option (List ℕ)) → Cuts 32 text front rest → Lacks 32 digits → text ≡ digits ++ behind_number params → (front ≡ digits) × (rest ≡ params)
+cut_params : (text front digits : List ℕ) (rest params : Option (List ℕ)) → Cuts 32 text front rest → Lacks 32 digits → text ≡ digits ++ params_text_of params → (front ≡ digits) × (rest ≡ params)
 cut_params text front digits rest None cut lacks e =
     let whole : text ≡ digits = e ∙ append-nil digits in
     let found = cut_none 32 text front rest cut (subst (λ (t : List ℕ). Lacks 32 t) (sym whole) lacks) in
@@ -28,16 +28,16 @@ no_procedure text front rest cut none call p =
     none p.rpc (subst (λ (t : List ℕ). IsNumber t p.rpc 65535) (sym parts.0) p.number)
 
 -- an empty list of parameters, where one is given, has no byte
-not_more : (params : Option (List ℕ)) → params ≡ Some [] → IsMore params → ⊥
-not_more None e more = cc
-not_more (Some []) e more = absurd (omega (arith, more))
-not_more (Some (b ∷ bs)) e more = cc
+no_bytes : (params : Option (List ℕ)) → params ≡ Some [] → HasBytes params → ⊥
+no_bytes None e more = cc
+no_bytes (Some []) e more = absurd (omega (arith, more))
+no_bytes (Some (b ∷ bs)) e more = cc
 
 -- a text with a space after its front, and nothing after the space, is no procedure's
 pub no_parameters : (text front : List ℕ) → Cuts 32 text front (Some []) → (call : Call) → IsProcedure text call → ⊥
 no_parameters text front cut call p =
     let parts = procedure_parts text front (Some []) call cut p in
-    not_more p.params (sym parts.1) p.some
+    no_bytes p.params (sym parts.1) p.some
 
 -- digits write one number at most
 pub one_number : (digits : List ℕ) (m n max : ℕ) → IsNumber digits m max → IsNumber digits n max → m ≡ n
@@ -45,7 +45,7 @@ one_number digits m n max h k = h.names.value ∙ sym k.names.value
 
 -- where the front of a text is a number, and `r` is the call of that number and the parameters after it, or `None` where
 -- they make none, `r` is the call of the text, too
-pub procedure_is : (text front params : List ℕ) (rest : Option (List ℕ)) (rpc : ℕ) (r : Option Call) → Cuts 32 text front rest → IsMore rest
+pub procedure_is : (text front params : List ℕ) (rest : Option (List ℕ)) (rpc : ℕ) (r : Option Call) → Cuts 32 text front rest → HasBytes rest
     → params ≡ unwrap_or rest [] → IsNumber front rpc 65535 → MatchOption r ((call : Call) → IsCall rpc params call → ⊥)
     (λ call. IsCall rpc params call) → MatchOption r ((call : Call) → IsProcedure text call → ⊥) (λ call. IsProcedure text call)
 procedure_is text front params rest rpc None cut more same number none =
@@ -66,7 +66,7 @@ procedure_is text front params rest rpc (Some call) cut more same number calls =
     }
   where
     -- a text that is cut at its first space is its front and what follows that, with the space
-    cut_text : (text front : List ℕ) (rest : Option (List ℕ)) → Cuts 32 text front rest → text ≡ front ++ behind_number rest
+    cut_text : (text front : List ℕ) (rest : Option (List ℕ)) → Cuts 32 text front rest → text ≡ front ++ params_text_of rest
     cut_text text front None cut = cut.0 ∙ sym (append-nil front)
     cut_text text front (Some rest) cut = cut.0
 

@@ -7,16 +7,16 @@ use Rattle.gc_catalogue.specs.declared.raw.RawCall.{RawCall}
 use Rattle.gc_catalogue.proofs.AskedRules.{one_asked}
 use Rattle.gc_texts.specs.Commands.{IsCommand}
 use Rattle.gc_texts.specs.Cuts.{Lacks, before, behind}
-use Rattle.gc_texts.specs.Procedures.{IsNumber, IsProcedure, behind_number}
+use Rattle.gc_texts.specs.Procedures.{IsNumber, IsProcedure, params_text_of}
 use Rattle.gc_texts.specs.Wishes.{IsRawWish}
-use Rattle.gc_texts.specs.Words.{first_word, second_word, third_word, behind_three}
+use Rattle.gc_texts.specs.Words.{first_word, second_word, third_word, after_three_words}
 use Rattle.gc_texts.specs.declared.commands.Command.{Command}
 use Rattle.gc_texts.proofs.Cutting.{digits_lack_spaces}
 use Rattle.gc_texts.proofs.Fronts.{before_mark, before_none, behind_mark}
 use Rattle.gc_texts.proofs.Procedures.{one_number}
 
 -- what is before the first space of digits and the parameters after them is the digits
-before_params : (digits : List ℕ) (params : Option (List ℕ)) → AreDigits digits → before 32 (digits ++ behind_number params) ≡ digits
+before_params : (digits : List ℕ) (params : Option (List ℕ)) → AreDigits digits → before 32 (digits ++ params_text_of params) ≡ digits
 before_params digits None are = ap (before 32) (append-nil digits) ∙ before_none 32 digits (digits_lack_spaces digits are)
 before_params digits (Some params) are = before_mark 32 digits params (digits_lack_spaces digits are)
 

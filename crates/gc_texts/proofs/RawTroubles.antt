@@ -11,8 +11,8 @@ use Rattle.gc_catalogue.specs.declared.raw.RawFault.TheVariants.{InTable, NotPla
 use Rattle.gc_texts.specs.Laws.{NamesAreTheCatalogues}
 use Rattle.gc_texts.specs.ProcedureNames.{each_procedure, name_among, name_of}
 use Rattle.gc_texts.specs.Procedures.{IsNumber}
-use Rattle.gc_texts.specs.Troubles.{raw_trouble, IsRaw, IsAskedRaw, IsRawTrouble, IsRawWordsTrouble, IsTrouble}
-use Rattle.gc_texts.specs.Words.{third_word, behind_three}
+use Rattle.gc_texts.specs.Troubles.{raw_trouble, IsRawLine, IsRawCommandTrouble, IsRawTrouble, IsRawWordsTrouble, IsAskingTrouble}
+use Rattle.gc_texts.specs.Words.{third_word, after_three_words}
 use Rattle.gc_texts.specs.declared.trouble.Trouble.{Trouble}
 use Rattle.gc_texts.specs.declared.trouble.Trouble.TheVariants as trouble
 
@@ -32,9 +32,9 @@ pub named : (rpc : ℕ) (name : List ℕ) → ((call : Call) → (call_fields ca
 named rpc name each is = each is.0 is.1 ∙ sym (names_are is.0) ∙ ap name_of is.1
 
 -- a line whose second word is `raw`
-module _ (line : List ℕ) (word : IsRaw line) where
+module _ (line : List ℕ) (word : IsRawLine line) where
   -- where a number and what follows it may not be asked for, what is reported of the reason is a trouble of the line
-  refused : (rpc : ℕ) (fault : RawFault) → IsNumber (third_word line) rpc 65535 → IsRawRefusal rpc (behind_three line) fault → IsTrouble line (raw_trouble rpc fault)
+  refused : (rpc : ℕ) (fault : RawFault) → IsNumber (third_word line) rpc 65535 → IsRawRefusal rpc (after_three_words line) fault → IsAskingTrouble line (raw_trouble rpc fault)
   refused rpc InTable number is = record { word = word; rpc = rpc; number = number; is = inl (InTable, is, refl) }
   refused rpc NotPlain number is = record { word = word; rpc = rpc; number = number; is = inl (NotPlain, is, refl) }
   refused rpc TooLong number is = record { word = word; rpc = rpc; number = number; is = inl (TooLong, is, refl) }
@@ -42,11 +42,11 @@ module _ (line : List ℕ) (word : IsRaw line) where
   refused rpc TooMany number is = record { word = word; rpc = rpc; number = number; is = inl (TooMany, is, refl) }
 
   -- a trouble of what follows the word `raw` is a trouble of the line
-  pub raw_words : (t : Trouble) → IsRawWordsTrouble (third_word line) (behind_three line) t → IsTrouble line t
-  raw_words t (inl none) = subst (IsTrouble line) (sym none.0) (inl (word, none.1))
-  raw_words t (inr (rpc, number, inl (fault, is, told))) = subst (IsTrouble line) (sym told) (refused rpc fault number is)
+  pub raw_words : (t : Trouble) → IsRawWordsTrouble (third_word line) (after_three_words line) t → IsAskingTrouble line t
+  raw_words t (inl none) = subst (IsAskingTrouble line) (sym none.0) (inl (word, none.1))
+  raw_words t (inr (rpc, number, inl (fault, is, told))) = subst (IsAskingTrouble line) (sym told) (refused rpc fault number is)
   raw_words t (inr (rpc, number, inr (may, told))) =
-      subst (IsTrouble line) (sym told) (inr (inr (record { word = word; rpc = rpc; number = number; is = inr (may, refl) })))
+      subst (IsAskingTrouble line) (sym told) (inr (inr (record { word = word; rpc = rpc; number = number; is = inr (may, refl) })))
 
 -- what is at fault after the word `raw` is reported of equal words and of equal parameters
 pub same_words : (word other params others : List ℕ) (t : Trouble) → word ≡ other → params ≡ others → IsRawWordsTrouble word params t → IsRawWordsTrouble other others t

@@ -6,8 +6,8 @@ use Rattle.std.proofs.lemmas.Bool.Decides.{nat_tests}
 use Rattle.std.proofs.lemmas.List.{append_cancel_left}
 use Rattle.gc_texts.specs.Again.{no_again}
 use Rattle.gc_texts.specs.Cuts.{Cuts, Lacks, before, behind}
-use Rattle.gc_texts.specs.Retries.{IsReason, AreReasons, IsNamedBy, IsRule, has_room, count_with, again_with, codes_with, named_with}
-use Rattle.gc_texts.specs.TaskLines.{IsRetrying}
+use Rattle.gc_texts.specs.Retries.{IsReason, AreReasons, IsNamedBy, IsRetryRule, has_room, count_with, again_with, codes_with, named_with}
+use Rattle.gc_texts.specs.TaskLines.{SetsRetry}
 use Rattle.gc_texts.specs.declared.again.Again.{Again}
 use Rattle.gc_texts.specs.declared.retry.Reason.{Reason}
 use Rattle.gc_texts.specs.declared.retry.Reason.TheVariants as reason
@@ -68,66 +68,96 @@ one_reason : (word : List ℕ) (a b : Reason) → IsReason word a → IsReason w
 one_reason word a b x y = same_reason word a b x y (sym (kind_is word a x) ∙ kind_is word b y)
 
 -- a code or an outcome has no space
-lacks : (word : List ℕ) (r : Reason) → IsReason word r → Lacks 32 word
-lacks word (reason.Code code) is = digits_lack_spaces word is.number.names.digits
-lacks word reason.Unreadable is = subst (Lacks 32) (sym is) ((λ e. omega (arith, e)), ((λ e. omega (arith, e)), ((λ e. omega (arith, e)), ((λ e. omega (arith, e)), ((λ e. omega (arith, e)), ((λ e. omega (arith, e)), ((λ e. omega (arith, e)), ((λ e. omega (arith, e)), ((λ e. omega (arith, e)), ((λ e. omega (arith, e)), tt))))))))))
-lacks word reason.Elsewhere is = subst (Lacks 32) (sym is) ((λ e. omega (arith, e)), ((λ e. omega (arith, e)), ((λ e. omega (arith, e)), ((λ e. omega (arith, e)), ((λ e. omega (arith, e)), ((λ e. omega (arith, e)), ((λ e. omega (arith, e)), ((λ e. omega (arith, e)), ((λ e. omega (arith, e)), tt)))))))))
-lacks word reason.Late is = subst (Lacks 32) (sym is) ((λ e. omega (arith, e)), ((λ e. omega (arith, e)), ((λ e. omega (arith, e)), ((λ e. omega (arith, e)), tt))))
-lacks word reason.Lost is = subst (Lacks 32) (sym is) ((λ e. omega (arith, e)), ((λ e. omega (arith, e)), ((λ e. omega (arith, e)), ((λ e. omega (arith, e)), tt))))
-lacks word reason.Skipped is = subst (Lacks 32) (sym is) ((λ e. omega (arith, e)), ((λ e. omega (arith, e)), ((λ e. omega (arith, e)), ((λ e. omega (arith, e)), ((λ e. omega (arith, e)), ((λ e. omega (arith, e)), ((λ e. omega (arith, e)), tt)))))))
+reason_lacks_space : (word : List ℕ) (r : Reason) → IsReason word r → Lacks 32 word
+reason_lacks_space word (reason.Code code) is = digits_lack_spaces word is.number.names.digits
+reason_lacks_space word reason.Unreadable is = subst (Lacks 32) (sym is) (
+  (λ e. omega (arith, e)),
+  (
+    (λ e. omega (arith, e)),
+    (
+      (λ e. omega (arith, e)),
+      (
+        (λ e. omega (arith, e)),
+        (
+          (λ e. omega (arith, e)),
+          (
+            (λ e. omega (arith, e)),
+            ((λ e. omega (arith, e)), ((λ e. omega (arith, e)), ((λ e. omega (arith, e)), ((λ e. omega (arith, e)), tt)))),
+          ),
+        ),
+      ),
+    ),
+  ),
+)
+reason_lacks_space word reason.Elsewhere is = subst (Lacks 32) (sym is) (
+  (λ e. omega (arith, e)),
+  (
+    (λ e. omega (arith, e)),
+    ((λ e. omega (arith, e)), ((λ e. omega (arith, e)), ((λ e. omega (arith, e)), ((λ e. omega (arith, e)), ((λ e. omega (arith, e)), ((λ e. omega (arith, e)), ((λ e. omega (arith, e)), tt))))))),
+  ),
+)
+reason_lacks_space word reason.Late is = subst (Lacks 32) (sym is) ((λ e. omega (arith, e)), ((λ e. omega (arith, e)), ((λ e. omega (arith, e)), ((λ e. omega (arith, e)), tt))))
+reason_lacks_space word reason.Lost is = subst (Lacks 32) (sym is) ((λ e. omega (arith, e)), ((λ e. omega (arith, e)), ((λ e. omega (arith, e)), ((λ e. omega (arith, e)), tt))))
+reason_lacks_space word reason.Skipped is = subst (Lacks 32) (sym is) (
+  (λ e. omega (arith, e)),
+  (
+    (λ e. omega (arith, e)),
+    ((λ e. omega (arith, e)), ((λ e. omega (arith, e)), ((λ e. omega (arith, e)), ((λ e. omega (arith, e)), ((λ e. omega (arith, e)), tt))))),
+  ),
+)
 
 -- a text is one list of words at most
-one_list : (xs ys : List Reason) (text : List ℕ) → AreReasons text xs → AreReasons text ys → xs ≡ ys
-one_list [] ys text a b = absurd a
-one_list (x ∷ xs) [] text a b = absurd b
-one_list (x ∷ []) (y ∷ []) text a b = ap (λ z. z ∷ []) (one_reason text x y a b)
-one_list (x ∷ []) (y ∷ n ∷ ys) text a (word, rest, at, is, others) = absurd (has_mark 32 word rest text (sym at) (lacks text x a))
-one_list (x ∷ m ∷ xs) (y ∷ []) text (word, rest, at, is, others) b = absurd (has_mark 32 word rest text (sym at) (lacks text y b))
-one_list (x ∷ m ∷ xs) (y ∷ n ∷ ys) text (word, rest, at, is, others) (front, behind, so, says, more) =
-    let parts = one_front 32 word front rest behind (sym at ∙ so) (lacks word x is) (lacks front y says) in
+one_reason_list : (xs ys : List Reason) (text : List ℕ) → AreReasons text xs → AreReasons text ys → xs ≡ ys
+one_reason_list [] ys text a b = absurd a
+one_reason_list (x ∷ xs) [] text a b = absurd b
+one_reason_list (x ∷ []) (y ∷ []) text a b = ap (λ z. z ∷ []) (one_reason text x y a b)
+one_reason_list (x ∷ []) (y ∷ n ∷ ys) text a (word, rest, at, is, others) = absurd (has_mark 32 word rest text (sym at) (reason_lacks_space text x a))
+one_reason_list (x ∷ m ∷ xs) (y ∷ []) text (word, rest, at, is, others) b = absurd (has_mark 32 word rest text (sym at) (reason_lacks_space text y b))
+one_reason_list (x ∷ m ∷ xs) (y ∷ n ∷ ys) text (word, rest, at, is, others) (front, behind, so, says, more) =
+    let parts = one_front 32 word front rest behind (sym at ∙ so) (reason_lacks_space word x is) (reason_lacks_space front y says) in
     let heads : x ≡ y = one_reason front x y (subst (λ (w : List ℕ). IsReason w x) parts.0 is) says in
-    let tails : m ∷ xs ≡ n ∷ ys = one_list (m ∷ xs) (n ∷ ys) behind (subst (λ (r : List ℕ). AreReasons r (m ∷ xs)) parts.1 others) more in
+    let tails : m ∷ xs ≡ n ∷ ys = one_reason_list (m ∷ xs) (n ∷ ys) behind (subst (λ (r : List ℕ). AreReasons r (m ∷ xs)) parts.1 others) more in
     ap (λ z. z ∷ m ∷ xs) heads ∙ ap (λ zs. y ∷ zs) tails
 
 -- a text names one rule at most
 one_named : (text : List ℕ) (a b : Again) → IsNamedBy text a → IsNamedBy text b → a ≡ b
-one_named text a b x y = x.again_is ∙ ap (named_with no_again 0) (one_list x.reasons y.reasons text x.are y.are) ∙ sym y.again_is
+one_named text a b x y = x.again_is ∙ ap (named_with no_again 0) (one_reason_list x.reasons y.reasons text x.are y.are) ∙ sym y.again_is
 
 -- two retries with equal times and equal rules are equal
 same_retry : (a b : Retry) → a.times ≡ b.times → a.again ≡ b.again → a ≡ b
 same_retry a b e f = ap (λ n. record { times = n; again = a.again }) e ∙ ap (λ x. record { times = b.times; again = x }) f
 
 -- a text is one rule at most
-one_rule : (text : List ℕ) (a b : Retry) → IsRule text a → IsRule text b → a ≡ b
+one_rule : (text : List ℕ) (a b : Retry) → IsRetryRule text a → IsRetryRule text b → a ≡ b
 one_rule text a b x y = same_retry a b (one_number (before 32 text) a.times b.times 9 x.times_are y.times_are) (one_named (behind 32 text) a.again b.again x.again_is y.again_is)
 
 -- `0` alone is no rule
-not_zero : (a : Retry) → IsRule (codes "0") a → ⊥
+not_zero : (a : Retry) → IsRetryRule (codes "0") a → ⊥
 not_zero a is = let none : a.times ≡ 0 = is.times_are.names.value in omega (arith, none, is.some)
 
 -- a line sets one retry at most
-pub one_retrying : (line : List ℕ) (a b : Retry) → IsRetrying line a → IsRetrying line b → a ≡ b
+pub one_retrying : (line : List ℕ) (a b : Retry) → SetsRetry line a → SetsRetry line b → a ≡ b
 one_retrying line a b (inl x) (inl y) = x.1 ∙ sym y.1
 one_retrying line a b (inl x) (inr y) =
-    absurd (not_zero b (subst (λ (r : List ℕ). IsRule r b) (append_cancel_left (codes "retry ") y.rest (codes "0") (sym y.line_is ∙ x.0)) y.rule_is))
+    absurd (not_zero b (subst (λ (r : List ℕ). IsRetryRule r b) (append_cancel_left (codes "retry ") y.rest (codes "0") (sym y.line_is ∙ x.0)) y.rule_is))
 one_retrying line a b (inr x) (inl y) =
-    absurd (not_zero a (subst (λ (r : List ℕ). IsRule r a) (append_cancel_left (codes "retry ") x.rest (codes "0") (sym x.line_is ∙ y.0)) x.rule_is))
+    absurd (not_zero a (subst (λ (r : List ℕ). IsRetryRule r a) (append_cancel_left (codes "retry ") x.rest (codes "0") (sym x.line_is ∙ y.0)) x.rule_is))
 one_retrying line a b (inr x) (inr y) =
-    one_rule y.rest a b (subst (λ (r : List ℕ). IsRule r a) (append_cancel_left (codes "retry ") x.rest y.rest (sym x.line_is ∙ y.line_is)) x.rule_is) y.rule_is
+    one_rule y.rest a b (subst (λ (r : List ℕ). IsRetryRule r a) (append_cancel_left (codes "retry ") x.rest y.rest (sym x.line_is ∙ y.line_is)) x.rule_is) y.rule_is
 
 -- where a line is `retry ` and `rest`, and `r` is the rule that `rest` is, or `None` where it is none, `r` is what the line sets, too
 pub retries_so : (line rest : List ℕ) (r : Option Retry) → (line ≡ codes "retry 0" → ⊥) → line ≡ codes "retry " ++ rest
-    → MatchOption r ((found : Retry) → IsRule rest found → ⊥) (λ found. IsRule rest found)
-    → MatchOption r ((found : Retry) → IsRetrying line found → ⊥) (λ found. IsRetrying line found)
+    → MatchOption r ((found : Retry) → IsRetryRule rest found → ⊥) (λ found. IsRetryRule rest found)
+    → MatchOption r ((found : Retry) → SetsRetry line found → ⊥) (λ found. SetsRetry line found)
 retries_so line rest None other e none = λ found is. either_none found is where
   -- the line sets none: it isn't `retry 0`, and `rest` is no rule
-  either_none : (found : Retry) → IsRetrying line found → ⊥
+  either_none : (found : Retry) → SetsRetry line found → ⊥
   either_none found (inl alone) = other alone.0
-  either_none found (inr is) = none found (subst (λ (r : List ℕ). IsRule r found) (append_cancel_left (codes "retry ") is.rest rest (sym is.line_is ∙ e)) is.rule_is)
+  either_none found (inr is) = none found (subst (λ (r : List ℕ). IsRetryRule r found) (append_cancel_left (codes "retry ") is.rest rest (sym is.line_is ∙ e)) is.rule_is)
 retries_so line rest (Some found) other e are = inr (record { rest = rest; line_is = e; rule_is = are })
 
 -- a line that is neither `retry 0` nor begins with `retry ` sets none
-pub retries_none : (line : List ℕ) → (line ≡ codes "retry 0" → ⊥) → ((rest : List ℕ) → line ≡ codes "retry " ++ rest → ⊥) → (found : Retry) → IsRetrying line found → ⊥
+pub retries_none : (line : List ℕ) → (line ≡ codes "retry 0" → ⊥) → ((rest : List ℕ) → line ≡ codes "retry " ++ rest → ⊥) → (found : Retry) → SetsRetry line found → ⊥
 retries_none line other none found (inl alone) = other alone.0
 retries_none line other none found (inr is) = none is.rest is.line_is
 
@@ -144,7 +174,7 @@ pub record ReadsReasons (text : List ℕ) (left : Option (List ℕ)) (read : Lis
   pub only : (all : List Reason) → AreReasons text all → (later : List Reason) × (all ≡ read ++ later) × AreLeft left later
 
 -- words of the text were read (`ReadsReasons`) that name this, with `count` codes, at most 16
-pub record Names (text : List ℕ) (left : Option (List ℕ)) (again : Again) (count : ℕ) : Type 0 where
+pub record NamesSoFar (text : List ℕ) (left : Option (List ℕ)) (again : Again) (count : ℕ) : Type 0 where
   pub read : List Reason
   pub reads : ReadsReasons text left read
   pub again_is : again ≡ named_with no_again 0 read
@@ -152,9 +182,9 @@ pub record Names (text : List ℕ) (left : Option (List ℕ)) (again : Again) (c
   pub few : count ≤ 16
 
 -- before the first word nothing is named
-pub names_opening : (text : List ℕ) (left : Option (List ℕ)) (again : Again) → left ≡ Some text → again ≡ no_again → Names text left again 0
+pub names_opening : (text : List ℕ) (left : Option (List ℕ)) (again : Again) → left ≡ Some text → again ≡ no_again → NamesSoFar text left again 0
 names_opening text left again some none =
-    subst (λ o. Names text o again 0) (sym some)
+    subst (λ o. NamesSoFar text o again 0) (sym some)
     (record { read = []; reads = record { found = λ later are. are; only = λ all are. (all, refl, are) }; again_is = none; count_is = refl; few = omega arith })
 
 -- what words and one more name, where they follow others
@@ -168,18 +198,21 @@ more_codes count [] r = refl
 more_codes count (x ∷ read) r = more_codes (count_with count x) read r
 
 -- a word is one code at most
-grows : (count : ℕ) (r : Reason) → count ≤ count_with count r
-grows count (reason.Code code) = omega arith
-grows count reason.Unreadable = omega arith
-grows count reason.Elsewhere = omega arith
-grows count reason.Late = omega arith
-grows count reason.Lost = omega arith
-grows count reason.Skipped = omega arith
+count_grows : (count : ℕ) (r : Reason) → count ≤ count_with count r
+count_grows count (reason.Code code) = omega arith
+count_grows count reason.Unreadable = omega arith
+count_grows count reason.Elsewhere = omega arith
+count_grows count reason.Late = omega arith
+count_grows count reason.Lost = omega arith
+count_grows count reason.Skipped = omega arith
 
 -- there are no fewer codes with more words
-grow : (count : ℕ) (later : List Reason) → count ≤ codes_with count later
-grow count [] = omega arith
-grow count (r ∷ later) = let one : count ≤ count_with count r = grows count r in let all : count_with count r ≤ codes_with (count_with count r) later = grow (count_with count r) later in omega (arith, one, all)
+codes_grow : (count : ℕ) (later : List Reason) → count ≤ codes_with count later
+codes_grow count [] = omega arith
+codes_grow count (r ∷ later) =
+    let one : count ≤ count_with count r = count_grows count r in
+    let all : count_with count r ≤ codes_with (count_with count r) later = codes_grow (count_with count r) later in
+    omega (arith, one, all)
 
 -- the codes of words and later ones are those of the words, and after them those of the later ones
 codes_both : (count : ℕ) (read later : List Reason) → codes_with count (read ++ later) ≡ codes_with (codes_with count read) later
@@ -187,22 +220,22 @@ codes_both count [] later = refl
 codes_both count (x ∷ read) later = codes_both (count_with count x) read later
 
 -- a list of words, cut at its first space, begins with the word before the space, and the others are those of the rest
-first_of : (now word : List ℕ) (later : List Reason) (rest : Option (List ℕ)) → Cuts 32 now word rest → AreReasons now later
+first_reason : (now word : List ℕ) (later : List Reason) (rest : Option (List ℕ)) → Cuts 32 now word rest → AreReasons now later
     → (r : Reason) × (others : List Reason) × (later ≡ r ∷ others) × IsReason word r × AreLeft rest others
-first_of now word [] rest cut are = absurd are
-first_of now word (r ∷ []) rest cut are =
-    let parts = cut_none 32 now word rest cut (lacks now r are) in
+first_reason now word [] rest cut are = absurd are
+first_reason now word (r ∷ []) rest cut are =
+    let parts = cut_none 32 now word rest cut (reason_lacks_space now r are) in
     (r, [], refl, subst (λ (w : List ℕ). IsReason w r) (sym parts.0) are, subst (λ o. AreLeft o []) (sym parts.1) refl)
-first_of now word (r ∷ next ∷ others) rest cut (front, behind, at, is, more) =
-    let parts = cut_found 32 now word rest front behind cut at (lacks front r is) in
+first_reason now word (r ∷ next ∷ others) rest cut (front, behind, at, is, more) =
+    let parts = cut_found 32 now word rest front behind cut at (reason_lacks_space front r is) in
     (r, next ∷ others, refl, subst (λ (w : List ℕ). IsReason w r) (sym parts.0) is, subst (λ o. AreLeft o (next ∷ others)) (sym parts.1) more)
 
 -- a word before the first space, and the words of the rest, are the words of the whole text
-joined : (now word : List ℕ) (rest : Option (List ℕ)) (r : Reason) (others : List Reason) → Cuts 32 now word rest → IsReason word r → AreLeft rest others → AreReasons now (r ∷ others)
-joined now word None r [] cut is left = subst (λ (w : List ℕ). IsReason w r) (sym cut.0) is
-joined now word None r (next ∷ others) cut is left = let bad : next ∷ others ≡ [] = left in cc
-joined now word (Some behind) r [] cut is left = absurd left
-joined now word (Some behind) r (next ∷ others) cut is left = (word, behind, cut.0, is, left)
+reasons_joined : (now word : List ℕ) (rest : Option (List ℕ)) (r : Reason) (others : List Reason) → Cuts 32 now word rest → IsReason word r → AreLeft rest others → AreReasons now (r ∷ others)
+reasons_joined now word None r [] cut is left = subst (λ (w : List ℕ). IsReason w r) (sym cut.0) is
+reasons_joined now word None r (next ∷ others) cut is left = let bad : next ∷ others ≡ [] = left in cc
+reasons_joined now word (Some behind) r [] cut is left = absurd left
+reasons_joined now word (Some behind) r (next ∷ others) cut is left = (word, behind, cut.0, is, left)
 
 -- where the test of m < n is true, m is below n
 nat_lt-true : (m n : ℕ) → nat_lt m n ≡ true → m < n
@@ -230,7 +263,7 @@ room_for count reason.Late few e = few
 room_for count reason.Lost few e = few
 room_for count reason.Skipped few e = few
 
-module _ (text now word : List ℕ) (left rest : Option (List ℕ)) (old : Again) (count : ℕ) (f : Names text left old count) (some : left ≡ Some now) (cut : Cuts 32 now word rest) where
+module _ (text now word : List ℕ) (left rest : Option (List ℕ)) (old : Again) (count : ℕ) (f : NamesSoFar text left old count) (some : left ≡ Some now) (cut : Cuts 32 now word rest) where
   -- the words of what is left are those of the text `now`, which is left
   left_now : (later : List Reason) → AreLeft left later → AreReasons now later
   left_now later are = subst (λ o. AreLeft o later) some are
@@ -239,35 +272,35 @@ module _ (text now word : List ℕ) (left rest : Option (List ℕ)) (old : Again
   pub reason_fails : ((r : Reason) → IsReason word r → ⊥) → (found : Again) → IsNamedBy text found → ⊥
   reason_fails none found is =
       let o = f.reads.only is.reasons is.are in
-      let first = first_of now word o.0 rest cut (left_now o.0 o.2) in
+      let first = first_reason now word o.0 rest cut (left_now o.0 o.2) in
       none first.0 first.3
 
   -- where there is no room for the next word, the text has more codes than there are places
   pub reasons_too_many : (r : Reason) (room : Bool) → IsReason word r → room ≡ has_room count r → room ≡ false → (found : Again) → IsNamedBy text found → ⊥
   reasons_too_many r room says tested none found is =
       let o = f.reads.only is.reasons is.are in
-      let first = first_of now word o.0 rest cut (left_now o.0 o.2) in
+      let first = first_reason now word o.0 rest cut (left_now o.0 o.2) in
       let same : first.0 ≡ r = one_reason word first.0 r first.3 says in
       let all : codes_with 0 is.reasons ≡ codes_with (count_with count r) first.1 =
       ap (codes_with 0) o.1 ∙ codes_both 0 f.read o.0 ∙ ap (codes_with (codes_with 0 f.read)) first.2 ∙ ap (λ x. codes_with (count_with (codes_with 0 f.read) x) first.1) same
       ∙ ap (λ n. codes_with (count_with n r) first.1) (sym f.count_is) in
-      let more : count_with count r ≤ codes_with (count_with count r) first.1 = grow (count_with count r) first.1 in
+      let more : count_with count r ≤ codes_with (count_with count r) first.1 = codes_grow (count_with count r) first.1 in
       let much : 16 < count_with count r = no_room count r f.few (sym tested ∙ none) in
       omega (arith, all, more, much, is.few)
 
   -- where the next word is a code or an outcome, and there is room for it, one more is read
   pub reason_reads : (r : Reason) (new : Again) (next : ℕ) (room : Bool) → IsReason word r → new ≡ again_with old count r → next ≡ count_with count r
-      → room ≡ has_room count r → room ≡ true → Names text rest new next
+      → room ≡ has_room count r → room ≡ true → NamesSoFar text rest new next
   reason_reads r new next room is more counted tested has =
       record {
         read = f.read ++ r ∷ [];
         reads = record {
           found = λ later are.
               subst (AreReasons text) (sym (append_assoc f.read (r ∷ []) later))
-              (f.reads.found (r ∷ later) (subst (λ o. AreLeft o (r ∷ later)) (sym some) (joined now word rest r later cut is are)));
+              (f.reads.found (r ∷ later) (subst (λ o. AreLeft o (r ∷ later)) (sym some) (reasons_joined now word rest r later cut is are)));
           only = λ all are.
               let o = f.reads.only all are in
-              let first = first_of now word o.0 rest cut (left_now o.0 o.2) in
+              let first = first_reason now word o.0 rest cut (left_now o.0 o.2) in
               let same : first.0 ≡ r = one_reason word first.0 r first.3 is in
               (first.1, o.1 ∙ ap (λ l. f.read ++ l) first.2 ∙ ap (λ c. f.read ++ c ∷ first.1) same ∙ sym (append_assoc f.read (r ∷ []) first.1), first.4);
         };
@@ -277,7 +310,7 @@ module _ (text now word : List ℕ) (left rest : Option (List ℕ)) (old : Again
       }
 
 -- where nothing is left, the words that were read are those of the text
-pub reasons_are : (text : List ℕ) (left : Option (List ℕ)) (again : Again) (count : ℕ) → Names text left again count → left ≡ None → IsNamedBy text again
+pub reasons_are : (text : List ℕ) (left : Option (List ℕ)) (again : Again) (count : ℕ) → NamesSoFar text left again count → left ≡ None → IsNamedBy text again
 reasons_are text left again count f e =
     record {
       reasons = f.read;

@@ -1,61 +1,57 @@
 -- The attempts of the chains of a station's text.
 use Rattle.std.proofs.Common.{◌⊎◌, ◌&&◌, nat_lt, Option, subst, ◌≡◌, ◌+◌, ◌*◌, inr, inl, ℕ, zero, suc, Bool, true, false, List, [], ◌∷◌, ◌++◌, length, map, Some, None, refl, ap, sym, ◌∙◌, append_assoc, append-nil, if◌then◌else◌}
+use Rattle.std.proofs.lemmas.Bool.{and_parts}
 use Rattle.std.specs.List.{AllByRecursion, flat_map}
 use Rattle.std.proofs.lemmas.List.{length-map, map-append}
 use Rattle.gc_texts.specs.Again.{no_again}
-use Rattle.gc_texts.specs.Attempts.{in_attempt, attempts_from, attempts, laid_behind, laid_out}
+use Rattle.gc_texts.specs.Attempts.{in_attempt, attempts_from, attempts, laid_from, laid_out}
 use Rattle.gc_texts.specs.Laws.{IsOneChain}
 use Rattle.gc_texts.specs.Nears.{near_of}
 use Rattle.gc_texts.specs.Repeats.{as_said, IsAttempt, AreAttempts, Chain, AreLaidOut, ChainsGoOutAgain}
 use Rattle.gc_texts.specs.Retries.{no_retry}
-use Rattle.gc_texts.specs.Tasks.{opening, behind, goes_on, task_at, setup_of, planned_of, placed}
+use Rattle.gc_texts.specs.Tasks.{opening, mode_after, continues_row, task_at, setup_of, planned_of, placed}
 use Rattle.gc_texts.specs.declared.again.Again.{Again}
 use Rattle.gc_texts.specs.declared.near.Near.{Near}
 use Rattle.gc_texts.specs.declared.retry.Retry.{Retry}
 use Rattle.gc_texts.specs.declared.task_line.TaskLine.{TaskLine}
 use Rattle.gc_texts.specs.declared.task_line.TaskLine.TheVariants as says
-use Rattle.gc_texts.specs.declared.tasks.Mode.{Mode}
-use Rattle.gc_texts.specs.declared.tasks.Planned.{Planned}
+use Rattle.gc_texts.specs.declared.mode.Mode.{Mode}
+use Rattle.gc_texts.specs.declared.attempts.Planned.{Planned}
 use Rattle.gc_texts.specs.declared.tasks.Task.{Task}
 use Rattle.gc_texts.proofs.TaskLaws.{InRows, rows}
 
 -- a command as its line says it
-record IsSaid (planned : Planned) : Type 0 where
+record IsAsItsLineSays (planned : Planned) : Type 0 where
   again : planned.task.again ≡ no_again
   attempt : planned.task.turn.attempt ≡ 1
   others : planned.task.others ≡ 0
 
 -- the cycle's commands are as their lines say them
-all_said : (mode : Mode) (lines : List TaskLine) → AllByRecursion IsSaid (planned_of mode lines)
+all_said : (mode : Mode) (lines : List TaskLine) → AllByRecursion IsAsItsLineSays (planned_of mode lines)
 all_said mode [] = tt
-all_said mode (says.Command c now ∷ later) = by_setup mode.setup (all_said (behind mode (says.Command c now)) later) where
+all_said mode (says.Command c now ∷ later) = by_setup mode.setup (all_said (mode_after mode (says.Command c now)) later) where
   -- by the section
-  by_setup : (b : Bool) → AllByRecursion IsSaid (planned_of (behind mode (says.Command c now)) later)
-      → AllByRecursion IsSaid ((if b then [] else record { task = task_at mode c now; retry = mode.retry } ∷ []) ++ planned_of (behind mode (says.Command c now)) later)
+  by_setup : (b : Bool) → AllByRecursion IsAsItsLineSays (planned_of (mode_after mode (says.Command c now)) later)
+      → AllByRecursion IsAsItsLineSays ((if b then [] else record { task = task_at mode c now; retry = mode.retry } ∷ []) ++ planned_of (mode_after mode (says.Command c now)) later)
   by_setup true more = more
   by_setup false more = (record { again = refl; attempt = refl; others = refl }, more)
-all_said mode (says.Deadline d ∷ later) = all_said (behind mode (says.Deadline d)) later
-all_said mode (says.Chained ∷ later) = all_said (behind mode says.Chained) later
-all_said mode (says.Unchained ∷ later) = all_said (behind mode says.Unchained) later
-all_said mode (says.Naming n ∷ later) = all_said (behind mode (says.Naming n)) later
-all_said mode (says.Standing n ∷ later) = all_said (behind mode (says.Standing n)) later
-all_said mode (says.Accepting cs ∷ later) = all_said (behind mode (says.Accepting cs)) later
-all_said mode (says.Retrying r ∷ later) = all_said (behind mode (says.Retrying r)) later
-all_said mode (says.AtStart ∷ later) = all_said (behind mode says.AtStart) later
-all_said mode (says.EachCycle ∷ later) = all_said (behind mode says.EachCycle) later
+all_said mode (says.Deadline d ∷ later) = all_said (mode_after mode (says.Deadline d)) later
+all_said mode (says.Chained ∷ later) = all_said (mode_after mode says.Chained) later
+all_said mode (says.Unchained ∷ later) = all_said (mode_after mode says.Unchained) later
+all_said mode (says.Naming n ∷ later) = all_said (mode_after mode (says.Naming n)) later
+all_said mode (says.Standing n ∷ later) = all_said (mode_after mode (says.Standing n)) later
+all_said mode (says.Accepting cs ∷ later) = all_said (mode_after mode (says.Accepting cs)) later
+all_said mode (says.Retrying r ∷ later) = all_said (mode_after mode (says.Retrying r)) later
+all_said mode (says.AtStart ∷ later) = all_said (mode_after mode says.AtStart) later
+all_said mode (says.EachCycle ∷ later) = all_said (mode_after mode says.EachCycle) later
 
 -- each chained command has the retry of the one before it, and the first that of a command before, which has `retry`
 abbrev SameRules : Retry → List Planned → Type 0
 SameRules retry [] = Unit {0}
 SameRules retry (p ∷ later) = (p.task.chained ≡ true → p.retry ≡ retry) × SameRules p.retry later
 
--- where `a && b` is true, b is
-both_true : (a b : Bool) → (a && b) ≡ true → b ≡ true
-both_true true b e = e
-both_true false b e = cc
-
 -- where no row is there, no command goes on with it
-no_row : (row : Option ℕ) (target : ℕ) → row ≡ None → goes_on row target ≡ true → ⊥
+no_row : (row : Option ℕ) (target : ℕ) → row ≡ None → continues_row row target ≡ true → ⊥
 no_row None target e on = cc
 no_row (Some t) target e on = cc
 
@@ -63,29 +59,30 @@ no_row (Some t) target e on = cc
 same_rules : (mode : Mode) (retry : Retry) (lines : List TaskLine) → (mode.setup ≡ true) ⊎ ((mode.row ≡ None) ⊎ (mode.retry ≡ retry)) → SameRules retry (planned_of mode lines)
 same_rules mode retry [] h = tt
 same_rules mode retry (says.Command c now ∷ later) h =
-    by_setup mode.setup refl h (λ e. same_rules (behind mode (says.Command c now)) retry later (inl e)) (same_rules (behind mode (says.Command c now)) mode.retry later (inr (inr refl))) where
+    by_setup mode.setup refl h (λ e. same_rules (mode_after mode (says.Command c now)) retry later (inl e)) (same_rules (mode_after mode (says.Command c now)) mode.retry later (inr (inr refl))) where
       -- by the section
-      by_setup : (b : Bool) → mode.setup ≡ b → (mode.setup ≡ true) ⊎ ((mode.row ≡ None) ⊎ (mode.retry ≡ retry)) → (mode.setup ≡ true → SameRules retry (planned_of (behind mode (says.Command c now)) later))
-          → SameRules mode.retry (planned_of (behind mode (says.Command c now)) later)
-          → SameRules retry ((if b then [] else record { task = task_at mode c now; retry = mode.retry } ∷ []) ++ planned_of (behind mode (says.Command c now)) later)
+      by_setup : (b : Bool) → mode.setup ≡ b → (mode.setup ≡ true) ⊎ ((mode.row ≡ None) ⊎ (mode.retry ≡ retry))
+          → (mode.setup ≡ true → SameRules retry (planned_of (mode_after mode (says.Command c now)) later))
+          → SameRules mode.retry (planned_of (mode_after mode (says.Command c now)) later)
+          → SameRules retry ((if b then [] else record { task = task_at mode c now; retry = mode.retry } ∷ []) ++ planned_of (mode_after mode (says.Command c now)) later)
       by_setup true e h at_start in_cycle = at_start e
       by_setup false e (inl is) at_start in_cycle = let bad : true ≡ false = sym is ∙ e in cc
       by_setup false e (inr (inr is)) at_start in_cycle = ((λ on. is), in_cycle)
       by_setup false e (inr (inl is)) at_start in_cycle = (
         (λ on.
-            let so : (mode.chained && goes_on mode.row c.target) ≡ true = ap (λ b. if b then nat_lt 0 mode.begun else mode.chained && goes_on mode.row c.target) (sym e) ∙ on in
-            absurd (no_row mode.row c.target is (both_true mode.chained (goes_on mode.row c.target) so))),
+            let so : (mode.chained && continues_row mode.row c.target) ≡ true = ap (λ b. if b then nat_lt 0 mode.begun else mode.chained && continues_row mode.row c.target) (sym e) ∙ on in
+            absurd (no_row mode.row c.target is (and_parts mode.chained (continues_row mode.row c.target) so).1)),
         in_cycle,
       )
-same_rules mode retry (says.Deadline d ∷ later) h = same_rules (behind mode (says.Deadline d)) retry later h
-same_rules mode retry (says.Chained ∷ later) h = same_rules (behind mode says.Chained) retry later (inr (inl refl))
-same_rules mode retry (says.Unchained ∷ later) h = same_rules (behind mode says.Unchained) retry later (inr (inl refl))
-same_rules mode retry (says.Naming n ∷ later) h = same_rules (behind mode (says.Naming n)) retry later h
-same_rules mode retry (says.Standing n ∷ later) h = same_rules (behind mode (says.Standing n)) retry later h
-same_rules mode retry (says.Accepting cs ∷ later) h = same_rules (behind mode (says.Accepting cs)) retry later h
-same_rules mode retry (says.Retrying r ∷ later) h = same_rules (behind mode (says.Retrying r)) retry later (inr (inl refl))
-same_rules mode retry (says.AtStart ∷ later) h = same_rules (behind mode says.AtStart) retry later (inr (inl refl))
-same_rules mode retry (says.EachCycle ∷ later) h = same_rules (behind mode says.EachCycle) retry later (inr (inl refl))
+same_rules mode retry (says.Deadline d ∷ later) h = same_rules (mode_after mode (says.Deadline d)) retry later h
+same_rules mode retry (says.Chained ∷ later) h = same_rules (mode_after mode says.Chained) retry later (inr (inl refl))
+same_rules mode retry (says.Unchained ∷ later) h = same_rules (mode_after mode says.Unchained) retry later (inr (inl refl))
+same_rules mode retry (says.Naming n ∷ later) h = same_rules (mode_after mode (says.Naming n)) retry later h
+same_rules mode retry (says.Standing n ∷ later) h = same_rules (mode_after mode (says.Standing n)) retry later h
+same_rules mode retry (says.Accepting cs ∷ later) h = same_rules (mode_after mode (says.Accepting cs)) retry later h
+same_rules mode retry (says.Retrying r ∷ later) h = same_rules (mode_after mode (says.Retrying r)) retry later (inr (inl refl))
+same_rules mode retry (says.AtStart ∷ later) h = same_rules (mode_after mode says.AtStart) retry later (inr (inl refl))
+same_rules mode retry (says.EachCycle ∷ later) h = same_rules (mode_after mode says.EachCycle) retry later (inr (inl refl))
 
 module _ (nears : List Near) where
   -- the task of a command, with its place
@@ -97,7 +94,7 @@ module _ (nears : List Near) where
   made attempt again n ps = map (placed nears) (map (in_attempt attempt again n) ps)
 
   -- without the fields that distinguish attempts, the task of an attempt is the command's
-  said_one : (attempt : ℕ) (again : Again) (n : ℕ) (p : Planned) → IsSaid p → as_said (placed nears (in_attempt attempt again n p)) ≡ own p
+  said_one : (attempt : ℕ) (again : Again) (n : ℕ) (p : Planned) → IsAsItsLineSays p → as_said (placed nears (in_attempt attempt again n p)) ≡ own p
   said_one attempt again n p h =
       let near = near_of p.task.command.target nears in
       ap (λ a. record p.task { near = near; again = a; turn = record { place = p.task.turn.place; attempt = 1; link = p.task.turn.link }; others = 0 }) (sym h.again)
@@ -105,7 +102,7 @@ module _ (nears : List Near) where
       ∙ ap (λ k. record p.task { near = near; others = k }) (sym h.others)
 
   -- the same of all tasks of an attempt
-  said_all : (attempt : ℕ) (again : Again) (n : ℕ) (ps : List Planned) → AllByRecursion IsSaid ps → map as_said (made attempt again n ps) ≡ map own ps
+  said_all : (attempt : ℕ) (again : Again) (n : ℕ) (ps : List Planned) → AllByRecursion IsAsItsLineSays ps → map as_said (made attempt again n ps) ≡ map own ps
   said_all attempt again n [] all = refl
   said_all attempt again n (p ∷ ps) all = ap (λ t. t ∷ map as_said (made attempt again n ps)) (said_one attempt again n p all.0) ∙ ap (λ ts. own p ∷ ts) (said_all attempt again n ps all.1)
 
@@ -120,11 +117,12 @@ module _ (nears : List Near) where
   all_ruled attempt again n (p ∷ ps) = (refl, all_ruled attempt again n ps)
 
   -- an attempt is one
-  attempt_is : (attempt : ℕ) (again : Again) (n : ℕ) (ps : List Planned) → AllByRecursion IsSaid ps → IsAttempt attempt again (map own ps) (made attempt again n ps)
+  attempt_is : (attempt : ℕ) (again : Again) (n : ℕ) (ps : List Planned) → AllByRecursion IsAsItsLineSays ps → IsAttempt attempt again (map own ps) (made attempt again n ps)
   attempt_is attempt again n ps all = record { same = said_all attempt again n ps all; numbered = all_numbered attempt again n ps; ruled = all_ruled attempt again n ps }
 
   -- the attempts of a chain are its attempts
-  attempts_are : (attempt left : ℕ) (again : Again) (ps : List Planned) → AllByRecursion IsSaid ps → AreAttempts attempt left again (map own ps) (map (placed nears) (attempts_from attempt left again ps))
+  attempts_are : (attempt left : ℕ) (again : Again) (ps : List Planned) → AllByRecursion IsAsItsLineSays ps
+      → AreAttempts attempt left again (map own ps) (map (placed nears) (attempts_from attempt left again ps))
   attempts_are attempt zero again ps all = attempt_is attempt no_again (length ps) ps all
   attempts_are attempt (suc left) again ps all = (
     made attempt again (length ps * suc (suc left)) ps,
@@ -135,12 +133,13 @@ module _ (nears : List Near) where
   )
 
   -- one more of these
-  said_more : (ps : List Planned) (p : Planned) → AllByRecursion IsSaid ps → IsSaid p → AllByRecursion IsSaid (ps ++ p ∷ [])
+  said_more : (ps : List Planned) (p : Planned) → AllByRecursion IsAsItsLineSays ps → IsAsItsLineSays p → AllByRecursion IsAsItsLineSays (ps ++ p ∷ [])
   said_more [] p all is = (is, tt)
   said_more (q ∷ ps) p all is = (all.0, said_more ps p all.1 is)
 
   -- one more chained command
-  chained_more : (ps : List Planned) (p : Planned) → AllByRecursion (λ task. task.chained ≡ true) (map own ps) → p.task.chained ≡ true → AllByRecursion (λ task. task.chained ≡ true) (map own (ps ++ p ∷ []))
+  chained_more : (ps : List Planned) (p : Planned) → AllByRecursion (λ task. task.chained ≡ true) (map own ps) → p.task.chained ≡ true
+      → AllByRecursion (λ task. task.chained ≡ true) (map own (ps ++ p ∷ []))
   chained_more [] p all is = (is, tt)
   chained_more (q ∷ ps) p all is = (all.0, chained_more ps p all.1 is)
 
@@ -171,7 +170,7 @@ module _ (nears : List Near) where
   retry_more retry (q ∷ ps) p have is = (have.0, retry_more retry ps p have.1 is)
 
   -- a chain before chains
-  one_more : (retry : Retry) (chain later : List Planned) (tasks : List Task) → IsOneChain (map own chain) → AllByRecursion IsSaid chain → HaveRetry retry chain → Laid tasks later
+  one_more : (retry : Retry) (chain later : List Planned) (tasks : List Task) → IsOneChain (map own chain) → AllByRecursion IsAsItsLineSays chain → HaveRetry retry chain → Laid tasks later
       → Laid (map (placed nears) (attempts retry chain) ++ tasks) (chain ++ later)
   one_more retry chain later tasks one all have (chains, laid, are) = (
     record { retry = retry; commands = map own chain } ∷ chains,
@@ -184,31 +183,34 @@ module _ (nears : List Near) where
   none = ([], refl, refl)
 
   -- the attempts of a chain that was begun, and of those after it
-  laid_are : (retry : Retry) (first : Planned) (chain later : List Planned) → IsOneChain (map own (first ∷ chain)) → AllByRecursion IsSaid (first ∷ chain) → AllByRecursion IsSaid later → HaveRetry retry (first ∷ chain) → SameRules retry later
-      → Laid (map (placed nears) (laid_behind retry (first ∷ chain) later)) ((first ∷ chain) ++ later)
+  laid_are : (retry : Retry) (first : Planned) (chain later : List Planned) → IsOneChain (map own (first ∷ chain)) → AllByRecursion IsAsItsLineSays (first ∷ chain) → AllByRecursion IsAsItsLineSays later
+      → HaveRetry retry (first ∷ chain) → SameRules retry later
+      → Laid (map (placed nears) (laid_from retry (first ∷ chain) later)) ((first ∷ chain) ++ later)
   laid_are retry first chain [] one all rest have follow =
       subst (λ ts. Laid ts ((first ∷ chain) ++ [])) (append-nil (map (placed nears) (attempts retry (first ∷ chain)))) (one_more retry (first ∷ chain) [] [] one all have none)
   laid_are retry first chain (p ∷ later) one all rest have follow =
       by_chained p.task.chained refl
-      (λ e. laid_are retry first (chain ++ p ∷ []) later (one.0, chained_more chain p one.1 e) (all.0, said_more chain p all.1 rest.0) rest.1 (have.0, retry_more retry chain p have.1 (follow.0 e)) (subst (λ r. SameRules r later) (follow.0 e) follow.1))
+      (λ e. laid_are retry first (chain ++ p ∷ []) later (one.0, chained_more chain p one.1 e) (all.0, said_more chain p all.1 rest.0) rest.1
+      (have.0, retry_more retry chain p have.1 (follow.0 e)) (subst (λ r. SameRules r later) (follow.0 e) follow.1))
       (λ e. laid_are p.retry p [] later (e, tt) (rest.0, tt) rest.1 (refl, tt) follow.1) where
         -- by whether the next goes on with the chain
         by_chained : (b : Bool) → p.task.chained ≡ b
-            → (p.task.chained ≡ true → Laid (map (placed nears) (laid_behind retry (first ∷ (chain ++ p ∷ [])) later)) ((first ∷ (chain ++ p ∷ [])) ++ later))
-            → (p.task.chained ≡ false → Laid (map (placed nears) (laid_behind p.retry (p ∷ []) later)) (p ∷ later))
-            → Laid (map (placed nears) (if b then laid_behind retry ((first ∷ chain) ++ p ∷ []) later else attempts retry (first ∷ chain) ++ laid_behind p.retry (p ∷ []) later)) ((first ∷ chain) ++ p ∷ later)
-        by_chained true e on anew = subst (λ ps. Laid (map (placed nears) (laid_behind retry ((first ∷ chain) ++ p ∷ []) later)) ps) (append_assoc (first ∷ chain) (p ∷ []) later) (on e)
+            → (p.task.chained ≡ true → Laid (map (placed nears) (laid_from retry (first ∷ (chain ++ p ∷ [])) later)) ((first ∷ (chain ++ p ∷ [])) ++ later))
+            → (p.task.chained ≡ false → Laid (map (placed nears) (laid_from p.retry (p ∷ []) later)) (p ∷ later))
+            → Laid (map (placed nears) (if b then laid_from retry ((first ∷ chain) ++ p ∷ []) later else attempts retry (first ∷ chain)
+            ++ laid_from p.retry (p ∷ []) later)) ((first ∷ chain) ++ p ∷ later)
+        by_chained true e on anew = subst (λ ps. Laid (map (placed nears) (laid_from retry ((first ∷ chain) ++ p ∷ []) later)) ps) (append_assoc (first ∷ chain) (p ∷ []) later) (on e)
         by_chained false e on anew =
-            subst (λ ts. Laid ts ((first ∷ chain) ++ p ∷ later)) (sym (map-append (placed nears) (attempts retry (first ∷ chain)) (laid_behind p.retry (p ∷ []) later)))
-            (one_more retry (first ∷ chain) (p ∷ later) (map (placed nears) (laid_behind p.retry (p ∷ []) later)) one all have (anew e))
+            subst (λ ts. Laid ts ((first ∷ chain) ++ p ∷ later)) (sym (map-append (placed nears) (attempts retry (first ∷ chain)) (laid_from p.retry (p ∷ []) later)))
+            (one_more retry (first ∷ chain) (p ∷ later) (map (placed nears) (laid_from p.retry (p ∷ []) later)) one all have (anew e))
 
   -- the attempts of all chains
-  all_laid : (planned : List Planned) → InRows None planned → AllByRecursion IsSaid planned → SameRules no_retry planned → Laid (map (placed nears) (laid_out planned)) planned
+  all_laid : (planned : List Planned) → InRows None planned → AllByRecursion IsAsItsLineSays planned → SameRules no_retry planned → Laid (map (placed nears) (laid_out planned)) planned
   all_laid [] are all follow = none
   all_laid (p ∷ later) are all follow = by_chained p.task.chained refl (λ e. laid_are p.retry p [] later (e, tt) (all.0, tt) all.1 (refl, tt) follow.1) where
     -- the first isn't chained
-    by_chained : (b : Bool) → p.task.chained ≡ b → (p.task.chained ≡ false → Laid (map (placed nears) (laid_behind p.retry (p ∷ []) later)) (p ∷ later))
-        → Laid (map (placed nears) (if b then laid_behind no_retry ([] ++ p ∷ []) later else attempts no_retry [] ++ laid_behind p.retry (p ∷ []) later)) (p ∷ later)
+    by_chained : (b : Bool) → p.task.chained ≡ b → (p.task.chained ≡ false → Laid (map (placed nears) (laid_from p.retry (p ∷ []) later)) (p ∷ later))
+        → Laid (map (placed nears) (if b then laid_from no_retry ([] ++ p ∷ []) later else attempts no_retry [] ++ laid_from p.retry (p ∷ []) later)) (p ∷ later)
     by_chained true e anew = let bad : None ≡ Some p.task.command.target = are.0 e in cc
     by_chained false e anew = anew e
 

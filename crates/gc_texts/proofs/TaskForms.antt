@@ -8,8 +8,8 @@ use Rattle.gc_values.proofs.DecimalLaws.{spells_unique}
 use Rattle.gc_texts.specs.Cuts.{Cuts, before, behind}
 use Rattle.gc_texts.specs.Names.{is_name}
 use Rattle.gc_texts.specs.Procedures.{IsNumber}
-use Rattle.gc_texts.specs.Nears.{AreWords, IsNearText}
-use Rattle.gc_texts.specs.TaskLines.{IsDeadline, IsNaming, IsStanding, IsAccepting, IsAsking, IsTaskLine}
+use Rattle.gc_texts.specs.Nears.{AreNearWords, IsNearText}
+use Rattle.gc_texts.specs.TaskLines.{IsDeadline, IsNameLine, IsNearLine, SetsAccepted, IsAsking, IsTaskLine}
 use Rattle.gc_texts.specs.Wishes.{AsksFor}
 use Rattle.gc_texts.specs.declared.codes.Codes.{Codes}
 use Rattle.gc_texts.specs.declared.wish.Wish.{Wish}
@@ -36,7 +36,7 @@ no_zero line rest n e number zero deadline is =
     omega (arith, same, zero, is.some)
 
 -- the parts of a line that gives a target a name
-module _ (line rest : List ℕ) (name : Name) (e : line ≡ codes "name " ++ rest) (is : IsNaming line name) where
+module _ (line rest : List ℕ) (name : Name) (e : line ≡ codes "name " ++ rest) (is : IsNameLine line name) where
   -- what follows `name ` is the target, a space and the name
   the_rest : rest ≡ is.target_text ++ 32 ∷ name.text.items
   the_rest = append_cancel_left (codes "name ") rest (is.target_text ++ 32 ∷ name.text.items) (sym e ∙ is.line_is)
@@ -86,7 +86,8 @@ kind_in line = first_kind (get_or line 0 0)
 -- a line that begins with a digit is of the kind of a command (0)
 digit_kind : (b : ℕ) → b ≤ 57 → first_kind b ≡ 0
 digit_kind b low =
-    ap (λ t. cond t 1 (if b == 99 then 2 else if b == 117 then 3 else if b == 110 then 4 else if b == 97 then 5 else if b == 114 then 6 else if b == 101 then 7 else 0)) (ne_eqb b 100 (λ e. omega (arith, e, low)))
+    ap (λ t. cond t 1 (if b == 99 then 2 else if b == 117 then 3 else if b == 110 then 4 else if b == 97 then 5 else if b == 114 then 6 else if b == 101 then 7 else 0))
+    (ne_eqb b 100 (λ e. omega (arith, e, low)))
     ∙ ap (λ t. cond t 2 (if b == 117 then 3 else if b == 110 then 4 else if b == 97 then 5 else if b == 114 then 6 else if b == 101 then 7 else 0)) (ne_eqb b 99 (λ e. omega (arith, e, low)))
     ∙ ap (λ t. cond t 3 (if b == 110 then 4 else if b == 97 then 5 else if b == 114 then 6 else if b == 101 then 7 else 0)) (ne_eqb b 117 (λ e. omega (arith, e, low)))
     ∙ ap (λ t. cond t 4 (if b == 97 then 5 else if b == 114 then 6 else if b == 101 then 7 else 0)) (ne_eqb b 110 (λ e. omega (arith, e, low)))
@@ -130,7 +131,7 @@ same_name : (m n : Name) → m.target ≡ n.target → m.text.items ≡ n.text.i
 same_name m n e f = ap (λ t. record { target = t; text = m.text }) e ∙ ap (λ xs. record { target = n.target; text = record { items = xs } }) f
 
 -- a line gives one name at most
-one_naming : (line : List ℕ) (m n : Name) → IsNaming line m → IsNaming line n → m ≡ n
+one_naming : (line : List ℕ) (m n : Name) → IsNameLine line m → IsNameLine line n → m ≡ n
 one_naming line m n x y =
     let parts = one_front 32 x.target_text y.target_text m.text.items n.text.items
     (append_cancel_left (codes "name ") (x.target_text ++ 32 ∷ m.text.items) (y.target_text ++ 32 ∷ n.text.items) (sym x.line_is ∙ y.line_is))
@@ -146,13 +147,13 @@ same_near m n e f g h =
     ∙ ap (λ z. record { target = n.target; place = n.place; tolerance = z }) h
 
 -- four words say one place at most
-one_near : (target hz v tolerance : List ℕ) (m n : Near) → AreWords target hz v tolerance m → AreWords target hz v tolerance n → m ≡ n
+one_near : (target hz v tolerance : List ℕ) (m n : Near) → AreNearWords target hz v tolerance m → AreNearWords target hz v tolerance n → m ≡ n
 one_near target hz v tolerance m n x y =
     same_near m n (one_number target m.target n.target 4294967295 x.target_is y.target_is)
     (spells_unique hz m.place.hz n.place.hz x.hz_is y.hz_is) (spells_unique v m.place.v n.place.v x.v_is y.v_is) (spells_unique tolerance m.tolerance n.tolerance x.tolerance_is y.tolerance_is)
 
 -- a line gives one place at most
-one_standing : (line : List ℕ) (m n : Near) → IsStanding line m → IsStanding line n → m ≡ n
+one_standing : (line : List ℕ) (m n : Near) → IsNearLine line m → IsNearLine line n → m ≡ n
 one_standing line m n x y =
     one_near (before 32 y.rest) (before 32 (behind 32 y.rest)) (before 32 (behind 32 (behind 32 y.rest))) (behind 32 (behind 32 (behind 32 y.rest))) m n
     (subst (λ (r : List ℕ). IsNearText r m) (append_cancel_left (codes "near ") x.rest y.rest (sym x.line_is ∙ y.line_is)) x.near_is) y.near_is
@@ -160,20 +161,20 @@ one_standing line m n x y =
 -- where a line is `near ` and `rest`, and `r` is the place that `rest` says, or `None` where it says none, `r` is the place
 -- that the line says, too
 pub stands_so : (line rest : List ℕ) (r : Option Near) → line ≡ codes "near " ++ rest → MatchOption r ((near : Near) → IsNearText rest near → ⊥) (λ near. IsNearText rest near)
-    → MatchOption r ((near : Near) → IsStanding line near → ⊥) (λ near. IsStanding line near)
+    → MatchOption r ((near : Near) → IsNearLine line near → ⊥) (λ near. IsNearLine line near)
 stands_so line rest None e none = λ near is. none near (subst (λ (r : List ℕ). IsNearText r near) (append_cancel_left (codes "near ") is.rest rest (sym is.line_is ∙ e)) is.near_is)
 stands_so line rest (Some near) e is = record { rest = rest; line_is = e; near_is = is }
 
 -- no line both gives a target a name (`name `) and says where a target is (`near `)
-never_both : (line : List ℕ) (name : Name) (near : Near) → IsNaming line name → IsStanding line near → ⊥
-never_both line name near x y =
+name_is_no_near : (line : List ℕ) (name : Name) (near : Near) → IsNameLine line name → IsNearLine line near → ⊥
+name_is_no_near line name near x y =
     let second : ◌≡◌ {A = ℕ} 97 101 = ap (λ bs. get_or bs 1 0) (sym x.line_is ∙ y.line_is) in
     omega (arith, second)
 
 -- no line both says which codes are accepted (`accept`) and begins the set-up (`at start`)
-never_start : (line : List ℕ) (accepted : Codes) → IsAccepting line accepted → line ≡ codes "at start" → ⊥
-never_start line accepted (inl alone) e = let second : ◌≡◌ {A = ℕ} 99 116 = ap (λ bs. get_or bs 1 0) (sym alone.0 ∙ e) in omega (arith, second)
-never_start line accepted (inr is) e = let second : ◌≡◌ {A = ℕ} 99 116 = ap (λ bs. get_or bs 1 0) (sym is.line_is ∙ e) in omega (arith, second)
+accept_is_no_start : (line : List ℕ) (accepted : Codes) → SetsAccepted line accepted → line ≡ codes "at start" → ⊥
+accept_is_no_start line accepted (inl alone) e = let second : ◌≡◌ {A = ℕ} 99 116 = ap (λ bs. get_or bs 1 0) (sym alone.0 ∙ e) in omega (arith, second)
+accept_is_no_start line accepted (inr is) e = let second : ◌≡◌ {A = ℕ} 99 116 = ap (λ bs. get_or bs 1 0) (sym is.line_is ∙ e) in omega (arith, second)
 
 -- a line asks for one thing at most, and either with the moment at which it is sent or without
 one_asked_for : (line : List ℕ) (v w : Wish) (m n : Bool) → IsAsking line v m → IsAsking line w n → says.Command v m ≡ says.Command w n
@@ -194,10 +195,10 @@ same_said line (says.Accepting a) (says.Accepting b) x y h = ap says.Accepting (
 same_said line (says.Retrying a) (says.Retrying b) x y h = ap says.Retrying (one_retrying line a b x y)
 same_said line says.AtStart says.AtStart x y h = refl
 same_said line says.EachCycle says.EachCycle x y h = refl
-same_said line (says.Accepting a) says.AtStart x y h = absurd (never_start line a x y)
-same_said line says.AtStart (says.Accepting a) x y h = absurd (never_start line a y x)
-same_said line (says.Naming m) (says.Standing n) x y h = absurd (never_both line m n x y)
-same_said line (says.Standing m) (says.Naming n) x y h = absurd (never_both line n m y x)
+same_said line (says.Accepting a) says.AtStart x y h = absurd (accept_is_no_start line a x y)
+same_said line says.AtStart (says.Accepting a) x y h = absurd (accept_is_no_start line a y x)
+same_said line (says.Naming m) (says.Standing n) x y h = absurd (name_is_no_near line m n x y)
+same_said line (says.Standing m) (says.Naming n) x y h = absurd (name_is_no_near line n m y x)
 same_said line a b x y h = absurd (omega (arith, h))
 
 -- a line says one thing at most

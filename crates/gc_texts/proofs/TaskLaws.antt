@@ -5,27 +5,27 @@ use Rattle.std.proofs.Common.{arith, subst, length, ◌+◌, ◌*◌, zero, suc,
 use Rattle.std.specs.Prelude.{filter}
 use Rattle.std.specs.List.{AllByRecursion}
 use Rattle.std.proofs.lemmas.List.{length-map, map-append}
-use Rattle.std.proofs.lemmas.Bool.{eqb-true}
+use Rattle.std.proofs.lemmas.Bool.{eqb-true, and_parts}
 use Rattle.std.proofs.lemmas.Bool.Decides.{nat_tests}
 use Rattle.gc_texts.specs.Again.{no_again}
 use Rattle.gc_texts.specs.Codes.{no_codes}
 use Rattle.gc_texts.specs.Commands.{IsCommand}
 use Rattle.gc_texts.specs.Laws.{OneTaskList, CommandsAreTasks, plain_tasks, CommandsArePlain, AreRows, IsOneChain, ChainsAreRows}
-use Rattle.gc_texts.specs.Attempts.{in_attempt, attempts_from, attempts, laid_behind, laid_out}
+use Rattle.gc_texts.specs.Attempts.{in_attempt, attempts_from, attempts, laid_from, laid_out}
 use Rattle.gc_texts.specs.Retries.{no_retry}
 use Rattle.gc_texts.specs.declared.again.Again.{Again}
 use Rattle.gc_texts.specs.declared.retry.Retry.{Retry}
-use Rattle.gc_texts.specs.declared.tasks.Planned.{Planned}
+use Rattle.gc_texts.specs.declared.attempts.Planned.{Planned}
 use Rattle.gc_texts.specs.LineForms.{is_kept, text_lines, AreItems}
 use Rattle.gc_texts.specs.TaskLines.{IsTaskLine}
-use Rattle.gc_texts.specs.Tasks.{opening, behind, goes_on, task_at, setup_of, planned_of, tasks_of, names_of, nears_of, placed, MayFollow}
+use Rattle.gc_texts.specs.Tasks.{opening, mode_after, continues_row, task_at, setup_of, planned_of, tasks_of, names_of, nears_of, placed, MayFollow}
 use Rattle.gc_texts.specs.Wishes.{wish_of}
 use Rattle.gc_texts.specs.declared.commands.Command.{Command}
 use Rattle.gc_texts.specs.declared.name.Name.{Name}
 use Rattle.gc_texts.specs.declared.near.Near.{Near}
 use Rattle.gc_texts.specs.declared.task_line.TaskLine.{TaskLine}
 use Rattle.gc_texts.specs.declared.task_line.TaskLine.TheVariants as says
-use Rattle.gc_texts.specs.declared.tasks.Mode.{Mode}
+use Rattle.gc_texts.specs.declared.mode.Mode.{Mode}
 use Rattle.gc_texts.specs.declared.tasks.Task.{Task}
 use Rattle.gc_texts.proofs.OneReading.{one_list}
 use Rattle.gc_texts.proofs.TaskForms.{one_said}
@@ -75,41 +75,41 @@ record IsFirst (task : Task) : Type 0 where
   others : task.others ≡ 0
 
 -- a command whose chain is sent once
-record IsOnce (planned : Planned) : Type 0 where
+record IsSentOnce (planned : Planned) : Type 0 where
   retry : planned.retry ≡ no_retry
   first : IsFirst planned.task
 
 -- the first attempt of such a command is its task
-once : (n : ℕ) (p : Planned) → IsOnce p → in_attempt 1 no_again n p ≡ p.task
-once n p h =
+first_attempt_is_task : (n : ℕ) (p : Planned) → IsSentOnce p → in_attempt 1 no_again n p ≡ p.task
+first_attempt_is_task n p h =
     ap (λ a. record p.task { again = a; turn = record { place = p.task.turn.place; attempt = 1; link = p.task.turn.link }; others = 0 }) (sym h.first.again)
     ∙ ap (λ k. record p.task { turn = record { place = p.task.turn.place; attempt = k; link = p.task.turn.link }; others = 0 }) (sym h.first.attempt)
     ∙ ap (λ k. record p.task { others = k }) (sym h.first.others)
 
 -- the first attempt of such commands is their tasks
-once_all : (n : ℕ) (ps : List Planned) → AllByRecursion IsOnce ps → map (in_attempt 1 no_again n) ps ≡ map (λ p. p.task) ps
+once_all : (n : ℕ) (ps : List Planned) → AllByRecursion IsSentOnce ps → map (in_attempt 1 no_again n) ps ≡ map (λ p. p.task) ps
 once_all n [] all = refl
-once_all n (p ∷ ps) all = ap (λ t. t ∷ map (in_attempt 1 no_again n) ps) (once n p all.0) ∙ ap (λ ts. p.task ∷ ts) (once_all n ps all.1)
+once_all n (p ∷ ps) all = ap (λ t. t ∷ map (in_attempt 1 no_again n) ps) (first_attempt_is_task n p all.0) ∙ ap (λ ts. p.task ∷ ts) (once_all n ps all.1)
 
 -- one more such command
-once_more : (ps : List Planned) (p : Planned) → AllByRecursion IsOnce ps → IsOnce p → AllByRecursion IsOnce (ps ++ p ∷ [])
+once_more : (ps : List Planned) (p : Planned) → AllByRecursion IsSentOnce ps → IsSentOnce p → AllByRecursion IsSentOnce (ps ++ p ∷ [])
 once_more [] p all is = (is, tt)
 once_more (q ∷ ps) p all is = (all.0, once_more ps p all.1 is)
 
 -- where all chains are sent once, their attempts are the commands' tasks
-laid_once : (retry : Retry) (chain later : List Planned) → retry ≡ no_retry → AllByRecursion IsOnce chain → AllByRecursion IsOnce later
-    → laid_behind retry chain later ≡ map (λ p. p.task) chain ++ map (λ p. p.task) later
+laid_once : (retry : Retry) (chain later : List Planned) → retry ≡ no_retry → AllByRecursion IsSentOnce chain → AllByRecursion IsSentOnce later
+    → laid_from retry chain later ≡ map (λ p. p.task) chain ++ map (λ p. p.task) later
 laid_once retry chain [] none all rest = ap (λ r. attempts r chain) none ∙ once_all (length chain) chain all ∙ sym (append-nil (map (λ p. p.task) chain))
 laid_once retry chain (p ∷ later) none all rest =
     by_chained (laid_once retry (chain ++ p ∷ []) later none (once_more chain p all rest.0) rest.1) (laid_once p.retry (p ∷ []) later rest.0.retry (rest.0, tt) rest.1) p.task.chained where
       -- by whether the next goes on with the chain
-      by_chained : laid_behind retry (chain ++ p ∷ []) later ≡ map (λ q. q.task) (chain ++ p ∷ []) ++ map (λ q. q.task) later
-          → laid_behind p.retry (p ∷ []) later ≡ p.task ∷ map (λ q. q.task) later → (b : Bool)
-          → (if b then laid_behind retry (chain ++ p ∷ []) later else attempts retry chain ++ laid_behind p.retry (p ∷ []) later) ≡ map (λ q. q.task) chain ++ p.task ∷ map (λ q. q.task) later
+      by_chained : laid_from retry (chain ++ p ∷ []) later ≡ map (λ q. q.task) (chain ++ p ∷ []) ++ map (λ q. q.task) later
+          → laid_from p.retry (p ∷ []) later ≡ p.task ∷ map (λ q. q.task) later → (b : Bool)
+          → (if b then laid_from retry (chain ++ p ∷ []) later else attempts retry chain ++ laid_from p.retry (p ∷ []) later) ≡ map (λ q. q.task) chain ++ p.task ∷ map (λ q. q.task) later
       by_chained on anew true =
           on ∙ ap (λ ts. ts ++ map (λ q. q.task) later) (map-append (λ q. q.task) chain (p ∷ [])) ∙ append_assoc (map (λ q. q.task) chain) (p.task ∷ []) (map (λ q. q.task) later)
       by_chained on anew false =
-          ap (λ r. attempts r chain ++ laid_behind p.retry (p ∷ []) later) none ∙ ap (λ ts. ts ++ laid_behind p.retry (p ∷ []) later) (once_all (length chain) chain all)
+          ap (λ r. attempts r chain ++ laid_from p.retry (p ∷ []) later) none ∙ ap (λ ts. ts ++ laid_from p.retry (p ∷ []) later) (once_all (length chain) chain all)
           ∙ ap (λ ts. map (λ q. q.task) chain ++ ts) anew
 
 -- tasks without places stay as they are where the text says no place
@@ -126,7 +126,7 @@ module _ (deadline : ℕ) (chained : Bool) where
 
   -- how far the chain of the next command for a target is
   abbrev next_link : Option ℕ → ℕ → ℕ → ℕ
-  next_link row link target = (if chained && goes_on row target then link else 0) + 1
+  next_link row link target = (if chained && continues_row row target then link else 0) + 1
 
   -- there is no set-up
   no_setup : (row : Option ℕ) (place link : ℕ) (commands : List Command) → setup_of (at row place link) (asks commands) ≡ []
@@ -134,7 +134,7 @@ module _ (deadline : ℕ) (chained : Bool) where
   no_setup row place link (c ∷ cs) = no_setup (Some c.target) (place + 1) (next_link row link c.target) cs
 
   -- each is sent once
-  all_once : (row : Option ℕ) (place link : ℕ) (commands : List Command) → AllByRecursion IsOnce (planned_of (at row place link) (asks commands))
+  all_once : (row : Option ℕ) (place link : ℕ) (commands : List Command) → AllByRecursion IsSentOnce (planned_of (at row place link) (asks commands))
   all_once row place link [] = tt
   all_once row place link (c ∷ cs) =
       (record { retry = refl; first = record { near = refl; again = refl; attempt = refl; others = refl } }, all_once (Some c.target) (place + 1) (next_link row link c.target) cs)
@@ -155,7 +155,8 @@ module _ (deadline : ℕ) (chained : Bool) where
   tasks_are_asked commands =
       let planned = planned_of (opening deadline chained) (asks commands) in
       let laid : laid_out planned ≡ map (λ p. p.task) planned = laid_once no_retry [] planned refl tt (all_once None 0 0 commands) in
-      sym (unplaced (map (λ p. p.task) planned) (none_placed None 0 0 commands)) ∙ ap (map (placed [])) (sym laid) ∙ ap (λ ts. map (placed []) (ts ++ laid_out planned)) (sym (no_setup None 0 0 commands))
+      sym (unplaced (map (λ p. p.task) planned) (none_placed None 0 0 commands)) ∙ ap (map (placed [])) (sym laid)
+      ∙ ap (λ ts. map (placed []) (ts ++ laid_out planned)) (sym (no_setup None 0 0 commands))
 
 -- the law: each command text is a station's text
 pub commands_are_tasks : CommandsAreTasks
@@ -173,10 +174,22 @@ commands_are_tasks text commands deadline chained are = (
 )
 
 -- where commands aren't chained, each gives a task that isn't chained either, with the deadline `deadline`
-plain : (deadline : ℕ) (row : Option ℕ) (place link : ℕ) (commands : List Command) → plain_tasks deadline place commands ≡ map (λ p. p.task) (planned_of (at deadline false row place link) (asks commands))
+plain : (deadline : ℕ) (row : Option ℕ) (place link : ℕ) (commands : List Command)
+    → plain_tasks deadline place commands ≡ map (λ p. p.task) (planned_of (at deadline false row place link) (asks commands))
 plain deadline row place link [] = refl
 plain deadline row place link (c ∷ cs) =
-    ap (λ l. record { command = wish_of c; deadline = deadline; chained = false; near = None; accepted = no_codes; again = no_again; turn = record { place = place; attempt = 1; link = 0 }; others = 0; now = false } ∷ l)
+    ap (λ l. record {
+      command = wish_of c;
+      deadline = deadline;
+      chained = false;
+      near = None;
+      accepted = no_codes;
+      again = no_again;
+      turn = record
+          { place = place; attempt = 1; link = 0 };
+      others = 0;
+      now = false;
+    } ∷ l)
     (plain deadline (Some c.target) (place + 1) 1 cs)
 
 -- the law: a command text, read as a station's text without chains, gives one task for each command, not chained and with the
@@ -192,15 +205,10 @@ commands_are_plain text commands deadline are =
       nears_are = asked_nears commands;
     }
 
--- where `a && b` is true, b is
-both_true : (a b : Bool) → (a && b) ≡ true → b ≡ true
-both_true true b e = e
-both_true false b e = cc
-
 -- a row that a command for a target continues is the row of that target
-row_is : (row : Option ℕ) (target : ℕ) → goes_on row target ≡ true → row ≡ Some target
-row_is None target e = cc
-row_is (Some before) target e = ap Some (eqb-true before target e)
+pub continued_row : (row : Option ℕ) (target : ℕ) → continues_row row target ≡ true → row ≡ Some target
+continued_row None target e = cc
+continued_row (Some before) target e = ap Some (eqb-true before target e)
 
 -- `before` is the target of the task before, if there is one. Where the row is none or that target, and it is `target`, the
 -- task before is for `target`
@@ -217,28 +225,29 @@ InRows before planned = AreRows before (map (λ p. p.task) planned)
 pub rows : (mode : Mode) (before : Option ℕ) (said : List TaskLine) → (mode.setup ≡ true) ⊎ ((mode.row ≡ None) ⊎ (mode.row ≡ before)) → InRows before (planned_of mode said)
 rows mode before [] h = tt
 rows mode before (says.Command c now ∷ later) h =
-    by_setup mode.setup refl h (λ e. rows (behind mode (says.Command c now)) before later (inl e)) (rows (behind mode (says.Command c now)) (Some c.target) later (inr (inr refl))) where
+    by_setup mode.setup refl h (λ e. rows (mode_after mode (says.Command c now)) before later (inl e)) (rows (mode_after mode (says.Command c now)) (Some c.target) later (inr (inr refl))) where
       -- by the section
-      by_setup : (b : Bool) → mode.setup ≡ b → (mode.setup ≡ true) ⊎ ((mode.row ≡ None) ⊎ (mode.row ≡ before)) → (mode.setup ≡ true → InRows before (planned_of (behind mode (says.Command c now)) later))
-          → InRows (Some c.target) (planned_of (behind mode (says.Command c now)) later)
-          → InRows before ((if b then [] else record { task = task_at mode c now; retry = mode.retry } ∷ []) ++ planned_of (behind mode (says.Command c now)) later)
+      by_setup : (b : Bool) → mode.setup ≡ b → (mode.setup ≡ true) ⊎ ((mode.row ≡ None) ⊎ (mode.row ≡ before))
+          → (mode.setup ≡ true → InRows before (planned_of (mode_after mode (says.Command c now)) later))
+          → InRows (Some c.target) (planned_of (mode_after mode (says.Command c now)) later)
+          → InRows before ((if b then [] else record { task = task_at mode c now; retry = mode.retry } ∷ []) ++ planned_of (mode_after mode (says.Command c now)) later)
       by_setup true e h at_start in_cycle = at_start e
       by_setup false e (inl is) at_start in_cycle = let bad : true ≡ false = sym is ∙ e in cc
       by_setup false e (inr is) at_start in_cycle = (
         (λ on.
-            let so : (mode.chained && goes_on mode.row c.target) ≡ true = ap (λ b. if b then nat_lt 0 mode.begun else mode.chained && goes_on mode.row c.target) (sym e) ∙ on in
-            row_before mode.row before c.target is (row_is mode.row c.target (both_true mode.chained (goes_on mode.row c.target) so))),
+            let so : (mode.chained && continues_row mode.row c.target) ≡ true = ap (λ b. if b then nat_lt 0 mode.begun else mode.chained && continues_row mode.row c.target) (sym e) ∙ on in
+            row_before mode.row before c.target is (continued_row mode.row c.target (and_parts mode.chained (continues_row mode.row c.target) so).1)),
         in_cycle,
       )
-rows mode before (says.Deadline d ∷ later) h = rows (behind mode (says.Deadline d)) before later h
-rows mode before (says.Chained ∷ later) h = rows (behind mode says.Chained) before later (inr (inl refl))
-rows mode before (says.Unchained ∷ later) h = rows (behind mode says.Unchained) before later (inr (inl refl))
+rows mode before (says.Deadline d ∷ later) h = rows (mode_after mode (says.Deadline d)) before later h
+rows mode before (says.Chained ∷ later) h = rows (mode_after mode says.Chained) before later (inr (inl refl))
+rows mode before (says.Unchained ∷ later) h = rows (mode_after mode says.Unchained) before later (inr (inl refl))
 rows mode before (says.Naming n ∷ later) h = rows mode before later h
 rows mode before (says.Standing n ∷ later) h = rows mode before later h
-rows mode before (says.Accepting cs ∷ later) h = rows (behind mode (says.Accepting cs)) before later h
-rows mode before (says.Retrying r ∷ later) h = rows (behind mode (says.Retrying r)) before later (inr (inl refl))
-rows mode before (says.AtStart ∷ later) h = rows (behind mode says.AtStart) before later (inr (inl refl))
-rows mode before (says.EachCycle ∷ later) h = rows (behind mode says.EachCycle) before later (inr (inl refl))
+rows mode before (says.Accepting cs ∷ later) h = rows (mode_after mode (says.Accepting cs)) before later h
+rows mode before (says.Retrying r ∷ later) h = rows (mode_after mode (says.Retrying r)) before later (inr (inl refl))
+rows mode before (says.AtStart ∷ later) h = rows (mode_after mode says.AtStart) before later (inr (inl refl))
+rows mode before (says.EachCycle ∷ later) h = rows (mode_after mode says.EachCycle) before later (inr (inl refl))
 
 -- rows of which the first isn't chained follow anything
 rows_behind : (before : Option ℕ) (tasks : List Task) → AreRows None tasks → AreRows before tasks
@@ -247,8 +256,8 @@ rows_behind before (t ∷ ts) are = ((λ e. let bad : None ≡ Some t.command.ta
 
 -- rows, and after them rows of which the first isn't chained, are rows
 rows_both : (before : Option ℕ) (xs ys : List Task) → AreRows before xs → AreRows None ys → AreRows before (xs ++ ys)
-rows_both before [] ys first behind = rows_behind before ys behind
-rows_both before (x ∷ xs) ys first behind = (first.0, rows_both (Some x.command.target) xs ys first.1 behind)
+rows_both before [] ys first mode_after = rows_behind before ys mode_after
+rows_both before (x ∷ xs) ys first mode_after = (first.0, rows_both (Some x.command.target) xs ys first.1 mode_after)
 
 -- an attempt of commands in rows is in rows
 attempt_rows : (attempt : ℕ) (again : Again) (n : ℕ) (before : Option ℕ) (ps : List Planned) → InRows before ps → AreRows before (map (in_attempt attempt again n) ps)
@@ -283,17 +292,17 @@ not_chained true row e f = cc
 not_chained false row e f = cc
 
 -- the attempts of a chain that was begun, and of those after it, are in rows
-laid_rows : (retry : Retry) (chain later : List Planned) → InRows None chain → InRows (last_of None chain) later → AreRows None (laid_behind retry chain later)
+laid_rows : (retry : Retry) (chain later : List Planned) → InRows None chain → InRows (last_of None chain) later → AreRows None (laid_from retry chain later)
 laid_rows retry chain [] are more = attempts_rows 1 retry.times retry.again chain are
 laid_rows retry chain (p ∷ later) are more =
     by_chained p.task.chained refl
     (laid_rows retry (chain ++ p ∷ []) later (rows_more None chain p are more.0) (subst (λ t. InRows t later) (sym (last_more None chain p)) more.1))
     (λ e. laid_rows p.retry (p ∷ []) later (not_chained p.task.chained (Some p.task.command.target) e, tt) more.1) where
       -- by whether the next goes on with the chain
-      by_chained : (b : Bool) → p.task.chained ≡ b → AreRows None (laid_behind retry (chain ++ p ∷ []) later) → (p.task.chained ≡ false → AreRows None (laid_behind p.retry (p ∷ []) later))
-          → AreRows None (if b then laid_behind retry (chain ++ p ∷ []) later else attempts retry chain ++ laid_behind p.retry (p ∷ []) later)
+      by_chained : (b : Bool) → p.task.chained ≡ b → AreRows None (laid_from retry (chain ++ p ∷ []) later) → (p.task.chained ≡ false → AreRows None (laid_from p.retry (p ∷ []) later))
+          → AreRows None (if b then laid_from retry (chain ++ p ∷ []) later else attempts retry chain ++ laid_from p.retry (p ∷ []) later)
       by_chained true e on anew = on
-      by_chained false e on anew = rows_both None (attempts retry chain) (laid_behind p.retry (p ∷ []) later) (attempts_rows 1 retry.times retry.again chain are) (anew e)
+      by_chained false e on anew = rows_both None (attempts retry chain) (laid_from p.retry (p ∷ []) later) (attempts_rows 1 retry.times retry.again chain are) (anew e)
 
 -- giving tasks their places changes neither which are chained nor for which target they are, so rows stay rows
 placed_rows : (nears : List Near) (before : Option ℕ) (tasks : List Task) → AreRows before tasks → AreRows before (map (placed nears) tasks)
@@ -301,14 +310,14 @@ placed_rows nears before [] are = tt
 placed_rows nears before (task ∷ later) are = (are.0, placed_rows nears (Some task.command.target) later are.1)
 
 -- these tasks go on with a chain, or begin one where none is in front
-abbrev GoOn : ℕ → List Task → Type 0
-GoOn zero tasks = IsOneChain tasks
-GoOn (suc n) tasks = AllByRecursion (λ task. task.chained ≡ true) tasks
+abbrev ContinueChain : ℕ → List Task → Type 0
+ContinueChain zero tasks = IsOneChain tasks
+ContinueChain (suc n) tasks = AllByRecursion (λ task. task.chained ≡ true) tasks
 
 -- one more command goes on with the chain
-goes_first : (n : ℕ) (task : Task) (later : List Task) → task.chained ≡ nat_lt 0 n → GoOn (n + 1) later → GoOn n (task ∷ later)
-goes_first zero task later is more = (is, more)
-goes_first (suc n) task later is more = (is ∙ above n, subst (λ k. GoOn k later) (two n) more) where
+chain_continued : (n : ℕ) (task : Task) (later : List Task) → task.chained ≡ nat_lt 0 n → ContinueChain (n + 1) later → ContinueChain n (task ∷ later)
+chain_continued zero task later is more = (is, more)
+chain_continued (suc n) task later is more = (is ∙ above n, subst (λ k. ContinueChain k later) (two n) more) where
   -- a successor is above 0
   above : (n : ℕ) → nat_lt 0 (suc n) ≡ true
   above n = grind (arith, nat_tests)
@@ -318,30 +327,30 @@ goes_first (suc n) task later is more = (is ∙ above n, subst (λ k. GoOn k lat
   two n = omega arith
 
 -- the set-up is one chain
-setup_chain : (nears : List Near) (mode : Mode) (said : List TaskLine) → GoOn mode.begun (map (placed nears) (setup_of mode said))
+setup_chain : (nears : List Near) (mode : Mode) (said : List TaskLine) → ContinueChain mode.begun (map (placed nears) (setup_of mode said))
 setup_chain nears mode [] = none mode.begun where
   -- no task
-  none : (n : ℕ) → GoOn n []
+  none : (n : ℕ) → ContinueChain n []
   none zero = tt
   none (suc n) = tt
-setup_chain nears mode (says.Command c now ∷ later) = by_setup mode.setup refl (setup_chain nears (behind mode (says.Command c now)) later) where
+setup_chain nears mode (says.Command c now ∷ later) = by_setup mode.setup refl (setup_chain nears (mode_after mode (says.Command c now)) later) where
   -- by the section
-  by_setup : (b : Bool) → mode.setup ≡ b → GoOn (behind mode (says.Command c now)).begun (map (placed nears) (setup_of (behind mode (says.Command c now)) later))
-      → GoOn mode.begun (map (placed nears) ((if b then task_at mode c now ∷ [] else []) ++ setup_of (behind mode (says.Command c now)) later))
+  by_setup : (b : Bool) → mode.setup ≡ b → ContinueChain (mode_after mode (says.Command c now)).begun (map (placed nears) (setup_of (mode_after mode (says.Command c now)) later))
+      → ContinueChain mode.begun (map (placed nears) ((if b then task_at mode c now ∷ [] else []) ++ setup_of (mode_after mode (says.Command c now)) later))
   by_setup true e more =
-      goes_first mode.begun (placed nears (task_at mode c now)) (map (placed nears) (setup_of (behind mode (says.Command c now)) later))
-      (ap (λ b. if b then nat_lt 0 mode.begun else mode.chained && goes_on mode.row c.target) e)
-      (subst (λ n. GoOn n (map (placed nears) (setup_of (behind mode (says.Command c now)) later))) (ap (λ b. if b then mode.begun + 1 else mode.begun) e) more)
-  by_setup false e more = subst (λ n. GoOn n (map (placed nears) (setup_of (behind mode (says.Command c now)) later))) (ap (λ b. if b then mode.begun + 1 else mode.begun) e) more
-setup_chain nears mode (says.Deadline d ∷ later) = setup_chain nears (behind mode (says.Deadline d)) later
-setup_chain nears mode (says.Chained ∷ later) = setup_chain nears (behind mode says.Chained) later
-setup_chain nears mode (says.Unchained ∷ later) = setup_chain nears (behind mode says.Unchained) later
-setup_chain nears mode (says.Naming n ∷ later) = setup_chain nears (behind mode (says.Naming n)) later
-setup_chain nears mode (says.Standing n ∷ later) = setup_chain nears (behind mode (says.Standing n)) later
-setup_chain nears mode (says.Accepting cs ∷ later) = setup_chain nears (behind mode (says.Accepting cs)) later
-setup_chain nears mode (says.Retrying r ∷ later) = setup_chain nears (behind mode (says.Retrying r)) later
-setup_chain nears mode (says.AtStart ∷ later) = setup_chain nears (behind mode says.AtStart) later
-setup_chain nears mode (says.EachCycle ∷ later) = setup_chain nears (behind mode says.EachCycle) later
+      chain_continued mode.begun (placed nears (task_at mode c now)) (map (placed nears) (setup_of (mode_after mode (says.Command c now)) later))
+      (ap (λ b. if b then nat_lt 0 mode.begun else mode.chained && continues_row mode.row c.target) e)
+      (subst (λ n. ContinueChain n (map (placed nears) (setup_of (mode_after mode (says.Command c now)) later))) (ap (λ b. if b then mode.begun + 1 else mode.begun) e) more)
+  by_setup false e more = subst (λ n. ContinueChain n (map (placed nears) (setup_of (mode_after mode (says.Command c now)) later))) (ap (λ b. if b then mode.begun + 1 else mode.begun) e) more
+setup_chain nears mode (says.Deadline d ∷ later) = setup_chain nears (mode_after mode (says.Deadline d)) later
+setup_chain nears mode (says.Chained ∷ later) = setup_chain nears (mode_after mode says.Chained) later
+setup_chain nears mode (says.Unchained ∷ later) = setup_chain nears (mode_after mode says.Unchained) later
+setup_chain nears mode (says.Naming n ∷ later) = setup_chain nears (mode_after mode (says.Naming n)) later
+setup_chain nears mode (says.Standing n ∷ later) = setup_chain nears (mode_after mode (says.Standing n)) later
+setup_chain nears mode (says.Accepting cs ∷ later) = setup_chain nears (mode_after mode (says.Accepting cs)) later
+setup_chain nears mode (says.Retrying r ∷ later) = setup_chain nears (mode_after mode (says.Retrying r)) later
+setup_chain nears mode (says.AtStart ∷ later) = setup_chain nears (mode_after mode says.AtStart) later
+setup_chain nears mode (says.EachCycle ∷ later) = setup_chain nears (mode_after mode says.EachCycle) later
 
 -- the law: the set-up is one chain, and after it each chained task follows one for the same target
 pub chains_are_rows : ChainsAreRows

@@ -8,35 +8,35 @@ use Rattle.gc_texts.specs.Cuts.{Cuts}
 use Rattle.gc_texts.specs.LineForms.{text_lines, is_skipped, is_kept, without_cr, AreItems}
 use Rattle.gc_texts.specs.TaskLines.{IsTaskLine}
 use Rattle.gc_texts.specs.Attempts.{laid_out}
-use Rattle.gc_texts.specs.Tasks.{opening, behind, joined, link_at, task_at, setup_at, setup_of, planned_at, planned_of, placed, IsTasks, name_at, names_of, near_at, nears_of, may_stand, MayFollow, IsFirstFaultyTask, ReachesASoundTaskLine}
+use Rattle.gc_texts.specs.Tasks.{opening, mode_after, is_chained, place_in_chain, task_at, setup_at, setup_of, planned_at, planned_of, placed, IsTasks, name_at, names_of, near_at, nears_of, may_follow, MayFollow, IsFirstFaultyTask, ReachesASoundTaskLine}
 use Rattle.gc_texts.specs.declared.name.Name.{Name}
 use Rattle.gc_texts.specs.declared.near.Near.{Near}
 use Rattle.gc_texts.specs.declared.task_line.TaskLine.{TaskLine}
-use Rattle.gc_texts.specs.declared.tasks.Mode.{Mode}
-use Rattle.gc_texts.specs.declared.tasks.Planned.{Planned}
+use Rattle.gc_texts.specs.declared.mode.Mode.{Mode}
+use Rattle.gc_texts.specs.declared.attempts.Planned.{Planned}
 use Rattle.gc_texts.specs.declared.task_line.TaskLine.TheVariants as says
 use Rattle.gc_texts.specs.declared.tasks.Task.{Task}
 use Rattle.gc_texts.proofs.TaskForms.{one_said}
 use Rattle.gc_texts.proofs.TextLines.{Reads, reads_few, lines_left, lines-cut, turn_skips, turn_reads}
 
 -- the mode after these lines, where `mode` holds before the first
-abbrev pub behind_all : Mode → List TaskLine → Mode
-behind_all mode [] = mode
-behind_all mode (line ∷ later) = behind_all (behind mode line) later
+abbrev pub mode_after_lines : Mode → List TaskLine → Mode
+mode_after_lines mode [] = mode
+mode_after_lines mode (line ∷ later) = mode_after_lines (mode_after mode line) later
 
 -- the set-up of lines, and of one more, is that of the lines, and that of the last in the mode after them
-setup_more : (mode : Mode) (lines : List TaskLine) (next : TaskLine) → setup_of mode (lines ++ next ∷ []) ≡ setup_of mode lines ++ setup_at (behind_all mode lines) next
+setup_more : (mode : Mode) (lines : List TaskLine) (next : TaskLine) → setup_of mode (lines ++ next ∷ []) ≡ setup_of mode lines ++ setup_at (mode_after_lines mode lines) next
 setup_more mode [] next = append-nil (setup_at mode next)
 setup_more mode (line ∷ lines) next =
-    ap (λ ts. setup_at mode line ++ ts) (setup_more (behind mode line) lines next)
-    ∙ sym (append_assoc (setup_at mode line) (setup_of (behind mode line) lines) (setup_at (behind_all (behind mode line) lines) next))
+    ap (λ ts. setup_at mode line ++ ts) (setup_more (mode_after mode line) lines next)
+    ∙ sym (append_assoc (setup_at mode line) (setup_of (mode_after mode line) lines) (setup_at (mode_after_lines (mode_after mode line) lines) next))
 
 -- the cycle's commands of lines, and of one more, are those of the lines, and that of the last in the mode after them
-planned_more : (mode : Mode) (lines : List TaskLine) (next : TaskLine) → planned_of mode (lines ++ next ∷ []) ≡ planned_of mode lines ++ planned_at (behind_all mode lines) next
+planned_more : (mode : Mode) (lines : List TaskLine) (next : TaskLine) → planned_of mode (lines ++ next ∷ []) ≡ planned_of mode lines ++ planned_at (mode_after_lines mode lines) next
 planned_more mode [] next = append-nil (planned_at mode next)
 planned_more mode (line ∷ lines) next =
-    ap (λ ts. planned_at mode line ++ ts) (planned_more (behind mode line) lines next)
-    ∙ sym (append_assoc (planned_at mode line) (planned_of (behind mode line) lines) (planned_at (behind_all (behind mode line) lines) next))
+    ap (λ ts. planned_at mode line ++ ts) (planned_more (mode_after mode line) lines next)
+    ∙ sym (append_assoc (planned_at mode line) (planned_of (mode_after mode line) lines) (planned_at (mode_after_lines (mode_after mode line) lines) next))
 
 -- each count of a mode is at most n
 record Counted (mode : Mode) (n : ℕ) : Type 0 where
@@ -50,13 +50,13 @@ either_low true x y n low other = low
 either_low false x y n low other = other
 
 -- a line adds one at most to each count
-counted_line : (mode : Mode) (line : TaskLine) (n : ℕ) → Counted mode n → Counted (behind mode line) (n + 1)
+counted_line : (mode : Mode) (line : TaskLine) (n : ℕ) → Counted mode n → Counted (mode_after mode line) (n + 1)
 counted_line mode (says.Command c now) n h = record {
   begun = either_low mode.setup (mode.begun + 1) mode.begun (n + 1) (omega (arith, h.begun)) (omega (arith, h.begun));
   place = either_low mode.setup mode.place (mode.place + 1) (n + 1) (omega (arith, h.place)) (omega (arith, h.place));
   link =
-      let inner : (if joined mode c.target then mode.link else 0) ≤ n = either_low (joined mode c.target) mode.link 0 n h.link (omega arith) in
-      let low : link_at mode (joined mode c.target) ≤ n = either_low mode.setup mode.begun (if joined mode c.target then mode.link else 0) n h.begun inner in
+      let inner : (if is_chained mode c.target then mode.link else 0) ≤ n = either_low (is_chained mode c.target) mode.link 0 n h.link (omega arith) in
+      let low : place_in_chain mode (is_chained mode c.target) ≤ n = either_low mode.setup mode.begun (if is_chained mode c.target then mode.link else 0) n h.begun inner in
       omega (arith, low);
 }
 counted_line mode (says.Deadline d) n h = record { begun = omega (arith, h.begun); place = omega (arith, h.place); link = omega (arith, h.link) }
@@ -70,10 +70,10 @@ counted_line mode says.AtStart n h = record { begun = omega (arith, h.begun); pl
 counted_line mode says.EachCycle n h = record { begun = omega (arith, h.begun); place = omega (arith, h.place); link = omega (arith, h.link) }
 
 -- lines add at most one each to each count
-counted_lines : (mode : Mode) (lines : List TaskLine) (n : ℕ) → Counted mode n → Counted (behind_all mode lines) (n + length lines)
+counted_lines : (mode : Mode) (lines : List TaskLine) (n : ℕ) → Counted mode n → Counted (mode_after_lines mode lines) (n + length lines)
 counted_lines mode [] n h = record { begun = omega (arith, h.begun); place = omega (arith, h.place); link = omega (arith, h.link) }
 counted_lines mode (line ∷ lines) n h =
-    let more = counted_lines (behind mode line) lines (n + 1) (counted_line mode line n h) in
+    let more = counted_lines (mode_after mode line) lines (n + 1) (counted_line mode line n h) in
     record { begun = omega (arith, more.begun); place = omega (arith, more.place); link = omega (arith, more.link) }
 
 -- one line gives one command at most
@@ -99,9 +99,9 @@ planned_few : (mode : Mode) (lines : List TaskLine) → length (planned_of mode 
 planned_few mode [] = omega arith
 planned_few mode (line ∷ lines) =
     let one = planned_line mode line in
-    let more = planned_few (behind mode line) lines in
-    let all : length (planned_at mode line ++ planned_of (behind mode line) lines) ≡ length (planned_at mode line) + length (planned_of (behind mode line) lines) =
-    length-append (planned_at mode line) (planned_of (behind mode line) lines) in
+    let more = planned_few (mode_after mode line) lines in
+    let all : length (planned_at mode line ++ planned_of (mode_after mode line) lines) ≡ length (planned_at mode line) + length (planned_of (mode_after mode line) lines) =
+    length-append (planned_at mode line) (planned_of (mode_after mode line) lines) in
     omega (arith, one, more, all)
 
 -- as many lines say something as are kept
@@ -132,25 +132,26 @@ nears_more [] next = append-nil (near_at next)
 nears_more (line ∷ lines) next = ap (λ ns. near_at line ++ ns) (nears_more lines next) ∙ sym (append_assoc (near_at line) (nears_of lines) (near_at next))
 
 -- the mode after lines and one more is the mode that the last leaves, where the mode after the others holds before it
-behind_more : (mode : Mode) (lines : List TaskLine) (next : TaskLine) → behind_all mode (lines ++ next ∷ []) ≡ behind (behind_all mode lines) next
+behind_more : (mode : Mode) (lines : List TaskLine) (next : TaskLine) → mode_after_lines mode (lines ++ next ∷ []) ≡ mode_after (mode_after_lines mode lines) next
 behind_more mode [] next = refl
-behind_more mode (line ∷ lines) next = behind_more (behind mode line) lines next
+behind_more mode (line ∷ lines) next = behind_more (mode_after mode line) lines next
 
 -- where lines may follow these names and places, and one more may follow the lines, all of them may follow there
 follow_more : (names : List Name) (nears : List Near) (lines : List TaskLine) (next : TaskLine) → MayFollow names nears lines
-    → may_stand (names ++ names_of lines) (nears ++ nears_of lines) next ≡ true → MayFollow names nears (lines ++ next ∷ [])
-follow_more names nears [] next follow stands = (ap (λ ns. may_stand ns nears next) (sym (append-nil names)) ∙ ap (λ ps. may_stand (names ++ []) ps next) (sym (append-nil nears)) ∙ stands, tt)
+    → may_follow (names ++ names_of lines) (nears ++ nears_of lines) next ≡ true → MayFollow names nears (lines ++ next ∷ [])
+follow_more names nears [] next follow stands = (ap (λ ns. may_follow ns nears next) (sym (append-nil names)) ∙ ap (λ ps. may_follow (names ++ []) ps next) (sym (append-nil nears)) ∙ stands, tt)
 follow_more names nears (line ∷ lines) next follow stands = (
   follow.0,
   follow_more (names ++ name_at line) (nears ++ near_at line) lines next follow.1
-      (ap (λ ns. may_stand ns ((nears ++ near_at line) ++ nears_of lines) next) (append_assoc names (name_at line) (names_of lines))
-      ∙ ap (λ ps. may_stand (names ++ (name_at line ++ names_of lines)) ps next) (append_assoc nears (near_at line) (nears_of lines)) ∙ stands),
+      (ap (λ ns. may_follow ns ((nears ++ near_at line) ++ nears_of lines) next) (append_assoc names (name_at line) (names_of lines))
+      ∙ ap (λ ps. may_follow (names ++ (name_at line ++ names_of lines)) ps next) (append_assoc nears (near_at line) (nears_of lines)) ∙ stands),
 )
 
 -- how far the reading has come: `left` of the text is unread, `number` lines were read, and they gave these tasks of the
 -- set-up, these commands of the cycle, names and places, and the mode after them. Where a line that says something was read,
 -- a sound line was reached
-pub record ReadsTasks (text : List ℕ) (first : Mode) (left : Option (List ℕ)) (number : ℕ) (setup : List Task) (cycle : List Planned) (names : List Name) (nears : List Near) (mode : Mode) : Type 0 where
+pub record ReadsTasks (text : List ℕ) (first : Mode) (left : Option (List ℕ)) (number : ℕ) (setup : List Task) (cycle : List Planned) (names : List Name) (nears : List Near)
+    (mode : Mode) : Type 0 where
   pub said : List TaskLine
   pub reads : Reads IsTaskLine text left number said
   pub follow : MayFollow [] [] said
@@ -158,7 +159,7 @@ pub record ReadsTasks (text : List ℕ) (first : Mode) (left : Option (List ℕ)
   pub cycle_are : cycle ≡ planned_of first said
   pub names_are : names ≡ names_of said
   pub nears_are : nears ≡ nears_of said
-  pub mode_is : mode ≡ behind_all first said
+  pub mode_is : mode ≡ mode_after_lines first said
   pub reached : (said ≡ []) ⊎ ReachesASoundTaskLine text
 
 -- of a text of at most 65,536 bytes at most 65,537 lines are read, so that a u32 counts them
@@ -232,8 +233,8 @@ module _
     (r : ReadsTasks text first left number setup cycle names nears mode) (some : left ≡ Some now) (cut : Cuts 10 now line rest)
     (is_plain : plain ≡ without_cr line) (tested : skipped ≡ is_skipped plain) where
   -- a line may follow the lines that were read exactly where it may follow the names and places so far
-  said_so : (said : TaskLine) → may_stand (names_of r.said) (nears_of r.said) said ≡ may_stand names nears said
-  said_so said = ap (λ ns. may_stand ns (nears_of r.said) said) (sym r.names_are) ∙ ap (λ ps. may_stand names ps said) (sym r.nears_are)
+  said_so : (said : TaskLine) → may_follow (names_of r.said) (nears_of r.said) said ≡ may_follow names nears said
+  said_so said = ap (λ ns. may_follow ns (nears_of r.said) said) (sym r.names_are) ∙ ap (λ ps. may_follow names ps said) (sym r.nears_are)
 
   -- a skipped line is read, and changes nothing but the number of lines
   pub task_skips : skipped ≡ true → ReadsTasks text first rest (number + 1) setup cycle names nears mode
@@ -263,7 +264,7 @@ module _
   is_line isnt = ap not (ap is_skipped (sym is_plain) ∙ sym tested ∙ isnt)
 
   -- a line that isn't skipped, and says nothing that is allowed there, is the first faulty one
-  faulty : skipped ≡ false → ((said : TaskLine) → IsTaskLine plain said → may_stand names nears said ≡ false) → IsFirstFaultyTask text (number + 1)
+  faulty : skipped ≡ false → ((said : TaskLine) → IsTaskLine plain said → may_follow names nears said ≡ false) → IsFirstFaultyTask text (number + 1)
   faulty isnt none =
       record {
         front = stood.read;
@@ -282,11 +283,11 @@ module _
   task_fails isnt none = faulty isnt (λ said is. absurd (none said is))
 
   -- a line that has a form, and isn't allowed there, is the first faulty one
-  pub task_refused : (said : TaskLine) (stands : Bool) → skipped ≡ false → IsTaskLine plain said → stands ≡ may_stand names nears said → stands ≡ false → IsFirstFaultyTask text (number + 1)
-  task_refused said stands isnt is asked no_more = faulty isnt (λ other form. ap (may_stand names nears) (one_said plain other said form is) ∙ sym asked ∙ no_more)
+  pub task_refused : (said : TaskLine) (stands : Bool) → skipped ≡ false → IsTaskLine plain said → stands ≡ may_follow names nears said → stands ≡ false → IsFirstFaultyTask text (number + 1)
+  task_refused said stands isnt is asked no_more = faulty isnt (λ other form. ap (may_follow names nears) (one_said plain other said form is) ∙ sym asked ∙ no_more)
 
   -- where memory is refused at a line that has a form and is allowed there, no line up to it is faulty
-  pub task_wants : (said : TaskLine) (stands : Bool) → skipped ≡ false → IsTaskLine plain said → stands ≡ may_stand names nears said → stands ≡ true → ReachesASoundTaskLine text
+  pub task_wants : (said : TaskLine) (stands : Bool) → skipped ≡ false → IsTaskLine plain said → stands ≡ may_follow names nears said → stands ≡ true → ReachesASoundTaskLine text
   task_wants said stands isnt is asked did =
       record {
         front = stood.read;
@@ -305,8 +306,9 @@ module _
   -- one after it
   pub task_reads :
       (said : TaskLine) (new_setup : List Task) (new_cycle : List Planned) (new_names : List Name) (new_nears : List Near) (next : Mode) (stands : Bool) → skipped ≡ false → IsTaskLine plain said
-      → stands ≡ may_stand names nears said → stands ≡ true → new_setup ≡ setup ++ setup_at mode said → new_cycle ≡ cycle ++ planned_at mode said → new_names ≡ names ++ name_at said → new_nears ≡ nears ++ near_at said
-      → next ≡ behind mode said → ReadsTasks text first rest (number + 1) new_setup new_cycle new_names new_nears next
+      → stands ≡ may_follow names nears said → stands ≡ true → new_setup ≡ setup ++ setup_at mode said → new_cycle ≡ cycle ++ planned_at mode said → new_names ≡ names ++ name_at said
+      → new_nears ≡ nears ++ near_at said
+      → next ≡ mode_after mode said → ReadsTasks text first rest (number + 1) new_setup new_cycle new_names new_nears next
   task_reads said new_setup new_cycle new_names new_nears next stands isnt is asked did more_setup more_cycle more_names more_nears more =
       record {
         said = r.said ++ said ∷ [];
@@ -316,6 +318,6 @@ module _
         cycle_are = more_cycle ∙ ap (λ ts. ts ++ planned_at mode said) r.cycle_are ∙ ap (λ m. planned_of first r.said ++ planned_at m said) r.mode_is ∙ sym (planned_more first r.said said);
         names_are = more_names ∙ ap (λ ns. ns ++ name_at said) r.names_are ∙ sym (names_more r.said said);
         nears_are = more_nears ∙ ap (λ ns. ns ++ near_at said) r.nears_are ∙ sym (nears_more r.said said);
-        mode_is = more ∙ ap (λ m. behind m said) r.mode_is ∙ sym (behind_more first r.said said);
+        mode_is = more ∙ ap (λ m. mode_after m said) r.mode_is ∙ sym (behind_more first r.said said);
         reached = inr (task_wants said stands isnt is asked did);
       }

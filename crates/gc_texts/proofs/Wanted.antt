@@ -1,9 +1,9 @@
 -- How many parameters the procedures have, one by one.
 use Rattle.std.proofs.Common.{refl}
-use Rattle.gc_texts.specs.Laws.{WantedIsTheCatalogues}
+use Rattle.gc_texts.specs.Laws.{ParameterCountsAreTheCatalogues}
 use Rattle.gc_catalogue.specs.declared.call.Call.TheVariants.{NullProc}
 
--- the law: `wanted`, the number of parameters that is printed of a procedure, is the catalogue's number of its parameters
-pub wanted_is : WantedIsTheCatalogues
+-- the law: `parameter_count`, the number of parameters that is printed of a procedure, is the catalogue's number of its parameters
+pub wanted_is : ParameterCountsAreTheCatalogues
 wanted_is NullProc = refl
 wanted_is call = refl

@@ -5,7 +5,7 @@ use Rattle.gc_texts.specs.Again.{no_again}
 use Rattle.gc_texts.specs.Retries.{no_retry}
 use Rattle.gc_texts.specs.declared.again.Again.{Again}
 use Rattle.gc_texts.specs.declared.retry.Retry.{Retry}
-use Rattle.gc_texts.specs.declared.tasks.Planned.{Planned}
+use Rattle.gc_texts.specs.declared.attempts.Planned.{Planned}
 use Rattle.gc_texts.specs.declared.tasks.Task.{Task}
 
 -- a command in this attempt of its chain. After the endings in `again` the chain is repeated. The first command of a later
@@ -29,12 +29,12 @@ attempts retry chain = attempts_from 1 retry.times retry.again chain
 
 -- the attempts of a chain that was begun, and those of the chains after it: a chained command goes on with the chain, and
 -- one that isn't chained begins the next
-abbrev pub laid_behind : Retry → List Planned → List Planned → List Task
-laid_behind retry chain [] = attempts retry chain
-laid_behind retry chain (planned ∷ later) =
-    if planned.task.chained then laid_behind retry (chain ++ planned ∷ []) later
-    else attempts retry chain ++ laid_behind planned.retry (planned ∷ []) later
+abbrev pub laid_from : Retry → List Planned → List Planned → List Task
+laid_from retry chain [] = attempts retry chain
+laid_from retry chain (planned ∷ later) =
+    if planned.task.chained then laid_from retry (chain ++ planned ∷ []) later
+    else attempts retry chain ++ laid_from planned.retry (planned ∷ []) later
 
 -- the attempts of the chains of these commands, in order
 abbrev pub laid_out : List Planned → List Task
-laid_out planned = laid_behind no_retry [] planned
+laid_out planned = laid_from no_retry [] planned

@@ -17,11 +17,11 @@ use Rattle.gc_texts.specs.declared.tasks.Task.{Task}
 
 -- whether the commands after these lines are set-up, as the last line `at start` or `each cycle` says; `setup` says it
 -- before them
-abbrev pub section_behind : Bool → List TaskLine → Bool
-section_behind setup [] = setup
-section_behind setup (says.AtStart ∷ later) = section_behind true later
-section_behind setup (says.EachCycle ∷ later) = section_behind false later
-section_behind setup (line ∷ later) = section_behind setup later
+abbrev pub section_after : Bool → List TaskLine → Bool
+section_after setup [] = setup
+section_after setup (says.AtStart ∷ later) = section_after true later
+section_after setup (says.EachCycle ∷ later) = section_after false later
+section_after setup (line ∷ later) = section_after setup later
 
 -- how many of these lines are commands of the set-up
 abbrev pub setup_commands : Bool → List TaskLine → ℕ
@@ -45,27 +45,27 @@ SaysNoDeadline (says.Deadline deadline) = ⊥
 SaysNoDeadline _ = Unit {0}
 
 -- the deadline after these lines: that of the last one that says a deadline, or `given` where none does
-abbrev pub IsDeadlineBehind : ℕ → List TaskLine → ℕ → Type 0
-IsDeadlineBehind given lines deadline =
+abbrev pub IsDeadlineAfter : ℕ → List TaskLine → ℕ → Type 0
+IsDeadlineAfter given lines deadline =
     (AllByRecursion SaysNoDeadline lines × (deadline ≡ given))
     ⊎ ((before : List TaskLine) × (between : List TaskLine) × (lines ≡ before ++ says.Deadline deadline ∷ between) × AllByRecursion SaysNoDeadline between)
 
 -- a line is neither `chained` nor `unchained`
-abbrev pub SaysNoMode : TaskLine → Type 0
-SaysNoMode says.Chained = ⊥
-SaysNoMode says.Unchained = ⊥
-SaysNoMode _ = Unit {0}
+abbrev pub SaysNoChaining : TaskLine → Type 0
+SaysNoChaining says.Chained = ⊥
+SaysNoChaining says.Unchained = ⊥
+SaysNoChaining _ = Unit {0}
 
 -- the line of a mode: `chained` or `unchained`
-abbrev pub mode_line : Bool → TaskLine
-mode_line true = says.Chained
-mode_line false = says.Unchained
+abbrev pub chaining_line : Bool → TaskLine
+chaining_line true = says.Chained
+chaining_line false = says.Unchained
 
 -- whether commands are chained after these lines: as the last line of a mode says, or as `given` says where there is none
-abbrev pub IsModeBehind : Bool → List TaskLine → Bool → Type 0
-IsModeBehind given lines chained =
-    (AllByRecursion SaysNoMode lines × (chained ≡ given))
-    ⊎ ((before : List TaskLine) × (between : List TaskLine) × (lines ≡ before ++ mode_line chained ∷ between) × AllByRecursion SaysNoMode between)
+abbrev pub IsChainingAfter : Bool → List TaskLine → Bool → Type 0
+IsChainingAfter given lines chained =
+    (AllByRecursion SaysNoChaining lines × (chained ≡ given))
+    ⊎ ((before : List TaskLine) × (between : List TaskLine) × (lines ≡ before ++ chaining_line chained ∷ between) × AllByRecursion SaysNoChaining between)
 
 -- a line sets no codes
 abbrev pub SaysNoCodes : TaskLine → Type 0
@@ -73,8 +73,8 @@ SaysNoCodes (says.Accepting accepted) = ⊥
 SaysNoCodes _ = Unit {0}
 
 -- the codes that are accepted after these lines: those of the last line that sets codes, and none where no line sets any
-abbrev pub AreAcceptedBehind : List TaskLine → Codes → Type 0
-AreAcceptedBehind lines accepted =
+abbrev pub AreAcceptedAfter : List TaskLine → Codes → Type 0
+AreAcceptedAfter lines accepted =
     (AllByRecursion SaysNoCodes lines × (accepted ≡ no_codes))
     ⊎ ((before : List TaskLine) × (between : List TaskLine) × (lines ≡ before ++ says.Accepting accepted ∷ between) × AllByRecursion SaysNoCodes between)
 
@@ -85,62 +85,62 @@ SaysNoRetry _ = Unit {0}
 
 -- how often chains are repeated after these lines, and after what: as the last line `retry` says, and never where there is
 -- none
-abbrev pub IsRetryBehind : List TaskLine → Retry → Type 0
-IsRetryBehind lines retry =
+abbrev pub IsRetryAfter : List TaskLine → Retry → Type 0
+IsRetryAfter lines retry =
     (AllByRecursion SaysNoRetry lines × (retry ≡ no_retry))
     ⊎ ((before : List TaskLine) × (between : List TaskLine) × (lines ≡ before ++ says.Retrying retry ∷ between) × AllByRecursion SaysNoRetry between)
 
 -- a line that may come between two commands of a chain without ending it: a deadline, a name, where a target is, or accepted
 -- codes
-abbrev pub KeepsChains : TaskLine → Type 0
-KeepsChains (says.Deadline deadline) = Unit {0}
-KeepsChains (says.Naming name) = Unit {0}
-KeepsChains (says.Standing near) = Unit {0}
-KeepsChains (says.Accepting accepted) = Unit {0}
-KeepsChains _ = ⊥
+abbrev pub KeepsRow : TaskLine → Type 0
+KeepsRow (says.Deadline deadline) = Unit {0}
+KeepsRow (says.Naming name) = Unit {0}
+KeepsRow (says.Standing near) = Unit {0}
+KeepsRow (says.Accepting accepted) = Unit {0}
+KeepsRow _ = ⊥
 
 -- the last command of these lines is for this target, and only deadlines, names, places and codes follow it
-abbrev pub EndsWithTarget : List TaskLine → ℕ → Type 0
-EndsWithTarget lines target =
-    (before : List TaskLine) × (command : Wish) × (now : Bool) × (between : List TaskLine) × (lines ≡ before ++ says.Command command now ∷ between) × AllByRecursion KeepsChains between
+abbrev pub EndsInRowOf : List TaskLine → ℕ → Type 0
+EndsInRowOf lines target =
+    (before : List TaskLine) × (command : Wish) × (now : Bool) × (between : List TaskLine) × (lines ≡ before ++ says.Command command now ∷ between) × AllByRecursion KeepsRow between
     × (command.target ≡ target)
 
 -- the task of a command of the cycle that follows the lines `front`: its place counts the cycle's commands among them, and
 -- it is chained exactly where commands are chained there and the command before is for the same target, with no line between
 -- the two that ends the row
-pub record GoesInCycle (chained : Bool) (front : List TaskLine) (command : Wish) (task : Task) : Type 0 where
+pub record IsTaskInCycle (chained : Bool) (front : List TaskLine) (command : Wish) (task : Task) : Type 0 where
   pub place : task.turn.place ≡ cycle_commands false front
-  pub only : task.chained ≡ true → IsModeBehind chained front true × EndsWithTarget front command.target
-  pub found : IsModeBehind chained front true → EndsWithTarget front command.target → task.chained ≡ true
+  pub only : task.chained ≡ true → IsChainingAfter chained front true × EndsInRowOf front command.target
+  pub found : IsChainingAfter chained front true → EndsInRowOf front command.target → task.chained ≡ true
 
 -- the task of a command of the set-up that follows the lines `front`: its place counts the set-up's commands among them, and
 -- it is chained exactly where there is one
-pub record GoesAtStart (front : List TaskLine) (task : Task) : Type 0 where
+pub record IsTaskOfSetUp (front : List TaskLine) (task : Task) : Type 0 where
   pub place : task.turn.place ≡ setup_commands false front
   pub chained : task.chained ≡ nat_lt 0 (setup_commands false front)
 
 -- the task of a command that follows the lines `front`: it asks that command, in the first attempt of its chain, with the
 -- deadline and the accepted codes that hold there, and is sent as one of its section. `deadline` and `chained` hold where no
 -- line says otherwise
-pub record GoesOut (deadline : ℕ) (chained : Bool) (front : List TaskLine) (command : Wish) (now : Bool) (task : Task) : Type 0 where
+pub record IsTaskOf (deadline : ℕ) (chained : Bool) (front : List TaskLine) (command : Wish) (now : Bool) (task : Task) : Type 0 where
   pub asks : task.command ≡ command
   pub moment : task.now ≡ now
   pub first : task.turn.attempt ≡ 1
-  pub deadline_is : IsDeadlineBehind deadline front task.deadline
-  pub accepted_are : AreAcceptedBehind front task.accepted
-  pub at_start : section_behind false front ≡ true → GoesAtStart front task
-  pub in_cycle : section_behind false front ≡ false → GoesInCycle chained front command task
+  pub deadline_is : IsDeadlineAfter deadline front task.deadline
+  pub accepted_are : AreAcceptedAfter front task.accepted
+  pub at_start : section_after false front ≡ true → IsTaskOfSetUp front task
+  pub in_cycle : section_after false front ≡ false → IsTaskInCycle chained front command task
 
 -- each command of a text is sent as the lines before it say, and its task has the place that the text gives its target, if
 -- any. A command of the set-up is among the first `setup` tasks, after as many as are before it in the text; one of the
 -- cycle after them
-abbrev pub CommandsGoOutSo : Type 0
-CommandsGoOutSo =
+abbrev pub TasksFollowTheirLines : Type 0
+TasksFollowTheirLines =
     (text : List ℕ) (deadline : ℕ) (chained : Bool) (setup : ℕ) (tasks : List Task) (names : List Name) (nears : List Near) (is : IsTasks text deadline chained setup tasks names nears)
     (front later : List TaskLine) (command : Wish) (now : Bool) → is.said ≡ front ++ says.Command command now ∷ later
     → (earlier : List Task) × (task : Task) × (others : List Task) × (tasks ≡ earlier ++ task ∷ others)
-    × (section_behind false front ≡ true → length earlier ≡ setup_commands false front) × (section_behind false front ≡ false → setup ≤ length earlier)
-    × GoesOut deadline chained front command now task × (task.near ≡ near_of command.target nears)
+    × (section_after false front ≡ true → length earlier ≡ setup_commands false front) × (section_after false front ≡ false → setup ≤ length earlier)
+    × IsTaskOf deadline chained front command now task × (task.near ≡ near_of command.target nears)
 
 -- where a line says where a target is, it says so of each command of that target, before it and after it
 abbrev pub PlacesHoldForAll : Type 0

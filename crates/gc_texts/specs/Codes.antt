@@ -5,30 +5,30 @@ use Rattle.gc_texts.specs.Procedures.{IsNumber}
 use Rattle.gc_texts.specs.declared.codes.Codes.{Codes}
 
 -- a word is this code, from 1 to 65535
-pub record IsListed (word : List ℕ) (code : ℕ) : Type 0 where
+pub record IsCode (word : List ℕ) (code : ℕ) : Type 0 where
   pub number : IsNumber word code 65535
   pub some : 1 ≤ code
 
 -- a text is these codes, at least one, with one space between two
 abbrev pub AreCodes : List ℕ → List ℕ → Type 0
 AreCodes text [] = ⊥
-AreCodes text (code ∷ []) = IsListed text code
-AreCodes text (code ∷ next ∷ others) = (word : List ℕ) × (rest : List ℕ) × (text ≡ word ++ 32 ∷ rest) × IsListed word code × AreCodes rest (next ∷ others)
+AreCodes text (code ∷ []) = IsCode text code
+AreCodes text (code ∷ next ∷ others) = (word : List ℕ) × (rest : List ℕ) × (text ≡ word ++ 32 ∷ rest) × IsCode word code × AreCodes rest (next ∷ others)
 
 -- these codes in the first of 16 places, and 0, which is no code, in the others
-abbrev pub filled : List ℕ → List ℕ
-filled listed = listed ++ replicate (16 - length listed) 0
+abbrev pub padded_codes : List ℕ → List ℕ
+padded_codes listed = listed ++ replicate (16 - length listed) 0
 
 -- no code in any place
 abbrev pub no_codes : Codes
-no_codes = record { codes = filled [] }
+no_codes = record { codes = padded_codes [] }
 
 -- a text is these codes, at least one and at most 16
-pub record IsFilled (text : List ℕ) (codes : Codes) : Type 0 where
+pub record IsCodeList (text : List ℕ) (codes : Codes) : Type 0 where
   pub listed : List ℕ
   pub are : AreCodes text listed
   pub few : length listed ≤ 16
-  pub filled_are : codes.codes ≡ filled listed
+  pub filled_are : codes.codes ≡ padded_codes listed
 
 -- whether this return code is among these codes; 0, which fills the places after them, never is
 abbrev pub are_accepted : Codes → ℕ → Bool

@@ -24,7 +24,7 @@ IsDouble text d = Spells text d.digits d.scale
 
 -- these words say a target, the direction in which it is, and how far from that each angle of a measurement may be, in
 -- radians: `hz` is from 0 to a turn, and `v` and `tolerance` are from 0 to half a turn
-pub record AreWords (target hz v tolerance : List ℕ) (near : Near) : Type 0 where
+pub record AreNearWords (target hz v tolerance : List ℕ) (near : Near) : Type 0 where
   pub target_is : IsNumber target near.target 4294967295
   pub hz_is : IsDouble hz near.place.hz
   pub v_is : IsDouble v near.place.v
@@ -34,7 +34,7 @@ pub record AreWords (target hz v tolerance : List ℕ) (near : Near) : Type 0 wh
 
 -- `T HZ V TOLERANCE`, with one space between two words
 abbrev pub IsNearText : List ℕ → Near → Type 0
-IsNearText text near = AreWords (before 32 text) (before 32 (behind 32 text)) (before 32 (behind 32 (behind 32 text))) (behind 32 (behind 32 (behind 32 text))) near
+IsNearText text near = AreNearWords (before 32 text) (before 32 (behind 32 text)) (before 32 (behind 32 (behind 32 text))) (behind 32 (behind 32 (behind 32 text))) near
 
 -- whether one of these places is the target's
 abbrev pub is_said : ℕ → List Near → Bool

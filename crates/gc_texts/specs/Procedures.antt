@@ -10,21 +10,21 @@ pub record IsNumber (text : List ℕ) (n max : ℕ) : Type 0 where
   pub within : n ≤ max
 
 -- what follows a procedure's number: nothing, or a space and the parameters
-abbrev pub behind_number : Option (List ℕ) → List ℕ
-behind_number None = []
-behind_number (Some params) = 32 ∷ params
+abbrev pub params_text_of : Option (List ℕ) → List ℕ
+params_text_of None = []
+params_text_of (Some params) = 32 ∷ params
 
 -- where there are parameters, they have at least one byte
-abbrev pub IsMore : Option (List ℕ) → Type 0
-IsMore None = Unit {0}
-IsMore (Some params) = 0 < length params
+abbrev pub HasBytes : Option (List ℕ) → Type 0
+HasBytes None = Unit {0}
+HasBytes (Some params) = 0 < length params
 
 -- the text is a procedure's number, and after a space its parameters if there are any, and these make the call
 pub record IsProcedure (text : List ℕ) (call : Call) : Type 0 where
   pub rpc_text : List ℕ
   pub rpc : ℕ
   pub params : Option (List ℕ)
-  pub text_is : text ≡ rpc_text ++ behind_number params
+  pub text_is : text ≡ rpc_text ++ params_text_of params
   pub number : IsNumber rpc_text rpc 65535
-  pub some : IsMore params
+  pub some : HasBytes params
   pub calls : IsCall rpc (unwrap_or params []) call

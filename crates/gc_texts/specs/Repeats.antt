@@ -2,7 +2,7 @@
 use Rattle.std.specs.Prelude.{◌≡◌, ℕ, zero, suc, ◌+◌, Bool, false, List, [], ◌∷◌, ◌++◌, length, map}
 use Rattle.std.specs.List.{AllByRecursion, flat_map}
 use Rattle.gc_texts.specs.Again.{no_again}
-use Rattle.gc_texts.specs.Chained.{section_behind, IsRetryBehind}
+use Rattle.gc_texts.specs.Chained.{section_after, IsRetryAfter}
 use Rattle.gc_texts.specs.Laws.{IsOneChain}
 use Rattle.gc_texts.specs.Tasks.{IsTasks, opening, planned_of, placed}
 use Rattle.gc_texts.specs.declared.again.Again.{Again}
@@ -12,7 +12,7 @@ use Rattle.gc_texts.specs.declared.retry.Retry.{Retry}
 use Rattle.gc_texts.specs.declared.task_line.TaskLine.{TaskLine}
 use Rattle.gc_texts.specs.declared.task_line.TaskLine.TheVariants as says
 use Rattle.gc_texts.specs.declared.wish.Wish.{Wish}
-use Rattle.gc_texts.specs.declared.tasks.Planned.{Planned}
+use Rattle.gc_texts.specs.declared.attempts.Planned.{Planned}
 use Rattle.gc_texts.specs.declared.tasks.Task.{Task}
 
 -- a task without the fields that distinguish the attempts of its chain: what it asks, its deadline, its places and its
@@ -57,7 +57,7 @@ ChainsGoOutAgain =
 -- a command of the cycle has the retry that the last line `retry` before it says
 abbrev pub RetriesHold : Type 0
 RetriesHold =
-    (deadline : ℕ) (chained : Bool) (front later : List TaskLine) (command : Wish) (now : Bool) → section_behind false front ≡ false
+    (deadline : ℕ) (chained : Bool) (front later : List TaskLine) (command : Wish) (now : Bool) → section_after false front ≡ false
     → (planned : Planned) × (others : List Planned) × (planned_of (opening deadline chained) (front ++ says.Command command now ∷ later)
     ≡ planned_of (opening deadline chained) front ++ planned ∷ others)
-    × (planned.task.command ≡ command) × IsRetryBehind front planned.retry
+    × (planned.task.command ≡ command) × IsRetryAfter front planned.retry

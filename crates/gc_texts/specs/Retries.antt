@@ -2,7 +2,7 @@
 -- own.
 use Rattle.std.specs.Prelude.{◌≡◌, ℕ, ◌+◌, ◌≤◌, Bool, true, nat_lt, List, [], ◌∷◌, ◌++◌, slice_set, codes}
 use Rattle.gc_texts.specs.Again.{no_again}
-use Rattle.gc_texts.specs.Codes.{IsListed}
+use Rattle.gc_texts.specs.Codes.{IsCode}
 use Rattle.gc_texts.specs.Cuts.{before, behind}
 use Rattle.gc_texts.specs.Procedures.{IsNumber}
 use Rattle.gc_texts.specs.declared.again.Again.{Again}
@@ -16,7 +16,7 @@ no_retry = record { times = 0; again = no_again }
 
 -- a word is this return code, or this outcome
 abbrev pub IsReason : List ℕ → Reason → Type 0
-IsReason word (Code code) = IsListed word code
+IsReason word (Code code) = IsCode word code
 IsReason word Unreadable = word ≡ codes "unreadable"
 IsReason word Elsewhere = word ≡ codes "elsewhere"
 IsReason word Late = word ≡ codes "late"
@@ -66,7 +66,7 @@ pub record IsNamedBy (text : List ℕ) (again : Again) : Type 0 where
   pub again_is : again ≡ named_with no_again 0 reasons
 
 -- `N WORD WORD ..`: how often, from 1 to 9 times, and after what
-pub record IsRule (text : List ℕ) (retry : Retry) : Type 0 where
+pub record IsRetryRule (text : List ℕ) (retry : Retry) : Type 0 where
   pub times_are : IsNumber (before 32 text) retry.times 9
   pub some : 1 ≤ retry.times
   pub again_is : IsNamedBy (behind 32 text) retry.again

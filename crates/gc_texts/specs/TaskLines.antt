@@ -2,13 +2,13 @@
 use Rattle.std.specs.Prelude.{◌≡◌, ◌⊎◌, ℕ, ◌≤◌, Bool, true, false, List, ◌∷◌, ◌++◌, codes}
 use Rattle.gc_catalogue.specs.declared.asked.Asked.TheVariants.{Table}
 use Rattle.gc_catalogue.specs.declared.call.Call.TheVariants.{SetDate}
-use Rattle.gc_texts.specs.Codes.{IsFilled, no_codes}
+use Rattle.gc_texts.specs.Codes.{IsCodeList, no_codes}
 use Rattle.gc_texts.specs.Wishes.{IsWish}
 use Rattle.gc_texts.specs.Names.{is_name}
 use Rattle.gc_texts.specs.Nears.{IsNearText}
 use Rattle.gc_texts.specs.Procedures.{IsNumber}
 use Rattle.gc_texts.specs.Cuts.{behind}
-use Rattle.gc_texts.specs.Retries.{IsRule, no_retry}
+use Rattle.gc_texts.specs.Retries.{IsRetryRule, no_retry}
 use Rattle.gc_texts.specs.Words.{first_word}
 use Rattle.gc_texts.specs.declared.stamp.TheConstants.{FIRST_MOMENT}
 use Rattle.gc_texts.specs.declared.retry.Retry.{Retry}
@@ -27,37 +27,37 @@ pub record IsDeadline (line : List ℕ) (deadline : ℕ) : Type 0 where
   pub some : 1 ≤ deadline
 
 -- `name T TEXT`: a target and its name
-pub record IsNaming (line : List ℕ) (name : Name) : Type 0 where
+pub record IsNameLine (line : List ℕ) (name : Name) : Type 0 where
   pub target_text : List ℕ
   pub line_is : line ≡ codes "name " ++ (target_text ++ 32 ∷ name.text.items)
   pub target_is : IsNumber target_text name.target 4294967295
   pub text_is : is_name name.text.items ≡ true
 
 -- `near T HZ V TOLERANCE`: where a target is
-pub record IsStanding (line : List ℕ) (near : Near) : Type 0 where
+pub record IsNearLine (line : List ℕ) (near : Near) : Type 0 where
   pub rest : List ℕ
   pub line_is : line ≡ codes "near " ++ rest
   pub near_is : IsNearText rest near
 
 -- `accept C C ..`: at least one return code and at most 16
-pub record IsList (line : List ℕ) (accepted : Codes) : Type 0 where
+pub record IsAcceptLine (line : List ℕ) (accepted : Codes) : Type 0 where
   pub rest : List ℕ
   pub line_is : line ≡ codes "accept " ++ rest
-  pub listed : IsFilled rest accepted
+  pub listed : IsCodeList rest accepted
 
 -- `accept C C ..`, or `accept` alone: which return codes are accepted beside 0, or that none is
-abbrev pub IsAccepting : List ℕ → Codes → Type 0
-IsAccepting line accepted = ((line ≡ codes "accept") × (accepted ≡ no_codes)) ⊎ IsList line accepted
+abbrev pub SetsAccepted : List ℕ → Codes → Type 0
+SetsAccepted line accepted = ((line ≡ codes "accept") × (accepted ≡ no_codes)) ⊎ IsAcceptLine line accepted
 
 -- `retry N WORD WORD ..`: how often the chains after it are repeated, and after what
-pub record IsRuleLine (line : List ℕ) (retry : Retry) : Type 0 where
+pub record IsRetryLine (line : List ℕ) (retry : Retry) : Type 0 where
   pub rest : List ℕ
   pub line_is : line ≡ codes "retry " ++ rest
-  pub rule_is : IsRule rest retry
+  pub rule_is : IsRetryRule rest retry
 
 -- `retry N WORD WORD ..`, or `retry 0`: the chains after it aren't repeated
-abbrev pub IsRetrying : List ℕ → Retry → Type 0
-IsRetrying line retry = ((line ≡ codes "retry 0") × (retry ≡ no_retry)) ⊎ IsRuleLine line retry
+abbrev pub SetsRetry : List ℕ → Retry → Type 0
+SetsRetry line retry = ((line ≡ codes "retry 0") × (retry ≡ no_retry)) ⊎ IsRetryLine line retry
 
 -- `T 5007 now`: the target T, whose clock is set to the moment at which the command is sent. Until then the call has the
 -- first moment
@@ -78,9 +78,9 @@ IsTaskLine line (says.Command wish now) = IsAsking line wish now
 IsTaskLine line (says.Deadline deadline) = IsDeadline line deadline
 IsTaskLine line says.Chained = line ≡ codes "chained"
 IsTaskLine line says.Unchained = line ≡ codes "unchained"
-IsTaskLine line (says.Naming name) = IsNaming line name
-IsTaskLine line (says.Standing near) = IsStanding line near
-IsTaskLine line (says.Accepting accepted) = IsAccepting line accepted
-IsTaskLine line (says.Retrying retry) = IsRetrying line retry
+IsTaskLine line (says.Naming name) = IsNameLine line name
+IsTaskLine line (says.Standing near) = IsNearLine line near
+IsTaskLine line (says.Accepting accepted) = SetsAccepted line accepted
+IsTaskLine line (says.Retrying retry) = SetsRetry line retry
 IsTaskLine line says.AtStart = line ≡ codes "at start"
 IsTaskLine line says.EachCycle = line ≡ codes "each cycle"

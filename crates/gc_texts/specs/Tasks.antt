@@ -22,8 +22,8 @@ use Rattle.gc_texts.specs.declared.name.Name.{Name}
 use Rattle.gc_texts.specs.declared.near.Near.{Near}
 use Rattle.gc_texts.specs.declared.task_line.TaskLine.{TaskLine}
 use Rattle.gc_texts.specs.declared.task_line.TaskLine.TheVariants as says
-use Rattle.gc_texts.specs.declared.tasks.Mode.{Mode}
-use Rattle.gc_texts.specs.declared.tasks.Planned.{Planned}
+use Rattle.gc_texts.specs.declared.mode.Mode.{Mode}
+use Rattle.gc_texts.specs.declared.attempts.Planned.{Planned}
 use Rattle.gc_texts.specs.declared.tasks.Task.{Task}
 use Rattle.gc_texts.specs.declared.turn.Turn.{Turn}
 use Rattle.gc_texts.specs.declared.wish.Wish.{Wish}
@@ -35,49 +35,49 @@ abbrev pub opening : ℕ → Bool → Mode
 opening deadline chained = record { deadline = deadline; chained = chained; row = None; accepted = no_codes; retry = no_retry; setup = false; begun = 0; place = 0; link = 0 }
 
 -- whether a command for `target` continues the row before it, where there is one: that row is for the target `before`
-abbrev pub goes_on : Option ℕ → ℕ → Bool
-goes_on (Some before) target = before == target
-goes_on None target = false
+abbrev pub continues_row : Option ℕ → ℕ → Bool
+continues_row (Some before) target = before == target
+continues_row None target = false
 
 -- whether a command for this target is chained: of the set-up each but the first, and of the cycle where the mode says so and the command
 -- continues the row
-abbrev pub joined : Mode → ℕ → Bool
-joined mode target = if mode.setup then nat_lt 0 mode.begun else mode.chained && goes_on mode.row target
+abbrev pub is_chained : Mode → ℕ → Bool
+is_chained mode target = if mode.setup then nat_lt 0 mode.begun else mode.chained && continues_row mode.row target
 
 -- where a command is in its chain: a set-up command after all others of the set-up, a command that is chained after the one
 -- before it, and any other in front
-abbrev pub link_at : Mode → Bool → ℕ
-link_at mode chained = if mode.setup then mode.begun else if chained then mode.link else 0
+abbrev pub place_in_chain : Mode → Bool → ℕ
+place_in_chain mode chained = if mode.setup then mode.begun else if chained then mode.link else 0
 
 -- the place of a command among those of its section, its first attempt, and its place in its chain
 abbrev pub turn_at : Mode → Bool → Turn
-turn_at mode chained = record { place = if mode.setup then mode.begun else mode.place; attempt = 1; link = link_at mode chained }
+turn_at mode chained = record { place = if mode.setup then mode.begun else mode.place; attempt = 1; link = place_in_chain mode chained }
 
 -- the mode after a command for this target
-abbrev pub behind_command : Mode → ℕ → Mode
-behind_command mode target =
+abbrev pub mode_after_command : Mode → ℕ → Mode
+mode_after_command mode target =
     record mode {
       row = Some target;
       begun = if mode.setup then mode.begun + 1 else mode.begun;
       place = if mode.setup then mode.place else mode.place + 1;
-      link = link_at mode (joined mode target) + 1;
+      link = place_in_chain mode (is_chained mode target) + 1;
     }
 
 -- the mode after a line: after a command its target is that of the row, and it is counted; a deadline changes the deadline;
 -- `chained` and `unchained` change whether commands are chained, `retry` changes how often chains are repeated, `at start`
 -- and `each cycle` change the section, and each of these five ends the row; `accept` changes which return codes are
 -- accepted; and the name or the place of a target changes nothing
-abbrev pub behind : Mode → TaskLine → Mode
-behind mode (says.Command command now) = behind_command mode command.target
-behind mode (says.Deadline deadline) = record mode { deadline = deadline }
-behind mode says.Chained = record mode { chained = true; row = None }
-behind mode says.Unchained = record mode { chained = false; row = None }
-behind mode (says.Naming name) = mode
-behind mode (says.Standing near) = mode
-behind mode (says.Accepting accepted) = record mode { accepted = accepted }
-behind mode (says.Retrying retry) = record mode { retry = retry; row = None }
-behind mode says.AtStart = record mode { setup = true; row = None }
-behind mode says.EachCycle = record mode { setup = false; row = None }
+abbrev pub mode_after : Mode → TaskLine → Mode
+mode_after mode (says.Command command now) = mode_after_command mode command.target
+mode_after mode (says.Deadline deadline) = record mode { deadline = deadline }
+mode_after mode says.Chained = record mode { chained = true; row = None }
+mode_after mode says.Unchained = record mode { chained = false; row = None }
+mode_after mode (says.Naming name) = mode
+mode_after mode (says.Standing near) = mode
+mode_after mode (says.Accepting accepted) = record mode { accepted = accepted }
+mode_after mode (says.Retrying retry) = record mode { retry = retry; row = None }
+mode_after mode says.AtStart = record mode { setup = true; row = None }
+mode_after mode says.EachCycle = record mode { setup = false; row = None }
 
 -- the task of a command in its first attempt; its place and its rule are set later (`placed`, `laid_out`)
 abbrev pub task_at : Mode → Wish → Bool → Task
@@ -85,11 +85,11 @@ task_at mode command now =
     record {
       command = command;
       deadline = mode.deadline;
-      chained = joined mode command.target;
+      chained = is_chained mode command.target;
       near = None;
       accepted = mode.accepted;
       again = no_again;
-      turn = turn_at mode (joined mode command.target);
+      turn = turn_at mode (is_chained mode command.target);
       others = 0;
       now = now;
     }
@@ -102,7 +102,7 @@ setup_at mode _ = []
 -- the tasks of the set-up of these lines, the first of which is in this mode
 abbrev pub setup_of : Mode → List TaskLine → List Task
 setup_of mode [] = []
-setup_of mode (line ∷ later) = setup_at mode line ++ setup_of (behind mode line) later
+setup_of mode (line ∷ later) = setup_at mode line ++ setup_of (mode_after mode line) later
 
 -- the command of a line that is one of each cycle, with how often its chain is repeated, as a list of one; none of another
 -- line
@@ -113,7 +113,7 @@ planned_at mode _ = []
 -- the commands of each cycle of these lines, the first of which is in this mode
 abbrev pub planned_of : Mode → List TaskLine → List Planned
 planned_of mode [] = []
-planned_of mode (line ∷ later) = planned_at mode line ++ planned_of (behind mode line) later
+planned_of mode (line ∷ later) = planned_at mode line ++ planned_of (mode_after mode line) later
 
 -- the tasks of these lines, before any line of which this mode holds: those of the set-up, and after them the attempts of
 -- the chains of the cycle
@@ -146,15 +146,15 @@ placed nears task = record task { near = near_of task.command.target nears }
 
 -- whether a line may follow lines that gave these names and places: a name only where there are fewer than 64 names and its
 -- target has none, and a place likewise
-abbrev pub may_stand : List Name → List Near → TaskLine → Bool
-may_stand names nears (says.Naming name) = nat_lt (length names) 64 && not (is_named name.target names)
-may_stand names nears (says.Standing near) = nat_lt (length nears) 64 && not (is_said near.target nears)
-may_stand names nears _ = true
+abbrev pub may_follow : List Name → List Near → TaskLine → Bool
+may_follow names nears (says.Naming name) = nat_lt (length names) 64 && not (is_named name.target names)
+may_follow names nears (says.Standing near) = nat_lt (length nears) 64 && not (is_said near.target nears)
+may_follow names nears _ = true
 
 -- each line may follow these names and places, and those of the lines before it
 abbrev pub MayFollow : List Name → List Near → List TaskLine → Type 0
 MayFollow names nears [] = Unit {0}
-MayFollow names nears (line ∷ later) = (may_stand names nears line ≡ true) × MayFollow (names ++ name_at line) (nears ++ near_at line) later
+MayFollow names nears (line ∷ later) = (may_follow names nears line ≡ true) × MayFollow (names ++ name_at line) (nears ++ near_at line) later
 
 -- these lines are in a station's text: each has its form, and may follow those before it
 pub record AreTaskLines (lines : List (List ℕ)) (said : List TaskLine) : Type 0 where
@@ -183,7 +183,7 @@ pub record IsFirstFaultyTask (text : List ℕ) (n : ℕ) : Type 0 where
   pub kept : is_kept line ≡ true
   pub before : List TaskLine
   pub lines : AreTaskLines front before
-  pub faulty : (said : TaskLine) → IsTaskLine line said → may_stand (names_of before) (nears_of before) said ≡ false
+  pub faulty : (said : TaskLine) → IsTaskLine line said → may_follow (names_of before) (nears_of before) said ≡ false
 
 -- the text has a line that isn't faulty and has no faulty one before it: it has a form, and may follow the lines before it.
 -- The reading comes to such a line, and may want memory there
@@ -197,7 +197,7 @@ pub record ReachesASoundTaskLine (text : List ℕ) : Type 0 where
   pub lines : AreTaskLines front before
   pub said : TaskLine
   pub form : IsTaskLine line said
-  pub stands : may_stand (names_of before) (nears_of before) said ≡ true
+  pub stands : may_follow (names_of before) (nears_of before) said ≡ true
 
 -- why the reading of a station's text gave no tasks: the text is too long; or else line n is its first faulty one; or else
 -- memory was refused at a line that isn't faulty

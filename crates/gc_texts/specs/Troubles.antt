@@ -1,5 +1,5 @@
 -- Which field of a faulty line of a station's text is at fault: this project's own.
-use Rattle.std.specs.Prelude.{◌≡◌, ℕ, ◌==◌, ◌||◌, ◌⊎◌, List, ◌++◌, length, if◌then◌else◌, codes}
+use Rattle.std.specs.Prelude.{◌≡◌, ◌≢◌, ℕ, ◌==◌, ◌||◌, ◌⊎◌, List, ◌++◌, length, if◌then◌else◌, codes}
 use Rattle.std.specs.Fmt.{decimal}
 use Rattle.gc_catalogue.specs.Calls.{IsCall, IsRefusal}
 use Rattle.gc_catalogue.specs.Raws.{IsRawCall, IsRawRefusal}
@@ -12,37 +12,37 @@ use Rattle.gc_values.specs.declared.fault.ValueFault.TheVariants.{Count, TooMany
 use Rattle.gc_texts.specs.Procedures.{IsNumber}
 use Rattle.gc_texts.specs.Cuts.{behind}
 use Rattle.gc_texts.specs.ProcedureNames.{name_of}
-use Rattle.gc_texts.specs.Words.{first_word, second_word, third_word, behind_two, behind_three}
+use Rattle.gc_texts.specs.Words.{first_word, second_word, third_word, after_two_words, after_three_words}
 use Rattle.gc_texts.specs.declared.trouble.Trouble.{Trouble}
 use Rattle.gc_texts.specs.declared.trouble.Trouble.TheVariants as trouble
 
 -- how many parameters the procedure of a number has; 0 where there is none
-abbrev pub wanted : ℕ → ℕ
-wanted rpc =
+abbrev pub parameter_count : ℕ → ℕ
+parameter_count rpc =
     if (rpc == 107) || (rpc == 2012) || (rpc == 2107) || (rpc == 17008) || (rpc == 17017) then 1
     else (if (rpc == 2008) || (rpc == 2108) then 2 else (if (rpc == 9028) || (rpc == 9037) then 3
     else (if rpc == 2010 then 4 else (if rpc == 9027 then 5 else (if rpc == 5007 then 6 else 0)))))
 
 -- what is reported of a procedure's parameters with this fault: how many the procedure wants, where the line has another
 -- number of them; else that their spelling is at fault
-abbrev pub list_trouble : ℕ → ValueFault → Trouble
-list_trouble rpc Count = trouble.Wants rpc (wanted rpc)
-list_trouble rpc TooMany = trouble.Wants rpc (wanted rpc)
-list_trouble rpc _ = trouble.Parameters
+abbrev pub parameters_trouble : ℕ → ValueFault → Trouble
+parameters_trouble rpc Count = trouble.Wants rpc (parameter_count rpc)
+parameters_trouble rpc TooMany = trouble.Wants rpc (parameter_count rpc)
+parameters_trouble rpc _ = trouble.Parameters
 
 -- the procedure refuses these parameters with some fault, and `t` is what is reported of that fault
-pub record IsListTrouble (rpc : ℕ) (params : List ℕ) (t : Trouble) : Type 0 where
+pub record IsParametersTrouble (rpc : ℕ) (params : List ℕ) (t : Trouble) : Type 0 where
   pub fault : ValueFault
   pub refused : IsRefusal rpc params (Parameters fault)
-  pub is : t ≡ list_trouble rpc fault
+  pub is : t ≡ parameters_trouble rpc fault
 
 -- what is at fault in a procedure's number and its parameters: no procedure has the number, or the parameters have a fault.
 -- Where number and parameters make a call, nothing is at fault, which is reported as `NoForm`
 abbrev pub IsCallTrouble : ℕ → List ℕ → Trouble → Type 0
 IsCallTrouble rpc params (trouble.NoProcedure n) = (n ≡ rpc) × IsRefusal rpc params Unknown
 IsCallTrouble rpc params trouble.NoForm = (call : Call) × IsCall rpc params call
-IsCallTrouble rpc params (trouble.Wants n count) = IsListTrouble rpc params (trouble.Wants n count)
-IsCallTrouble rpc params trouble.Parameters = IsListTrouble rpc params trouble.Parameters
+IsCallTrouble rpc params (trouble.Wants n count) = IsParametersTrouble rpc params (trouble.Wants n count)
+IsCallTrouble rpc params trouble.Parameters = IsParametersTrouble rpc params trouble.Parameters
 IsCallTrouble rpc params _ = ⊥
 
 -- what is reported of a procedure's number and its parameters after the word `raw`, where they may not be asked for so: that
@@ -67,45 +67,64 @@ abbrev pub IsRawWordsTrouble : List ℕ → List ℕ → Trouble → Type 0
 IsRawWordsTrouble word params t = ((t ≡ trouble.Number) × NoNumber word 65535) ⊎ ((rpc : ℕ) × IsNumber word rpc 65535 × IsRawTrouble rpc params t)
 
 -- the second word of a line is a procedure's number, and that number and the parameters after it have this trouble
-pub record IsAsked (line : List ℕ) (t : Trouble) : Type 0 where
+pub record IsCommandTrouble (line : List ℕ) (t : Trouble) : Type 0 where
   pub rpc : ℕ
   pub number : IsNumber (second_word line) rpc 65535
-  pub is : IsCallTrouble rpc (behind_two line) t
+  pub is : IsCallTrouble rpc (after_two_words line) t
 
 -- the second word of a line is `raw`
-abbrev pub IsRaw : List ℕ → Type 0
-IsRaw line = second_word line ≡ codes "raw"
+abbrev pub IsRawLine : List ℕ → Type 0
+IsRawLine line = second_word line ≡ codes "raw"
 
 -- the third word of a line is a procedure's number after the word `raw`, and that number and the parameters after it have
 -- this trouble
-pub record IsAskedRaw (line : List ℕ) (t : Trouble) : Type 0 where
-  pub word : IsRaw line
+pub record IsRawCommandTrouble (line : List ℕ) (t : Trouble) : Type 0 where
+  pub word : IsRawLine line
   pub rpc : ℕ
   pub number : IsNumber (third_word line) rpc 65535
-  pub is : IsRawTrouble rpc (behind_three line) t
+  pub is : IsRawTrouble rpc (after_three_words line) t
 
--- in a line that is known to be faulty, this may be at fault; more than one trouble may fit a line. `Deadline`: the line
--- begins with that word, so its value is at fault, and so it is with `retry`, `at` and `each`. `Now`: more follows `5007
--- now`. `NoForm`: the line has one word alone, or its number and its parameters make a call, or may be asked for after the
--- word `raw`, so that neither of these is at fault
-abbrev pub IsTrouble : List ℕ → Trouble → Type 0
-IsTrouble line trouble.Deadline = first_word line ≡ codes "deadline"
-IsTrouble line trouble.Name = (first_word line ≡ codes "name") × ((n : ℕ) × IsNumber (second_word line) n 4294967295)
-IsTrouble line trouble.Near = (first_word line ≡ codes "near") × ((n : ℕ) × IsNumber (second_word line) n 4294967295)
-IsTrouble line trouble.Accept = first_word line ≡ codes "accept"
-IsTrouble line trouble.Retry = first_word line ≡ codes "retry"
-IsTrouble line trouble.AtStart = first_word line ≡ codes "at"
-IsTrouble line trouble.EachCycle = first_word line ≡ codes "each"
-IsTrouble line trouble.Now = (second_word line ≡ codes "5007") × (third_word line ≡ codes "now")
-IsTrouble line trouble.Target =
+-- the first word of a line is none of those that begin a line which sets something
+pub record BeginsAsCommand (line : List ℕ) : Type 0 where
+  pub no_deadline : first_word line ≢ codes "deadline"
+  pub no_name : first_word line ≢ codes "name"
+  pub no_near : first_word line ≢ codes "near"
+  pub no_accept : first_word line ≢ codes "accept"
+  pub no_retry : first_word line ≢ codes "retry"
+  pub no_at : first_word line ≢ codes "at"
+  pub no_each : first_word line ≢ codes "each"
+
+-- a line that begins as one which sets something is at fault in its target, or in what it sets
+abbrev pub IsSettingTrouble : List ℕ → Trouble → Type 0
+IsSettingTrouble line trouble.Deadline = first_word line ≡ codes "deadline"
+IsSettingTrouble line trouble.Name = (first_word line ≡ codes "name") × ((n : ℕ) × IsNumber (second_word line) n 4294967295)
+IsSettingTrouble line trouble.Near = (first_word line ≡ codes "near") × ((n : ℕ) × IsNumber (second_word line) n 4294967295)
+IsSettingTrouble line trouble.Accept = first_word line ≡ codes "accept"
+IsSettingTrouble line trouble.Retry = first_word line ≡ codes "retry"
+IsSettingTrouble line trouble.AtStart = first_word line ≡ codes "at"
+IsSettingTrouble line trouble.EachCycle = first_word line ≡ codes "each"
+IsSettingTrouble line trouble.Target =
     ((first_word line ≡ codes "name") × NoNumber (second_word line) 4294967295)
-    ⊎ (((first_word line ≡ codes "near") × NoNumber (second_word line) 4294967295) ⊎ NoNumber (first_word line) 4294967295)
-IsTrouble line trouble.Number = (IsRaw line × NoNumber (third_word line) 65535) ⊎ ((IsRaw line → ⊥) × NoNumber (second_word line) 65535)
-IsTrouble line trouble.NoForm = (length (behind 32 line) ≡ 0) ⊎ (IsAsked line trouble.NoForm ⊎ IsAskedRaw line trouble.NoForm)
-IsTrouble line (trouble.RawInTable rpc) = IsAskedRaw line (trouble.RawInTable rpc)
-IsTrouble line trouble.RawParameters = IsAskedRaw line trouble.RawParameters
-IsTrouble line trouble.RawTooLong = IsAskedRaw line trouble.RawTooLong
-IsTrouble line t = IsAsked line t
+    ⊎ ((first_word line ≡ codes "near") × NoNumber (second_word line) 4294967295)
+IsSettingTrouble line t = ⊥
+
+-- a line that is taken for a command has this trouble; more than one may fit a line. `Now`: more follows `5007 now`. `NoForm`: the
+-- line has one word alone, or its number and its parameters make a call, or may be asked for after the word `raw`, so that neither of
+-- these is at fault
+abbrev pub IsAskingTrouble : List ℕ → Trouble → Type 0
+IsAskingTrouble line trouble.Now = (second_word line ≡ codes "5007") × (third_word line ≡ codes "now")
+IsAskingTrouble line trouble.Target = NoNumber (first_word line) 4294967295
+IsAskingTrouble line trouble.Number = (IsRawLine line × NoNumber (third_word line) 65535) ⊎ ((IsRawLine line → ⊥) × NoNumber (second_word line) 65535)
+IsAskingTrouble line trouble.NoForm =
+    (length (behind 32 line) ≡ 0) ⊎ (IsCommandTrouble line trouble.NoForm ⊎ IsRawCommandTrouble line trouble.NoForm)
+IsAskingTrouble line (trouble.RawInTable rpc) = IsRawCommandTrouble line (trouble.RawInTable rpc)
+IsAskingTrouble line trouble.RawParameters = IsRawCommandTrouble line trouble.RawParameters
+IsAskingTrouble line trouble.RawTooLong = IsRawCommandTrouble line trouble.RawTooLong
+IsAskingTrouble line t = IsCommandTrouble line t
+
+-- in a line that is known to be faulty, this is at fault: by its first word the line sets something, or is taken for a command
+abbrev pub IsTrouble : List ℕ → Trouble → Type 0
+IsTrouble line t = IsSettingTrouble line t ⊎ (BeginsAsCommand line × IsAskingTrouble line t)
 
 -- that the procedure with this number and name is in the table, so that the word `raw` is to be left out
 abbrev pub in_table_text : ℕ → List ℕ → List ℕ

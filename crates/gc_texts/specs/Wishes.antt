@@ -6,7 +6,7 @@ use Rattle.gc_catalogue.specs.RawTexts.{raw_bytes}
 use Rattle.gc_catalogue.specs.declared.raw.RawCall.{RawCall}
 use Rattle.gc_texts.specs.Commands.{IsCommand}
 use Rattle.gc_texts.specs.Procedures.{IsNumber}
-use Rattle.gc_texts.specs.Words.{first_word, second_word, third_word, behind_two, behind_three}
+use Rattle.gc_texts.specs.Words.{first_word, second_word, third_word, after_two_words, after_three_words}
 use Rattle.gc_texts.specs.declared.commands.Command.{Command}
 use Rattle.gc_texts.specs.declared.wish.Wish.{Wish}
 
@@ -20,8 +20,8 @@ pub record IsRawWish (line : List ℕ) (target : ℕ) (raw : RawCall) : Type 0 w
   pub target_is : IsNumber (first_word line) target 4294967295
   pub word : second_word line ≡ codes "raw"
   pub number : IsNumber (third_word line) raw.rpc 65535
-  pub params_are : raw_bytes raw.params ≡ behind_three line
-  pub some : (length (third_word line) ≡ length (behind_two line)) ⊎ (0 < length (behind_three line))
+  pub params_are : raw_bytes raw.params ≡ after_three_words line
+  pub some : (length (third_word line) ≡ length (after_two_words line)) ⊎ (0 < length (after_three_words line))
 
 -- the line asks this target for this: for a call of the table as a command does, and for any other procedure after the word
 -- `raw`

@@ -11,13 +11,13 @@ abbrev pub second_word : List ℕ → List ℕ
 second_word line = before 32 (behind 32 line)
 
 -- what follows the first two words of a line
-abbrev pub behind_two : List ℕ → List ℕ
-behind_two line = behind 32 (behind 32 line)
+abbrev pub after_two_words : List ℕ → List ℕ
+after_two_words line = behind 32 (behind 32 line)
 
 -- the third word of a line
 abbrev pub third_word : List ℕ → List ℕ
-third_word line = before 32 (behind_two line)
+third_word line = before 32 (after_two_words line)
 
 -- what follows the first three words of a line
-abbrev pub behind_three : List ℕ → List ℕ
-behind_three line = behind 32 (behind_two line)
+abbrev pub after_three_words : List ℕ → List ℕ
+after_three_words line = behind 32 (after_two_words line)

@@ -2,7 +2,7 @@
 
 ghost use Rattle.std.specs.Prelude.{◌≡◌, ◌==◌, ◌+◌, ◌<◌, ◌≤◌, ◌∷◌, ◌++◌, ℕ, List, [], length, slice_set, MatchOption};
 ghost use Rattle.std.specs.List.{list_any};
-ghost use Rattle.gc_texts.specs.Codes.{AreCodes, IsFilled, IsListed, are_accepted, filled, no_codes};
+ghost use Rattle.gc_texts.specs.Codes.{AreCodes, IsCodeList, IsCode, are_accepted, padded_codes, no_codes};
 ghost use Rattle.gc_texts.specs.declared.codes.Codes.{Codes};
 
 use crate::cuts::cut_at;
@@ -58,7 +58,7 @@ impl Codes {
     // These codes, of which there are `count`, with one more after them.
     fn with_next(self, count: usize, code: u16) -> Codes
         requires { count < 16 }
-        ensures { (listed : List ℕ) → length listed ≡ count → self.codes ≡ filled listed → result.codes ≡ filled (listed ++ code ∷ []) }
+        ensures { (listed : List ℕ) → length listed ≡ count → self.codes ≡ padded_codes listed → result.codes ≡ padded_codes (listed ++ code ∷ []) }
     {
         let mut codes = self.codes;
         codes[count] = code;
@@ -68,7 +68,7 @@ impl Codes {
 
 // Reads a code, from 1 to 65535. `None`: the word is no number, or the number lies outside.
 pub(crate) fn code_of(word: &[u8]) -> Option<u16>
-    ensures { MatchOption result ((code : ℕ) → IsListed word.now code → ⊥) (λ code. IsListed word.now code) }
+    ensures { MatchOption result ((code : ℕ) → IsCode word.now code → ⊥) (λ code. IsCode word.now code) }
 {
     let Some(code) = number_of(word, CODE_MAX) else {
         return None
@@ -81,7 +81,7 @@ pub(crate) fn code_of(word: &[u8]) -> Option<u16>
 
 /// Reads codes with one space between two. `None`: a word is no code, or there are more than 16.
 pub(crate) fn read_codes(text: &[u8]) -> Option<Codes>
-    ensures { MatchOption result ((codes : Codes) → IsFilled text.now codes → ⊥) (λ codes. IsFilled text.now codes) }
+    ensures { MatchOption result ((codes : Codes) → IsCodeList text.now codes → ⊥) (λ codes. IsCodeList text.now codes) }
 {
     let mut codes = Codes::none();
     let mut count = 0;

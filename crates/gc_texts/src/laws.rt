@@ -1,11 +1,11 @@
 //! What is proved of the definitions themselves. The functions have no effect: their contracts are the laws.
 
 ghost use Rattle.gc_texts.specs.FaultNumbers.{FaultsHaveTheirNumbers};
-ghost use Rattle.gc_texts.specs.Chained.{CommandsGoOutSo, PlacesHoldForAll};
+ghost use Rattle.gc_texts.specs.Chained.{TasksFollowTheirLines, PlacesHoldForAll};
 ghost use Rattle.gc_texts.specs.Repeats.{ChainsGoOutAgain, RetriesHold};
 ghost use Rattle.gc_texts.specs.Moments.{StampsAreMoments};
 ghost use Rattle.gc_texts.specs.Nears.{DirectionsAreAskedFor};
-ghost use Rattle.gc_texts.specs.Laws.{OneCommandList, OneTaskList, CommandsAreTasks, CommandsArePlain, ChainsAreRows, WantedIsTheCatalogues, NamesAreTheCatalogues, LogLinesReadBack, LogLinesArePrintable};
+ghost use Rattle.gc_texts.specs.Laws.{OneCommandList, OneTaskList, CommandsAreTasks, CommandsArePlain, ChainsAreRows, ParameterCountsAreTheCatalogues, NamesAreTheCatalogues, LogLinesReadBack, LogLinesArePrintable};
 
 /// A text gives one list of commands at most.
 pub fn commands_have_one_reading()
@@ -45,7 +45,7 @@ pub fn retries_hold_behind_their_lines()
 
 /// The number of parameters that is printed of a procedure, where a line has another number of them, is the catalogue's.
 pub fn wanted_is_the_catalogues()
-    ensures { WantedIsTheCatalogues }
+    ensures { ParameterCountsAreTheCatalogues }
 {}
 
 /// The name that is printed of a procedure's number, if a line has that number after the word `raw`, is the catalogue's.
@@ -74,7 +74,7 @@ pub fn faults_have_their_numbers()
 /// none and the caller says so; and the command before it is for the same target, with no line between the two that ends the
 /// row. One of the setup is chained exactly if another is before it, and all of the setup is sent before the cycle.
 pub fn commands_go_out_as_their_lines_say()
-    ensures { CommandsGoOutSo }
+    ensures { TasksFollowTheirLines }
 {}
 
 /// A line `near`, which says where a target is, holds for each command of that target, before the line and after it.

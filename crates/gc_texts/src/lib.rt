@@ -2,6 +2,7 @@
 #![tactic(auto)]
 
 mod again;
+mod attempts;
 mod codes;
 mod command_text;
 mod commands;
@@ -12,6 +13,7 @@ pub mod laws;
 mod line_forms;
 mod log_line;
 mod log_reading;
+mod mode;
 mod name;
 mod near;
 mod procedure;

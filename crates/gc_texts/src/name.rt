@@ -45,7 +45,7 @@ pub(crate) fn is_name(text: &[u8]) -> bool
 }
 
 /// A target's name, with these bytes as its text.
-pub(crate) fn name_of_bytes(target: u32, bytes: &[u8]) -> Name
+pub(crate) fn named_target(target: u32, bytes: &[u8]) -> Name
     requires { length bytes.now ≤ 64 }
     ensures target { result.target ≡ target }
     ensures text { result.text.items ≡ bytes.now }

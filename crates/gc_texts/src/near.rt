@@ -1,7 +1,7 @@
 //! Where a target is, and whether an answer was measured there.
 
 ghost use Rattle.std.specs.Prelude.{◌≡◌, MatchOption};
-ghost use Rattle.gc_texts.specs.Nears.{IsDouble, AreWords, IsNearText, is_said, near_of, direction_of, asks_direction, seeks_direction, is_elsewhere};
+ghost use Rattle.gc_texts.specs.Nears.{IsDouble, AreNearWords, IsNearText, is_said, near_of, direction_of, asks_direction, seeks_direction, is_elsewhere};
 ghost use Rattle.gc_texts.specs.declared.near.Near.{Near};
 ghost use Rattle.gc_values.specs.declared.decimal.Decimal.{Decimal};
 
@@ -50,7 +50,7 @@ pub fn read_double(text: &[u8]) -> Option<Decimal>
 // Reads the words that say where a target is: its number, its horizontal and vertical angle, and the tolerance of both, in
 // radians. `None`: a word is no number, or a number lies outside its range.
 fn read_words(target: &[u8], hz: &[u8], v: &[u8], tolerance: &[u8]) -> Option<Near>
-    ensures { MatchOption result ((near : Near) → AreWords target.now hz.now v.now tolerance.now near → ⊥) (λ near. AreWords target.now hz.now v.now tolerance.now near) }
+    ensures { MatchOption result ((near : Near) → AreNearWords target.now hz.now v.now tolerance.now near → ⊥) (λ near. AreNearWords target.now hz.now v.now tolerance.now near) }
 {
     let Some(target) = number_of(target, TARGET_MAX) else {
         return None

@@ -1,7 +1,7 @@
 //! Lines `retry` of a station's text: how often a chain is repeated, and after which endings of its commands.
 
 ghost use Rattle.std.specs.Prelude.{◌≡◌, ◌<◌, ℕ, true, MatchOption};
-ghost use Rattle.gc_texts.specs.Retries.{IsReason, IsNamedBy, IsRule, again_with, count_with, has_room, no_retry};
+ghost use Rattle.gc_texts.specs.Retries.{IsReason, IsNamedBy, IsRetryRule, again_with, count_with, has_room, no_retry};
 ghost use Rattle.gc_texts.specs.declared.again.Again.{Again};
 ghost use Rattle.gc_texts.specs.declared.retry.Reason.{Reason};
 ghost use Rattle.gc_texts.specs.declared.retry.Retry.{Retry};
@@ -149,7 +149,7 @@ fn read_again(text: &[u8]) -> Option<Again>
 
 // Reads `N WORD WORD ..`: from 1 to 9 times, and a word at least. `None`: the text has no such form.
 pub(crate) fn read_rule(text: &[u8]) -> Option<Retry>
-    ensures { MatchOption result ((retry : Retry) → IsRule text.now retry → ⊥) (λ retry. IsRule text.now retry) }
+    ensures { MatchOption result ((retry : Retry) → IsRetryRule text.now retry → ⊥) (λ retry. IsRetryRule text.now retry) }
 {
     let Some(times) = number_of(before(b' ', text), TIMES_MAX) else {
         return None

@@ -1,7 +1,7 @@
 //! The reading of one line of a station's text.
 
 ghost use Rattle.std.specs.Prelude.{◌≡◌, ◌++◌, ℕ, List, MatchOption};
-ghost use Rattle.gc_texts.specs.TaskLines.{IsDeadline, IsNaming, IsStanding, IsAccepting, IsRetrying, SetsClock, IsTaskLine};
+ghost use Rattle.gc_texts.specs.TaskLines.{IsDeadline, IsNameLine, IsNearLine, SetsAccepted, SetsRetry, SetsClock, IsTaskLine};
 ghost use Rattle.gc_texts.specs.declared.codes.Codes.{Codes};
 ghost use Rattle.gc_texts.specs.declared.name.Name.{Name};
 ghost use Rattle.gc_texts.specs.declared.near.Near.{Near};
@@ -11,7 +11,7 @@ ghost use Rattle.gc_texts.specs.declared.task_line.TaskLine.{TaskLine};
 
 use crate::codes::{Codes, read_codes};
 use crate::cuts::{before as words_before, behind as words_behind, cut_at, is_word};
-use crate::name::{Name, is_name, name_of_bytes};
+use crate::name::{Name, is_name, named_target};
 use crate::near::{Near, read_near};
 use crate::procedure::{TARGET_MAX, number_of};
 use crate::retry::{Retry, read_rule};
@@ -72,7 +72,7 @@ fn read_deadline(line: &[u8]) -> Option<u64>
 
 // Reads `name T TEXT`: a target and its name. `None`: the line has no such form.
 fn read_naming(line: &[u8]) -> Option<Name>
-    ensures { MatchOption result ((name : Name) → IsNaming line.now name → ⊥) (λ name. IsNaming line.now name) }
+    ensures { MatchOption result ((name : Name) → IsNameLine line.now name → ⊥) (λ name. IsNameLine line.now name) }
 {
     let Some(rest) = behind(b"name ", line) else {
         return None
@@ -85,12 +85,12 @@ fn read_naming(line: &[u8]) -> Option<Name>
     if !is_name(text) {
         return None;
     }
-    Some(name_of_bytes(target as u32, text))
+    Some(named_target(target as u32, text))
 }
 
 // Reads `near T HZ V TOLERANCE`: where a target is. `None`: the line has no such form, or a number lies outside its range.
 fn read_standing(line: &[u8]) -> Option<Near>
-    ensures { MatchOption result ((near : Near) → IsStanding line.now near → ⊥) (λ near. IsStanding line.now near) }
+    ensures { MatchOption result ((near : Near) → IsNearLine line.now near → ⊥) (λ near. IsNearLine line.now near) }
 {
     match behind(b"near ", line) {
         Some(rest) => read_near(rest),
@@ -101,7 +101,7 @@ fn read_standing(line: &[u8]) -> Option<Near>
 // Reads `accept C C ..`: the return codes that are accepted beside 0; no code where the line is `accept` alone. `None`: the
 // line has no such form.
 fn read_accepting(line: &[u8]) -> Option<Codes>
-    ensures { MatchOption result ((codes : Codes) → IsAccepting line.now codes → ⊥) (λ codes. IsAccepting line.now codes) }
+    ensures { MatchOption result ((codes : Codes) → SetsAccepted line.now codes → ⊥) (λ codes. SetsAccepted line.now codes) }
 {
     if is_word(b"accept", line) {
         return Some(Codes::none());
@@ -114,7 +114,7 @@ fn read_accepting(line: &[u8]) -> Option<Codes>
 
 // Reads `retry N WORD WORD ..`, or `retry 0`. `None`: the line has no such form.
 fn read_retrying(line: &[u8]) -> Option<Retry>
-    ensures { MatchOption result ((retry : Retry) → IsRetrying line.now retry → ⊥) (λ retry. IsRetrying line.now retry) }
+    ensures { MatchOption result ((retry : Retry) → SetsRetry line.now retry → ⊥) (λ retry. SetsRetry line.now retry) }
 {
     if is_word(b"retry 0", line) {
         return Some(Retry::none());

@@ -1,8 +1,9 @@
 //! Troubles: which field of a faulty line of a station's text is at fault, and what is printed of it.
 
-ghost use Rattle.std.specs.Prelude.{◌≡◌, ◌++◌, OnOk, IsTrue, codes};
+ghost use Rattle.std.specs.Prelude.{◌≡◌, ◌++◌, ℕ, OnOk, IsTrue, IsFalse, MatchOption, codes};
 ghost use Rattle.std.specs.Io.KnownBytes.{Appends};
-ghost use Rattle.gc_texts.specs.Troubles.{wanted, list_trouble, raw_trouble, IsCallTrouble, IsRawTrouble, IsRawWordsTrouble, IsTrouble, in_table_text, trouble_text, trouble_line};
+ghost use Rattle.gc_texts.specs.Troubles.{parameter_count, parameters_trouble, raw_trouble, IsCallTrouble, IsRawTrouble, IsRawWordsTrouble, NoNumber, BeginsAsCommand, IsSettingTrouble, IsAskingTrouble, IsTrouble, in_table_text, trouble_text, trouble_line};
+ghost use Rattle.gc_texts.specs.Procedures.{IsNumber};
 ghost use Rattle.gc_texts.specs.Words.{second_word, third_word};
 ghost use Rattle.gc_texts.specs.ProcedureNames.{name_of};
 
@@ -110,8 +111,8 @@ fn name_of(rpc: u16) -> &'static str
 }
 
 // How many parameters the procedure of this number has; 0 where there is none.
-fn wanted(rpc: u16) -> u8
-    ensures { result ≡ wanted rpc }
+fn parameter_count(rpc: u16) -> u8
+    ensures { result ≡ parameter_count rpc }
 {
     match rpc {
         107 | 2012 | 2107 | 17008 | 17017 => 1,
@@ -136,16 +137,16 @@ fn call_trouble(rpc: u16, params: &[u8]) -> Trouble
     match decode_call(&request) {
         Ok(_) => Trouble::NoForm,
         Err(CallFault::Unknown) => Trouble::NoProcedure(rpc),
-        Err(CallFault::Parameters(fault)) => list_trouble(rpc, fault),
+        Err(CallFault::Parameters(fault)) => parameters_trouble(rpc, fault),
     }
 }
 
 // What is reported of a procedure's parameters that have this fault: how many it wants, or that their spelling is at fault.
-fn list_trouble(rpc: u16, fault: ValueFault) -> Trouble
-    ensures { result ≡ list_trouble rpc fault }
+fn parameters_trouble(rpc: u16, fault: ValueFault) -> Trouble
+    ensures { result ≡ parameters_trouble rpc fault }
 {
     match fault {
-        ValueFault::Count | ValueFault::TooMany => Trouble::Wants(rpc, wanted(rpc)),
+        ValueFault::Count | ValueFault::TooMany => Trouble::Wants(rpc, parameter_count(rpc)),
         _ => Trouble::Parameters,
     }
 }
@@ -183,8 +184,11 @@ fn raw_words_trouble(number: &[u8], params: &[u8]) -> Trouble
 
 // Which field is at fault of a line that is taken for a command, or for one of any other procedure where its second word is `raw`.
 fn asking_trouble(line: &[u8]) -> Trouble
-    ensures { IsTrouble line.now result }
+    ensures { IsAskingTrouble line.now result }
 {
+    if begins_with_now(line) {
+        return Trouble::Now;
+    }
     let rest = behind(b' ', line);
     if rest.is_empty() {
         return Trouble::NoForm;
@@ -213,44 +217,64 @@ fn begins_with_now(line: &[u8]) -> bool
         && is_word(b"now", before(b' ', behind(b' ', rest)))
 }
 
-/// Which field of a line is at fault, where the line is a faulty one of a station's text. A line that begins with `deadline`,
-/// `name`, `near`, `accept`, `retry`, `at` or `each` is at fault in its target or in what it sets. Any other line is taken for a command, or for one of any other
-/// procedure where its second word is `raw`, and its first field that doesn't read is at fault. Some lines that aren't faulty give
-/// `NoForm`, too: a command, `chained` and `unchained`; and `retry`, `at start`, `each cycle` and `T 5007 now` give their own.
+// Whether the second word of a line is a target's number.
+fn has_target(line: &[u8]) -> bool
+    ensures target { IsTrue result → (n : ℕ) × IsNumber (second_word line.now) n 4294967295 }
+    ensures none { IsFalse result → NoNumber (second_word line.now) 4294967295 }
+{
+    match number_of(before(b' ', behind(b' ', line)), TARGET_MAX) {
+        Some(_) => true,
+        None => false,
+    }
+}
+
+// Which field is at fault of a line whose first word is one of those that set something. `None`: the first word is none of them.
+fn setting_trouble(line: &[u8]) -> Option<Trouble>
+    ensures { MatchOption result (BeginsAsCommand line.now) (λ t. IsSettingTrouble line.now t) }
+{
+    let first = before(b' ', line);
+    if is_word(b"deadline", first) {
+        return Some(Trouble::Deadline);
+    }
+    if is_word(b"name", first) {
+        return Some(if has_target(line) {
+            Trouble::Name
+        } else {
+            Trouble::Target
+        });
+    }
+    if is_word(b"near", first) {
+        return Some(if has_target(line) {
+            Trouble::Near
+        } else {
+            Trouble::Target
+        });
+    }
+    if is_word(b"accept", first) {
+        return Some(Trouble::Accept);
+    }
+    if is_word(b"retry", first) {
+        return Some(Trouble::Retry);
+    }
+    if is_word(b"at", first) {
+        return Some(Trouble::AtStart);
+    }
+    if is_word(b"each", first) {
+        return Some(Trouble::EachCycle);
+    }
+    None
+}
+
+/// Which field of a line is at fault, if the line is a faulty one of a station's text. A line that begins with `deadline`, `name`,
+/// `near`, `accept`, `retry`, `at` or `each` is at fault in its target or in what it sets. Any other line is taken for a command, or
+/// for one of any other procedure if its second word is `raw`, and its first field that doesn't read is at fault. Some lines that
+/// aren't faulty give `NoForm`, too: a command, `chained` and `unchained`; and `retry`, `at start`, `each cycle` and `T 5007 now`
+/// give their own.
 pub fn trouble_of(line: &[u8]) -> Trouble
     ensures { IsTrouble line.now result }
 {
-    let first = before(b' ', line);
-    let rest = behind(b' ', line);
-    if is_word(b"deadline", first) {
-        return Trouble::Deadline;
+    match setting_trouble(line) {
+        Some(trouble) => trouble,
+        None => asking_trouble(line),
     }
-    if is_word(b"name", first) {
-        return match number_of(before(b' ', rest), TARGET_MAX) {
-            Some(_) => Trouble::Name,
-            None => Trouble::Target,
-        };
-    }
-    if is_word(b"near", first) {
-        return match number_of(before(b' ', rest), TARGET_MAX) {
-            Some(_) => Trouble::Near,
-            None => Trouble::Target,
-        };
-    }
-    if is_word(b"accept", first) {
-        return Trouble::Accept;
-    }
-    if is_word(b"retry", first) {
-        return Trouble::Retry;
-    }
-    if is_word(b"at", first) {
-        return Trouble::AtStart;
-    }
-    if is_word(b"each", first) {
-        return Trouble::EachCycle;
-    }
-    if begins_with_now(line) {
-        return Trouble::Now;
-    }
-    asking_trouble(line)
 }

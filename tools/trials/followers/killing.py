@@ -12,7 +12,7 @@ from sinks import TOP, expect_postgres, expect_retained, expect_sqlite, follower
 
 
 def kill_again_and_again(kills, seed, command):
-    """Begins a follower anew until it was killed so often."""
+    """Starts a follower again until it was killed so often."""
     chance = random.Random(seed)
     for kill in range(kills):
         with Run(command) as run:
@@ -27,7 +27,7 @@ def kill_side_by_side(kills, commands):
 
 
 def key(fields):
-    """What tells a row from each other one: its own columns."""
+    """What distinguishes a row from each other one: its own columns."""
     return json.dumps({name: field for name, field in fields.items() if name in COLUMNS}, sort_keys=True)
 
 
@@ -46,7 +46,7 @@ def kill_followers(servers, folder, kills, path, end_growth, top=TOP):
         expect_sqlite(base, path)
         expect_postgres(servers, path)
         topics = expect_retained(servers.broker_port, path, top)
-        # The same fields may stand in one row alone, since each has its own moment or place.
+        # The same fields may be in one row alone, since each has its own moment or place.
         wanted = [key(row.fields) for row in rows_of(path)]
         until(lambda: listening.came and key(json.loads(listening.came[-1][1])) == wanted[-1], "the last row isn't published", 10)
     came = [key(json.loads(text)) for _, text in listening.came]

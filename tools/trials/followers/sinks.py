@@ -155,7 +155,7 @@ def expect_measured(path, found, kind):
 
 
 def wanted_at_broker(path, top):
-    """What has to stand retained: of each topic the last row."""
+    """What has to be retained: of each topic the last row."""
     last = {}
     for row in rows_of(path):
         topic = f"{top}/target/{level(row.fields['name'] or row.fields['target'])}/{row.fields['procedure']}"

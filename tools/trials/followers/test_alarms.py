@@ -18,7 +18,7 @@ LIMITS = "target,column,reference,tolerance,outside,of\n"
 
 
 def laid(folder, limits, rows=b""):
-    """A file of rows and a table of limits, and the words behind the command."""
+    """A file of rows and a table of limits, and the words after the command."""
     (folder / "values.csv").write_bytes(HEAD + rows)
     (folder / "limits").write_text(LIMITS + limits, encoding="utf-8")
     return [folder / "values.csv", folder / "limits", folder / "state"]
@@ -70,7 +70,7 @@ def test_a_tolerance_is_within(folder):
 
 
 def test_silence(folder):
-    """No good row for 3 cycles: told once when the third is over, and again behind a good one."""
+    """No good row for 3 cycles: reported once when the third is over, and again after a good one."""
     good, refused = ["2,1.5,50"], ["", "refused", 2108, 1285]
     data = b""
     for cycle, each in enumerate([good, refused, refused, refused, refused, good, refused, refused, refused, good], 1):
@@ -94,7 +94,7 @@ def test_the_last_attempt_counts(folder):
 
 
 def test_attempts_of_standard_input(folder):
-    """The attempts of a chain stand one behind the other: each row is taken once, also behind a restart within a cycle."""
+    """The attempts of a chain come one after the other: each row is taken once, also after a restart within a cycle."""
     words = ["-", *laid(folder, "7,distance_m,50,0.05,1,1\n8,distance_m,50,0.05,1,1\n")[1:]]
     rows = [row(1, target, "2,1.5,51", attempt=attempt) for attempt in (1, 2) for target in (7, 8)] + [row(2, 7, "2,1.5,51")]
     first = lines_of(words, HEAD + b"".join(rows[:3]))
@@ -115,7 +115,7 @@ def test_refuses_limits(folder, limits, why):
 
 def test_alarms_of_a_month(folder, note):
     """A month of hourly rows of both faces, reduced; a target moves 3 mm in a week from the tenth day on. It is outside 2 mm in the cycle
-    that arithmetic says: 14 days and 16 hours behind the first, and with 2 of the last 3 rows one cycle later. With the instrument's
+    that arithmetic says: 14 days and 16 hours after the first, and with 2 of the last 3 rows one cycle later. With the instrument's
     noise it is the cycle that is found from the coordinates without the alarm."""
     for noise, seed in (0.0, 3), (2e-6, 3):
         month = Month(noise=noise, bad={9: (range(100, 104), "refused")})
@@ -163,7 +163,7 @@ def test_alarms_go_on_behind_kills(folder, kills, note):
 
 
 def test_standard_input(folder):
-    """Rows of standard input, as objects and as a table; those that come again behind a restart are passed over."""
+    """Rows of standard input, as objects and as a table; those that come again after a restart are ignored."""
     words = ["-", *laid(folder, "7,distance_m,50,0.05,1,1\n")[1:]]
     rows = [row(cycle, 7, "2,1.5,51") for cycle in range(1, 6)]
     first = lines_of(words, HEAD + b"".join(rows[:3]))

@@ -21,7 +21,7 @@ GOOD = {"~.csv": HEAD + b"".join(first_rows(40)),
 
 @dataclass
 class BadFile:
-    """A file beside the good ones: its name, what makes it, how many rows of it are taken, and what is told of it, if anything."""
+    """A file beside the good ones: its name, what makes it, how many rows of it are taken, and what is reported of it, if anything."""
 
     name: str
     make: Callable
@@ -30,11 +30,11 @@ class BadFile:
 
 
 def bad_lines():
-    """Files with a line that is no row, and a good row behind it."""
+    """Files with a line that is no row, and a good row after it."""
     table_row, json_row, columns_row = (line(random.Random(5), 2) for line in (row, row_of_json, row_of_columns))
     no_row = "the line that ends at byte {} is no row: "
     glued = no_row + "its run is no moment: 2026-11-242026-11-24T19:59:50.000Z"
-    # Of each its name, what stands before that line and how many rows of it are good, the line, and what is told of it.
+    # Of each its name, what is before that line and how many rows of it are good, the line, and what is reported of it.
     for name, before, rows, line, message in [
         ("glued.csv", HEAD + table_row, 1, table_row[:10] + table_row, glued),
         ("later glued.csv", COLUMNS_HEAD, 0, table_row[:10] + columns_row, glued),
@@ -72,7 +72,7 @@ def no_files():
 
 
 def expect_followed(follower, place, bad, is_once):
-    """A follower of a folder takes the good files, and tells of the bad one in one line."""
+    """A follower of a folder takes the good files, and reports the bad one in one line."""
 
     def taken(name):
         return follower.taken(f"{place.name}/{name}")
@@ -93,7 +93,7 @@ def expect_followed(follower, place, bad, is_once):
 
 def test_one_bad_file_stops_no_other(servers, folder, note):
     """A file with a bad line, a folder, a pipe, a link that leads nowhere, or names that aren't printable, beside two good files: what
-    is before a bad line is taken, the line is told once with its file, and the good files are taken whole. So over rounds, too."""
+    is before a bad line is taken, the line is reported once with its file, and the good files are taken whole. So over rounds, too."""
     wrong, tried = [], 0
     for kind, files in ("once", [*bad_lines(), *no_files()]), ("running", [*list(bad_lines())[:4], *no_files()]):
         for bad in files:
@@ -113,7 +113,7 @@ def test_one_bad_file_stops_no_other(servers, folder, note):
 
 
 def test_reads_columns_by_name(servers, folder):
-    """A column that is needed and missing is told in one line; further ones, another order, and rows of an earlier version, which
+    """A column that is needed and missing is reported in one line; further ones, another order, and rows of an earlier version, which
     have no run, no moment of sending, no quality and no attempt, change nothing."""
     path, base = folder / "columns.csv", folder / "columns.db"
     path.write_bytes((",".join(column for column in COLUMNS if column != "rc") + "\n").encode())

@@ -75,7 +75,7 @@ def messages_of_a_change(follower, path, change, is_running):
 
 
 def test_goes_on_in_a_copy(servers, folder):
-    """A file in whose place a station put a copy of its whole rows is followed on, behind a torn row too; a copy that lacks a row that
+    """A file in whose place a station put a copy of its whole rows is followed on, after a torn row too; a copy that lacks a row that
     wasn't taken yet is refused."""
     for name in NAMES:
         path = folder / f"copied-{name}.csv"
@@ -92,7 +92,7 @@ def test_goes_on_in_a_copy(servers, folder):
 
 
 def test_misses_no_row_in_a_copy(folder):
-    """A file that begins with what was taken, and lacks a whole row behind it, is no copy."""
+    """A file that begins with what was taken, and lacks a whole row after it, is no copy."""
     path = folder / "rows.csv"
     for behind, is_copy in (ROWS[1] + ROWS[2], True), (ROWS[1], True), (ROWS[2], False), (b"", False):
         path.write_bytes(WHOLE)
@@ -110,7 +110,7 @@ def test_misses_no_row_in_a_copy(folder):
 
 @pytest.mark.title("tells_what_was_changed_in_a_folder")
 def test_changed_in_a_folder(servers, folder, note):
-    """A file of a folder that is cut, replaced or taken away while it is followed is told once, and nothing is taken from it; the others
+    """A file of a folder that is cut, replaced or taken away while it is followed is reported once, and nothing is taken from it; the others
     go on. One that comes back as it was is followed again, and one that was moved is taken to its end by `--as`."""
     wrong = [fault for follower in followers(servers, folder / "changed.db", "folders") for fault in faults_in_a_folder(follower, folder)]
     assert not wrong
@@ -119,7 +119,7 @@ def test_changed_in_a_folder(servers, folder, note):
 
 GROWN = HEAD + b"".join(first_rows(90, 6))
 LATER = first_rows(80)
-# Each with what is told of it.
+# Each with what is reported of it.
 FOLDER_CHANGES = {
     "copied and cut": (lambda path: (shutil.copy(path, path.with_suffix(".1")), os.truncate(path, 0)), "is shorter"),
     "cut and begun anew": (lambda path: path.write_bytes(HEAD + LATER[41]), "is shorter"),
@@ -157,7 +157,7 @@ def faults_in_a_folder(follower, folder):
     for what, path in paths.items():
         if taken(path) != 40 + (what == "moved"):
             yield f"{follower.name}, {what}: {taken(path)} rows"
-    # What stands behind the place of a file that was moved: its name is told.
+    # What follows the place of a file that was moved: its name is reported.
     moved = paths["moved"].with_suffix(".1")
     if moved.exists():
         append(moved, LATER[52])
@@ -187,7 +187,7 @@ def change_in_a_folder(paths, other, taken):
 
 @pytest.mark.title("tells_what_was_taken_away_meanwhile")
 def test_taken_away_meanwhile(servers, folder):
-    """A file of a folder that is taken away while the sink is away is told, too."""
+    """A file of a folder that is taken away while the sink is away is reported, too."""
     place, base = folder / "rows", folder / "values.db"
     place.mkdir()
     follower = followers(servers, base)[0]

@@ -103,7 +103,7 @@ def follow_a_station(servers, kills, program, port, path, form):
 
 
 def test_a_folder_is_followed(servers, folder, kills, note):
-    """One follower for many files: one that is refused is told, and the others go on over kills."""
+    """One follower for many files: one that is refused is reported, and the others go on over kills."""
     place, base, top = folder / "rows", folder / "folder.db", "many"
     place.mkdir()
     grows = [Growing(place / f"s{number:02}.csv", number, 0.1, 5) for number in range(20)]

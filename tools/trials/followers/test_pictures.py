@@ -1,4 +1,4 @@
-"""Pictures of rows of both faces: what is drawn, and what is told where that can't be."""
+"""Pictures of rows of both faces: what is drawn, and what is reported where that can't be."""
 
 import math
 import os
@@ -14,7 +14,7 @@ from two_faces import SITE, Month
 
 
 def test_faces_are_apart_and_joined(folder):
-    """Face II is turned over, so both stand within a few microradians, and a direction that goes over the circle's end goes on."""
+    """Face II is turned over, so both are within a few microradians, and a direction that goes over the circle's end goes on."""
     month = Month(cycles=200, targets={7: ("pier 4", (1000 + 100 * math.sin(0.5), 2000 + 100 * math.cos(0.5), 102.0))}, moves=7, from_day=0,
                   a_week=0.1, noise=1e-6)
     path = folder / "values.csv"

@@ -89,7 +89,7 @@ def test_refractivity_of_the_reference(nanometres, printed, places):
 
 
 def reduced(site, hz, v, distance):
-    """Where a target stands that was read so in both faces."""
+    """Where a target is that was read so in both faces."""
     two = reading(Decimal(hz) + angles.PI, angles.TURN - Decimal(v), distance)
     target = reductions.Target.__new__(reductions.Target)
     target.number, target.pairs = "7", [reductions.pair_of(reading(hz, v, distance), two)]
@@ -199,7 +199,7 @@ def test_reduces_as_a_file_grows(folder, note):
 
 
 def test_the_last_attempt_is_reduced(folder):
-    """Where chains go out again, and the set-up between them, the rows are those of the last attempts; also as the file grows, where a
+    """Where chains are repeated, and the set-up between them, the rows are those of the last attempts; also as the file grows, where a
     cycle is over with the last attempt of its last chain."""
     site = folder / "site"
     site.write_text(SITE, encoding="utf-8")

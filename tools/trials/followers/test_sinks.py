@@ -15,7 +15,7 @@ from sinks import TOOLS, expect_postgres, expect_retained, expect_sqlite, follow
 
 
 def test_waits_where_the_sink_is_away(servers, folder, note):
-    """A sink that is away is told, and its rows come once it is there again."""
+    """A sink that is away is reported, and its rows come once it is there again."""
     path, base = folder / "away.csv", folder / "away.db"
     messages_of(tool("to-sqlite", path, base, "--once"), 1)
     grows = Growing(path, 8, 0.02, 5)

@@ -1,4 +1,4 @@
-"""The words of the commands: each option of a help stands in its man page and in the completions of three shells, and none besides."""
+"""The words of the commands: each option of a help is in its man page and in the completions of three shells, and none besides."""
 
 import re
 
@@ -14,7 +14,7 @@ def options_of(text):
 
 
 def completed_by_bash(name):
-    """What the script for bash gives: the words of all commands, and those of this one in front of them."""
+    """What the script for bash gives: the words of all commands, and those of this one before them."""
     text = (PACKAGING / "completions/geocom-tools.bash").read_text(encoding="utf-8")
     shared = re.search(r"local given='(.*)'", text)[1]
     own = re.search(rf"^    geocom-{name}\) given=[\"'](.*)[\"'] ;;$", text, re.M)

@@ -1,4 +1,4 @@
-"""A bad line under way, and a client of a trial's own at its end."""
+"""A running bad line, and a client of a trial's own at its end."""
 
 import re
 import select
@@ -14,7 +14,7 @@ REPLY = re.compile(rb"%R1P,\d+,(\d):")
 
 @contextmanager
 def lining(folder, text, far, *words, near=None):
-    """Where a line with this text is, a port where nothing is said, and the line under way. `far` is where the instrument is."""
+    """Where a line with this text is, a port where nothing is said, and the running line. `far` is where the instrument is."""
     path = Path(folder, "bad.line")
     path.write_text(text, encoding="ascii")
     port = near or free_port()

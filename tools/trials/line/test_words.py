@@ -49,7 +49,7 @@ def test_lines(folder, number, words, text, lines, requests):
 @pytest.mark.title("{text}, {least} ms")
 @pytest.mark.parametrize("text, least", [("up 1 delay 300", 300), ("delay 150 150", 300), ("down 2 hold 300", 300), ("up hold 100 300", 300)])
 def test_waits(folder, text, least):
-    """A line that waits keeps those behind it waiting, and none is lost."""
+    """A line that waits keeps those after it waiting, and none is lost."""
     lines, requests, seconds = asked(folder, text)
     assert (lines, requests) == ([FIRST, SECOND], [5003, 2011])
     assert least / 1000 - 0.02 <= seconds < least / 1000 + 0.5
@@ -60,7 +60,7 @@ def test_waits(folder, text, least):
     ("down 1 close", []), ("down 1 reset", []), ("down 1 cut 5", [FIRST[:5]]), ("up 1 close", []), ("idle 300", [FIRST]),
 ])
 def test_closes(folder, text, comes):
-    """The connection ends; a next one is made, and has none of what was under way."""
+    """The connection ends; a next one is made, and has none of what was in flight."""
     with standing() as far, lining(folder, text, far.port, "--seed", 1) as (port, run):
         with Caller(port) as caller:
             caller.say(5003, 1)
@@ -125,7 +125,7 @@ def test_restarts(folder):
 
 @pytest.mark.title("restart: replies that came together go on, all of them")
 def test_restarts_behind_replies(folder):
-    """The far end answers two requests in one piece; the first reply has the instrument start anew."""
+    """The far end answers two requests in one piece; the first reply has the instrument restart."""
     kept = []
 
     def answers(request):

@@ -55,7 +55,7 @@ def test_begins_at_once(program, what):
 
 @pytest.mark.title("the beginning, null procedures that aren't answered")
 def test_unanswered_null_procedures(program):
-    """A null procedure that isn't answered goes out again with its id, at its deadline and on the next connection; what has another id is
+    """A null procedure that isn't answered is repeated with its id, at its deadline and on the next connection; what has another id is
     dropped; and a refusal answers it."""
     came = []
 
@@ -82,7 +82,7 @@ def test_unanswered_null_procedures(program):
 @pytest.mark.title("the quiet time, {what}")
 @pytest.mark.parametrize("what, words, least", [("without a word", "", 2000), ("shorter than the deadline", "--quiet 300", 300)])
 def test_quiet_time(program, what, words, least):
-    """Within a run a connection is made anew behind so many milliseconds, and is quiet for as long before a request goes out on it."""
+    """Within a run a connection is made again after so many milliseconds, and is quiet for as long before a request is sent on it."""
     opened, closed = [], []
 
     def says(connection):
@@ -107,7 +107,7 @@ def test_quiet_time(program, what, words, least):
 @pytest.mark.title("the beginning, anew{what}")
 @pytest.mark.parametrize("what, width", [("", 1), (", width 7", 7)])
 def test_begins_anew(program, what, width):
-    """Where seven requests are given up they are lost at once, and null procedures go out on the same connection, without a line feed.
+    """Where seven requests have timed out they are lost at once, and null procedures are sent on the same connection, without a line feed.
     A reply that fits none keeps the line alive."""
 
     def answers(request):
@@ -125,7 +125,7 @@ def test_begins_anew(program, what, width):
 
 
 def falls_mute():
-    """What answers the null procedures of the beginning, and nothing behind them."""
+    """What answers the null procedures of the beginning, and nothing after them."""
     came = []
 
     def answers(request):

@@ -68,7 +68,7 @@ def test_wrong_prism(program, what, width):
 @pytest.mark.title("the wrong prism, an answer behind a close, width {width}")
 @pytest.mark.parametrize("width", [1, 7])
 def test_answer_behind_a_close(program, width):
-    """A good answer that comes over a later connection is booked, and the command behind it doesn't go out."""
+    """A good answer that comes over a later connection is booked, and the command after it isn't sent."""
     held = []
 
     def keeps(request):
@@ -106,7 +106,7 @@ UNCHAINED = {
 @pytest.mark.title("the wrong prism, {how}")
 @pytest.mark.parametrize("how", UNCHAINED)
 def test_unchained(program, how):
-    """Where commands are not chained each goes out by itself."""
+    """Where commands are not chained each is sent by itself."""
     words, text = UNCHAINED[how]
     with standing(first(9027, loses)) as far:
         with measuring(program, far.port, f"{SHORT} {words}", text) as run:
@@ -117,7 +117,7 @@ def test_unchained(program, how):
 
 @pytest.mark.title("chains, what a row is")
 def test_what_a_row_is(program):
-    """A row is what stands for one target, one line behind the other, with no line of chains between."""
+    """A row is what stands for one target, one line after the other, with no line of chains between."""
     text = b"7 2107 0\n8 2011\n7 2011\n\n# still its row\ndeadline 300\n7 2026\nchained\n7 2107 0\nunchained\n7 2011\n7 2026\n"
     with standing(lambda request: request.reply(b"1285" if request.rpc else b"0")) as far:
         with measuring(program, far.port, SHORT, text) as run:
@@ -127,7 +127,7 @@ def test_what_a_row_is(program):
             assert [row["rc"] for row in rows] == [end and "1285" * (end == "answered") for end in ends], "the codes"
 
 
-# What comes in place of two angles, behind the colon, with the outcome, the fault and the values of its row.
+# What comes in place of two angles, after the colon, with the outcome, the fault and the values of its row.
 ANGLES = [
     (b"0,2.25,1.6?", "unreadable", "11", "2.25,1.6?"),
     (b"0,2.25,1.6\xff", "unreadable", "11", "2.25,1.6\\xff"),
@@ -160,7 +160,7 @@ def test_values_that_do_not_read(program):
 @pytest.mark.title("behind values that don't read, width {width}")
 @pytest.mark.parametrize("width", [1, 7])
 def test_behind_unreadable_values(program, width):
-    """Behind an answer that doesn't read the next command of its row doesn't go out."""
+    """After an answer that doesn't read the next command of its row isn't sent."""
     text = b"7 2107 0\n7 2011\n8 2107 0\n8 2011\n"
     with standing(first(2107, lambda request: request.reply(b"0,2.25,1.6?"))) as far:
         with measuring(program, far.port, f"{SHORT} --width {width}", text) as run:
@@ -169,8 +169,8 @@ def test_behind_unreadable_values(program, width):
             assert far.asked() == [2107, 2107, 2011], "what was asked"
 
 
-# What answers each measurement of a text that accepts 1283 and 1284 until its last row, behind the colon; the quality of the row, its
-# distance, and the outcome of the command behind it.
+# What answers each measurement of a text that accepts 1283 and 1284 until its last row, after the colon; the quality of the row, its
+# distance, and the outcome of the command after it.
 ACCEPTED = [
     (b"0,2.25,1.6,110.5", "ok", "110.5", "answered"),
     (b"1283,2.25,1.6,110.5", "warning", "110.5", "answered"),
@@ -184,7 +184,7 @@ ACCEPTED = [
 @pytest.mark.title("accepted return codes, width {width}")
 @pytest.mark.parametrize("width", [1, 7])
 def test_accepted(program, width):
-    """Behind an answer with an accepted return code the next command of its row goes out, and its values stand in the columns; behind any
+    """After an answer with an accepted return code the next command of its row is sent, and its values are in the columns; after any
     other code it doesn't, and they don't."""
     given = iter(ACCEPTED)
 

@@ -23,7 +23,7 @@ def starts_of(far, commands=2):
 
 @pytest.mark.title("--every 1, each cycle in time")
 def test_in_time(program, note):
-    """Cycles stand on a grid: each begins when it is due, however many were before."""
+    """Cycles rest on a grid: each begins when it is due, however many were before."""
     cycles = 20
     with standing() as far:
         processors = Processors()
@@ -55,7 +55,7 @@ def expect_missed_when_due(rows, began, why):
 @pytest.mark.title("an outage of several cycles, width {width}")
 @pytest.mark.parametrize("width", [1, 7])
 def test_outage(program, note, width):
-    """Behind an outage of several cycles each command of each has its row, and the cycles behind it stand where they stood."""
+    """After an outage of several cycles each command of each has its row, and the cycles after it stand where they stood."""
     cycles = 9
     pulling = []
 
@@ -135,7 +135,7 @@ def test_no_end(program):
 
 @pytest.mark.title("--retries 0")
 def test_connects_on(program):
-    """With --retries 0 it connects anew until it is ended; with ten it gives up."""
+    """With --retries 0 it connects again until it is ended; with ten it gives up."""
     with standing() as far:
         far.pull()
         began = time.time()

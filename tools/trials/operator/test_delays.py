@@ -88,7 +88,7 @@ def test_drop(program, folder):
 
 @pytest.mark.title("busy drop: a client that asks as soon as it is answered")
 def test_quick_client(program, folder):
-    """A request that goes out as soon as a slow reply came isn't dropped, over one connection and over the next one."""
+    """A request that is sent as soon as a slow reply came isn't dropped, over one connection and over the next one."""
     scene = scene_of(folder, "delay 5003 50", "busy drop")
     port = free_port()
     with Run([program, "serve", port, "--scene", scene, "--keep"]):

@@ -117,7 +117,7 @@ def test_serve_again(program, folder):
 
 
 def expect_refused(program, path, fault, **options):
-    """Nothing is done at this path, and that is told."""
+    """Nothing is done at this path, and that is reported."""
     for command in "station", "ask", "serve":
         status, output, messages = ended([program, command, path], COMMANDS, **options)
         assert (status, output) == (1, b""), f"{command} {path}"
@@ -216,7 +216,7 @@ def echoing(request):
 
 @pytest.mark.title("places, a line that echoes")
 def test_echo(program):
-    """A line that sends back what goes out is told once, and costs nothing."""
+    """A line that sends back what is sent is reported once, and costs nothing."""
     for words, wanted in ("", [ECHOES]), (" --silent", []):
         with terminal(echoing) as line:
             messages = expect_measured(program, line.path, SHORT + words, cycles=20)
@@ -225,7 +225,7 @@ def test_echo(program):
 
 @pytest.mark.title("places, a line that isn't raw")
 def test_not_raw(program):
-    """A line that changes CR to LF is told once; no reply reads there."""
+    """A line that changes CR to LF is reported once; no reply reads there."""
     for words, wanted in ("", 1), (" --silent", 0):
         with terminal() as line:
             setting = termios.tcgetattr(line.near)
@@ -268,7 +268,7 @@ def test_silent(program):
 
 @pytest.mark.title("places, a device that takes nothing")
 def test_full(program, note):
-    """Where the line takes nothing more a write ends behind its ten seconds, and a station with it."""
+    """Where the line takes nothing more a write ends after its ten seconds, and a station with it."""
     with terminal(None) as line:
         fill(line.near)
         note(f"in {expect_gives_up(program, line, 28):.1f} s")

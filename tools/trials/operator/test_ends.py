@@ -75,7 +75,7 @@ def test_stops_in_a_wait(program, tmp_path):
 
 @pytest.mark.title("--until, and a reply that never comes")
 def test_stops_at_a_deadline(program, tmp_path):
-    """What is under way is waited for until its deadline, and is lost then; its chain's rest is skipped."""
+    """What is in flight is waited for until its deadline, and is lost then; its chain's rest is skipped."""
     path = tmp_path / "stop"
 
     def answers(request):

@@ -25,7 +25,7 @@ def kept(program, *words, **options):
 
 @pytest.mark.title("serve --keep, a connection that is reset")
 def test_reset(program):
-    """A connection that is broken is told, and the next one is served."""
+    """A connection that is broken is reported, and the next one is served."""
     with kept(program) as (run, port):
         broken = connect(port)
         ask(broken)
@@ -39,7 +39,7 @@ def test_reset(program):
 
 @pytest.mark.title("serve --keep, an idle client and a second one")
 def test_idle_client(program):
-    """A client that says nothing is closed and told, and the one behind it is served."""
+    """A client that says nothing is closed and reported, and the one after it is served."""
     with kept(program, "--idle", "1") as (run, port):
         with connect(port) as idle:
             time.sleep(0.1)
@@ -51,7 +51,7 @@ def test_idle_client(program):
 
 @pytest.mark.title("serve --keep, a client that takes nothing and a second one")
 def test_client_that_takes_nothing(program):
-    """A client that sends and never reads holds up the one behind it no longer than an idle one."""
+    """A client that sends and never reads holds up the one after it no longer than an idle one."""
     with kept(program, "--idle", "1") as (run, port):
         with connect(port) as deaf:
             deaf.setblocking(False)
@@ -86,7 +86,7 @@ def test_client_that_pauses(program):
 
 @pytest.mark.title("serve --keep, no end, and an end behind so many")
 def test_end(program):
-    """Without a number of connections it has no end, and with one it ends behind them."""
+    """Without a number of connections it has no end, and with one it ends after them."""
     with kept(program) as (run, port):
         for _ in range(20):
             ask_once(port)
@@ -117,7 +117,7 @@ def test_many_reads(program):
 
 @pytest.mark.title("serve --keep, no connection can be accepted")
 def test_none_is_accepted(program):
-    """Where no connection can be accepted that is told, no more than once a second, and no processor is kept busy by it."""
+    """Where no connection can be accepted that is reported, no more than once a second, and no processor is kept busy by it."""
     with kept(program, shell="ulimit -S -n 4") as (run, port):
         with connect(port) as caller:
             time.sleep(2.5)

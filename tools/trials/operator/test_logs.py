@@ -1,4 +1,4 @@
-"""The log of a station: what stands in it, and which files it may be."""
+"""The log of a station: what is in it, and which files it may be."""
 
 import os
 import re
@@ -43,13 +43,13 @@ def carried(log):
 @pytest.mark.title("--log, each byte, width {width}")
 @pytest.mark.parametrize("width", [1, 7])
 def test_each_byte(program, folder, width):
-    """What stands in the log is what the far end saw, byte by byte, over each connection; and `check --log` reads it."""
+    """What is in the log is what the far end saw, byte by byte, over each connection; and `check --log` reads it."""
     asked = []
     noise = [b"", b"no reply \x00\x7f\x80\xff\\x41\r\n", b"half a li\n", b"\r\r\n\n", b"%R1P,0," + 600 * b"9" + b"\r\n", b"\\"]
 
     def answers(request):
         asked.append(request)
-        # In the beginning, where one request is under way alone: the log has what was put, and the far end what came.
+        # In the beginning, where one request is in flight alone: the log has what was put, and the far end what came.
         if len(asked) in (5, 6):
             return CLOSES
         return noise[len(asked) % len(noise)] + good(request)
@@ -83,7 +83,7 @@ def expect_read_by_check(program, log):
 
 
 def expect_appends(program, far, log):
-    """A second run leaves what stands in the log."""
+    """A second run leaves what is in the log."""
     before = log.read_bytes()
     with measuring(program, far.port, f"--log {log} --quiet 100 --deadline 100", TWO) as run:
         finished(run)
@@ -98,7 +98,7 @@ def limited(program, port, log, words):
 
 @pytest.mark.title("--log, a full disk")
 def test_full_disk(program, folder):
-    """Where the log can't be written the rows are the same, and that is told in the end."""
+    """Where the log can't be written the rows are the same, and that is reported in the end."""
     with standing() as far:
         with limited(program, far.port, folder / "log", "") as run:
             assert run.status() == 0, "the status"
@@ -110,7 +110,7 @@ def test_full_disk(program, folder):
 
 @pytest.mark.title("--log, a full disk, told at once")
 def test_full_disk_told_at_once(program, folder):
-    """That the log can't be written is told while the station runs, once, also where it tells no signs of life."""
+    """That the log can't be written is reported while the station runs, once, also where it reports no signs of life."""
     lost = "geocom: the log can't be written and ends here: measuring continues\n"
     for silent in "", "--silent":
         with standing() as far:
@@ -129,7 +129,7 @@ def test_no_folder(program):
 
 
 def expect_refused(program, far, log, why=""):
-    """A station with this log does nothing but tell that it is refused."""
+    """A station with this log does nothing but report that it is refused."""
     with measuring(program, far.port, f"--log {log} --quiet 100", TWO) as run:
         assert run.status() == 1, log
         assert run.messages().startswith("geocom: fault 57\n"), log
@@ -168,7 +168,7 @@ def test_held_log(program, folder):
 
 @pytest.mark.title("--log, a torn line")
 def test_torn_line(program, folder):
-    """A torn last line of a log is cut off, and told: no log has a line that neither went nor came."""
+    """A torn last line of a log is cut off, and reported: no log has a line that neither went nor came."""
     for torn in LOG_LINE[:-3], LOG_LINE[:30], LOG_LINE[:9], b"":
         for whole in LOG_LINE * 2, b"":
             with standing() as far:
@@ -186,7 +186,7 @@ def test_torn_line(program, folder):
 
 @pytest.mark.title("--log-bytes")
 def test_bounded_log(program, folder):
-    """A log has no more bytes than it may have, over several runs; its last line says that the rest is left out, and that is told."""
+    """A log has no more bytes than it may have, over several runs; its last line says that the rest is left out, and that is reported."""
     full = "geocom: the log is full: what is sent or received from here on is not in it"
     with standing() as far:
         log = folder / "log"

@@ -50,7 +50,7 @@ def test_addresses(program, listening, host):
 @pytest.mark.title("places, {what}")
 @pytest.mark.parametrize("what, place", [
     ("a port where nobody listens", "127.0.0.2:PORT"),
-    # No resolver asks for a name with a part that is so long, so that nothing goes out of this machine.
+    # No resolver asks for a name with a part that is so long, so that nothing is sent of this machine.
     ("a name that isn't found", 64 * "a" + ":4001"),
     ("a device that isn't there, ask", "/dev/nowhere"),
 ])

@@ -1,4 +1,4 @@
-"""Procedures that aren't in the table: what goes out, what is written of their answers, and that no kept reply is taken for one."""
+"""Procedures that aren't in the table: what is sent, what is written of their answers, and that no kept reply is taken for one."""
 
 import csv
 import json
@@ -11,7 +11,7 @@ from programs import PATIENCE, Run, simulator
 from records import LAST
 
 SHORT = "--deadline 300 --quiet 150"
-# A line of a text, what stands behind the colon of its request, and what it is answered with behind the colon; the outcome of its row, its
+# A line of a text, what follows the colon of its request, and what it is answered with after the colon; the outcome of its row, its
 # fault, its quality and its items.
 ANSWERS = [
     (b"7 raw 2167 2,1", b"2,1", b"0,0.0012,-0.0034", "answered", "", "ok", ["0.0012", "-0.0034"]),
@@ -37,7 +37,7 @@ def answering():
 
 @pytest.mark.title("raw, rows")
 def test_rows(program):
-    """The parameters go out exactly as they stand, and what comes stands in `values` as it came."""
+    """The parameters are sent exactly as they are, and what comes is in `values` as it came."""
     with standing(answering()) as far, measuring(program, far.port, SHORT, TEXT) as run:
         rows, _ = finished(run)
         assert [request.params for request in far.commands()] == [one[1] for one in ANSWERS], "what was asked"
@@ -48,7 +48,7 @@ def test_rows(program):
 
 @pytest.mark.title("raw, columns and objects")
 def test_objects(program):
-    """No quantity stands in a column, and an object has the items as a list."""
+    """No quantity is in a column, and an object has the items as a list."""
     with standing(answering()) as far:
         with Run([program, "station", far.port, "--columns", *SHORT.split()], TEXT) as run:
             assert run.status(PATIENCE) == 0, run.messages()
@@ -66,7 +66,7 @@ def test_objects(program):
 
 @pytest.mark.title("raw, chains")
 def test_chains(program):
-    """A command of a chain goes out behind one that was answered well or with an accepted code, and behind no other."""
+    """A command of a chain is sent after one that was answered well or with an accepted code, and after no other."""
     text = b"accept 1283\n7 raw 18005 1\n7 raw 2028\n7 2011\n8 raw 2167\n8 2026\n9 raw 2167\n9 2026\n"
     given = {18005: iter([b"0"]), 2028: iter([b"1283,1013.25"]), 2167: iter([b"1284,1", b"0,\"1"])}
     with standing(lambda request: request.reply(next(given[request.rpc])) if request.rpc in given else good(request)) as far:
@@ -79,7 +79,7 @@ def test_chains(program):
 @pytest.mark.title("raw, a line that loses replies, width {width}")
 @pytest.mark.parametrize("width", [1, 7])
 def test_lost(program, width):
-    """A raw command whose reply is lost is given up, and settled as lost by a later reply."""
+    """A raw command whose reply is lost times out, and is settled as lost by a later reply."""
     text = b"unchained\n" + b"".join(b"%d raw 2167 %d\n" % (target, target) for target in range(20))
     came = []
 
@@ -113,7 +113,7 @@ class Keeping:
 @pytest.mark.title("raw alone, an instrument that keeps its reply, width {width}")
 @pytest.mark.parametrize("width", [1, 3, 7])
 def test_kept_replies(program, width):
-    """A station of raw commands alone books no kept reply: each is told as not known."""
+    """A station of raw commands alone books no kept reply: each is reported as not known."""
     text = b"unchained\n" + b"".join(b"%d raw 2167\n" % target for target in range(30))
     with standing(Keeping({0: b"0"}).answer) as far, measuring(program, far.port, f"{SHORT} --width {width} --cycles 3", text) as run:
         rows, _ = finished(run)
@@ -125,7 +125,7 @@ def test_kept_replies(program, width):
 @pytest.mark.title("raw between others, an instrument that keeps its reply, {raws} of them")
 @pytest.mark.parametrize("raws", [6, 7, 8, 15, 16])
 def test_kept_between(program, raws):
-    """Behind so many procedures that the simulated instrument doesn't know, a call of the table gets its own answer."""
+    """After so many procedures that the simulated instrument doesn't know, a call of the table gets its own answer."""
     text = b"unchained\n1 5003\n" + raws * b"2 raw 2167\n" + b"3 2026\n4 5004\n"
     with simulator(program) as port, measuring(program, port, f"{SHORT} --cycles 2", text) as run:
         rows, _ = finished(run)

@@ -12,7 +12,7 @@ SCENE = b"# the east pillar\nserial 71\nname EAST\ntarget 0.25 1.5 12.5\ntarget 
 SCENE_REPLIES = b'%R1P,0,1:0,71\r\n%R1P,0,2:0,"EAST"\r\n%R1P,0,3:0\r\n%R1P,0,4:0,0.25,1.5,12.5,2\r\n'
 SCENE_REQUESTS = b"%R1Q,5003,1:\r\n%R1Q,5004,2:\r\n%R1Q,9027,3:0.25,1.5,0,1,0\r\n%R1Q,17017,4:2\r\n"
 SCENE_COMMANDS = b"7 5003\n7 5004\n7 9027 0.25,1.5,0,1,0\n7 17017 2\n"
-# Scenes that are refused, with what is told.
+# Scenes that are refused, with what is reported.
 FAULTY = [
     (b"target 0.25 1.5\n", "geocom: fault 51 line 1\n"),
     (b"serial 1\n\nnames EAST\n", "geocom: fault 51 line 3\n"),

@@ -1,4 +1,4 @@
-"""Signs of life: what a station tells of itself while it measures, on its standard error and on a terminal."""
+"""Signs of life: what a station reports of itself while it measures, on its standard error and on a terminal."""
 
 import os
 import pty
@@ -42,7 +42,7 @@ def pulls(far, outages):
     ("--silent", "--silent", 1, []),
 ])
 def test_outages(program, what, words, outages, signs):
-    """Of outages within a minute the first is told, and that there is a connection again."""
+    """Of outages within a minute the first is reported, and that there is a connection again."""
     with standing() as far:
         words = f"--every 1 --cycles 8 --quiet 100 --deadline 100 --retries 50 {words}"
         with measuring(program, far.port, words, TWO) as run:
@@ -59,8 +59,8 @@ def test_outages(program, what, words, outages, signs):
     ("a far end that closes each connection", closes, True),
 ])
 def test_no_answer(program, what, answers, has_lost):
-    """Where nothing is answered that is told within a minute, since the first want of it, whatever becomes of connections; and that it
-    is connected again only once something was answered. An instrument is off behind a live port for 63 seconds."""
+    """Where nothing is answered that is reported within a minute, since the first want of it, whatever becomes of connections; and that it
+    is connected again only once something was answered. An instrument is off after a live port for 63 seconds."""
     began = time.time()
     with standing(lambda request: good(request) if time.time() > began + 63 else answers(request)) as far:
         with measuring(program, far.port, "--quiet 500 --deadline 1000 --retries 0", TWO) as run:
@@ -130,7 +130,7 @@ def test_columns_of_a_terminal(program):
 
 @pytest.mark.title("signs of life, none needed")
 def test_none_needed(program):
-    """A connection that ends between cycles, and is made anew once the next is due, is no sign."""
+    """A connection that ends between cycles, and is made again once the next is due, is no sign."""
     with standing() as far:
         with measuring(program, far.port, "--every 1 --cycles 3 --quiet 100 --deadline 100", TWO) as run:
             until(lambda: len(far.asked()) == 2, "nothing was asked")

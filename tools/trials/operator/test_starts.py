@@ -50,7 +50,7 @@ def delayed(port, delay):
 
 
 class Start:
-    """A station under way, and when it began."""
+    """A running station, and when it began."""
 
     def __init__(self, program, port, words=""):
         self.began = time.monotonic()
@@ -63,7 +63,7 @@ class Start:
         self.run.__exit__(*exception)
 
     def first_row(self):
-        """How many seconds behind the start the first row came."""
+        """How many seconds after the start the first row came."""
         while self.run.output().count(b"\n") < 2:
             assert time.monotonic() < self.began + 30, f"no row came: {self.run.output()!r}"
             time.sleep(0.001)
@@ -103,7 +103,7 @@ def test_first_row(program, note):
 
 @pytest.mark.title("a start, half a second of round trip")
 def test_nine_round_trips(program, note):
-    """Over half a second of round trip the first row comes within five seconds, behind nine of them."""
+    """Over half a second of round trip the first row comes within five seconds, after nine of them."""
     with simulator(program) as port, delayed(port, 0.25) as far, Start(program, far) as start:
         took = start.first_row()
         note(f"the first row came behind {took:.2f} s")

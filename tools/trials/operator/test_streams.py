@@ -24,7 +24,7 @@ def numbers(streams):
 @pytest.mark.parametrize("streams", CLOSED)
 @pytest.mark.parametrize("command", ["station", "ask", "loop"])
 def test_asks_nothing(program, command, streams):
-    """A command that asks does nothing where a stream is closed but tell it."""
+    """A command that asks does nothing where a stream is closed but report it."""
     closed = numbers(streams)
     with socket.create_server(("127.0.0.1", 0)) as listener:
         place = [] if command == "loop" else [listener.getsockname()[1]]

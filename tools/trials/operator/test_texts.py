@@ -56,7 +56,7 @@ FAULTY = [
 
 @pytest.mark.title("a faulty text, what is said of it")
 def test_faulty_text(program):
-    """Nothing is connected to or written, and the first faulty line and its trouble are told."""
+    """Nothing is connected to or written, and the first faulty line and its trouble are reported."""
     with socket.create_server(("127.0.0.1", 0)) as listener:
         for text, line, trouble in FAULTY:
             found = ended([program, "station", listener.getsockname()[1], "--csv"], text)
@@ -79,7 +79,7 @@ def test_empty_text(program):
 
 @pytest.mark.title("an answer with control bytes")
 def test_control_bytes(program):
-    """An answer with control bytes stands in one line of the records, as it stands in a row."""
+    """An answer with control bytes is in one line of the records, as a row has it."""
     evil = b'0,"\x1b[2K\r2026-11-25T00:00:00.000Z 0 7 answered %R1P,0,1:0\x7f\xe9\\"'
 
     def answers(request):
@@ -96,7 +96,7 @@ def test_control_bytes(program):
 
 @pytest.mark.title("a word for the text")
 def test_word_for_the_text(program):
-    """A word for the text is refused, and it is told where it is read from."""
+    """A word for the text is refused, and it is reported where it is read from."""
     for words in ["station", "4001", "commands"], ["ask", "4001", "commands"], ["loop", "commands"]:
         status, output, messages = ended([program, *words])
         assert (status, output) == (2, b""), messages
@@ -138,7 +138,7 @@ def test_lines_of_a_station(program):
 
 @pytest.mark.title("names of targets")
 def test_names(program):
-    """A name stands in all rows of its target, wherever its line stands."""
+    """A name is in all rows of its target, wherever its line is."""
     text = b"7 5003\nname 7 pier 4\n8 5003\n7 5004\nname 0 it's %s: 100%\nname 9 " + 64 * b"x" + b"\r\n9 5003\n0 5003\n"
     with standing() as far, measuring(program, far.port, "--quiet 100 --deadline 100 --cycles 2", text) as run:
         rows, _ = finished(run)
@@ -149,7 +149,7 @@ def test_names(program):
 
 @pytest.mark.title("deadlines of the text")
 def test_deadlines(program):
-    """A deadline of the text holds for the commands behind it, and that of the words for those before."""
+    """A deadline of the text holds for the commands after it, and that of the words for those before."""
     text = b"7 2107 0\ndeadline 200\n8 2107 0\n# once more\ndeadline 1500\n9 2107 0\n"
     asked = []
 

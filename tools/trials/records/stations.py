@@ -9,7 +9,7 @@ from far_end import FarEnd, good
 from programs import Run
 from records import COLUMNS, COLUMNS_HEAD, HEAD
 
-# What stands behind fault 66.
+# What follows fault 66.
 ROTATION = ("geocom: the file does not begin as this station's rows do: it has other columns, or a rotation cut off its header "
             "(copytruncate). To rotate it, stop the station, rename the file, and start it\n")
 COMMANDS = b"7 5003\n8 5003\n9 5003\n"
@@ -32,7 +32,7 @@ def mark_of(path):
 
 
 class Counting(FarEnd):
-    """An instrument whose number grows with each command. It knows which answers went out, and behind which the next command came."""
+    """An instrument whose number grows with each command. It knows which answers went out, and after which the next command came."""
 
     def __init__(self):
         self.answered, self.followed, self.last = 0, set(), None
@@ -60,7 +60,7 @@ def instrument():
 
 
 def appending(program, far, path, *words, cycles=0, shell=""):
-    """A station under way that appends to this file."""
+    """A running station that appends to this file."""
     words = ["--append", path, "--cycles", cycles, "--quiet", "10", "--retries", "0", "--silent", *words]
     return Run([program, "station", far.port, *words], COMMANDS, shell=shell)
 
@@ -72,7 +72,7 @@ def appended(program, far, path, *words, cycles=0, shell=""):
 
 
 def split(data):
-    """The whole rows behind the head of a table, and what stands behind the last line feed."""
+    """The whole rows after the head of a table, and what follows the last line feed."""
     if len(data) < len(HEAD):
         assert HEAD.startswith(data), f"it begins with no front of the head: {data!r}"
         return [], data

@@ -1,4 +1,4 @@
-"""Disks under a file of rows: what is synced before the next bytes go out, a full disk, and a limit of a file's size."""
+"""Disks under a file of rows: what is synced before the next bytes are sent, a full disk, and a limit of a file's size."""
 
 import re
 import shutil
@@ -14,7 +14,7 @@ needs_strace = pytest.mark.skipif(not shutil.which("strace"), reason="strace is 
 
 @needs_strace
 def test_syncs(program, folder):
-    """With `--sync` each row is synced before the next bytes go out, and without it nothing is."""
+    """With `--sync` each row is synced before the next bytes are sent, and without it nothing is."""
     trace = folder / "trace"
     shell = f'set -- strace -f -e trace=write,sendto,fdatasync,fsync -o {trace} "$@"'
     for words in ["--sync"], []:
@@ -93,7 +93,7 @@ def test_is_full(program, small_disk):
 
 
 def test_is_limited(program, folder):
-    """Behind a limit of a file's size (`ulimit -f`) the system ends the program by a signal; where that is ignored it is fault 55."""
+    """After a limit of a file's size (`ulimit -f`) the system ends the program by a signal; where that is ignored it is fault 55."""
     for shell, ends in [("ulimit -f 4; trap '' XFSZ", 1), ("ulimit -f 4", -25)]:
         path = folder / f"limited{ends}.csv"
         with instrument() as far:

@@ -24,7 +24,7 @@ def injecting(path, *calls):
 
 
 def failed(program, folder, path):
-    """A run whose third sync fails: the rows that stand in the file then."""
+    """A run whose third sync fails: the rows that are in the file then."""
     with instrument() as far:
         shell = injecting(folder / "trace", "fdatasync:error=EIO:when=3")
         status, output, messages = appended(program, far, path, "--sync", shell=shell)
@@ -53,7 +53,7 @@ def expect_none_beside(path):
 
 
 def test_copies_behind_a_failed_sync(program, folder):
-    """Behind a sync that failed the next start copies the rows to a new file, with `--sync` or without; behind a good end none does."""
+    """After a sync that failed the next start copies the rows to a new file, with `--sync` or without; after a good end none does."""
     path = folder / "rows.csv"
     for words in ["--sync"], []:
         path.unlink(missing_ok=True)
@@ -133,7 +133,7 @@ def test_copies_wholly_or_not(program, folder, words):
 
 
 def test_is_held_while_it_is_copied(program, folder):
-    """A file that another station holds is not copied, though its mark stands there."""
+    """A file that another station holds is not copied, though its mark is there."""
     path = folder / "rows.csv"
     with instrument() as far, instrument() as other:
         with appending(program, far, path, "--sync") as first:
@@ -147,7 +147,7 @@ def test_is_held_while_it_is_copied(program, folder):
 
 
 def test_copies_where_its_link_leads(program, folder):
-    """Of a link the mark and the copy stand beside the file that it leads to, and the link stays."""
+    """Of a link the mark and the copy are beside the file that it leads to, and the link stays."""
     place, link = folder / "place", folder / "rows.csv"
     place.mkdir()
     path = place / "values.csv"

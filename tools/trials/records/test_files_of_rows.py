@@ -30,7 +30,7 @@ def test_starts_whole(program, folder):
 
 
 def append_each_form(program, path, form):
-    """What a file of a form holds behind two runs, the second of which finds half a row."""
+    """What a file of a form holds after two runs, the second of which finds half a row."""
     for torn in b"", None:
         if torn is None:
             last = path.read_bytes().splitlines(True)[-1]
@@ -45,7 +45,7 @@ def append_each_form(program, path, form):
 
 
 def test_has_each_form(program, folder):
-    """Each form of rows has its head, or none, and goes on behind its own rows and half a row; a file of another form is refused."""
+    """Each form of rows has its head, or none, and goes on after its own rows and half a row; a file of another form is refused."""
     held = {form: append_each_form(program, folder / f"form{form}", form) for form in FORMS}
     for form in FORMS:
         rows = rows_in(held[form], form)

@@ -9,7 +9,7 @@ from stations import appending, copied_line, instrument, mark_of, numbers, split
 
 def test_kills(program, folder, note, pytestconfig):
     """Kills the station at random moments, and tears its file now and then as a crash of the machine would: no row is double or of no
-    answer, and none is missing behind which the instrument saw the next command."""
+    answer, and none is missing after which the instrument saw the next command."""
     kills = pytestconfig.option.kills or 500
     random.seed(kills)
     path = folder / "killed.csv"

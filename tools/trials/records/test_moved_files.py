@@ -34,13 +34,13 @@ def numbers_of_both(path, form):
 
 
 def expect_none_lost(found, answered):
-    """The rows of both files are those of all answers, once and in order; the last one may be under way."""
+    """The rows of both files are those of all answers, once and in order; the last one may be in flight."""
     assert found == list(range(1, len(found) + 1))
     assert len(found) >= answered - 1
 
 
 def test_follows_its_path(program, folder):
-    """Where the file is moved, deleted or replaced the rows go on at its path, head and all, and that is told: no row is lost, and none
+    """Where the file is moved, deleted or replaced the rows go on at its path, head and all, and that is reported: no row is lost, and none
     double."""
     path = folder / "rows.csv"
     for words in [], ["--sync"], ["--json"]:
@@ -63,7 +63,7 @@ def test_follows_its_path(program, folder):
 
 
 def test_tells_where_its_path_leads_astray(program, folder):
-    """Where no file can be had at the path that is told, and the rows go on in the old one; once one can be had they go there."""
+    """Where no file can be had at the path that is reported, and the rows go on in the old one; once one can be had they go there."""
     path, place, link = folder / "rows.csv", folder / "place", folder / "link"
     place.mkdir()
     link.symlink_to(place)

@@ -3,7 +3,7 @@ of a cycle has one, in order; each answer is that of its own request, for it say
 left open. Before that a far end is mute for a while, so that the station closes its connection and rests: all the time a second
 opener is refused the device's lock.
 
-The device is a symbolic link to a pseudo terminal. The line goes away, at each place of a cycle in turn, before an answer, behind
+The device is a symbolic link to a pseudo terminal. The line goes away, at each place of a cycle in turn, before an answer, after
 one, within one, or before one and for a while.
 """
 
@@ -131,7 +131,7 @@ def is_held(path):
 def hold(program, folder):
     """Where a far end is mute from the second cycle on, for so many requests that the line is dead, the device is to be held from the
     first request on to the end, over each close. At how many looks it was, and over how many closes."""
-    # Behind eight null procedures and a cycle of three commands.
+    # After eight null procedures and a cycle of three commands.
     mute = range(13, 23)
     came, looks = [], []
     log = Path(folder, "log")
@@ -145,7 +145,7 @@ def hold(program, folder):
         with measuring(program, line.path, words, COMMANDS) as station:
             end = time.monotonic() + 60
             while station.is_running() and time.monotonic() < end:
-                # A look counts where the station measured before it and goes on behind it.
+                # A look counts where the station measured before it and goes on after it.
                 is_up = bool(came)
                 held = is_held(line.path)
                 time.sleep(0.002 if held else 0.1)

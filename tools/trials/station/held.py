@@ -16,7 +16,7 @@ VALUES = [("7", "123456"), ("8", '"GEOCOM SIM"'), ("9", "0")]
 
 
 def carry(near, far, before):
-    """Carries both directions until one ends, or until a request comes behind so many. Gives that one, and how many came."""
+    """Carries both directions until one ends, or until a request comes after so many. Gives that one, and how many came."""
     came = 0
     while True:
         for end in select.select([near, far], [], [])[0]:
@@ -26,7 +26,7 @@ def carry(near, far, before):
                 data = b""
             if not data:
                 return b"", came
-            # The line feed of a new connection may stand in front.
+            # The line feed of a new connection may come first.
             if end is near and data.lstrip(b"\n").startswith(b"%R1Q,"):
                 if came == before:
                     return data, came
@@ -35,7 +35,7 @@ def carry(near, far, before):
 
 
 def rows_where_held(program, instrument, before):
-    """The target, outcome and values of each row where the request behind so many is held back."""
+    """The target, outcome and values of each row where the request after so many is held back."""
     with socket.create_server(("127.0.0.1", 0)) as port:
         port.settimeout(0.1)
         with measuring(program, port.getsockname()[1], "--deadline 300 --quiet 300", COMMANDS) as run:

@@ -1,4 +1,4 @@
-"""The instrument behind a bad line: `geocom serve`, or one that knows more, which lives on or starts anew, and the requests that its
+"""The instrument after a bad line: `geocom serve`, or one that knows more, which lives on or restarts, and the requests that its
 replies are for."""
 
 import collections
@@ -9,7 +9,7 @@ from line_ends import Connection, Far
 from programs import Run, connect, free_port
 
 KNOWING = Path(__file__).resolve().parent / "knowing.py"
-# How many connections one `geocom serve` has, each of which is an instrument that starts anew.
+# How many connections one `geocom serve` has, each of which is an instrument that restarts.
 CONNECTIONS = 1000
 
 
@@ -18,11 +18,11 @@ class Instrument(Far):
         super().__init__(("127.0.0.1", 0))
         self.words = [sys.executable, KNOWING] if is_knowing else [program, "serve"]
         self.run, self.starts = None, 0
-        # The request whose reply it keeps, as its id and its number, and the numbers of those whose replies are under way.
+        # The request whose reply it keeps, as its id and its number, and the numbers of those whose replies are in flight.
         self.kept, self.owed = None, collections.deque()
 
     def restart(self):
-        """It starts anew: it forgets the reply that it keeps, and what had come of a line."""
+        """It restarts: it forgets the reply that it keeps, and what had come of a line."""
         if self.link:
             for _ in self.link.drained(False):
                 pass

@@ -1,10 +1,10 @@
 """Judges what `geocom station --csv` wrote over a bad line.
 
 Each command of a cycle has one row, in order; every answer is the right one for its request; none came past its deadline; each first
-reply that came well in time is answered; no command of a chain went out behind one that wasn't answered well, or over another
+reply that came well in time is answered; no command of a chain went out after one that wasn't answered well, or over another
 connection, and else it did; a cycle is missed whole, and only where the next was due before it could begin; the counts at the end are
 those of the rows; all rows have the beginning of one run, and a command that was sent has its moment, between that beginning and its
-end; and what is told besides has the form and the pauses that it has to have: a cycle that wasn't done in time is told once, in order.
+end; and what is reported besides has the form and the pauses that it has to have: a cycle that wasn't done in time is reported once, in order.
 """
 
 import collections
@@ -138,7 +138,7 @@ def is_well(row):
 
 
 def faults_of_chain(row, before, number, number_before, log):
-    """What is wrong with a command of a chain, which stands behind that one; the numbers are those of their requests."""
+    """What is wrong with a command of a chain, which follows that one; the numbers are those of their requests."""
     if row["outcome"] == "missed":
         return
     if row["outcome"] == "skipped":
@@ -204,7 +204,7 @@ def faults_of_messages(plan, rows, lines, late_cycles):
     if None in found:
         yield f"told besides: {signs[found.index(None)]}"
     told = collections.Counter(one[1] for one in found if one)
-    # The first row is written a while behind the first sign.
+    # The first row is written a while after the first sign.
     minutes = (milliseconds(rows[-1]) - min(map(milliseconds, rows)) + 20 * plan.deadline + 20 * plan.quiet) // 60_000 if rows else 0
     if any(many > minutes + 1 for many in told.values()):
         yield f"told more than once a minute: {dict(told)} in {minutes} minutes"

@@ -1,15 +1,15 @@
-"""Kills runs of `geocom station` at any moment, and begins each at once behind the one before it, over a line that outlives them and holds
+"""Kills runs of `geocom station` at any moment, and begins each at once after the one before it, over a line that outlives them and holds
 requests and replies back (`outliving.py`). Now and then some runs in a row hear nothing but what is from before.
 
 Eight lanes stand side by side, each with a line of its own and its share of the runs.
 
-Each execution answers with a number of its own, and each command has its place as a parameter. So a row tells on which execution its
+Each execution answers with a number of its own, and each command has its place as a parameter. So a row shows on which execution its
 line was made. An answered row is right only if that was one of its very request, in that run. A late row's request was executed. Rows
 are those of the places from 0 on, answered, late or lost. The seed decides what is drawn; the machine decides the moments.
 
-*Counted apart* is a run at whose first connection the ids under way, replies in order and then requests, had 6 5 4 3 2 1 0 7 among
-them in this order: it is outside the premises (docs/GUARANTEE.md), and its rows aren't judged. Where any other run begins anew the word
-isn't under way: that is judged.
+*Counted apart* is a run at whose first connection the ids in flight, replies in order and then requests, had 6 5 4 3 2 1 0 7 among
+them in this order: it is outside the premises (docs/GUARANTEE.md), and its rows aren't judged. Where any other run starts afresh the word
+isn't in flight: that is judged.
 """
 
 import collections
@@ -44,7 +44,7 @@ class Lane:
         draw, line = self.random, self.line
         self.streak = self.streak - 1 if self.streak else draw.randrange(2, 14) if draw.random() < 0.02 else 0
         line.begin(self.streak > 0)
-        # When it is killed: so long behind its start, or so long behind its first connection and a while behind so many requests.
+        # When it is killed: so long after its start, or so long after its first connection and a while after so many requests.
         end = time.monotonic() + (draw.uniform(0, 0.02) if draw.random() < 0.1 else 5)
         lasts = 2 if line.old_alone else draw.choice([0.03, 0.9, 1.8]) * draw.random()
         behind = draw.choice([1e9, 1e9, draw.randrange(1, 12), draw.randrange(8, 80)])

@@ -1,5 +1,5 @@
 """An instrument that knows procedures beside those of the table. As `geocom serve` does, it keeps the reply to the last request that it
-executed, and a request with that id gets the kept reply. Each connection gets one that starts anew.
+executed, and a request with that id gets the kept reply. Each connection gets one that restarts.
 
     knowing.py PORT --connections N
 """
@@ -9,7 +9,7 @@ import socket
 import sys
 
 REQUEST = re.compile(rb"%R1Q,(\d+),(\d):[^\r\n]*\r$")
-# What each procedure is answered with, behind the colon: a return code and values. Some are warnings.
+# What each procedure is answered with, after the colon: a return code and values. Some are warnings.
 KNOWN = {
     0: "0", 5003: "0,123456", 2107: "0,0.0,0.0",
     # Target recognition, the atmosphere, a measurement with the tilts, and others.

@@ -1,7 +1,7 @@
 """What `relay.py` saw of a run: each request, and the first reply to it that went on to the station.
 
-A reply came well in time where it is the first one that the station heard: behind a request on the same connection, so that this
-was drained before; no more than half the deadline after its own request; not behind the first null procedure of a beginning anew; and
+A reply came well in time where it is the first one that the station heard: after a request on the same connection, so that this
+was drained before; no more than half the deadline after its own request; not after the first null procedure of a beginning again; and
 where the station asked again on that connection, a while later.
 """
 
@@ -33,7 +33,7 @@ def entries_of(path):
 
 
 def beginnings_in(entries):
-    """At which entries a beginning's first null procedure went out: it, or the second one, follows it. Behind one of a cycle comes id 7."""
+    """At which entries a beginning's first null procedure went out: it, or the second one, follows it. After one of a cycle comes id 7."""
     asked_at = [n for n, (_, word, _) in enumerate(entries) if word in ("null", "sent")]
     return {n for n, behind in zip(asked_at, [*asked_at[1:], None])
             if entries[n][1:] == ("null", [6]) and (behind is None or entries[behind][1:] in (("null", [6]), ("null", [5])))}

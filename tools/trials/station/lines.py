@@ -27,10 +27,10 @@ COMMANDS = [
     (20, "2011", "0.0"),
     (21, "2107 0", "0.0,0.0"),
 ]
-# The targets of the same commands where some stand in chains.
+# The targets of the same commands where some are in chains.
 CHAINS = [11, 12, 12, 12, 13, 13, 14, 14, 14, 15, 16]
 # The commands where most ask for procedures that aren't in the table, of an instrument that knows these: target recognition, the
-# atmosphere, the tilts behind a measurement, and others. Nine stand in a row, which is more than a client has ids.
+# atmosphere, the tilts after a measurement, and others. Nine are in a row, which is more than a client has ids.
 RAWS = [(target, call, KNOWN[int(call.removeprefix("raw ").split()[0])]) for target, call in [
     (11, "raw 18005 1"), (11, "raw 2028"), (11, "2107 0"), (11, "raw 2167 5000,1"), (12, "5003"), (12, "raw 2165 1"), (13, "raw 2124"),
     (13, "raw 5051"), (14, "raw 17020"), (14, "raw 18007"), (14, "raw 9018 0"), (15, "raw 2003"), (15, "raw 2020"), (16, "raw 2022"),
@@ -42,7 +42,7 @@ REFUSED = "geocom: fault 59"
 @dataclass
 class BadLine:
     """A run of a station over a bad line. `line` are words of `relay.py`, `words` those of the station. Without `cycles` it has a seventh
-    of all cycles. The line stands at an address, of which the station is told by `host`, or, where that is empty, by a port alone. The
+    of all cycles. The line is at an address, which the station is given as `host`, or, where that is empty, by a port alone. The
     times are in milliseconds, `every` in seconds. Where answers are tagged each has its request's number."""
 
     name: str
@@ -79,7 +79,7 @@ class BadLine:
 
 
 def relay(case, program, plan, port, log):
-    """The line under way."""
+    """The running line."""
     procedures = ",".join(str(procedure) for _, procedure in plan.commands)
     return Run([
         sys.executable, HERE / "relay.py", "--at", case.address, "--listen", port, "--geocom", program, "--procedures", procedures,

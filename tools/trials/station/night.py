@@ -1,7 +1,7 @@
 """A night at a real site: the text of a station, the total station at its far end, and the bad line between them, which knows of each
 reply which request it was made for.
 
-The instrument forgets all when it starts anew: target recognition is off, and it points nowhere. Prisms vanish for a while; it is
+The instrument forgets all when it restarts: target recognition is off, and it points nowhere. Prisms vanish for a while; it is
 turned by hand; measurements come with warnings. Where a reply has values, the last one is the number of the execution that made it.
 """
 
@@ -75,7 +75,7 @@ class TotalStation:
         return request.reply(self.execute(request.rpc, request.params.decode(), str(len(self.executed))).encode())
 
     def execute(self, rpc, params, number):
-        """What stands behind the colon of the reply."""
+        """What follows the colon of the reply."""
         if rpc == 9027:
             return self.position(*map(float, params.split(",")[:2]))
         if self.chance.random() < 0.006:
@@ -139,7 +139,7 @@ class NightLine(Relay):
 
 
 class Night:
-    """An instrument behind a bad line, until it is closed."""
+    """An instrument after a bad line, until it is closed."""
 
     def __init__(self, seed, line=LINE):
         self.instrument = TotalStation(seed)

@@ -1,5 +1,5 @@
-"""Judges the rows of a night (`night.py`): each command of each attempt has one row, in order; a chain goes out again exactly where its
-text says so; nothing goes out behind a command that wasn't answered well, and no command of a cycle before the set-up of its connection;
+"""Judges the rows of a night (`night.py`): each command of each attempt has one row, in order; a chain is repeated exactly where its
+text says so; nothing is sent after a command that wasn't answered well, and no command of a cycle before the set-up of its connection;
 and what a row says of an answer was made on executing that row's very request."""
 
 import collections
@@ -38,12 +38,12 @@ def is_well(row):
 
 
 def goes_again(row):
-    """Whether the text says that a chain with this row goes out again."""
+    """Whether the text says that a chain with this row is repeated."""
     return row["outcome"] in AGAIN or row["outcome"] == "answered" and row["rc"] in AGAIN
 
 
 def numbers_of(rows, asked):
-    """Of each row that was sent the number of its request on the line: the first that came behind the row's moment, with its procedure and
+    """Of each row that was sent the number of its request on the line: the first that came after the row's moment, with its procedure and
     its parameters, before the next such row's moment. A request that was cut has none."""
     sent, numbers, at = collections.defaultdict(list), {}, collections.defaultdict(int)
     for n, row in enumerate(rows):

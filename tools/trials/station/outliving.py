@@ -1,8 +1,8 @@
 """A line that outlives runs of a station, with an instrument at its end: it keeps order, over connections and runs too, and loses whole
-requests and replies, repeats them directly behind themselves, holds them back, within a run and over runs, and closes connections.
+requests and replies, repeats them directly after themselves, holds them back, within a run and over runs, and closes connections.
 
-Each execution answers with a number of its own, and each command has its place as its first parameter: `made` tells of which run and
-place each number is. A null procedure has no place. The instrument keeps its last reply, on some lines none, and starts anew now and then.
+Each execution answers with a number of its own, and each command has its place as its first parameter: `made` says of which run and
+place each number is. A null procedure has no place. The instrument keeps its last reply, on some lines none, and restarts now and then.
 """
 
 import collections
@@ -19,7 +19,7 @@ Sent = collections.namedtuple("Sent", "run id place number", defaults=[None])
 
 
 class Way:
-    """One direction: what is under way, when the next goes at the earliest, and behind how many requests of a run it goes, is held, and
+    """One direction: what is in flight, when the next goes at the earliest, and after how many requests of a run it goes, is held, and
     goes again."""
 
     def __init__(self):
@@ -44,9 +44,9 @@ class Line:
         draw = self.random
         self.run += 1
         self.old_alone = old_alone
-        # How many requests came, the last one, whether a command came, and how often the run began anew.
+        # How many requests came, the last one, whether a command came, and how often the run began again.
         self.asked, self.last, self.begun, self.anew, self.rest = 0, None, False, 0, b""
-        # Whether the word was under way at the first connection (none: there was none yet), and where the run began anew.
+        # Whether the word was in flight at the first connection (none: there was none yet), and where the run began again.
         self.first_met, self.met, self.met_anew = None, False, False
         self.spacing = draw.uniform(0.008, 0.012) if old_alone else draw.choice([0, 0, 0, 0.002, 0.01, 0.02])
         self.lost, self.repeated = (0, 0.2) if old_alone else (draw.choice([0, 0, 0.02, 0.3]), draw.choice([0, 0.1, 0.4]))
@@ -56,7 +56,7 @@ class Line:
             way.resumes = way.stops + draw.randrange(1, 12) if self.chance(0.5) else 1e9
 
     def ids(self):
-        """The ids under way, replies in order and then requests."""
+        """The ids in flight, replies in order and then requests."""
         return [one.id for one in [*self.down.sent, *self.up.sent]]
 
     def has_word(self):
@@ -64,7 +64,7 @@ class Line:
         return all(one in rest for one in WORD)
 
     def has_old(self):
-        """Whether a reply from before this run is under way."""
+        """Whether a reply from before this run is in flight."""
         return any(one.run < self.run for one in self.down.sent)
 
     # What is put on it, and what goes.
@@ -105,7 +105,7 @@ class Line:
         *lines, self.rest = (self.rest + data).split(b"\n")
         for found in filter(None, map(REQUEST.match, lines)):
             one, place = int(found[1]), int(found[2]) if found[2] else None
-            # It begins anew by a null procedure with id 6 and then one with id 5. Behind commands that were given up comes id 7.
+            # It starts afresh by a null procedure with id 6 and then one with id 5. After commands that had timed out comes id 7.
             if (place, one) == (None, 6) != self.last:
                 self.met = self.has_word()
             if (place, one) == (None, 5) and self.last == (None, 6) and self.begun:
@@ -165,7 +165,7 @@ class Line:
             self.close()
 
     def end(self):
-        """The run has ended: what it had sent is under way still."""
+        """The run has ended: what it had sent is in flight still."""
         while self.near or select.select([self.listener], [], [], 0)[0]:
             if not self.near:
                 self.connect()

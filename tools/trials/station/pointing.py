@@ -1,4 +1,4 @@
-"""An instrument that points: it turns, aims and measures by itself, and starts anew or is turned within a chain, while its connection
+"""An instrument that points: it turns, aims and measures by itself, and restarts or is turned within a chain, while its connection
 stays up; and what a station's rows say of where each measurement was made."""
 
 import math
@@ -32,7 +32,7 @@ def text(is_near):
 
 
 class Telescope:
-    """What answers each request. Before one request in so many it starts anew, or is turned to somewhere else, by `moves`."""
+    """What answers each request. Before one request in so many it restarts, or is turned to somewhere else, by `moves`."""
 
     def __init__(self, seed, moves, one_in):
         self.chance = random.Random(seed)
@@ -69,7 +69,7 @@ class Telescope:
 
 
 def point(program, standing, moves, is_near, cycles):
-    """Measures so many cycles. How many answers of a target were measured elsewhere and told as answered, and what there was of each."""
+    """Measures so many cycles. How many answers of a target were measured elsewhere and reported as answered, and what there was of each."""
     telescope = Telescope(f"{moves} {is_near}", moves, 60)
     with standing(telescope.answer) as far:
         with measuring(program, far.port, f"--deadline 5000 --cycles {cycles}", text(is_near)) as run:
@@ -77,7 +77,7 @@ def point(program, standing, moves, is_near, cycles):
     measured = [row for row in rows if row["procedure"] in DIRECTIONS and row["rc"] == "0"]
     away = [row for row in measured if apart(tuple(map(float, row["values"].split(",")[:2])), PRISMS[int(row["target"])]) > TOLERANCE]
     wrong = [row for row in away if row["outcome"] == "answered"]
-    # What is elsewhere is told of nothing else, and ends its chain.
+    # What is elsewhere is reported of nothing else, and ends its chain.
     told = [row for row in rows if row["outcome"] == "elsewhere"]
     assert len(rows) == cycles * 12 and len(told) + len(wrong) == len(away), (len(rows), len(told), len(wrong), len(away))
     for row, behind in zip(rows, rows[1:]):

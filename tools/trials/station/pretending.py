@@ -4,10 +4,10 @@
 
 They ask one command after the other and write rows of `geocom station --csv` with the columns that are judged. KIND is how they begin:
 
-    word      as a station does: by null procedures with ids 6 5 4 3 2 1 0 7, each of which goes out again with its id
+    word      as a station does: by null procedures with ids 6 5 4 3 2 1 0 7, each of which is repeated with its id
     nothing   with the first command
     any       the same word, and any reply answers a null procedure
-    fresh     the same word, and a null procedure that goes out again takes the next id upward
+    fresh     the same word, and a null procedure that is repeated takes the next id upward
     zero      7 6 5 4 3 2 1 0, whose last id is that of the first command
 """
 
@@ -83,7 +83,7 @@ class Station:
             self.answer(request, lambda came: self.kind == "any" or came == ids[0], True)
 
     def measure(self, commands):
-        """Asks each, and writes its row. Seven that are given up in a row are followed by a beginning."""
+        """Asks each, and writes its row. Seven that have timed out in a row are followed by a beginning."""
         print("place,outcome,values", flush=True)
         given_up, one = 0, 0
         for place, (_, procedure, values) in enumerate(commands):

@@ -1,15 +1,15 @@
 """A bad line between `geocom station` and `geocom serve`, or an instrument that knows more (`knowing.py`), by a seed: `tools/bad-line`'s
-relay, with a text that has all of its words. The instrument lives on, or starts anew, at any time.
+relay, with a text that has all of its words. The instrument lives on, or restarts, at any time.
 
-What is under way where a connection ends is lost, or held back and handed over on a later one, before all that is new. It comes while
-each connection is drained, or well behind the quiet time, or behind the first request, also where the station begins anew: ids alone
+What is in flight where a connection ends is lost, or held back and handed over on a later one, before all that is new. It comes while
+each connection is drained, or well after the quiet time, or after the first request, also where the station starts afresh: ids alone
 tell then what is from before.
 
 With `--tag` each answer carries, in place of its first value, the number of the request on whose execution it was made. The log has
 a line for each thing that came or went, with the milliseconds of this machine's clock in front:
 
     clear                       the station's lone line feed
-    null ID                     a null procedure of the station's own, in a beginning or behind commands that were given up
+    null ID                     a null procedure of the station's own, in a beginning or after commands that had timed out
     sent NUMBER CYCLE PLACE     a command's request, as it came from the station; cycles of which none came aren't counted
     came NUMBER                 a reply to it that went on to the station, whole
 """
@@ -61,7 +61,7 @@ class StationRelay(Relay):
         self.places = [int(p) for p in options.procedures.split(",")]
         self.log = open(options.log, "w")
         self.number, self.cycle, self.place = 0, 1, -1
-        # Whether a request came behind the station's line feed, and until when what was held back waits.
+        # Whether a request came after the station's line feed, and until when what was held back waits.
         self.asked, self.held = False, 0.0
 
     def note(self, *words):
@@ -100,7 +100,7 @@ class StationRelay(Relay):
         return line, (None, number)
 
     def other(self, way, line):
-        """The station has a new connection: what is under way was held back."""
+        """The station has a new connection: what is in flight was held back."""
         self.note("clear")
         self.asked, self.still = False, 0.0
         self.held = time.monotonic() + self.options.quiet / 1000 * self.random.choice([0, 0.5, 1.4, math.inf])
@@ -125,7 +125,7 @@ class StationRelay(Relay):
         self.asked, self.held, self.still = False, math.inf, math.inf
 
     def crossed(self, way):
-        """A line went over, whole. A front that was cut, and the line feed behind it, are one line."""
+        """A line went over, whole. A front that was cut, and the line feed after it, are one line."""
         if way is self.down and way.of and way.of[1]:
             self.note("came", way.of[1])
         if way is self.up and way.of and REQUEST.match(way.gone) and way.gone.endswith(b"\r\n"):

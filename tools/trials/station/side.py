@@ -6,7 +6,7 @@ import traceback
 
 
 def send_result(end, function, given):
-    """Sends what a function gives, or why it gives nothing. Behind a SIGTERM it ends what it has begun."""
+    """Sends what a function gives, or why it gives nothing. After a SIGTERM it ends what it has begun."""
     signal.signal(signal.SIGTERM, signal.default_int_handler)
     try:
         end.send((function(*given), None))
@@ -17,7 +17,7 @@ def send_result(end, function, given):
 
 
 class Side:
-    """A function under way in a process of its own, which ends with this one."""
+    """A function running in a process of its own, which ends with this one."""
 
     def __init__(self, function, *given):
         self.end, end = multiprocessing.Pipe(False)

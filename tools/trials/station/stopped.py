@@ -1,5 +1,5 @@
 """Stops `geocom station` while it waits for its second connection to be quiet, lets a reply of the first one come then, and
-continues it: that reply must be dropped, and the line be quiet once more before a command goes out.
+continues it: that reply must be dropped, and the line be quiet once more before a command is sent.
 """
 
 import csv

@@ -44,7 +44,7 @@ def runs_of(program, options):
 
 @pytest.fixture(scope="module")
 def runs(request, program):
-    """The runs of the trials that were chosen, all of which are under way."""
+    """The runs of the trials that were chosen, all of which are running."""
     names = [item.callspec.params["name"] for item in request.session.items if "runs" in item.fixturenames]
     known = runs_of(program, request.config.option)
     started = {name: Side(known[name]) for name in names}

@@ -1,5 +1,5 @@
 """Runs that are killed at any moment and begun again at once, over a line that outlives them; and the same with stations that begin in
-right and wrong ways, which have to be told from one another. They stand behind the trials over bad lines, since they keep the machine
+right and wrong ways, which have to be told from one another. They follow the trials over bad lines, since they keep the machine
 busy."""
 
 import sys

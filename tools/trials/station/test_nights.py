@@ -1,5 +1,5 @@
 """Nights at a real site: set-up, warnings, retries, procedures that aren't in the table and `near`, over a bad line, with prisms that vanish
-for a while; and a machine that is started anew at random moments."""
+for a while; and a machine that is restarted at random moments."""
 
 import csv
 import itertools
@@ -57,7 +57,7 @@ def test_stops(program, note, tmp_path):
 
 def whole_chains(rows):
     """What is wrong with the rows of a run that was stopped: its last cycle may lack chains and further attempts, and a chain's rest only
-    behind a command that wasn't answered well."""
+    after a command that wasn't answered well."""
     *before, last = [list(some) for _, some in itertools.groupby((row for row in rows if row["cycle"] != "0"), key=lambda row: row["cycle"])] or [[]]
     for some in before:
         yield from faults_of_cycle(int(some[0]["cycle"]), some)
@@ -90,5 +90,5 @@ def test_starts(program, note, tmp_path, starts):
 
 
 def station(program, night, words):
-    """A station under way, whose rows go to a file."""
+    """A running station, whose rows go to a file."""
     return Run([program, "station", night.line.near.address[1], *words.split()], text())

@@ -1,4 +1,4 @@
-"""Stations at an instrument that starts anew within chains, or is turned, while its connection stays up: with `near` no row with another
+"""Stations at an instrument that restarts within chains, or is turned, while its connection stays up: with `near` no row with another
 prism's direction is answered, and without it some are."""
 
 import pytest

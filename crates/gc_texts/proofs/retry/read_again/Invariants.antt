@@ -1,10 +1,10 @@
 use Rattle.std.specs.Option.{option_copied}
-use Rattle.gc_texts.proofs.ReasonForms.{Names}
+use Rattle.gc_texts.proofs.ReasonForms.{NamesSoFar}
 use Rattle.gc_texts.proofs.TextLines.{much_left}
 use Rattle.gc_texts.proofs.retry.read_again.Given as goal
 
 abbrev pub invariant-loop-left : goal.invariant-loop-left
-invariant-loop-left l = Names l.text (option_copied l.left) l.again l.count
+invariant-loop-left l = NamesSoFar l.text (option_copied l.left) l.again l.count
 
 abbrev pub decreases-loop-left : goal.decreases-loop-left
 decreases-loop-left l = much_left (option_copied l.left)

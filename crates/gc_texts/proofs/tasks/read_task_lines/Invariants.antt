@@ -1,10 +1,11 @@
 use Rattle.std.specs.Option.{option_copied}
+use Rattle.gc_texts.specs.Tasks.{opening}
 use Rattle.gc_texts.proofs.TextLines.{much_left}
 use Rattle.gc_texts.proofs.TaskReading.{ReadsTasks}
 use Rattle.gc_texts.proofs.tasks.read_task_lines.Given as goal
 
 abbrev pub invariant-loop-left : goal.invariant-loop-left
-invariant-loop-left l = ReadsTasks l.text l.fn.opening (option_copied l.left) l.number l.tasks.items l.cycle.items l.names.items l.nears.items l.mode
+invariant-loop-left l = ReadsTasks l.text (opening l.fn.deadline l.fn.chained) (option_copied l.left) l.number l.tasks.items l.cycle.items l.names.items l.nears.items l.mode
 
 abbrev pub decreases-loop-left : goal.decreases-loop-left
 decreases-loop-left l = much_left (option_copied l.left)

@@ -1,14 +1,14 @@
 use Rattle.std.proofs.Common.{rules, ◌≡◌}
-use Rattle.gc_texts.specs.Troubles.{IsRaw}
-use Rattle.gc_texts.specs.Words.{third_word, behind_three}
+use Rattle.gc_texts.specs.Troubles.{IsRawLine}
+use Rattle.gc_texts.specs.Words.{third_word, after_three_words}
 use Rattle.gc_texts.proofs.RawTroubles.{raw_words, same_words}
 use Rattle.gc_texts.proofs.trouble.asking_trouble.Goals as goal
 
 pub returns-then-is_word : goal.returns-then-is_word
 returns-then-is_word c =
     let line = c.args.line.now in
-    let word : IsRaw line = search rules in
+    let word : IsRawLine line = search rules in
     let number : c.before-then-is_word.result.now ≡ third_word line = search rules in
-    let params : c.behind.result.now ≡ behind_three line = search rules in
+    let params : c.behind.result.now ≡ after_three_words line = search rules in
     raw_words line word c.raw_words_trouble.result
-    (same_words c.before-then-is_word.result.now (third_word line) c.behind.result.now (behind_three line) c.raw_words_trouble.result number params c.raw_words_trouble.ensures)
+    (same_words c.before-then-is_word.result.now (third_word line) c.behind.result.now (after_three_words line) c.raw_words_trouble.result number params c.raw_words_trouble.ensures)

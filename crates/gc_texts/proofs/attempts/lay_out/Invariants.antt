@@ -1,6 +1,6 @@
 use Rattle.std.proofs.Common.{◌-◌, length}
 use Rattle.gc_texts.proofs.Laying.{Lays}
-use Rattle.gc_texts.proofs.tasks.lay_out.Given as goal
+use Rattle.gc_texts.proofs.attempts.lay_out.Given as goal
 
 abbrev pub invariant-loop-place : goal.invariant-loop-place
 invariant-loop-place l = Lays l.initial.tasks.items l.tasks.items l.cycle l.retry l.from l.place

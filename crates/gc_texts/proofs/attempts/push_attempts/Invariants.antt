@@ -1,5 +1,5 @@
 use Rattle.gc_texts.proofs.Laying.{Pushes}
-use Rattle.gc_texts.proofs.tasks.push_attempts.Given as goal
+use Rattle.gc_texts.proofs.attempts.push_attempts.Given as goal
 
 abbrev pub invariant-loop-left : goal.invariant-loop-left
 invariant-loop-left l = Pushes l.initial.tasks.items l.tasks.items l.retry l.chain l.attempt l.left

@@ -1,6 +1,6 @@
 use Rattle.std.proofs.Common.{rules, ◌<◌, length}
 use Rattle.gc_texts.proofs.Laying.{lays_on}
-use Rattle.gc_texts.proofs.tasks.lay_out.Goals as goal
+use Rattle.gc_texts.proofs.attempts.lay_out.Goals as goal
 
 pub loop-place-preserved-then-planned : goal.loop-place-preserved-then-planned
 loop-place-preserved-then-planned c =

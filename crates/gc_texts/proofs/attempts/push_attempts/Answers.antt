@@ -1,6 +1,6 @@
 use Rattle.std.proofs.Common.{rules, refl, ◌<◌, ◌+◌, ◌*◌, length}
 use Rattle.gc_texts.proofs.Laying.{pushes_one}
-use Rattle.gc_texts.proofs.tasks.push_attempts.Goals as goal
+use Rattle.gc_texts.proofs.attempts.push_attempts.Goals as goal
 
 pub loop-left-preserved : goal.loop-left-preserved
 loop-left-preserved c =

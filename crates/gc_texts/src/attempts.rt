@@ -1,0 +1,106 @@
+//! The attempts of the chains of a station's text: which tasks a chain gives, one attempt after the other.
+
+ghost use Rattle.std.specs.Prelude.{◌≡◌, ◌<◌, ◌≤◌, ◌-◌, ◌++◌, length, map, take, drop, OnOk, OnErr};
+ghost use Rattle.gc_texts.specs.Attempts.{in_attempt, attempts, laid_out};
+
+use crate::again::Again;
+use crate::retry::Retry;
+use crate::tasks::Task;
+use crate::turn::Turn;
+use std::alloc::AllocError;
+
+// A command of the cycle: its task in the first attempt, and how often its chain is repeated.
+#[derive(Clone, Copy)]
+pub(crate) struct Planned {
+    pub(crate) task: Task,
+    pub(crate) retry: Retry,
+}
+
+// A command in this attempt of its chain. `again` says after which endings the chain is repeated. The first command of a later attempt
+// says how many commands this attempt and those after it have.
+fn in_attempt(attempt: u64, again: Again, commands: usize, planned: &Planned) -> Task
+    ensures { result ≡ in_attempt attempt again commands planned.now }
+{
+    let task = planned.task;
+    let others = if attempt > 1 && task.turn.link == 0 {
+        commands
+    } else {
+        0
+    };
+    Task {
+        again,
+        turn: Turn {
+            attempt,
+            ..task.turn
+        },
+        others,
+        ..task
+    }
+}
+
+// Appends one attempt of a chain. It fails where memory was refused.
+fn push_attempt(
+    tasks: &mut Vec<Task>,
+    chain: &[Planned],
+    attempt: u64,
+    again: Again,
+    commands: usize,
+) -> Result<(), AllocError>
+    ensures appends { OnOk result (tasks.new.items ≡ tasks.old.items ++ map (in_attempt attempt again commands) chain.now) }
+    ensures wants { OnErr result (0 < length chain.now) }
+{
+    for planned in chain {
+        tasks.reserve(1)?;
+        tasks.push_reserved(in_attempt(attempt, again, commands, planned));
+    }
+    Ok(())
+}
+
+// Appends all attempts of a chain. It fails where memory was refused.
+fn push_attempts(tasks: &mut Vec<Task>, chain: &[Planned], retry: Retry) -> Result<(), AllocError>
+    requires { length chain.now < 4294967296 }
+    ensures appends { OnOk result (tasks.new.items ≡ tasks.old.items ++ attempts retry chain.now) }
+    ensures wants { OnErr result (0 < length chain.now) }
+{
+    let mut attempt = 1u64;
+    let mut left = retry.times;
+    while left > 0 {
+        let commands = chain.len() * (left as usize + 1);
+        push_attempt(tasks, chain, attempt, retry.again, commands)?;
+        attempt += 1;
+        left -= 1;
+    }
+    push_attempt(tasks, chain, attempt, Again::none(), chain.len())
+}
+
+// The commands of the places from `from` to `to`, without `to`.
+fn part(cycle: &[Planned], from: usize, to: usize) -> &[Planned]
+    requires up { from ≤ to }
+    requires within { to ≤ length cycle.now }
+    ensures { result.now ≡ take (to - from) (drop from cycle.now) }
+{
+    &cycle[from..to]
+}
+
+// Appends the attempts of all chains of these commands. It fails where memory was refused.
+pub(crate) fn lay_out(tasks: &mut Vec<Task>, cycle: &[Planned]) -> Result<(), AllocError>
+    requires { length cycle.now < 4294967296 }
+    ensures appends { OnOk result (tasks.new.items ≡ tasks.old.items ++ laid_out cycle.now) }
+    ensures wants { OnErr result (0 < length cycle.now) }
+{
+    let mut retry = Retry::none();
+    let mut from = 0;
+    let mut place = 0;
+    while place < cycle.len() {
+        let planned = cycle[place];
+        if planned.task.chained {
+            place += 1;
+            continue;
+        }
+        push_attempts(tasks, part(cycle, from, place), retry)?;
+        from = place;
+        retry = planned.retry;
+        place += 1;
+    }
+    push_attempts(tasks, part(cycle, from, place), retry)
+}
