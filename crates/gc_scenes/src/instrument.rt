@@ -99,6 +99,20 @@ impl SceneInstrument {
         self.ways.clock
     }
 
+    /// Whether the instrument keeps its last reply, and sends it again to a request with its id.
+    pub fn repeats(&self) -> bool
+        ensures { result ≡ self.now.repeats }
+    {
+        self.repeats
+    }
+
+    /// The id of the reply that the instrument keeps. `None`: it keeps none.
+    pub fn kept_id(&self) -> Option<u8>
+        ensures { result ≡ option_map (λ k. k.id) self.now.base.kept }
+    {
+        self.machine.kept_id()
+    }
+
     /// Restarts the instrument, as the simulator is. The scene goes on: its counts, its targets and its noise stay.
     pub fn restart(&mut self)
         ensures { self.new ≡ scene_restarted self.old }

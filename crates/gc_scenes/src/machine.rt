@@ -124,6 +124,16 @@ impl Machine {
         }
     }
 
+    /// The id of the reply that is kept. `None`: none is kept.
+    pub(crate) fn kept_id(&self) -> Option<u8>
+        ensures { result ≡ option_map (λ k. k.id) self.now.kept }
+    {
+        match &self.kept {
+            Some(held) => Some(held.id),
+            None => None,
+        }
+    }
+
     /// The line that is kept for this id. `None`: there is no id, or none is kept, or another one is.
     pub(crate) fn line_of(&self, id: Option<u8>) -> Option<&[u8]>
         ensures line { option_map (λ r. r.now) result ≡ kept_line self.now.kept id }

@@ -1,0 +1,235 @@
+-- For the loop that hands over n bytes of a direction, one completed line after the other: at each turn, handing over the bytes that are left leads to
+-- the same streams as handing over all n bytes at the start.
+use Rattle.std.proofs.Common.{◌≡◌, ℕ, zero, suc, ◌+◌, ◌-◌, ◌<◌, ◌≤◌, Bool, true, false, cond, ◌⊎◌, inl, inr, List, [], ◌∷◌, ◌++◌, length, map, drop, refl, sym, ◌∙◌, ap, subst, arith}
+use mathlib.Core.Path.{ap₂}
+use Rattle.std.specs.Prelude.{replicate, IsTrue, ◌↔◌}
+use Rattle.std.proofs.lemmas.Bool.{cases_lt, le-ltb}
+use Rattle.std.proofs.lemmas.List.{length_push}
+use Rattle.gc_lines.specs.Lines.{with_end}
+use Rattle.gc_catalogue.specs.declared.call.Call.{Call}
+use Rattle.gc_client.specs.Rule.{ById}
+use Rattle.gc_scenes.specs.SceneState.{SceneState}
+use Rattle.gc_scene_world.specs.declared.direction.Direction.{Direction}
+use Rattle.gc_scene_world.specs.Lanes.{Flight, further}
+use Rattle.gc_scene_world.specs.SceneRuns.{scene_ends}
+use Rattle.gc_scene_world.specs.SceneStages.{Seen, AreStreamsOf, IsLeft, goes_on, handed, way}
+use Rattle.gc_world.specs.declared.direction.Direction as world
+use Rattle.gc_world.specs.declared.direction.Direction.TheVariants.{Up, Down}
+use Rattle.gc_world.specs.Clients.{by_ids}
+use Rattle.gc_world.specs.Directions.{deliver, delivery, bytes, texts, lines, gone, reaches}
+use Rattle.gc_world.specs.Sides.{IsPart}
+use Rattle.gc_world.specs.Streams.{Streams, Cut, one_more, cut, up_texts, down_texts, remaining}
+use Rattle.gc_world.specs.World.{Request, Numbered, Wire, World, up_delivered, down_delivered, happens, run}
+use Rattle.gc_world.proofs.Directions.{gone_reached, reaches_again, reaches_same, delivered, passing, bytes_pass, to, one_less, not_idle}
+use Rattle.gc_world.proofs.Streaming.{cut_short}
+
+-- where n bytes complete the front line, the cut at n bytes is the cut of the lines behind that line at the bytes that are left, with one more
+-- completed line
+cut_long : (line : List ℕ) (lines : List (List ℕ)) (n : ℕ) → length line ≤ n → cut (line ∷ lines) n ≡ one_more (cut lines (n - length line))
+cut_long line lines n le = ap (λ b. cond {A = Cut} b (record { lines = 0; gone = n }) (one_more (cut lines (n - length line)))) (le-ltb n (length line) le)
+
+-- a line is in flight where bytes remain of it
+in_front : (gone : ℕ) (texts : List (List ℕ)) → 0 < remaining gone (map with_end texts) → (t : List ℕ) × (ts : List (List ℕ)) × (texts ≡ t ∷ ts)
+in_front gone [] some = absurd (omega (arith, some))
+in_front gone (t ∷ ts) some = (t, ts, refl)
+
+-- where no byte of the front line remains, no line is in flight
+none_in_flight : (gone : ℕ) (lines : List (List ℕ)) → IsPart gone lines → remaining gone lines ≡ 0 → (lines ≡ []) × (gone ≡ 0)
+none_in_flight gone [] part e = (refl, part)
+none_in_flight gone (line ∷ lines) part e = absurd (omega (arith, part, e))
+
+-- a request that is answered moves from those in flight to the executions, if it was executed
+executes : (executed : List ℕ) (k more : ℕ) (b : Bool) → length (cond b (executed ++ k ∷ []) executed) + more ≤ length executed + suc more
+executes executed k more true = omega (arith, length_push executed k)
+executes executed k more false = omega arith
+
+-- executions and requests in flight together don't grow by a delivery upward
+up_executes : (w : Wire SceneState) (q : List (Numbered Request)) → w.up ≡ q → length (up_delivered scene_ends w q).executed + length (up_delivered scene_ends w q).up ≤ length w.executed + length w.up
+up_executes w [] e = omega arith
+up_executes w (x ∷ rest) e =
+    let up : length w.up ≡ suc (length rest) = ap length e in
+    omega (arith, up, executes w.executed x.number (length rest) (scene_ends.handed w.state x.line.id x.line.call).executed)
+
+-- nor do replies made and requests in flight
+up_makes : (w : Wire SceneState) (q : List (Numbered Request)) → w.up ≡ q → length (up_delivered scene_ends w q).made + length (up_delivered scene_ends w q).up ≤ length w.made + length w.up
+up_makes w [] e = omega arith
+up_makes w (x ∷ rest) e =
+    let up : length w.up ≡ suc (length rest) = ap length e in
+    let m : Numbered (List ℕ) = record { number = x.number; line = (scene_ends.handed w.state x.line.id x.line.call).reply } in
+    omega (arith, up, length_push w.made m)
+
+-- executions, replies made and requests in flight after a delivery downward
+record Stays (old new : Wire SceneState) : Type 0 where
+  executed : new.executed ≡ old.executed
+  made : new.made ≡ old.made
+  up : new.up ≡ old.up
+
+-- a delivery downward leaves them
+down_leaves : (width : ℕ) (w : World (ById Call) SceneState) (q : List (Numbered (List ℕ))) → Stays w.wire (down_delivered (by_ids width scene_ends) w q).wire
+down_leaves width w [] = record { executed = refl; made = refl; up = refl }
+down_leaves width w (x ∷ rest) = record { executed = refl; made = refl; up = refl }
+
+-- neither executions nor replies made, with the requests in flight, grow from one wire to the other
+pub record IsNoMore (old new : Wire SceneState) : Type 0 where
+  pub executed : length new.executed + length new.up ≤ length old.executed + length old.up
+  pub made : length new.made + length new.up ≤ length old.made + length old.up
+
+-- by a delivery they don't grow
+no_more : (width : ℕ) (d : world.Direction) (w : World (ById Call) SceneState) → IsNoMore w.wire (happens scene_ends (by_ids width scene_ends) w (deliver d)).wire
+no_more width Up w = record { executed = up_executes w.wire w.wire.up refl; made = up_makes w.wire w.wire.up refl }
+no_more width Down w =
+    let s = down_leaves width w w.wire.down in
+    record { executed = omega (arith, ap length s.executed, ap length s.up); made = omega (arith, ap length s.made, ap length s.up) }
+
+-- a delivery as an event leaves the wire of the delivery as a step
+delivered_wire : (width : ℕ) (d : world.Direction) (v : Streams (ById Call) SceneState) → (goes_on width v (delivery d)).world.wire ≡ (happens scene_ends (by_ids width scene_ends) v.world (deliver d)).wire
+delivered_wire width Up v = refl
+delivered_wire width Down v = refl
+
+-- One turn of that loop: n bytes of the direction d are to go over on the streams v, and `used` of them complete the front line.
+module _ (width : ℕ) (d : Direction) (v : Streams (ById Call) SceneState) where
+  -- the front line takes `used` of the n bytes: the cut at all n bytes is the cut of the lines behind that line at the n - used others, and one
+  -- line more
+  record IsNext (n used : ℕ) : Type 0 where
+    text : List ℕ
+    behind : List (List ℕ)
+    front : texts (way d) v.world.wire ≡ text ∷ behind
+    cut_is : cut (lines (way d) v.world.wire) (gone (way d) v + n) ≡ one_more (cut (map with_end behind) (n - used))
+    tail : behind ≡ texts (way d) (happens scene_ends (by_ids width scene_ends) v.world (deliver (way d))).wire
+
+  -- `IsNext` holds where the front line takes what remains of it, which is some bytes and no more than n
+  next : (n used : ℕ) → used ≡ remaining (gone (way d) v) (lines (way d) v.world.wire) → 0 < used → used ≤ n → IsNext n used
+  next n used e some le =
+      let f = in_front (gone (way d) v) (texts (way d) v.world.wire) (subst (λ k. 0 < k) e some) in
+      let size : used ≡ length (with_end f.0) - gone (way d) v = e ∙ ap (λ q. remaining (gone (way d) v) (map with_end q)) f.2 in
+      let left : gone (way d) v + n - length (with_end f.0) ≡ n - used = omega (arith, size, some, le) in
+      record {
+        text = f.0;
+        behind = f.1;
+        front = f.2;
+        cut_is = ap (λ q. cut (map with_end q) (gone (way d) v + n)) f.2 ∙ cut_long (with_end f.0) (map with_end f.1) (gone (way d) v + n) (omega (arith, size, some, le))
+            ∙ ap (λ k. one_more (cut (map with_end f.1) k)) left;
+        tail = sym (one_less scene_ends (by_ids width scene_ends) (way d) v.world ∙ ap (drop 1) f.2);
+      }
+
+  -- the streams after the delivery of the front line
+  abbrev after : Streams (ById Call) SceneState
+  after = reaches (way d) v (happens scene_ends (by_ids width scene_ends) v.world (deliver (way d))) 0
+
+  -- handing over n bytes is delivering the front line, and then handing over the n - used others
+  next_same : (n used : ℕ) → IsNext n used → handed width d v n ≡ handed width d (goes_on width v (delivery (way d))) (n - used)
+  next_same n used h =
+      let rule = by_ids width scene_ends in
+      let c = cut (map with_end h.behind) (n - used) in
+      let w = happens scene_ends rule v.world (deliver (way d)) in
+      let none : gone (way d) after ≡ 0 = gone_reached (way d) v w 0 in
+      let more : n - used ≡ gone (way d) after + (n - used) = omega (arith, none) in
+      ap (to scene_ends rule (way d) v) h.cut_is ∙ sym (reaches_again (way d) v w 0 (run scene_ends rule (replicate c.lines (deliver (way d))) w) c.gone)
+      ∙ ap₂ (λ q k. to scene_ends rule (way d) after (cut (map with_end q) k)) h.tail more
+      ∙ ap (λ x. handed width d x (n - used)) (sym (delivered scene_ends rule (way d) v))
+
+  -- the delivery of the front line is no idle event
+  next_idle : (n used : ℕ) → IsNext n used → (goes_on width v (delivery (way d))).world.wire.idle ≡ v.world.wire.idle
+  next_idle n used h =
+      let some : length (texts (way d) v.world.wire) ≡ suc (length h.behind) = ap length h.front in
+      ap (λ (w : Wire SceneState). w.idle) (delivered_wire width (way d) v) ∙ not_idle scene_ends (by_ids width scene_ends) (way d) v.world (omega (arith, some))
+
+  -- where no byte is in flight, handing over bytes changes nothing
+  ended : (n : ℕ) → IsPart (gone (way d) v) (lines (way d) v.world.wire) → remaining (gone (way d) v) (lines (way d) v.world.wire) ≡ 0 → handed width d v n ≡ v
+  ended n part e =
+      let none = none_in_flight (gone (way d) v) (lines (way d) v.world.wire) part e in
+      ap (λ q. to scene_ends (by_ids width scene_ends) (way d) v (cut q (gone (way d) v + n))) none.0 ∙ ap (reaches (way d) v v.world) (sym none.1) ∙ reaches_same (way d) v
+
+-- the streams once some of n bytes were handed over: handing over those left leads where handing over all n leads
+pub record IsReached (width : ℕ) (d : Direction) (s : Seen) (v : Streams (ById Call) SceneState) (n left : ℕ) : Type 0 where
+  pub now : Streams (ById Call) SceneState
+  pub shows : AreStreamsOf width s now
+  pub same : handed width d now left ≡ handed width d v n
+  pub idle : now.world.wire.idle ≡ v.world.wire.idle
+  pub room : IsNoMore v.world.wire now.world.wire
+
+-- `IsReached` holds before any byte was handed over
+pub reached : (width : ℕ) (d : Direction) (s : Seen) (v : Streams (ById Call) SceneState) (n : ℕ) → AreStreamsOf width s v → IsReached width d s v n n
+reached width d s v n h = record { now = v; shows = h; same = refl; idle = refl; room = record { executed = omega arith; made = omega arith } }
+
+module _ (width : ℕ) (d : Direction) (s : Seen) (v : Streams (ById Call) SceneState) (n left : ℕ) (h : IsReached width d s v n left) where
+  -- `IsReached` holds also once one more line was delivered
+  pub reaches_next : (t : Seen) (used : ℕ) → used ≡ remaining (gone (way d) h.now) (lines (way d) h.now.world.wire) → 0 < used → used ≤ left
+      → AreStreamsOf width t (goes_on width h.now (delivery (way d))) → IsReached width d t v n (left - used)
+  reaches_next t used e some le shows =
+      let one = next width d h.now left used e some le in
+      let more = subst (IsNoMore h.now.world.wire) (sym (delivered_wire width (way d) h.now)) (no_more width (way d) h.now.world) in
+      record {
+        now = goes_on width h.now (delivery (way d));
+        shows = shows;
+        same = sym (next_same width d h.now left used one) ∙ h.same;
+        idle = next_idle width d h.now left used one ∙ h.idle;
+        room = record { executed = omega (arith, more.executed, h.room.executed); made = omega (arith, more.made, h.room.made) };
+      }
+
+  -- where the bytes that are left complete no line, handing them over leads where all n lead
+  pub reaches_end : (t : Seen) → AreStreamsOf width t (handed width d h.now left) → AreStreamsOf width t (handed width d v n)
+  reaches_end t shows = subst (λ x. AreStreamsOf width t x) h.same shows
+
+  -- where no byte is in flight any more, the streams are those that all n bytes lead to
+  pub runs_dry : (r : ℕ) → IsLeft (way d) h.now r → r ≡ 0 → AreStreamsOf width s (handed width d v n)
+  runs_dry r is e = subst (λ x. AreStreamsOf width s x) (sym (ended width d h.now left is.part (sym is.left ∙ e)) ∙ h.same) h.shows
+
+-- no truth value is both true and false
+pub is_not : (b : Bool) → b ≡ true → b ≡ false → ⊥
+is_not b t f = let wrong : true ≡ false = sym t ∙ f in cc
+
+-- where l bytes don't complete a line of which r bytes remain (b is the test for that), and aren't fewer than r either, r is 0
+pub runs_out : (b : Bool) (r l : ℕ) → IsTrue b ↔ ((0 < r) × (r ≤ l)) → b ≡ false → (l < r → ⊥) → r ≡ 0
+runs_out b zero l iff e le = refl
+runs_out b (suc r) l iff e le = absurd (is_not b (iff.1 (omega arith, least (suc r) l le)) e)
+  where
+    least : (a d : ℕ) → (d < a → ⊥) → a ≤ d
+    least a d no_less = by_either (cases_lt d a)
+      where
+        by_either : (d < a) ⊎ (a ≤ d) → a ≤ d
+        by_either (inl lt) = absurd (no_less lt)
+        by_either (inr le1) = le1
+
+-- an event of n bytes leads to the streams that `handed` gives, where n isn't 0 and bytes are in flight
+pub in_flight : (width : ℕ) (d : Direction) (v : Streams (ById Call) SceneState) (n r : ℕ) → r ≡ remaining (gone (way d) v) (lines (way d) v.world.wire) → (n ≡ 0 → ⊥) → (r ≡ 0 → ⊥)
+    → goes_on width v (bytes (way d) n) ≡ handed width d v n
+in_flight width d v n r e not none = bytes_pass scene_ends (by_ids width scene_ends) (way d) v n ∙ by_cases n (lines (way d) v.world.wire) not (λ z. none (e ∙ z))
+  where
+    by_cases : (k : ℕ) (q : List (List ℕ)) → (k ≡ 0 → ⊥) → (remaining (gone (way d) v) q ≡ 0 → ⊥)
+        → passing scene_ends (by_ids width scene_ends) (way d) v q k ≡ to scene_ends (by_ids width scene_ends) (way d) v (cut q (gone (way d) v + k))
+    by_cases zero q some more = absurd (some refl)
+    by_cases (suc k) [] some more = absurd (more refl)
+    by_cases (suc k) (l ∷ ls) some more = refl
+
+-- Bytes that complete no line.
+
+-- once n bytes of the upward front line were handed over that don't complete it, the streams with n more gone are shown
+pub begins_up : (width : ℕ) (s : Seen) (v : Streams (ById Call) SceneState) (n : ℕ) (lane : Flight) → AreStreamsOf width s v → n < remaining v.up_gone (map with_end (up_texts v.world.wire)) → lane ≡ further s.up n
+    → AreStreamsOf width (record s { up = lane }) (reaches Up v (run scene_ends (by_ids width scene_ends) (replicate (cut (lines Up v.world.wire) (v.up_gone + n)).lines (deliver Up)) v.world) (cut (lines Up v.world.wire) (v.up_gone + n)).gone)
+begins_up width s v n lane h lt is =
+    subst (λ c. AreStreamsOf width (record s { up = lane }) (to scene_ends (by_ids width scene_ends) Up v c)) (sym (cut_short (lines Up v.world.wire) v.up_gone n lt)) (record {
+      client = h.client;
+      next = h.next;
+      instrument = h.instrument;
+      up = is ∙ ap (λ (f : Flight). further f n) h.up;
+      down = h.down;
+      requests = h.requests;
+      settled = h.settled;
+      counts = h.counts;
+    })
+
+-- the same downward
+pub begins_down : (width : ℕ) (s : Seen) (v : Streams (ById Call) SceneState) (n : ℕ) (lane : Flight) → AreStreamsOf width s v → n < remaining v.down_gone (map with_end (down_texts v.world.wire)) → lane ≡ further s.down n
+    → AreStreamsOf width (record s { down = lane }) (reaches Down v (run scene_ends (by_ids width scene_ends) (replicate (cut (lines Down v.world.wire) (v.down_gone + n)).lines (deliver Down)) v.world) (cut (lines Down v.world.wire) (v.down_gone + n)).gone)
+begins_down width s v n lane h lt is =
+    subst (λ c. AreStreamsOf width (record s { down = lane }) (to scene_ends (by_ids width scene_ends) Down v c)) (sym (cut_short (lines Down v.world.wire) v.down_gone n lt)) (record {
+      client = h.client;
+      next = h.next;
+      instrument = h.instrument;
+      up = h.up;
+      down = is ∙ ap (λ (f : Flight). further f n) h.down;
+      requests = h.requests;
+      settled = h.settled;
+      counts = h.counts;
+    })

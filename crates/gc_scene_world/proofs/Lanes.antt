@@ -1,0 +1,96 @@
+-- What a lane's methods leave. The texts of a lane are those of its lines, so a change of the lines is one of the texts.
+use Rattle.std.proofs.Common.{◌≡◌, ℕ, zero, suc, ◌+◌, ◌-◌, ◌<◌, ◌≤◌, Bool, true, false, cond, List, [], ◌∷◌, ◌++◌, length, map, get_or, refl, sym, ◌∙◌, ap, subst, arith}
+use Rattle.std.specs.List.{insert}
+use mathlib.Core.Path.{ap₂}
+use Rattle.std.proofs.lemmas.List.{map-append, length-map}
+use Rattle.std.proofs.lemmas.Bool.{ltb-false}
+use Rattle.gc_lines.specs.Lines.{with_end}
+use Rattle.gc_scene_world.specs.Lanes.{Flight, losing, repeating}
+use Rattle.gc_world.specs.Sides.{IsPart}
+use Rattle.gc_world.specs.Streams.{is_begun, remaining}
+use Rattle.gc_world.specs.World.{without, doubled}
+use Rattle.gc_world.proofs.Pieces.{end_length}
+use Rattle.gc_world.proofs.Queues.{without_map, doubled_past}
+
+-- lines in flight with these texts, of which so many bytes have gone
+pub flight : (f : Flight) (texts : List (List ℕ)) (gone : ℕ) → f.texts ≡ texts → f.gone ≡ gone → f ≡ record { texts = texts; gone = gone }
+flight f texts gone e1 e2 = ap₂ {C = Flight} (λ (t : List (List ℕ)) n. record { texts = t; gone = n }) e1 e2
+
+-- where the front line hasn't begun to go, no byte of it has gone
+not_begun : (gone : ℕ) → is_begun 0 gone ≡ false → gone ≡ 0
+not_begun gone e = let le : gone ≤ 0 = ltb-false 0 gone e in omega (arith, le)
+
+-- of any lines no bytes at all are a part
+pub part_none : (texts : List (List ℕ)) → IsPart 0 (map with_end texts)
+part_none [] = refl
+part_none (t ∷ ts) = omega (arith, end_length t)
+
+-- one more line at the back leaves the part that has gone
+pub part_push : (gone : ℕ) (texts : List (List ℕ)) (text : List ℕ) → IsPart gone (map with_end texts) → IsPart gone (map with_end (texts ++ text ∷ []))
+part_push gone [] text h = subst (λ g. IsPart g (map with_end (text ∷ []))) (sym h) (part_none (text ∷ []))
+part_push gone (t ∷ ts) text h = h
+
+-- a loss of a line that hasn't begun to go leaves the part that has gone
+pub part_without : (k gone : ℕ) (texts : List (List ℕ)) → is_begun k gone ≡ false → IsPart gone (map with_end texts) → IsPart gone (map with_end (without k texts))
+part_without k gone [] e h = h
+part_without zero gone (t ∷ ts) e h = subst (λ g. IsPart g (map with_end ts)) (sym (not_begun gone e)) (part_none ts)
+part_without (suc k) gone (t ∷ ts) e h = h
+
+-- a repeat of a line that hasn't begun to go leaves the part that has gone
+pub part_doubled : (k gone : ℕ) (texts : List (List ℕ)) → is_begun k gone ≡ false → IsPart gone (map with_end texts) → IsPart gone (map with_end (doubled k texts))
+part_doubled k gone [] e h = h
+part_doubled zero gone (t ∷ ts) e h = h
+part_doubled (suc k) gone (t ∷ ts) e h = h
+
+-- once n more bytes have gone, which don't complete the front line, a part has gone
+pub part_more : (gone n : ℕ) (texts : List (List ℕ)) → n < remaining gone (map with_end texts) → IsPart (gone + n) (map with_end texts)
+part_more gone n [] lt = absurd (omega (arith, lt))
+part_more gone n (t ∷ ts) lt = omega (arith, lt)
+
+-- what remains of the front line
+pub remaining_is : (gone : ℕ) (text : List ℕ) (texts : List (List ℕ)) → length text + 2 - gone ≡ remaining gone (map with_end (text ∷ texts))
+remaining_is gone text texts = omega (arith, end_length text)
+
+-- What std's calls on the lines leave of their texts: `f` gives the text of a line.
+module _ {A : Type 0} (f : A → List ℕ) where
+  -- one more line at the back leaves the part that has gone
+  pub part_pushed : (gone : ℕ) (old new : List A) (x : A) → new ≡ old ++ x ∷ [] → IsPart gone (map with_end (map f old)) → IsPart gone (map with_end (map f new))
+  part_pushed gone old new x is h =
+      subst (λ q. IsPart gone (map with_end q)) (sym (ap (map f) is ∙ map-append f old (x ∷ []))) (part_push gone (map f old) (f x) h)
+
+  -- a loss leaves the part that has gone
+  pub part_lost : (k gone : ℕ) (old new : List A) → is_begun k gone ≡ false → new ≡ without k old → IsPart gone (map with_end (map f old)) → IsPart gone (map with_end (map f new))
+  part_lost k gone old new whole is h =
+      subst (λ q. IsPart gone (map with_end q)) (without_map f k old ∙ sym (ap (map f) is)) (part_without k gone (map f old) whole h)
+
+  -- a loss is `losing`
+  pub lost_is : (k gone : ℕ) (old new : List A) → is_begun k gone ≡ false → new ≡ without k old
+      → ◌≡◌ {A = Flight} (record { texts = map f new; gone = gone }) (losing k (record { texts = map f old; gone = gone }))
+  lost_is k gone old new whole is =
+      ap {B = Flight} (λ (t : List (List ℕ)). record { texts = t; gone = gone }) (ap (map f) is ∙ sym (without_map f k old))
+      ∙ ap {B = Flight} (λ b. cond b (record { texts = map f old; gone = gone }) (record { texts = without k (map f old); gone = gone })) (sym whole)
+
+  -- a repeat of a line that isn't there changes nothing
+  pub repeat_none : (k gone : ℕ) (old : List A) → length old ≤ k
+      → ◌≡◌ {A = Flight} (record { texts = map f old; gone = gone }) (repeating k (record { texts = map f old; gone = gone }))
+  repeat_none k gone old past =
+      let same : doubled k (map f old) ≡ map f old = doubled_past k (map f old) (omega (arith, past, length-map old f)) in
+      either (is_begun k gone) (record { texts = map f old; gone = gone }) (record { texts = doubled k (map f old); gone = gone })
+      (ap {B = Flight} (λ (t : List (List ℕ)). record { texts = t; gone = gone }) (sym same))
+    where
+      either : (b : Bool) (x y : Flight) → x ≡ y → x ≡ cond b x y
+      either true x y e = refl
+      either false x y e = e
+
+  -- inserting at a line's place a line with the same text doubles the text
+  doubled_text : (xs : List A) (k : ℕ) (x y : A) → k < length xs → x ≡ get_or xs k x → f y ≡ f x → map f (insert xs k y) ≡ doubled k (map f xs)
+  doubled_text [] k x y lt e same = absurd (omega (arith, lt))
+  doubled_text (z ∷ zs) zero x y lt e same = ap (λ t. t ∷ f z ∷ map f zs) (same ∙ ap f e)
+  doubled_text (z ∷ zs) (suc k) x y lt e same = ap (λ l. f z ∷ l) (doubled_text zs k x y (omega (arith, lt)) e same)
+
+  -- a repeat is `repeating`
+  pub repeat_is : (k gone : ℕ) (old new : List A) (x y : A) → is_begun k gone ≡ false → k < length old → x ≡ get_or old k x → f y ≡ f x → new ≡ insert old k y
+      → ◌≡◌ {A = Flight} (record { texts = map f new; gone = gone }) (repeating k (record { texts = map f old; gone = gone }))
+  repeat_is k gone old new x y whole lt at same is =
+      ap {B = Flight} (λ (t : List (List ℕ)). record { texts = t; gone = gone }) (ap (map f) is ∙ doubled_text old k x y lt at same)
+      ∙ ap {B = Flight} (λ b. cond b (record { texts = map f old; gone = gone }) (record { texts = doubled k (map f old); gone = gone })) (sym whole)

@@ -1,0 +1,6 @@
+pub mod Exchanges
+pub mod Booked
+pub mod Lanes
+pub mod Shown
+pub mod Handed
+pub mod Turns

@@ -1,0 +1,514 @@
+-- For the proofs of `stage.rt`. The parts of a stage *show* streams where they are those of the streams (`AreStreamsOf`). Each lemma says: where they
+-- show streams, and a function has done to them what its contract says, they show the streams after that event. Variables such as `up` and
+-- `settled` are the values that the function left; the premises are what its contract says of them.
+use Rattle.std.proofs.Common.{◌≡◌, ℕ, zero, suc, ◌+◌, ◌<◌, ◌≤◌, ◌⊎◌, inl, inr, Bool, true, false, cond, List, [], ◌∷◌, ◌++◌, length, map, Option, Some, None, refl, sym, ◌∙◌, ap, subst, ltb, eqb, arith}
+use mathlib.Core.Path.{ap₂}
+use Rattle.std.specs.Prelude.{IsTrue, ◌↔◌}
+use Rattle.std.proofs.lemmas.List.{map-append, length-map, length_push}
+use Rattle.std.proofs.lemmas.List.Elements.{All-append}
+use Rattle.std.proofs.lemmas.Bool.{ltb-false}
+use Rattle.gc_lines.specs.Answering.{AppendsAnswer}
+use Rattle.gc_catalogue.specs.declared.call.Call.{Call}
+use Rattle.gc_catalogue.specs.Calls.{IsFitting}
+use Rattle.gc_catalogue.specs.Texts.{request_line}
+use Rattle.gc_client.specs.declared.window.TheConstants.{IDS}
+use Rattle.gc_client.specs.declared.settlement.Settlement.{Settlement}
+use Rattle.gc_client.specs.Rule.{ById, Windowed, Sending, Settled, heard, hears, place_in, id_settled, id_send, sends, expires, restarts}
+use Rattle.gc_client.specs.Rule
+use Rattle.gc_client.specs.Settlements.{AreSettlements, settlement_seen, IsWellRead}
+use Rattle.gc_scenes.specs.SceneReplying.{IsPlayed}
+use Rattle.gc_scenes.specs.SceneState.{SceneState, scene_restarted}
+use Rattle.gc_scene_world.specs.declared.report.Counts.{Counts}
+use Rattle.gc_scene_world.specs.Lanes.{Flight, is_whole, pushed}
+use Rattle.gc_scene_world.specs.SceneReports.{AreCounts}
+use Rattle.gc_scene_world.specs.SceneRuns.{scene_handed, scene_ends}
+use Rattle.gc_scene_world.specs.SceneStages.{Seen, AreStreamsOf, IsAsked, IsLeft, goes_on}
+use Rattle.gc_scene_world.proofs.Exchanges.{Notes, id_of, counted, exchanged}
+use Rattle.gc_scene_world.proofs.Lanes.{flight}
+use Rattle.gc_world.specs.declared.direction.Direction.{Direction}
+use Rattle.gc_world.specs.declared.direction.Direction.TheVariants.{Up, Down}
+use Rattle.gc_world.specs.declared.event.Event.TheVariants as event
+use Rattle.gc_world.specs.Clients.{by_ids}
+use Rattle.gc_world.specs.Directions.{bytes, lines, gone, reaches}
+use Rattle.gc_world.specs.Order.{Each}
+use Rattle.gc_world.specs.Sides.{IsPart}
+use Rattle.gc_world.specs.Streams.{Streams, up_texts, down_texts, is_begun, at_line, remaining}
+use Rattle.gc_world.specs.World.{Request, Numbered, Wire, World, Step, Up_lose, Up_repeat, Down_lose, Down_repeat, Nothing, without, doubled, idle, up_delivered, with_up, with_down, on_wire, requested, down_delivered, client_restarted, instrument_restarted, happens}
+use Rattle.gc_world.proofs.Directions.{passing, bytes_pass}
+use Rattle.gc_world.proofs.Options.{some_is, none_is_not}
+use Rattle.gc_world.proofs.Queues.{without_map, doubled_map, without_past, doubled_past}
+use Rattle.gc_world.proofs.Rows.{each_append, each_without, each_doubled}
+
+-- the bytes of a request's line
+abbrev pub bytes_of : Numbered Request → List ℕ
+bytes_of x = request_line (Some x.line.id) x.line.call
+
+-- these counts (true), or with one more event that was not possible
+abbrev pub tallied : Bool → Counts → Counts
+tallied true c = c
+tallied false c = record c { idle_events = c.idle_events + 1 }
+
+-- where mapping a function over a list gives the empty list, the list is empty
+map_none : {A B : Type 0} (f : A → B) (xs : List A) → map f xs ≡ [] → xs ≡ []
+map_none f [] e = refl
+map_none f (x ∷ xs) e = cc
+
+-- what was settled, and behind it more, is what the rule settled, and more
+are_more : (xs ys : List (Settlement Call)) (us vs : List (Rule.Settlement Call)) → AreSettlements xs us → AreSettlements ys vs → AreSettlements (xs ++ ys) (us ++ vs)
+are_more xs ys us vs h g =
+    record {
+      seen = map-append settlement_seen xs ys ∙ ap₂ (λ (a b : List (Rule.Settlement Call)). a ++ b) h.seen g.seen;
+      read = All-append (λ (s : Settlement Call). IsWellRead s.call s.outcome) xs ys h.read g.read;
+    }
+
+-- settling doesn't change the next id
+settled_next : (c : ById Call) (line : List ℕ) (k : ℕ) (b : Bool) → (id_settled c line k b).client.next ≡ c.next
+settled_next c line k false = refl
+settled_next c line k true = refl
+
+-- a line doesn't change the next id
+hears_next : (c : ById Call) (line : List ℕ) (o : Option ℕ) → (hears c line o).client.next ≡ c.next
+hears_next c line None = refl
+hears_next c line (Some id) = settled_next c line (place_in c id) (ltb (place_in c id) (length c.waiting))
+
+-- a send leaves a next id that is a digit below 8
+sends_next : (width : ℕ) (c : ById Call) (target : ℕ) (call : Call) (deadline : ℕ) (x : Sending (ById Call)) → sends width c target call deadline ≡ Some x → x.client.next < IDS
+sends_next width c target call deadline x e = by_room (eqb (length c.waiting) width) e
+  where
+    by_room : (full : Bool) → id_send c target call deadline full ≡ Some x → x.client.next < IDS
+    by_room true e = absurd (none_is_not x e)
+    by_room false e = subst (λ (y : Sending (ById Call)). y.client.next < IDS) (some_is _ x e) (omega arith)
+
+-- an event that is not possible is counted by both
+counts_idle : (c : Counts) (w : Wire SceneState) → AreCounts c w → AreCounts (tallied false c) (idle w)
+counts_idle c w h = record { sent = h.sent; executed = h.executed; made = h.made; refused = h.refused; idle = ap (λ n. n + 1) h.idle }
+
+-- counts don't speak of queues
+counts_queues : (c : Counts) (w : Wire SceneState) (up : List (Numbered Request)) (down : List (Numbered (List ℕ))) → AreCounts c w → AreCounts c (record w { up = up; down = down })
+counts_queues c w up down h = record { sent = h.sent; executed = h.executed; made = h.made; refused = h.refused; idle = h.idle }
+
+module _ (width : ℕ) (s : Seen) (v : Streams (ById Call) SceneState) (h : AreStreamsOf width s v) where
+  -- the streams with this world, of whose front lines as much has gone as before
+  abbrev with_world : World (ById Call) SceneState → Streams (ById Call) SceneState
+  with_world w = record { world = w; up_gone = v.up_gone; down_gone = v.down_gone }
+
+  -- an event that is not possible is only counted, in the stage as in the streams
+  nothing : AreStreamsOf width (record s { counts = tallied false s.counts }) (with_world (on_wire v.world (idle v.world.wire)))
+  nothing = record {
+    client = h.client;
+    next = h.next;
+    instrument = h.instrument;
+    up = h.up;
+    down = h.down;
+    requests = h.requests;
+    settled = h.settled;
+    counts = counts_idle s.counts v.world.wire h.counts;
+  }
+
+  -- if no text is in flight upward, no request is
+  no_up : s.up.texts ≡ [] → v.world.wire.up ≡ []
+  no_up e = map_none bytes_of v.world.wire.up (sym (ap (λ (f : Flight). f.texts) h.up) ∙ e)
+
+  -- if no text is in flight downward, no reply is
+  no_down : s.down.texts ≡ [] → v.world.wire.down ≡ []
+  no_down e = map_none (λ x. x.line) v.world.wire.down (sym (ap (λ (f : Flight). f.texts) h.down) ∙ e)
+
+  -- Sends.
+
+  -- once a send was refused, the streams after that event are shown
+  pub streams_refused : (target : ℕ) (call : Call) (deadline : ℕ) (client : Windowed Call) → sends s.client.width s.client.ids target call deadline ≡ None → client ≡ s.client
+      → AreStreamsOf width (record s { client = client; counts = record s.counts { refused_sends = s.counts.refused_sends + 1 } }) (goes_on width v (event.Send target call deadline))
+  streams_refused target call deadline client none same =
+      let ruled : sends width v.world.client target call deadline ≡ None = ap (λ (k : Windowed Call). sends k.width k.ids target call deadline) (sym h.client) ∙ none in
+      subst (λ o. AreStreamsOf width (record s { client = client; counts = record s.counts { refused_sends = s.counts.refused_sends + 1 } }) (with_world (requested v.world target call o))) (sym ruled) (record {
+        client = same ∙ h.client;
+        next = h.next;
+        instrument = h.instrument;
+        up = h.up;
+        down = h.down;
+        requests = h.requests;
+        settled = h.settled;
+        counts = record { sent = h.counts.sent; executed = h.counts.executed; made = h.counts.made; refused = ap (λ n. n + 1) h.counts.refused; idle = h.counts.idle };
+      })
+
+  -- once a request was sent, the streams after that event are shown
+  pub streams_sent : (target : ℕ) (call : Call) (deadline : ℕ) (line : List ℕ) (client : Windowed Call) (up : Flight)
+      → sends s.client.width s.client.ids target call deadline ≡ Some (record { id = s.client.ids.next; client = client.ids }) → client.width ≡ s.client.width
+      → line ≡ request_line (Some s.client.ids.next) call → IsFitting call → up ≡ pushed s.up line
+      → AreStreamsOf width (record s { client = client; up = up; counts = record s.counts { sent = s.counts.sent + 1 } }) (goes_on width v (event.Send target call deadline))
+  streams_sent target call deadline line client up sends_is wide line_is fits up_is =
+      let x : Sending (ById Call) = record { id = s.client.ids.next; client = client.ids } in
+      let request : Numbered Request = record { number = length v.world.wire.sent; line = record { id = s.client.ids.next; call = call } } in
+      let ruled : sends width v.world.client target call deadline ≡ Some x = ap (λ (k : Windowed Call). sends k.width k.ids target call deadline) (sym h.client) ∙ sends_is in
+      let digit : s.client.ids.next < IDS = subst (λ (k : Windowed Call). k.ids.next < IDS) (sym h.client) h.next in
+      subst (λ o. AreStreamsOf width (record s { client = client; up = up; counts = record s.counts { sent = s.counts.sent + 1 } }) (with_world (requested v.world target call o))) (sym ruled) (record {
+        client = ap (λ n. record { width = n; ids = client.ids }) (wide ∙ ap (λ (k : Windowed Call). k.width) h.client);
+        next = sends_next s.client.width s.client.ids target call deadline x sends_is;
+        instrument = h.instrument;
+        up = up_is ∙ ap₂ {C = Flight} (λ (f : Flight) (l : List ℕ). pushed f l) h.up line_is ∙ ap (λ (t : List (List ℕ)). record { texts = t; gone = v.up_gone }) (sym (map-append bytes_of v.world.wire.up (request ∷ [])));
+        down = h.down;
+        requests = each_append IsAsked v.world.wire.up (request ∷ []) h.requests ((digit, fits), tt);
+        settled = h.settled;
+        counts = record {
+          sent = ap (λ n. n + 1) h.counts.sent ∙ sym (length_push v.world.wire.sent _);
+          executed = h.counts.executed;
+          made = h.counts.made;
+          refused = h.counts.refused;
+          idle = h.counts.idle;
+        };
+      })
+
+  -- Deliveries.
+
+  -- once a delivery upward found no line, the streams after that event are shown
+  pub streams_up_none : (up : Flight) → s.up.texts ≡ [] → up.texts ≡ [] → up.gone ≡ 0 → AreStreamsOf width (record s { up = up; counts = tallied false s.counts }) (goes_on width v event.UpDeliver)
+  streams_up_none up none empty start =
+      let none_up = no_up none in
+      subst (λ q. AreStreamsOf width (record s { up = up; counts = tallied false s.counts }) (record { world = on_wire v.world (up_delivered scene_ends v.world.wire q); up_gone = 0; down_gone = v.down_gone })) (sym none_up) (record {
+        client = h.client;
+        next = h.next;
+        instrument = h.instrument;
+        up = flight up (up_texts v.world.wire) 0 (empty ∙ sym (ap (map bytes_of) none_up)) start;
+        down = h.down;
+        requests = h.requests;
+        settled = h.settled;
+        counts = counts_idle s.counts v.world.wire h.counts;
+      })
+
+  -- once the front request was delivered, and its reply put behind the others, the streams after that event are shown
+  pub streams_up_deliver : (request : List ℕ) (up : Flight) (instrument : SceneState) (old reply : List ℕ) (b : Bool) (executed : ℕ) (down : Flight) → s.up.texts ≡ request ∷ up.texts → up.gone ≡ 0 → old ≡ []
+      → AppendsAnswer (IsPlayed s.instrument request instrument) old reply b → Notes s.instrument.repeats (id_of s.instrument.base.kept) (id_of instrument.base.kept) s.counts.executed executed
+      → down ≡ pushed s.down reply
+      → AreStreamsOf width (record s { instrument = instrument; up = up; down = down; counts = record s.counts { executed = executed; made = s.counts.made + 1 } }) (goes_on width v event.UpDeliver)
+  streams_up_deliver request up instrument old reply b executed down e start empty played notes down_is = by_front v.world.wire.up refl
+    where
+      by_front : (q : List (Numbered Request)) → v.world.wire.up ≡ q
+          → AreStreamsOf width (record s { instrument = instrument; up = up; down = down; counts = record s.counts { executed = executed; made = s.counts.made + 1 } })
+          (record { world = on_wire v.world (up_delivered scene_ends v.world.wire q); up_gone = 0; down_gone = v.down_gone })
+      by_front [] q_is = let wrong : [] ≡ request ∷ up.texts = ap (map bytes_of) (sym q_is) ∙ sym (ap (λ (f : Flight). f.texts) h.up) ∙ e in cc
+      by_front (x ∷ rest) q_is =
+          let texts : request ∷ up.texts ≡ bytes_of x ∷ map bytes_of rest = sym e ∙ ap (λ (f : Flight). f.texts) h.up ∙ ap (map bytes_of) q_is in
+          let line_is : request ≡ bytes_of x = cc in
+          let rest_is : up.texts ≡ map bytes_of rest = cc in
+          let asked : Each IsAsked (x ∷ rest) = subst (λ q. Each IsAsked q) q_is h.requests in
+          let did = exchanged s.instrument request instrument old reply b x.line.id x.line.call asked.0.0 asked.0.1 line_is empty played in
+          let state : instrument ≡ (scene_handed v.world.wire.state x.line.id x.line.call).state = did.state ∙ ap (λ (t : SceneState). (scene_handed t x.line.id x.line.call).state) h.instrument in
+          let said : reply ≡ (scene_handed v.world.wire.state x.line.id x.line.call).reply = did.line ∙ ap (λ (t : SceneState). (scene_handed t x.line.id x.line.call).reply) h.instrument in
+          let m : Numbered (List ℕ) = record { number = x.number; line = (scene_handed v.world.wire.state x.line.id x.line.call).reply } in
+          record {
+            client = h.client;
+            next = h.next;
+            instrument = state;
+            up = flight up (map bytes_of rest) 0 rest_is start;
+            down = down_is ∙ ap₂ {C = Flight} (λ (f : Flight) (l : List ℕ). pushed f l) h.down said
+                ∙ ap (λ (t : List (List ℕ)). record { texts = t; gone = v.down_gone }) (sym (map-append (λ (y : Numbered (List ℕ)). y.line) v.world.wire.down (m ∷ [])));
+            requests = asked.1;
+            settled = h.settled;
+            counts = record {
+              sent = h.counts.sent;
+              executed = counted s.instrument x.line.id x.line.call instrument s.counts.executed executed v.world.wire.executed x.number did.state notes h.counts.executed
+                  ∙ ap (λ (t : SceneState). length (cond (scene_handed t x.line.id x.line.call).executed (v.world.wire.executed ++ x.number ∷ []) v.world.wire.executed)) h.instrument;
+              made = ap (λ n. n + 1) h.counts.made ∙ sym (length_push v.world.wire.made m);
+              refused = h.counts.refused;
+              idle = h.counts.idle;
+            };
+          }
+
+  -- once a delivery downward found no line, the streams after that event are shown
+  pub streams_down_none : (down : Flight) → s.down.texts ≡ [] → down.texts ≡ [] → down.gone ≡ 0
+      → AreStreamsOf width (record s { down = down; counts = tallied false s.counts }) (goes_on width v event.DownDeliver)
+  streams_down_none down none empty start =
+      let none_down = no_down none in
+      subst (λ q. AreStreamsOf width (record s { down = down; counts = tallied false s.counts }) (record { world = down_delivered (by_ids width scene_ends) v.world q; up_gone = v.up_gone; down_gone = 0 })) (sym none_down) (record {
+        client = h.client;
+        next = h.next;
+        instrument = h.instrument;
+        up = h.up;
+        down = flight down (down_texts v.world.wire) 0 (empty ∙ sym (ap (map (λ x. x.line)) none_down)) start;
+        requests = h.requests;
+        settled = h.settled;
+        counts = counts_idle s.counts v.world.wire h.counts;
+      })
+
+  -- once the front reply was delivered, and what it settles noted, the streams after that event are shown
+  pub streams_down_deliver : (line : List ℕ) (down : Flight) (more settled : List (Settlement Call)) (client : Windowed Call) → s.down.texts ≡ line ∷ down.texts → down.gone ≡ 0
+      → AreSettlements more (hears s.client.ids line (heard line)).settlements → client ≡ record s.client { ids = (hears s.client.ids line (heard line)).client } → settled ≡ s.settled ++ more
+      → AreStreamsOf width (record s { client = client; down = down; settled = settled }) (goes_on width v event.DownDeliver)
+  streams_down_deliver line down more settled client e start more_are client_is settled_is = by_front v.world.wire.down refl
+    where
+      by_front : (q : List (Numbered (List ℕ))) → v.world.wire.down ≡ q → AreStreamsOf width (record s { client = client; down = down; settled = settled })
+          (record { world = down_delivered (by_ids width scene_ends) v.world q; up_gone = v.up_gone; down_gone = 0 })
+      by_front [] q_is = let wrong : [] ≡ line ∷ down.texts = ap (map (λ x. x.line)) (sym q_is) ∙ sym (ap (λ (f : Flight). f.texts) h.down) ∙ e in cc
+      by_front (x ∷ rest) q_is =
+          let texts : line ∷ down.texts ≡ x.line ∷ map (λ (y : Numbered (List ℕ)). y.line) rest = sym e ∙ ap (λ (f : Flight). f.texts) h.down ∙ ap (map (λ y. y.line)) q_is in
+          let line_is : line ≡ x.line = cc in
+          let rest_is : down.texts ≡ map (λ (y : Numbered (List ℕ)). y.line) rest = cc in
+          let same : hears s.client.ids line (heard line) ≡ hears v.world.client x.line (heard x.line) = ap₂ {C = Settled Call (ById Call)} (λ (k : Windowed Call) (l : List ℕ). hears k.ids l (heard l)) h.client line_is in
+          let are : AreSettlements more (hears v.world.client x.line (heard x.line)).settlements = subst (λ (t : Settled Call (ById Call)). AreSettlements more t.settlements) same more_are in
+          record {
+            client = client_is ∙ ap₂ (λ n (t : Settled Call (ById Call)). let d : Windowed Call = record { width = n; ids = t.client } in d) (ap (λ (k : Windowed Call). k.width) h.client) same;
+            next = subst (λ n. n < IDS) (sym (hears_next v.world.client x.line (heard x.line))) h.next;
+            instrument = h.instrument;
+            up = h.up;
+            down = flight down (map (λ y. y.line) rest) 0 rest_is start;
+            requests = h.requests;
+            settled = subst (λ l. AreSettlements l (v.world.wire.settled ++ (hears v.world.client x.line (heard x.line)).settlements)) (sym settled_is)
+                (are_more s.settled more v.world.wire.settled (hears v.world.client x.line (heard x.line)).settlements h.settled are);
+            counts = record { sent = h.counts.sent; executed = h.counts.executed; made = h.counts.made; refused = h.counts.refused; idle = h.counts.idle };
+          }
+
+  -- Losses and repeats.
+
+  -- the upward lane is as long as the world's queue
+  same_up : length s.up.texts ≡ length v.world.wire.up
+  same_up = ap (λ (f : Flight). length f.texts) h.up ∙ length-map v.world.wire.up bytes_of
+
+  -- the downward lane is as long as the world's queue
+  same_down : length s.down.texts ≡ length v.world.wire.down
+  same_down = ap (λ (f : Flight). length f.texts) h.down ∙ length-map v.world.wire.down (λ x. x.line)
+
+  -- once the upward lane has these texts, if the step is possible (b), or else the event was counted, the streams after the step are shown
+  up_changed : (k : ℕ) (texts : List (List ℕ)) (us : List (Numbered Request)) (step : Step) (b : Bool) (up : Flight) → b ≡ is_whole k s.up → up ≡ cond (is_begun k s.up.gone) s.up (record s.up { texts = texts })
+      → texts ≡ map bytes_of us → (length s.up.texts ≤ k → texts ≡ s.up.texts) → Each IsAsked us
+      → happens scene_ends (by_ids width scene_ends) v.world step ≡ on_wire v.world (with_up v.world.wire us (ltb k (length v.world.wire.up)))
+      → AreStreamsOf width (record s { up = up; counts = tallied b s.counts }) (with_world (happens scene_ends (by_ids width scene_ends) v.world (at_line k v.up_gone step)))
+  up_changed k texts us step b up b_is up_is texts_are past asked step_is = by_begun (is_begun k v.up_gone) refl
+    where
+      same_gone : is_begun k s.up.gone ≡ is_begun k v.up_gone
+      same_gone = ap (λ (f : Flight). is_begun k f.gone) h.up
+
+      by_there : (t : Bool) → is_begun k s.up.gone ≡ false → ltb k (length s.up.texts) ≡ t
+          → AreStreamsOf width (record s { up = up; counts = tallied b s.counts }) (with_world (on_wire v.world (with_up v.world.wire us t)))
+      by_there true whole there =
+          let said : b ≡ true = b_is ∙ ap (λ g. cond g false (ltb k (length s.up.texts))) whole ∙ there in
+          record {
+            client = h.client;
+            next = h.next;
+            instrument = h.instrument;
+            up = flight up (map bytes_of us) v.up_gone (ap (λ (f : Flight). f.texts) (up_is ∙ ap (λ g. cond g s.up (record s.up { texts = texts })) whole) ∙ texts_are)
+                (ap (λ (f : Flight). f.gone) (up_is ∙ ap (λ g. cond g s.up (record s.up { texts = texts })) whole) ∙ ap (λ (f : Flight). f.gone) h.up);
+            down = h.down;
+            requests = asked;
+            settled = h.settled;
+            counts = subst (λ c. AreCounts (tallied c s.counts) (record v.world.wire { up = us })) (sym said) (counts_queues s.counts v.world.wire us v.world.wire.down h.counts);
+          }
+      by_there false whole there =
+          let said : b ≡ false = b_is ∙ ap (λ g. cond g false (ltb k (length s.up.texts))) whole ∙ there in
+          record {
+            client = h.client;
+            next = h.next;
+            instrument = h.instrument;
+            up = up_is ∙ ap (λ g. cond g s.up (record s.up { texts = texts })) whole ∙ ap (λ (t : List (List ℕ)). record s.up { texts = t }) (past (ltb-false _ _ there)) ∙ h.up;
+            down = h.down;
+            requests = h.requests;
+            settled = h.settled;
+            counts = subst (λ c. AreCounts (tallied c s.counts) (idle v.world.wire)) (sym said) (counts_idle s.counts v.world.wire h.counts);
+          }
+
+      by_begun : (g : Bool) → is_begun k v.up_gone ≡ g
+          → AreStreamsOf width (record s { up = up; counts = tallied b s.counts }) (with_world (happens scene_ends (by_ids width scene_ends) v.world (cond g Nothing step)))
+      by_begun true e =
+          let begun : is_begun k s.up.gone ≡ true = same_gone ∙ e in
+          let said : b ≡ false = b_is ∙ ap (λ g. cond g false (ltb k (length s.up.texts))) begun in
+          record {
+            client = h.client;
+            next = h.next;
+            instrument = h.instrument;
+            up = up_is ∙ ap (λ g. cond g s.up (record s.up { texts = texts })) begun ∙ h.up;
+            down = h.down;
+            requests = h.requests;
+            settled = h.settled;
+            counts = subst (λ c. AreCounts (tallied c s.counts) (idle v.world.wire)) (sym said) (counts_idle s.counts v.world.wire h.counts);
+          }
+      by_begun false e =
+          subst (λ (w : World (ById Call) SceneState). AreStreamsOf width (record s { up = up; counts = tallied b s.counts }) (with_world w)) (sym step_is)
+          (by_there (ltb k (length v.world.wire.up)) (same_gone ∙ e) (ap (ltb k) same_up))
+
+  -- the same of the downward lane
+  down_changed : (k : ℕ) (texts : List (List ℕ)) (ds : List (Numbered (List ℕ))) (step : Step) (b : Bool) (down : Flight) → b ≡ is_whole k s.down
+      → down ≡ cond (is_begun k s.down.gone) s.down (record s.down { texts = texts }) → texts ≡ map (λ x. x.line) ds → (length s.down.texts ≤ k → texts ≡ s.down.texts)
+      → happens scene_ends (by_ids width scene_ends) v.world step ≡ on_wire v.world (with_down v.world.wire ds (ltb k (length v.world.wire.down)))
+      → AreStreamsOf width (record s { down = down; counts = tallied b s.counts }) (with_world (happens scene_ends (by_ids width scene_ends) v.world (at_line k v.down_gone step)))
+  down_changed k texts ds step b down b_is down_is texts_are past step_is = by_begun (is_begun k v.down_gone) refl
+    where
+      same_gone : is_begun k s.down.gone ≡ is_begun k v.down_gone
+      same_gone = ap (λ (f : Flight). is_begun k f.gone) h.down
+
+      by_there : (t : Bool) → is_begun k s.down.gone ≡ false → ltb k (length s.down.texts) ≡ t
+          → AreStreamsOf width (record s { down = down; counts = tallied b s.counts }) (with_world (on_wire v.world (with_down v.world.wire ds t)))
+      by_there true whole there =
+          let said : b ≡ true = b_is ∙ ap (λ g. cond g false (ltb k (length s.down.texts))) whole ∙ there in
+          record {
+            client = h.client;
+            next = h.next;
+            instrument = h.instrument;
+            up = h.up;
+            down = flight down (map (λ x. x.line) ds) v.down_gone (ap (λ (f : Flight). f.texts) (down_is ∙ ap (λ g. cond g s.down (record s.down { texts = texts })) whole) ∙ texts_are)
+                (ap (λ (f : Flight). f.gone) (down_is ∙ ap (λ g. cond g s.down (record s.down { texts = texts })) whole) ∙ ap (λ (f : Flight). f.gone) h.down);
+            requests = h.requests;
+            settled = h.settled;
+            counts = subst (λ c. AreCounts (tallied c s.counts) (record v.world.wire { down = ds })) (sym said) (counts_queues s.counts v.world.wire v.world.wire.up ds h.counts);
+          }
+      by_there false whole there =
+          let said : b ≡ false = b_is ∙ ap (λ g. cond g false (ltb k (length s.down.texts))) whole ∙ there in
+          record {
+            client = h.client;
+            next = h.next;
+            instrument = h.instrument;
+            up = h.up;
+            down = down_is ∙ ap (λ g. cond g s.down (record s.down { texts = texts })) whole ∙ ap (λ (t : List (List ℕ)). record s.down { texts = t }) (past (ltb-false _ _ there)) ∙ h.down;
+            requests = h.requests;
+            settled = h.settled;
+            counts = subst (λ c. AreCounts (tallied c s.counts) (idle v.world.wire)) (sym said) (counts_idle s.counts v.world.wire h.counts);
+          }
+
+      by_begun : (g : Bool) → is_begun k v.down_gone ≡ g
+          → AreStreamsOf width (record s { down = down; counts = tallied b s.counts }) (with_world (happens scene_ends (by_ids width scene_ends) v.world (cond g Nothing step)))
+      by_begun true e =
+          let begun : is_begun k s.down.gone ≡ true = same_gone ∙ e in
+          let said : b ≡ false = b_is ∙ ap (λ g. cond g false (ltb k (length s.down.texts))) begun in
+          record {
+            client = h.client;
+            next = h.next;
+            instrument = h.instrument;
+            up = h.up;
+            down = down_is ∙ ap (λ g. cond g s.down (record s.down { texts = texts })) begun ∙ h.down;
+            requests = h.requests;
+            settled = h.settled;
+            counts = subst (λ c. AreCounts (tallied c s.counts) (idle v.world.wire)) (sym said) (counts_idle s.counts v.world.wire h.counts);
+          }
+      by_begun false e =
+          subst (λ (w : World (ById Call) SceneState). AreStreamsOf width (record s { down = down; counts = tallied b s.counts }) (with_world w)) (sym step_is)
+          (by_there (ltb k (length v.world.wire.down)) (same_gone ∙ e) (ap (ltb k) same_down))
+
+  -- the texts of the upward lane are those of the world's queue
+  up_are : s.up.texts ≡ map bytes_of v.world.wire.up
+  up_are = ap (λ (f : Flight). f.texts) h.up
+
+  -- the texts of the downward lane are those of the world's queue
+  down_are : s.down.texts ≡ map (λ (x : Numbered (List ℕ)). x.line) v.world.wire.down
+  down_are = ap (λ (f : Flight). f.texts) h.down
+
+  module _ (k : ℕ) (b : Bool) (lane : Flight) where
+    -- once line k of the upward lane was lost, if that was possible, the streams after that event are shown
+    pub up_lost : b ≡ is_whole k s.up → lane ≡ cond (is_begun k s.up.gone) s.up (record s.up { texts = without k s.up.texts })
+        → AreStreamsOf width (record s { up = lane; counts = tallied b s.counts }) (goes_on width v (event.UpLose k))
+    up_lost said left = up_changed k (without k s.up.texts) (without k v.world.wire.up) (Up_lose k) b lane said left
+        (ap (without k) up_are ∙ without_map bytes_of k v.world.wire.up) (without_past k s.up.texts) (each_without IsAsked k v.world.wire.up h.requests) refl
+
+    -- once line k of the upward lane was repeated, if that was possible, the streams after that event are shown
+    pub up_repeated : b ≡ is_whole k s.up → lane ≡ cond (is_begun k s.up.gone) s.up (record s.up { texts = doubled k s.up.texts })
+        → AreStreamsOf width (record s { up = lane; counts = tallied b s.counts }) (goes_on width v (event.UpRepeat k))
+    up_repeated said left = up_changed k (doubled k s.up.texts) (doubled k v.world.wire.up) (Up_repeat k) b lane said left
+        (ap (doubled k) up_are ∙ doubled_map bytes_of k v.world.wire.up) (doubled_past k s.up.texts) (each_doubled IsAsked k v.world.wire.up h.requests) refl
+
+    -- once line k of the downward lane was lost, if that was possible, the streams after that event are shown
+    pub down_lost : b ≡ is_whole k s.down → lane ≡ cond (is_begun k s.down.gone) s.down (record s.down { texts = without k s.down.texts })
+        → AreStreamsOf width (record s { down = lane; counts = tallied b s.counts }) (goes_on width v (event.DownLose k))
+    down_lost said left = down_changed k (without k s.down.texts) (without k v.world.wire.down) (Down_lose k) b lane said left
+        (ap (without k) down_are ∙ without_map (λ x. x.line) k v.world.wire.down) (without_past k s.down.texts) refl
+
+    -- once line k of the downward lane was repeated, if that was possible, the streams after that event are shown
+    pub down_repeated : b ≡ is_whole k s.down → lane ≡ cond (is_begun k s.down.gone) s.down (record s.down { texts = doubled k s.down.texts })
+        → AreStreamsOf width (record s { down = lane; counts = tallied b s.counts }) (goes_on width v (event.DownRepeat k))
+    down_repeated said left = down_changed k (doubled k s.down.texts) (doubled k v.world.wire.down) (Down_repeat k) b lane said left
+        (ap (doubled k) down_are ∙ doubled_map (λ x. x.line) k v.world.wire.down) (doubled_past k s.down.texts) refl
+
+  -- Moments and restarts.
+
+  -- once the client got a moment, the streams after that event are shown
+  pub streams_expire : (now : ℕ) (client : Windowed Call) → client ≡ record s.client { ids = expires s.client.ids now } → AreStreamsOf width (record s { client = client }) (goes_on width v (event.Expire now))
+  streams_expire now client client_is = record {
+    client = client_is ∙ ap (λ (k : Windowed Call). record k { ids = expires k.ids now }) h.client;
+    next = h.next;
+    instrument = h.instrument;
+    up = h.up;
+    down = h.down;
+    requests = h.requests;
+    settled = h.settled;
+    counts = h.counts;
+  }
+
+  -- once both ends were restarted, while no line is in flight, the streams after that event are shown
+  pub streams_restart_client : (more settled : List (Settlement Call)) (client : Windowed Call) (instrument : SceneState) → s.up.texts ≡ [] → s.down.texts ≡ []
+      → AreSettlements more (restarts s.client.ids).settlements → client ≡ record s.client { ids = (restarts s.client.ids).client } → settled ≡ s.settled ++ more → instrument ≡ scene_restarted s.instrument
+      → AreStreamsOf width (record s { client = client; instrument = instrument; settled = settled }) (goes_on width v event.RestartClient)
+  streams_restart_client more settled client instrument eu ed more_are client_is settled_is instrument_is =
+      let are : AreSettlements more (restarts v.world.client).settlements = subst (λ (k : Windowed Call). AreSettlements more (restarts k.ids).settlements) h.client more_are in
+      let after = record s { client = client; instrument = instrument; settled = settled } in
+      subst (λ u. AreStreamsOf width after (with_world (client_restarted scene_ends (by_ids width scene_ends) v.world u v.world.wire.down))) (sym (no_up eu))
+      (subst (λ d. AreStreamsOf width after (with_world (client_restarted scene_ends (by_ids width scene_ends) v.world [] d))) (sym (no_down ed)) (record {
+        client = client_is ∙ ap (λ (k : Windowed Call). record k { ids = (restarts k.ids).client }) h.client;
+        next = omega arith;
+        instrument = instrument_is ∙ ap scene_restarted h.instrument;
+        up = h.up;
+        down = h.down;
+        requests = h.requests;
+        settled = subst (λ l. AreSettlements l (v.world.wire.settled ++ (restarts v.world.client).settlements)) (sym settled_is)
+            (are_more s.settled more v.world.wire.settled (restarts v.world.client).settlements h.settled are);
+        counts = record { sent = h.counts.sent; executed = h.counts.executed; made = h.counts.made; refused = h.counts.refused; idle = h.counts.idle };
+      }))
+
+  -- once the instrument was restarted, while no line is in flight, the streams after that event are shown
+  pub streams_restart_instrument : (instrument : SceneState) → s.up.texts ≡ [] → s.down.texts ≡ [] → instrument ≡ scene_restarted s.instrument
+      → AreStreamsOf width (record s { instrument = instrument }) (goes_on width v event.RestartInstrument)
+  streams_restart_instrument instrument eu ed instrument_is =
+      let after = record s { instrument = instrument } in
+      subst (λ u. AreStreamsOf width after (with_world (on_wire v.world (instrument_restarted scene_ends v.world.wire u v.world.wire.down)))) (sym (no_up eu))
+      (subst (λ d. AreStreamsOf width after (with_world (on_wire v.world (instrument_restarted scene_ends v.world.wire [] d)))) (sym (no_down ed)) (record {
+        client = h.client;
+        next = h.next;
+        instrument = instrument_is ∙ ap scene_restarted h.instrument;
+        up = h.up;
+        down = h.down;
+        requests = h.requests;
+        settled = h.settled;
+        counts = record { sent = h.counts.sent; executed = h.counts.executed; made = h.counts.made; refused = h.counts.refused; idle = h.counts.idle };
+      }))
+
+  -- while a line is in flight, a restart of the client is only counted
+  pub streams_busy_client : ((s.up.texts ≡ []) × (s.down.texts ≡ []) → ⊥) → AreStreamsOf width (record s { counts = tallied false s.counts }) (goes_on width v event.RestartClient)
+  streams_busy_client busy = by_queues v.world.wire.up v.world.wire.down refl refl
+    where
+      by_queues : (us : List (Numbered Request)) (ds : List (Numbered (List ℕ))) → v.world.wire.up ≡ us → v.world.wire.down ≡ ds
+          → AreStreamsOf width (record s { counts = tallied false s.counts }) (with_world (client_restarted scene_ends (by_ids width scene_ends) v.world us ds))
+      by_queues [] [] eu ed = absurd (busy (up_are ∙ ap (map bytes_of) eu, down_are ∙ ap (map (λ x. x.line)) ed))
+      by_queues [] (y ∷ ds) eu ed = nothing
+      by_queues (x ∷ us) ds eu ed = nothing
+
+  -- while a line is in flight, a restart of the instrument is only counted
+  pub streams_busy_instrument : ((s.up.texts ≡ []) × (s.down.texts ≡ []) → ⊥) → AreStreamsOf width (record s { counts = tallied false s.counts }) (goes_on width v event.RestartInstrument)
+  streams_busy_instrument busy = by_queues v.world.wire.up v.world.wire.down refl refl
+    where
+      by_queues : (us : List (Numbered Request)) (ds : List (Numbered (List ℕ))) → v.world.wire.up ≡ us → v.world.wire.down ≡ ds
+          → AreStreamsOf width (record s { counts = tallied false s.counts }) (with_world (on_wire v.world (instrument_restarted scene_ends v.world.wire us ds)))
+      by_queues [] [] eu ed = absurd (busy (up_are ∙ ap (map bytes_of) eu, down_are ∙ ap (map (λ x. x.line)) ed))
+      by_queues [] (y ∷ ds) eu ed = nothing
+      by_queues (x ∷ us) ds eu ed = nothing
+
+  -- Bytes.
+
+  -- an event of 0 bytes, or of bytes while none are in flight, is only counted
+  pub streams_idle_bytes : (d : Direction) (n r : ℕ) → IsLeft d v r → (n ≡ 0) ⊎ (r ≡ 0) → AreStreamsOf width (record s { counts = tallied false s.counts }) (goes_on width v (bytes d n))
+  streams_idle_bytes d n r left none =
+      subst (λ (x : Streams (ById Call) SceneState). AreStreamsOf width (record s { counts = tallied false s.counts }) x)
+      (sym (bytes_pass scene_ends (by_ids width scene_ends) d v n ∙ by_lines (lines d v.world.wire) n left.left none left.part)) nothing
+    where
+      unmoved : (d : Direction) → reaches d v (on_wire v.world (idle v.world.wire)) (gone d v) ≡ with_world (on_wire v.world (idle v.world.wire))
+      unmoved Up = refl
+      unmoved Down = refl
+
+      by_lines : (q : List (List ℕ)) (n : ℕ) → r ≡ remaining (gone d v) q → (n ≡ 0) ⊎ (r ≡ 0) → IsPart (gone d v) q
+          → passing scene_ends (by_ids width scene_ends) d v q n ≡ with_world (on_wire v.world (idle v.world.wire))
+      by_lines [] n e none part = unmoved d
+      by_lines (line ∷ q) zero e none part = unmoved d
+      by_lines (line ∷ q) (suc n) e (inl z) part = absurd (omega (arith, z))
+      by_lines (line ∷ q) (suc n) e (inr z) part = absurd (omega (arith, e, z, part))
+
+-- where P says that no line is in flight, and the test for P gives false, P doesn't hold
+pub is_busy : {P : Type 0} (quiet : Bool) → IsTrue quiet ↔ P → quiet ≡ false → P → ⊥
+is_busy quiet iff not p = let e : quiet ≡ true = iff.1 p in cc
+
+-- the upward lane is as long as the world's queue
+pub up_count : (width : ℕ) (s : Seen) (v : Streams (ById Call) SceneState) → AreStreamsOf width s v → length s.up.texts ≡ length v.world.wire.up
+up_count width s v h = ap (λ (f : Flight). length f.texts) h.up ∙ length-map v.world.wire.up bytes_of

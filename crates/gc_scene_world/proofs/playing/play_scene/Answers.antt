@@ -1,0 +1,25 @@
+use Rattle.std.proofs.Common.{take, sym, subst, rules}
+use Rattle.gc_catalogue.specs.declared.call.Call.{Call}
+use Rattle.gc_client.specs.Rule.{ById}
+use Rattle.gc_scenes.specs.SceneState.{SceneState}
+use Rattle.gc_scene_world.specs.SceneRuns.{scene_streamed}
+use Rattle.gc_scene_world.specs.SceneStages.{seen, AreStreamsOf}
+use Rattle.gc_world.specs.Streams.{Streams}
+use Rattle.gc_scene_world.proofs.Turns.{played_more, has_room}
+use Rattle.gc_scene_world.proofs.playing.play_scene.Goals as goal
+
+pub happen-requires-clause-room : goal.happen-requires-clause-room
+happen-requires-clause-room c =
+    has_room c.args.width c.args.instrument c.args.events.now c.loop-event.event-index (seen c.loop-event.stage) c.loop-event-test.true (search rules) c.loop-event.invariant
+
+pub happen-requires-clause-shown : goal.happen-requires-clause-shown
+happen-requires-clause-shown c = (c.args.width, scene_streamed c.args.width c.args.instrument (take c.loop-event.event-index c.args.events.now), c.loop-event.invariant)
+
+pub loop-event-preserved : goal.loop-event-preserved
+loop-event-preserved c =
+    let s = seen c.happen.new.self in
+    let i = c.loop-event.event-index in
+    let events = c.args.events.now in
+    let opening = c.args.instrument in
+    subst (λ (v : Streams (ById Call) SceneState). AreStreamsOf c.args.width s v) (sym (played_more c.args.width opening events i c.event-item.result c.loop-event-test.true c.event-item.is))
+    (c.in_ok-happen.ensures c.args.width (scene_streamed c.args.width opening (take i events)) c.loop-event.invariant)

@@ -1,0 +1,25 @@
+use Rattle.std.proofs.Common.{◌≡◌, [], List, ℕ, subst, rules}
+use Rattle.std.proofs.lemmas.Result.{on_ok_weaker}
+use Rattle.gc_lines.specs.Answering.{AppendsAnswer}
+use Rattle.gc_scenes.specs.SceneReplying.{IsPlayed}
+use Rattle.gc_scene_world.specs.SceneStages.{seen}
+use Rattle.gc_scene_world.proofs.Exchanges.{Notes, id_of, notes_are}
+use Rattle.gc_scene_world.proofs.Shown.{streams_up_deliver}
+use Rattle.gc_scene_world.proofs.stage.Stage.up_deliver.Goals as goal
+
+pub returns : goal.returns
+returns c =
+    let s = c.args.self.now in
+    let request = c.in-Some.request in
+    let did = c.reply_onto-answered in
+    let noted = c.note_execution in
+    let empty : c.new-reply.result.items ≡ [] = search rules in
+    let played : AppendsAnswer (IsPlayed s.instrument request.items did.new.self) c.new-reply.result.items did.new.out.items did.result =
+    subst (λ (l : List ℕ). AppendsAnswer (IsPlayed s.instrument l did.new.self) c.new-reply.result.items did.new.out.items did.result) c.as_slice.ensures.value did.ensures.played in
+    let notes : Notes s.instrument.repeats (id_of s.instrument.base.kept) (id_of did.new.self.base.kept) s.counts.executed noted.new.executed =
+    notes_are c.repeats-repeats.result _ c.kept_id-before.result _ c.kept_id-after.result _ _ _ c.repeats-repeats.ensures c.kept_id-before.ensures c.kept_id-after.ensures
+    (record { same = noted.ensures.same; another = noted.ensures.another; never = noted.ensures.never }) in
+    on_ok_weaker c.push.result
+    (λ pushed width v h. streams_up_deliver width (seen s) v h request.items c.take.new.self did.new.self c.new-reply.result.items did.new.out.items did.result noted.new.executed c.push.new.self
+    c.in-Some.ensures.texts c.take.ensures.gone empty played notes pushed)
+    c.push.ensures

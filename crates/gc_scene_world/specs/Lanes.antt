@@ -1,0 +1,29 @@
+-- No part of a promise: the lines in flight in one direction, as the code stores them.
+use Rattle.std.specs.Prelude.{ℕ, ◌+◌, Bool, false, List, [], ◌∷◌, ◌++◌, length, if◌then◌else◌, nat_lt}
+use Rattle.gc_world.specs.Streams.{is_begun}
+use Rattle.gc_world.specs.Worlds.{without, doubled}
+
+-- the texts of the lines in flight in one direction, the front line first, and how many bytes of the front line have gone
+pub record Flight : Type 0 where
+  pub texts : List (List ℕ)
+  pub gone : ℕ
+
+-- whether line k can be lost or repeated: it is in flight, and its first byte hasn't gone
+abbrev pub is_whole : ℕ → Flight → Bool
+is_whole k f = if is_begun k f.gone then false else nat_lt k (length f.texts)
+
+-- the lines in flight once line k was lost, if it can be
+abbrev pub losing : ℕ → Flight → Flight
+losing k f = if is_begun k f.gone then f else record f { texts = without k f.texts }
+
+-- the lines in flight once line k was repeated, if it can be
+abbrev pub repeating : ℕ → Flight → Flight
+repeating k f = if is_begun k f.gone then f else record f { texts = doubled k f.texts }
+
+-- the lines in flight once one more was written
+abbrev pub pushed : Flight → List ℕ → Flight
+pushed f text = record f { texts = f.texts ++ text ∷ [] }
+
+-- the lines in flight once n more bytes of the front line have gone
+abbrev pub further : Flight → ℕ → Flight
+further f n = record f { gone = f.gone + n }

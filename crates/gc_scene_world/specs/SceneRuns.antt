@@ -1,0 +1,34 @@
+-- A run on the instrument of a scene, this project's own: the world of gc_world with this instrument in place of the simulator. What the client
+-- and the line do is the same.
+use Rattle.std.specs.Prelude.{ℕ, true, List, Some}
+use Rattle.gc_catalogue.specs.Calls.{call_fields}
+use Rattle.gc_catalogue.specs.declared.call.Call.{Call}
+use Rattle.gc_client.specs.Rule.{ById, heard}
+use Rattle.gc_instrument.specs.Replying.{Handed}
+use Rattle.gc_scenes.specs.SceneReplying.{handed_call}
+use Rattle.gc_scenes.specs.SceneState.{SceneState, scene_restarted}
+use Rattle.gc_world.specs.declared.event.Event.{Event}
+use Rattle.gc_world.specs.Clients.{streams_by_ids, streams_by_numbers}
+use Rattle.gc_world.specs.Streams.{Streams}
+use Rattle.gc_world.specs.World.{Ends, Wire, World}
+
+-- what handing over the request line with this id and call gives
+abbrev pub scene_handed : SceneState → ℕ → Call → Handed SceneState
+scene_handed s id call = handed_call s (call_fields call).number (Some id) call
+
+-- the two ends: the instrument of a scene, and a client that reads replies by their grammar. A restart of the client restarts the instrument too,
+-- as in a run on the simulator
+abbrev pub scene_ends : Ends SceneState
+scene_ends = record { handed = scene_handed; restarted = scene_restarted; heard = heard; joint = true }
+
+-- the streams that the run by ids of these events leaves, from the restarted opening state, with a window of this width
+abbrev pub scene_streamed : ℕ → SceneState → List Event → Streams (ById Call) SceneState
+scene_streamed width opening events = streams_by_ids width scene_ends events (scene_restarted opening)
+
+-- the world that the run by ids of these events leaves
+abbrev pub scene_played : ℕ → SceneState → List Event → World (ById Call) SceneState
+scene_played width opening events = (scene_streamed width opening events).world
+
+-- the wire that the run by numbers of these events leaves: what comes of them if every reply carries its request's number
+abbrev pub scene_by_numbers : ℕ → SceneState → List Event → Wire SceneState
+scene_by_numbers width opening events = (streams_by_numbers width scene_ends events (scene_restarted opening)).world.wire

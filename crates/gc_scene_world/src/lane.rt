@@ -1,0 +1,140 @@
+//! A lane: the lines in flight in one direction.
+
+ghost use Rattle.std.specs.Prelude.{◌≡◌, ◌↔◌, ◌<◌, ◌∷◌, [], IfOk, IsTrue, MatchOption, OnOk, length, map};
+ghost use Rattle.gc_lines.specs.Lines.{with_end};
+ghost use Rattle.gc_scene_world.specs.Lanes.{is_whole, losing, repeating, pushed, further};
+ghost use Rattle.gc_world.specs.Sides.{IsPart};
+ghost use Rattle.gc_world.specs.Streams.{is_begun, remaining};
+
+use gc_lines::{Line, append};
+use std::alloc::{AllocError, Global};
+use std::collections::VecDeque;
+use std::marker::Model;
+
+/// The lines in flight in one direction, the one that was written first in front, and how many bytes of that one have gone.
+#[derive(Drop)]
+pub struct Lane {
+    lines: VecDeque<Line>,
+    gone: usize,
+}
+
+impl Model for Lane {
+    ghost use Rattle.std.specs.Prelude.{map};
+    ghost use Rattle.gc_lines.specs.Lines.{with_end};
+    ghost use Rattle.gc_scene_world.specs.Lanes.{Flight};
+    ghost use Rattle.gc_world.specs.Sides.{IsPart};
+
+    ghost Value = { Flight };
+
+    ghost view = { λ l. record { texts = map (λ line. line.items) l.lines.items; gone = l.gone } };
+
+    // Not all bytes of the front line have gone, and none where no line is in flight.
+    ghost invariant = { λ l. IsPart l.gone (map with_end (map (λ line. line.items) l.lines.items)) };
+}
+
+impl Lane {
+    /// A lane with no line in flight.
+    pub fn new(alloc: Global) -> Lane
+        ensures { result ≡ record { texts = []; gone = 0 } }
+    {
+        Lane {
+            lines: VecDeque::new(alloc),
+            gone: 0,
+        }
+    }
+
+    /// Whether no line is in flight.
+    pub fn is_empty(&self) -> bool
+        ensures { IsTrue result ↔ (self.now.texts ≡ []) }
+    {
+        self.lines.is_empty()
+    }
+
+    /// How many bytes of the front line are still to go, CR LF counted: 0 if no line is in flight.
+    pub fn remaining(&self) -> usize
+        ensures left { result ≡ remaining self.now.gone (map with_end self.now.texts) }
+        ensures part { IsPart self.now.gone (map with_end self.now.texts) }
+    {
+        match self.lines.front() {
+            Some(line) => line.len() + 2 - self.gone,
+            None => 0,
+        }
+    }
+
+    /// Puts a line at the back: it was written last. `Err`: memory for it was refused.
+    pub fn push(&mut self, line: Line) -> Result<(), AllocError>
+        ensures { OnOk result (self.new ≡ pushed self.old line.items) }
+    {
+        self.lines.reserve(1)?;
+        self.lines.push_back_reserved(line);
+        Ok(())
+    }
+
+    /// Takes out the front line, if there is one, because its last byte goes. Nothing has gone of the next one.
+    pub fn take(&mut self) -> Option<Line>
+        ensures texts { MatchOption result ((self.old.texts ≡ []) × (self.new.texts ≡ [])) (λ line. self.old.texts ≡ line.items ∷ self.new.texts) }
+        ensures gone { self.new.gone ≡ 0 }
+    {
+        let line = self.lines.pop_front();
+        self.gone = 0;
+        line
+    }
+
+    /// The next `n` bytes of the front line go. They don't complete it.
+    pub fn go_on(&mut self, n: usize)
+        requires { n < remaining self.old.gone (map with_end self.old.texts) }
+        ensures { self.new ≡ further self.old n }
+    {
+        let Some(line) = self.lines.front() else {
+            return;
+        };
+        // Counted from the line's end, so that no sum can be too large.
+        let end = line.len() + 2;
+        let left = end - self.gone - n;
+        self.gone = end - left;
+    }
+
+    /// Line k is lost, if it is in flight and its first byte hasn't gone: says whether. Lines are counted from 0, at the front.
+    pub fn lose(&mut self, k: usize) -> bool
+        ensures said { result ≡ is_whole k self.old }
+        ensures left { self.new ≡ losing k self.old }
+    {
+        if is_begun(k, self.gone) {
+            return false;
+        }
+        self.lines.remove(k).is_some()
+    }
+
+    /// Line k comes twice, the second time directly behind itself, if it is in flight and its first byte hasn't gone: says whether.
+    /// Lines are counted from 0, at the front. `Err`: memory was refused.
+    pub fn repeat(&mut self, k: usize) -> Result<bool, AllocError>
+        ensures said { IfOk result (λ said. said ≡ is_whole k self.old) }
+        ensures left { OnOk result (self.new ≡ repeating k self.old) }
+    {
+        if is_begun(k, self.gone) {
+            return Ok(false);
+        }
+        let Some(line) = self.lines.get(k) else {
+            return Ok(false);
+        };
+        let copy = copy_of(line);
+        self.lines.insert(k, copy)?;
+        Ok(true)
+    }
+}
+
+// A line with the same bytes.
+fn copy_of(line: &Line) -> Line
+    ensures { result.items ≡ line.now.items }
+{
+    let mut copy = Line::new();
+    append(&mut copy, line);
+    copy
+}
+
+// Whether the first byte of line k has gone.
+fn is_begun(k: usize, gone: usize) -> bool
+    ensures { result ≡ is_begun k gone }
+{
+    k == 0 && gone > 0
+}

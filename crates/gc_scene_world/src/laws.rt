@@ -1,0 +1,29 @@
+//! What is proved of every run on the instrument of a scene, whatever its rules say. Each function does nothing: its contract is the
+//! law.
+//!
+//! A request's number is its place among the requests sent, counted from 0. In the run by ids the client knows requests by ids of one
+//! digit; in the run by numbers it is told each reply's number.
+
+ghost use Rattle.gc_scene_world.specs.SceneLaws.{BooksItsOwn, KeepsOrder, RunsAgree, SettlesInOrder};
+
+/// Settlement m has the target and the call of request m, and there are no more settlements than requests sent.
+pub fn settlements_are_one_for_one()
+    ensures { SettlesInOrder }
+{}
+
+/// The client that knows ids alone does what an oracle client would do that knew each reply's request.
+pub fn runs_agree()
+    ensures { RunsAgree }
+{}
+
+/// Each answer that is booked is a line that the instrument made for that very request.
+pub fn answers_are_booked()
+    ensures { BooksItsOwn }
+{}
+
+/// In each queue the numbers never fall from front to back, and no reply in flight has a higher number than a request in flight.
+/// Every number in flight is below the count of requests sent, and at least the count of settlements less one. At most as many
+/// requests are unsettled as the window is wide.
+pub fn line_keeps_order()
+    ensures { KeepsOrder }
+{}

@@ -1,0 +1,13 @@
+//! Schedules over the instrument of a scene: a client and that instrument, and a line between them that loses, repeats and delays, event
+//! by event. It is the world of `gc_world` with another instrument at its end.
+#![tactic(auto)]
+
+mod direction;
+mod lane;
+pub mod laws;
+mod playing;
+mod report;
+mod stage;
+
+pub use playing::play_scene;
+pub use report::{Counts, SceneReport};

@@ -1,0 +1,331 @@
+//! The stage: what the events so far leave, and what the next one does.
+
+ghost use Rattle.std.specs.Prelude.{◌≡◌, ◌↔◌, ◌+◌, ◌<◌, ◌≤◌, ◌^◌, ◌++◌, ℕ, [], OnOk, IsTrue, true, false, length};
+ghost use Rattle.gc_catalogue.specs.declared.call.Call.{Call};
+ghost use Rattle.gc_client.specs.Rule.{ById};
+ghost use Rattle.gc_scenes.specs.SceneState.{SceneState};
+ghost use Rattle.gc_world.specs.declared.event.Event.{Event};
+ghost use Rattle.gc_world.specs.Directions.{bytes, delivery, gone, lines};
+ghost use Rattle.gc_world.specs.Streams.{Streams, remaining};
+ghost use Rattle.gc_scene_world.specs.SceneStages.{way, begins, seen, handed, Shows, IsShown, IsLeft, Follows, HasRoom};
+
+use crate::direction::Direction;
+use crate::lane::Lane;
+use crate::report::{Counts, SceneReport};
+use arrayvec::ArrayVec;
+use gc_catalogue::Call;
+use gc_client::{Client, Settlement, Slots, WINDOW};
+use gc_lines::Line;
+use gc_scenes::SceneInstrument;
+use gc_world::Event;
+use std::alloc::{AllocError, Global};
+
+/// What the events so far leave.
+#[derive(Drop)]
+pub struct Stage {
+    pub client: Client<Slots>,
+    pub instrument: SceneInstrument,
+    pub up: Lane,
+    pub down: Lane,
+    pub settled: Vec<Settlement<Call>>,
+    pub counts: Counts,
+}
+
+impl Stage {
+    /// The stage before the first event: the instrument is restarted, and the client is new.
+    pub fn new(alloc: Global, mut instrument: SceneInstrument, width: u8) -> Stage
+        requires least { 1 ≤ width }
+        requires most { width ≤ WINDOW }
+        ensures { Shows width result (begins instrument) }
+    {
+        instrument.restart();
+        Stage {
+            client: Client::with_width(Slots::new(), width),
+            instrument,
+            up: Lane::new(alloc),
+            down: Lane::new(alloc),
+            settled: Vec::new(alloc),
+            counts: Counts {
+                sent: 0,
+                executed: 0,
+                made: 0,
+                refused_sends: 0,
+                idle_events: 0,
+            },
+        }
+    }
+
+    /// Lets one event happen. It fails only where memory for a growth was refused.
+    pub fn happen(&mut self, event: &Event) -> Result<(), AllocError>
+        requires room { HasRoom (seen self.old) }
+        requires shown { IsShown self.old }
+        ensures { OnOk result (Follows self.old event.now self.new) }
+    {
+        match *event {
+            Event::Send(target, ref call, deadline) => self.send(target, call, deadline)?,
+            Event::UpDeliver => self.up_deliver()?,
+            Event::UpBytes(n) => self.bytes(Direction::Up, n)?,
+            Event::UpLose(k) => self.up_lose(k),
+            Event::UpRepeat(k) => self.up_repeat(k)?,
+            Event::DownDeliver => self.down_deliver()?,
+            Event::DownBytes(n) => self.bytes(Direction::Down, n)?,
+            Event::DownLose(k) => self.down_lose(k),
+            Event::DownRepeat(k) => self.down_repeat(k)?,
+            Event::Expire(now) => self.expire(now),
+            Event::RestartClient => self.restart_client()?,
+            Event::RestartInstrument => self.restart_instrument(),
+        }
+        Ok(())
+    }
+
+    /// The report of the events so far.
+    pub fn ended(self) -> SceneReport
+        ensures { result ≡ record { settled = self.settled; counts = self.counts } }
+    {
+        let Stage {
+            client: _,
+            instrument: _,
+            up: _,
+            down: _,
+            settled,
+            counts,
+        } = self;
+        SceneReport { settled, counts }
+    }
+
+    // Sends a request: its line goes to the back of the upward lane. A send that is refused is only counted.
+    fn send(&mut self, target: u32, call: &Call, deadline: u64) -> Result<(), AllocError>
+        requires sent { self.old.counts.sent + 1 < 2 ^ 64 }
+        requires refused { self.old.counts.refused_sends + 1 < 2 ^ 64 }
+        ensures { OnOk result (Follows self.old (Event.Send target call.now deadline) self.new) }
+    {
+        let mut line = Line::new();
+        let Ok(()) = self.client.send_into(target, call, deadline, &mut line) else {
+            self.counts.refused_sends += 1;
+            return Ok(());
+        };
+        self.counts.sent += 1;
+        self.up.push(line)
+    }
+
+    // Hands the front request to the instrument, and puts the reply at the back of the downward lane. If no request is in flight,
+    // the event is only counted.
+    fn up_deliver(&mut self) -> Result<(), AllocError>
+        requires executed { self.old.counts.executed + length self.old.up.texts < 2 ^ 64 }
+        requires made { self.old.counts.made + length self.old.up.texts < 2 ^ 64 }
+        requires idle { self.old.counts.idle_events + 1 < 2 ^ 64 }
+        requires shown { IsShown self.old }
+        ensures { OnOk result (Follows self.old Event.UpDeliver self.new) }
+    {
+        let Some(request) = self.up.take() else {
+            self.counts.idle_events += 1;
+            return Ok(());
+        };
+        let mut reply = Line::new();
+        let repeats = self.instrument.repeats();
+        let before = self.instrument.kept_id();
+        // A client writes requests alone, and each request gets a reply.
+        let _answered = self.instrument.reply_onto(request.as_slice(), &mut reply);
+        let after = self.instrument.kept_id();
+        note_execution(&mut self.counts.executed, repeats, before, after);
+        self.counts.made += 1;
+        self.down.push(reply)
+    }
+
+    // Hands the front reply to the client, and notes what it settles. If no reply is in flight, the event is only counted.
+    fn down_deliver(&mut self) -> Result<(), AllocError>
+        requires idle { self.old.counts.idle_events + 1 < 2 ^ 64 }
+        ensures { OnOk result (Follows self.old Event.DownDeliver self.new) }
+    {
+        let Some(reply) = self.down.take() else {
+            self.counts.idle_events += 1;
+            return Ok(());
+        };
+        let mut settled = ArrayVec::new();
+        let _heard = self.client.hear(reply.as_slice(), &mut settled);
+        append_all(&mut self.settled, settled)
+    }
+
+    // Line k of the upward lane is lost. If that isn't possible, the event is only counted.
+    fn up_lose(&mut self, k: usize)
+        requires { self.old.counts.idle_events + 1 < 2 ^ 64 }
+        ensures { Follows self.old (Event.UpLose k) self.new }
+    {
+        if !self.up.lose(k) {
+            self.counts.idle_events += 1;
+        }
+    }
+
+    // Line k of the upward lane comes twice. If that isn't possible, the event is only counted. `Err`: memory was refused.
+    fn up_repeat(&mut self, k: usize) -> Result<(), AllocError>
+        requires { self.old.counts.idle_events + 1 < 2 ^ 64 }
+        ensures { OnOk result (Follows self.old (Event.UpRepeat k) self.new) }
+    {
+        if !self.up.repeat(k)? {
+            self.counts.idle_events += 1;
+        }
+        Ok(())
+    }
+
+    // Line k of the downward lane is lost. If that isn't possible, the event is only counted.
+    fn down_lose(&mut self, k: usize)
+        requires { self.old.counts.idle_events + 1 < 2 ^ 64 }
+        ensures { Follows self.old (Event.DownLose k) self.new }
+    {
+        if !self.down.lose(k) {
+            self.counts.idle_events += 1;
+        }
+    }
+
+    // Line k of the downward lane comes twice. If that isn't possible, the event is only counted. `Err`: memory was refused.
+    fn down_repeat(&mut self, k: usize) -> Result<(), AllocError>
+        requires { self.old.counts.idle_events + 1 < 2 ^ 64 }
+        ensures { OnOk result (Follows self.old (Event.DownRepeat k) self.new) }
+    {
+        if !self.down.repeat(k)? {
+            self.counts.idle_events += 1;
+        }
+        Ok(())
+    }
+
+    // Hands over the next `n` bytes of a direction: each line that they complete is delivered. If `n` is 0 or no byte is in flight,
+    // the event is only counted.
+    fn bytes(&mut self, direction: Direction, n: usize) -> Result<(), AllocError>
+        requires room { HasRoom (seen self.old) }
+        requires shown { IsShown self.old }
+        ensures { OnOk result (Follows self.old (bytes (way direction) n) self.new) }
+    {
+        let mut left = n;
+        let mut remaining = self.remaining(direction);
+        if n == 0 || remaining == 0 {
+            self.counts.idle_events += 1;
+            return Ok(());
+        }
+        while completes(remaining, left) {
+            left -= remaining;
+            self.deliver(direction)?;
+            remaining = self.remaining(direction);
+        }
+        if left < remaining {
+            self.begin(direction, left);
+        }
+        Ok(())
+    }
+
+    // Hands over what remains of the front line of a direction. If no line is in flight, the event is only counted.
+    fn deliver(&mut self, direction: Direction) -> Result<(), AllocError>
+        requires executed { self.old.counts.executed + length self.old.up.texts < 2 ^ 64 }
+        requires made { self.old.counts.made + length self.old.up.texts < 2 ^ 64 }
+        requires idle { self.old.counts.idle_events + 1 < 2 ^ 64 }
+        requires shown { IsShown self.old }
+        ensures { OnOk result (Follows self.old (delivery (way direction)) self.new) }
+    {
+        match direction {
+            Direction::Up => self.up_deliver(),
+            Direction::Down => self.down_deliver(),
+        }
+    }
+
+    // How many bytes of the front line of a direction are still to go: 0 if no line is in flight.
+    fn remaining(&self, direction: Direction) -> usize
+        ensures { (width : ℕ) (v : Streams (ById Call) SceneState) → Shows width self.now v → IsLeft (way direction) v result }
+    {
+        match direction {
+            Direction::Up => self.up.remaining(),
+            Direction::Down => self.down.remaining(),
+        }
+    }
+
+    // Hands over the next `n` bytes of the front line of a direction. They don't complete it.
+    fn begin(&mut self, direction: Direction, n: usize)
+        requires shown { IsShown self.old }
+        requires some { (width : ℕ) (v : Streams (ById Call) SceneState) → Shows width self.old v
+            → n < remaining (gone (way direction) v) (lines (way direction) v.world.wire) }
+        ensures { (width : ℕ) (v : Streams (ById Call) SceneState) → Shows width self.old v → Shows width self.new (handed width direction v n) }
+    {
+        match direction {
+            Direction::Up => self.up.go_on(n),
+            Direction::Down => self.down.go_on(n),
+        }
+    }
+
+    // The ends.
+
+    // Hands this moment to the client, which times out each request whose deadline the moment has reached.
+    fn expire(&mut self, now: u64)
+        ensures { Follows self.old (Event.Expire now) self.new }
+    {
+        self.client.expire(now);
+    }
+
+    // Restarts the client, which settles all outstanding requests as lost, and the instrument. If a line is in flight, the event is
+    // only counted.
+    fn restart_client(&mut self) -> Result<(), AllocError>
+        requires { self.old.counts.idle_events + 1 < 2 ^ 64 }
+        ensures { OnOk result (Follows self.old Event.RestartClient self.new) }
+    {
+        if !self.is_quiet() {
+            self.counts.idle_events += 1;
+            return Ok(());
+        }
+        self.instrument.restart();
+        append_all(&mut self.settled, self.client.restart())
+    }
+
+    // Restarts the instrument, and leaves the client as it is. If a line is in flight, the event is only counted.
+    fn restart_instrument(&mut self)
+        requires { self.old.counts.idle_events + 1 < 2 ^ 64 }
+        ensures { Follows self.old Event.RestartInstrument self.new }
+    {
+        if self.is_quiet() {
+            self.instrument.restart();
+        } else {
+            self.counts.idle_events += 1;
+        }
+    }
+
+    // Whether no line is in flight.
+    fn is_quiet(&self) -> bool
+        ensures { IsTrue result ↔ ((self.now.up.texts ≡ []) × (self.now.down.texts ≡ [])) }
+    {
+        self.up.is_empty() && self.down.is_empty()
+    }
+}
+
+// Counts an execution, if the instrument retains no replies, or its retained id changed from `before` to `after`: an execution changes
+// that id, and a repeat leaves it.
+fn note_execution(executed: &mut usize, repeats: bool, before: Option<u8>, after: Option<u8>)
+    requires { executed.old + 1 < 2 ^ 64 }
+    ensures same { repeats ≡ true → before ≡ after → executed.new ≡ executed.old }
+    ensures another { (before ≡ after → ⊥) → executed.new ≡ executed.old + 1 }
+    ensures never { repeats ≡ false → executed.new ≡ executed.old + 1 }
+{
+    if !repeats {
+        *executed += 1;
+        return;
+    }
+    if before != after {
+        *executed += 1;
+    }
+}
+
+// Appends these settlements, in order. `Err`: memory was refused for one of them; those before it were appended.
+fn append_all(
+    all: &mut Vec<Settlement<Call>>,
+    more: ArrayVec<Settlement<Call>, WINDOW>,
+) -> Result<(), AllocError>
+    ensures { OnOk result (all.new.items ≡ all.old.items ++ more.items) }
+{
+    for settlement in more {
+        all.reserve(1)?;
+        all.push_reserved(settlement);
+    }
+    Ok(())
+}
+
+// Whether `n` bytes complete a line of which `remaining` bytes remain, at least one.
+fn completes(remaining: usize, n: usize) -> bool
+    ensures { IsTrue result ↔ ((0 < remaining) × (remaining ≤ n)) }
+{
+    0 < remaining && remaining <= n
+}
