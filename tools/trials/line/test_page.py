@@ -1,4 +1,4 @@
-"""The test suite of docs/SIMULATOR.md, "Your own test suite", which is in packaging/suite."""
+"""The test suite of docs/SIMULATOR.md, "Your own test suite", as it is there."""
 
 import os
 import shutil
