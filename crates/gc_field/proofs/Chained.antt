@@ -46,7 +46,7 @@ use Rattle.gc_field.proofs.Possible.{possible_front}
 use Rattle.gc_field.proofs.Among.{get_drop}
 use Rattle.gc_field.proofs.Joining.{AllFit, Fits, all_fitting, run_faithful, safe_at, safe_in}
 use Rattle.gc_field.proofs.Ordered.{executed_behind}
-use Rattle.gc_field.proofs.PartFronts.{IsFront, front_parts, runs_front, front_last, AreWhole, LastIsMarked, marked, last_marked}
+use Rattle.gc_field.proofs.PartFronts.{IsFront, front_parts, runs_front, front_last, AreWhole, LastIsMarked, marked, last_marked, whole_parts}
 
 -- The stretches of a front.
 

@@ -114,7 +114,7 @@ module _ (plan : Plan) (commands : List Task) where
       inr (λ f. (no_turns plan commands t xs (goes_begun plan commands t f), no_turns plan commands t ys (goes_begun plan commands t f)))
 
   -- `AreWhole` holds of the parts of a run's first acts, and the parts of all of its acts
-  whole_parts : (s : Model) (xs ys : List Act) → AreWhole (parts_of plan commands s xs) (parts_of plan commands s (xs ++ ys))
+  pub whole_parts : (s : Model) (xs ys : List Act) → AreWhole (parts_of plan commands s xs) (parts_of plan commands s (xs ++ ys))
   whole_parts s [] [] = inl refl
   whole_parts s [] (act ∷ ys) = whole_none (acting plan commands s (action_at plan s) act) (ends_part plan commands s act) (parts_of plan commands (after plan commands s act) ys)
   whole_parts s (act ∷ xs) ys =
