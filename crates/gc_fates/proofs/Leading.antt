@@ -1,0 +1,78 @@
+-- How far the reading of a text has come, line by line. `left` is what is unread.
+use Rattle.std.proofs.Common.{◌≡◌, ℕ, ◌+◌, ◌<◌, ◌≤◌, List, [], ◌∷◌, ◌++◌, length, Option, None, Some, refl, ap, sym, subst, ◌∙◌, arith, append_assoc, append-nil, length-append, get_or}
+use Rattle.gc_texts.specs.Cuts.{Cuts}
+use Rattle.gc_texts.specs.LineForms.{text_lines, without_cr, line_at}
+use Rattle.gc_fates.proofs.TextLines.{lines_left, much_left, lines-cut}
+use Rattle.gc_fates.specs.Rules.{no_rules, Leads, LeadAll, AreRules, IsIll, IsFirstIll, said_part}
+use Rattle.gc_fates.specs.Spaced.{IsBlank}
+use Rattle.gc_fates.specs.declared.rules.Rules.{Rules}
+use Rattle.gc_fates.specs.declared.saying.Ill.{Ill}
+
+-- one more line leads on behind those before it
+lead_more : (old mid new : Rules) (lines : List (List ℕ)) (line : List ℕ) → LeadAll old lines mid → Leads mid line new → LeadAll old (lines ++ line ∷ []) new
+lead_more old mid new [] line all leads = (new, subst (λ r. Leads r line new) all leads, refl)
+lead_more old mid new (first ∷ lines) line all leads = (all.0, all.1, lead_more all.0 mid new lines line all.2 leads)
+
+-- how far the reading has come: `number` lines were read, and lead to `rules`, and the others are those of `left`
+pub record Comes (text : List ℕ) (left : Option (List ℕ)) (number : ℕ) (rules : Rules) : Type 0 where
+  pub read : List (List ℕ)
+  pub lines_are : text_lines text ≡ read ++ lines_left left
+  pub count : number ≡ length read
+  pub few : number + much_left left ≤ length text + 1
+  pub lead : LeadAll no_rules read rules
+
+-- at the start nothing was read
+pub comes_first : (text : List ℕ) → Comes text (Some text) 0 no_rules
+comes_first text = record { read = []; lines_are = refl; count = refl; few = omega arith; lead = refl }
+
+-- what is behind a cut has fewer bytes than there were
+less_left : (now front : List ℕ) (rest : Option (List ℕ)) → Cuts 10 now front rest → 1 + much_left rest ≤ length now + 1
+less_left now front None cut = omega arith
+less_left now front (Some rest) cut =
+    let all : length now ≡ length front + length (10 ∷ rest) = ap length cut.0 ∙ length-append front (10 ∷ rest) in
+    omega (arith, all)
+
+-- what is left gets less with each line
+pub left_falls : (now front : List ℕ) (rest : Option (List ℕ)) → Cuts 10 now front rest → much_left rest < much_left (Some now)
+left_falls now front rest cut = let less = less_left now front rest cut in omega (arith, less)
+
+-- the first line of what is left is the one before the cut
+first_line : (now front : List ℕ) (rest : Option (List ℕ)) → Cuts 10 now front rest → line_at now 1 ≡ without_cr front
+first_line now front rest cut = ap (λ ls. get_or ls 0 []) (lines-cut now front rest cut)
+
+-- what is left are its first line and those behind the cut
+next_lines : (now front : List ℕ) (rest : Option (List ℕ)) → Cuts 10 now front rest → text_lines now ≡ line_at now 1 ∷ lines_left rest
+next_lines now front rest cut = lines-cut now front rest cut ∙ ap (λ l. l ∷ lines_left rest) (sym (first_line now front rest cut))
+
+-- one more line was read
+pub comes_on : (text now front : List ℕ) (rest : Option (List ℕ)) (number : ℕ) (rules new : Rules) → Comes text (Some now) number rules → Cuts 10 now front rest
+    → Leads rules (line_at now 1) new → Comes text rest (number + 1) new
+comes_on text now front rest number rules new c cut leads =
+    let less = less_left now front rest cut in record {
+      read = c.read ++ line_at now 1 ∷ [];
+      lines_are = c.lines_are ∙ ap (λ ls. c.read ++ ls) (next_lines now front rest cut) ∙ sym (append_assoc c.read (line_at now 1 ∷ []) (lines_left rest));
+      count = omega (arith, c.count, length-append c.read (line_at now 1 ∷ []));
+      few = omega (arith, c.few, less);
+      lead = lead_more no_rules rules new c.read (line_at now 1) c.lead leads;
+    }
+
+-- the next line is the first faulty one
+pub first_ill : (text now front : List ℕ) (rest : Option (List ℕ)) (number : ℕ) (rules : Rules) (ill : Ill) → Comes text (Some now) number rules → Cuts 10 now front rest
+    → IsIll rules (line_at now 1) ill → (IsBlank (said_part (line_at now 1)) → ⊥) → IsFirstIll text (number + 1) ill
+first_ill text now front rest number rules ill c cut is worded = record {
+  front = c.read;
+  line = line_at now 1;
+  rest = lines_left rest;
+  lines_are = c.lines_are ∙ ap (λ ls. c.read ++ ls) (next_lines now front rest cut);
+  place = ap (λ n. n + 1) c.count;
+  rules = rules;
+  before = c.lead;
+  worded = worded;
+  ill_is = is;
+}
+
+-- where nothing is left, the text says the rules
+pub comes_last : (text : List ℕ) (left : Option (List ℕ)) (number : ℕ) (rules : Rules) → Comes text left number rules → left ≡ None → AreRules text rules
+comes_last text left number rules c end =
+    let all : text_lines text ≡ c.read = c.lines_are ∙ ap (λ l. c.read ++ lines_left l) end ∙ append-nil c.read in
+    subst (λ ls. LeadAll no_rules ls rules) (sym all) c.lead

@@ -1,0 +1,3 @@
+mod TextLines
+mod ShareForms
+mod Leading

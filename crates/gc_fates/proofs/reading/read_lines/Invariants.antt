@@ -1,0 +1,10 @@
+use Rattle.std.specs.Option.{option_copied}
+use Rattle.gc_fates.proofs.TextLines.{much_left}
+use Rattle.gc_fates.proofs.Leading.{Comes}
+use Rattle.gc_fates.proofs.reading.read_lines.Given as goal
+
+abbrev pub invariant-loop-left : goal.invariant-loop-left
+invariant-loop-left l = Comes l.fn.text (option_copied l.left) l.number l.rules
+
+abbrev pub decreases-loop-left : goal.decreases-loop-left
+decreases-loop-left l = much_left (option_copied l.left)

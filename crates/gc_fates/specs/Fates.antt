@@ -1,0 +1,43 @@
+-- What happens to a line by the rules of a text and the draws of a seed: this project's own.
+use Rattle.std.specs.Prelude.{ℕ, ◌%◌, Bool, true, false, not, ◌&&◌, nat_le, Option, None, Some, if◌then◌else◌}
+use Rattle.gc_fates.specs.Draws.{draw_at, happens, among}
+use Rattle.gc_fates.specs.Rules.{chance_of}
+use Rattle.gc_fates.specs.declared.chance.Chance.{Chance}
+use Rattle.gc_fates.specs.declared.fate.Fate.{Fate}
+use Rattle.gc_fates.specs.declared.rules.Rules.{Rules}
+use Rattle.gc_fates.specs.declared.saying.Word.TheVariants.{Delay, Lose, Repeat, Hold, Close, Refuse, Restart}
+
+-- whether something happens by a draw; what the text doesn't have never happens
+abbrev pub hits : Option Chance → ℕ → Bool
+hits None draw = false
+hits (Some chance) draw = happens draw chance.share
+
+-- the number that is drawn; 0 of what the text doesn't have
+abbrev pub drawn : Option Chance → ℕ → ℕ
+drawn None draw = 0
+drawn (Some chance) draw = among draw chance.least chance.most
+
+-- the number that is drawn where something happens, else 0
+abbrev pub drawn_if : Bool → Option Chance → ℕ → ℕ
+drawn_if happens chance draw = if happens then drawn chance draw else 0
+
+-- a line is lost by its first draw
+abbrev pub loses : Rules → ℕ → ℕ → Bool
+loses rules start line = hits (chance_of rules Lose) (draw_at start line 1)
+
+-- the connection ends in place of a line that isn't lost by its fifth draw
+abbrev pub ends : Rules → ℕ → ℕ → Bool
+ends rules start line = not (loses rules start line) && hits (chance_of rules Close) (draw_at start line 5)
+
+-- what happens to a line: each word has its own draw
+abbrev pub fate_of : Rules → ℕ → ℕ → Fate
+fate_of rules start line = record {
+  wait = drawn (chance_of rules Delay) (draw_at start line 3);
+  is_lost = loses rules start line;
+  is_repeated = (not (loses rules start line) && not (ends rules start line)) && hits (chance_of rules Repeat) (draw_at start line 2);
+  hold = drawn_if (hits (chance_of rules Hold) (draw_at start line 4)) (chance_of rules Hold) (draw_at start line 4);
+  closes = ends rules start line;
+  is_reset = ends rules start line && nat_le 2147483648 (draw_at start line 5 % 4294967296);
+  refuse = drawn_if (ends rules start line && hits (chance_of rules Refuse) (draw_at start line 6)) (chance_of rules Refuse) (draw_at start line 6);
+  restarts = hits (chance_of rules Restart) (draw_at start line 8);
+}

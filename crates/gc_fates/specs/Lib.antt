@@ -1,0 +1,8 @@
+pub mod Draws
+pub mod Fates
+pub mod Laws
+pub mod Refusals
+pub mod Rules
+pub mod Sayings
+pub mod Shares
+pub mod Spaced

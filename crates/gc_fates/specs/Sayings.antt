@@ -1,0 +1,93 @@
+-- What a line of a bad line's text says: this project's own.
+use Rattle.std.specs.Prelude.{◌≡◌, ℕ, ◌≤◌, List, codes}
+use Rattle.gc_texts.specs.Procedures.{IsNumber}
+use Rattle.gc_fates.specs.Shares.{IsShare}
+use Rattle.gc_fates.specs.Spaced.{first_word, other_words, IsBlank}
+use Rattle.gc_fates.specs.declared.chance.Chance.{Chance}
+use Rattle.gc_fates.specs.declared.saying.Ill.{Ill}
+use Rattle.gc_fates.specs.declared.saying.Ill.TheVariants.{NoWord, Form, Again}
+use Rattle.gc_fates.specs.declared.saying.Saying.{Saying}
+use Rattle.gc_fates.specs.declared.saying.Shape.{Shape}
+use Rattle.gc_fates.specs.declared.saying.Shape.TheVariants.{Share, Lasting, Span, Times}
+use Rattle.gc_fates.specs.declared.saying.Word.{Word}
+use Rattle.gc_fates.specs.declared.saying.Word.TheVariants.{Delay, Lose, Repeat, Hold, Close, Refuse, Restart, Kill}
+
+-- the words
+abbrev pub name_of : Word → List ℕ
+name_of Delay = codes "delay"
+name_of Lose = codes "lose"
+name_of Repeat = codes "repeat"
+name_of Hold = codes "hold"
+name_of Close = codes "close"
+name_of Refuse = codes "refuse"
+name_of Restart = codes "restart"
+name_of Kill = codes "kill"
+
+-- what follows each
+abbrev pub shape_of : Word → Shape
+shape_of Delay = Span
+shape_of Lose = Share
+shape_of Repeat = Share
+shape_of Hold = Lasting
+shape_of Close = Share
+shape_of Refuse = Lasting
+shape_of Restart = Share
+shape_of Kill = Times
+
+-- the place of each among all, counted from 0
+abbrev pub place_of : Word → ℕ
+place_of Delay = 0
+place_of Lose = 1
+place_of Repeat = 2
+place_of Hold = 3
+place_of Close = 4
+place_of Refuse = 5
+place_of Restart = 6
+place_of Kill = 7
+
+-- `P`: a percentage, and no number is drawn
+pub record IsPercentage (text : List ℕ) (chance : Chance) : Type 0 where
+  pub share : IsShare (first_word text) chance.share
+  pub least : chance.least ≡ 0
+  pub most : chance.most ≡ 0
+  pub nothing_more : IsBlank (other_words text)
+
+-- `P MS`: a percentage, and a time of at most a day
+pub record IsLasting (text : List ℕ) (chance : Chance) : Type 0 where
+  pub share : IsShare (first_word text) chance.share
+  pub millis : IsNumber (first_word (other_words text)) chance.least 86400000
+  pub same : chance.most ≡ chance.least
+  pub nothing_more : IsBlank (other_words (other_words text))
+
+-- `FROM TO`: two times of at most a day, the first at most the second; it applies to each line
+pub record IsSpan (text : List ℕ) (chance : Chance) : Type 0 where
+  pub always : chance.share ≡ 100000
+  pub least : IsNumber (first_word text) chance.least 86400000
+  pub most : IsNumber (first_word (other_words text)) chance.most 86400000
+  pub ordered : chance.least ≤ chance.most
+  pub nothing_more : IsBlank (other_words (other_words text))
+
+-- `N`: how many times, at most 1000
+pub record AreTimes (text : List ℕ) (chance : Chance) : Type 0 where
+  pub always : chance.share ≡ 100000
+  pub times : IsNumber (first_word text) chance.least 1000
+  pub same : chance.most ≡ chance.least
+  pub nothing_more : IsBlank (other_words text)
+
+-- the text that follows a word of this shape says this
+abbrev pub IsChance : Shape → List ℕ → Chance → Type 0
+IsChance Share text chance = IsPercentage text chance
+IsChance Lasting text chance = IsLasting text chance
+IsChance Span text chance = IsSpan text chance
+IsChance Times text chance = AreTimes text chance
+
+-- the text says this: a word, and what follows it
+pub record IsSaid (text : List ℕ) (saying : Saying) : Type 0 where
+  pub word : name_of saying.word ≡ first_word text
+  pub chance : IsChance (shape_of saying.word) (other_words text) saying.chance
+
+-- why a text says nothing: its first word is none of the words, or what follows the word hasn't its form
+abbrev pub IsIllSaid : List ℕ → Ill → Type 0
+IsIllSaid text NoWord = (word : Word) → name_of word ≡ first_word text → ⊥
+IsIllSaid text (Form word) = (name_of word ≡ first_word text) × ((chance : Chance) → IsChance (shape_of word) (other_words text) chance → ⊥)
+IsIllSaid text (Again word) = ⊥

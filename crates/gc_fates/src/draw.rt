@@ -1,0 +1,92 @@
+//! Draws: the generator splitmix64, by places. What is drawn for a line depends on the seed, the line's direction and its number
+//! alone, whatever came before it. All arithmetic on seeds is here.
+
+ghost use Rattle.std.specs.Prelude.{◌≡◌, ◌<◌, ◌≤◌, ◌^◌};
+ghost use Rattle.gc_fates.specs.Draws.{word_at, start_of, start_of_kills, draw_at, happens, among};
+
+use rand_core::{Rng, SeedableRng};
+use rand_xoshiro::SplitMix64;
+
+// What splitmix64 adds to its state at each step.
+const GOLDEN: u64 = 0x9e37_79b9_7f4a_7c15;
+
+// How many draws a line has.
+const DRAWS: u64 = 16;
+
+// A share of all lines, in thousandths of a percent.
+const WHOLE: u64 = 100_000;
+
+/// A direction of the line.
+#[derive(Clone, Copy, Debug, PartialEq, Eq)]
+pub enum Way {
+    /// Towards the instrument.
+    Up,
+    /// Towards the station.
+    Down,
+}
+
+/// What splitmix64 gives next at a state.
+pub fn word_of_state(state: u64) -> u64
+    ensures { result ≡ word_at state }
+{
+    let mut generator = SplitMix64::seed_from_u64(state);
+    generator.next_u64()
+}
+
+/// The draws of a seed for the lines of one direction.
+#[derive(Clone, Copy, Debug, PartialEq, Eq)]
+pub struct Draws {
+    /// Where they start.
+    pub start: u64,
+}
+
+impl Draws {
+    /// The draws of this seed for this direction.
+    pub fn new(seed: u64, way: Way) -> Draws
+        ensures { result.start ≡ start_of seed way }
+    {
+        let state = match way {
+            Way::Up => seed,
+            Way::Down => seed.wrapping_add(GOLDEN),
+        };
+        Draws {
+            start: word_of_state(state),
+        }
+    }
+
+    /// The draws of this seed for what happens to the station and not to a line.
+    pub fn of_kills(seed: u64) -> Draws
+        ensures { result.start ≡ start_of_kills seed }
+    {
+        Draws {
+            start: word_of_state(seed.wrapping_add(GOLDEN.wrapping_mul(2))),
+        }
+    }
+
+    /// Draw `place`, 1 to 16, of a line, counted from 1.
+    pub fn draw(self, line: u64, place: u64) -> u64
+        ensures { result ≡ draw_at self.start line place }
+    {
+        let before = DRAWS
+            .wrapping_mul(line.saturating_sub(1))
+            .wrapping_add(place.saturating_sub(1));
+        word_of_state(self.start.wrapping_add(GOLDEN.wrapping_mul(before)))
+    }
+}
+
+// Whether something happens by a draw that happens to `share` of 100,000 lines: the upper half of the draw decides.
+pub(crate) fn happens(draw: u64, share: u32) -> bool
+    ensures { result ≡ happens draw share }
+{
+    let upper = draw / 4_294_967_296;
+    upper * WHOLE / 4_294_967_296 < u64::from(share)
+}
+
+/// The number that a draw gives from `least` to `most`: the lower half of the draw decides.
+pub fn among(draw: u64, least: u32, most: u32) -> u64
+    ensures { result ≡ among draw least most }
+{
+    let lower = draw % 4_294_967_296;
+    let count = u64::from(most.saturating_sub(least)) + 1;
+    u64::from(least) + (u128::from(lower) * u128::from(count) / 4_294_967_296) as u64
+}

@@ -1,0 +1,8 @@
+//! What is proved of the definitions themselves. The functions have no effect: their contracts are the laws.
+
+ghost use Rattle.gc_fates.specs.Laws.{DrawsAsWritten};
+
+/// The draws that `docs/FORMATS.md` has as an example.
+pub fn draws_are_as_written()
+    ensures { DrawsAsWritten }
+{}

@@ -1,0 +1,274 @@
+//! Sayings: what a line of the text says. The words of the text, and what follows each, are known here alone.
+
+ghost use Rattle.std.specs.Prelude.{◌≡◌, ◌<◌, ℕ, IsTrue, ◌↔◌, MatchOption, IfOk, IfErr};
+ghost use Rattle.gc_texts.specs.Procedures.{IsNumber};
+ghost use Rattle.gc_fates.specs.Sayings.{name_of, shape_of, place_of, IsPercentage, IsLasting, IsSpan, AreTimes, IsChance, IsSaid, IsIllSaid};
+ghost use Rattle.gc_fates.specs.declared.chance.Chance.{Chance};
+ghost use Rattle.gc_fates.specs.declared.saying.Word.{Word};
+
+use crate::chance::Chance;
+use crate::share::{WHOLE, read_share};
+use crate::spaced::{first_word, is_blank, other_words};
+use gc_texts::number_of;
+
+/// The longest time, in milliseconds: a day.
+pub const MILLIS_MAX: u64 = 86_400_000;
+
+// The most times a night.
+const TIMES_MAX: u64 = 1000;
+
+// How many words there are.
+pub(crate) const WORDS: usize = 8;
+
+/// A word of the text.
+#[derive(Clone, Copy, Debug, PartialEq, Eq)]
+pub enum Word {
+    /// Each line waits.
+    Delay,
+    /// A line is lost.
+    Lose,
+    /// A second copy of a line directly follows it.
+    Repeat,
+    /// After a line nothing passes for a time.
+    Hold,
+    /// In place of a line the connection ends.
+    Close,
+    /// After a close connections are refused for a time.
+    Refuse,
+    /// At a line the instrument restarts.
+    Restart,
+    /// The station is killed, so often a night.
+    Kill,
+}
+
+// What follows a word.
+#[derive(Clone, Copy)]
+enum Shape {
+    // `P`: a percentage.
+    Share,
+    // `P MS`: a percentage and a time.
+    Lasting,
+    // `FROM TO`: two times, and the word applies to each line.
+    Span,
+    // `N`: how many times.
+    Times,
+}
+
+impl Word {
+    // The word as the text has it.
+    fn name(self) -> &'static [u8]
+        ensures { result.now ≡ name_of self }
+    {
+        match self {
+            Word::Delay => b"delay",
+            Word::Lose => b"lose",
+            Word::Repeat => b"repeat",
+            Word::Hold => b"hold",
+            Word::Close => b"close",
+            Word::Refuse => b"refuse",
+            Word::Restart => b"restart",
+            Word::Kill => b"kill",
+        }
+    }
+
+    // What follows the word.
+    fn shape(self) -> Shape
+        ensures { result ≡ shape_of self }
+    {
+        match self {
+            Word::Delay => Shape::Span,
+            Word::Lose | Word::Repeat | Word::Close | Word::Restart => Shape::Share,
+            Word::Hold | Word::Refuse => Shape::Lasting,
+            Word::Kill => Shape::Times,
+        }
+    }
+
+    // The place of the word among all words, counted from 0.
+    pub(crate) fn place(self) -> usize
+        ensures is { result ≡ place_of self }
+        ensures below { result < 8 }
+    {
+        match self {
+            Word::Delay => 0,
+            Word::Lose => 1,
+            Word::Repeat => 2,
+            Word::Hold => 3,
+            Word::Close => 4,
+            Word::Refuse => 5,
+            Word::Restart => 6,
+            Word::Kill => 7,
+        }
+    }
+
+    // Whether a text is this word.
+    fn is_named(self, text: &[u8]) -> bool
+        ensures { IsTrue result ↔ (name_of self ≡ text.now) }
+    {
+        self.name() == text
+    }
+
+    // The word that a text is. `None`: it is none.
+    fn of(text: &[u8]) -> Option<Word>
+        ensures { MatchOption result ((word : Word) → name_of word ≡ text.now → ⊥) (λ word. name_of word ≡ text.now) }
+    {
+        if Word::Delay.is_named(text) {
+            return Some(Word::Delay);
+        }
+        if Word::Lose.is_named(text) {
+            return Some(Word::Lose);
+        }
+        if Word::Repeat.is_named(text) {
+            return Some(Word::Repeat);
+        }
+        if Word::Hold.is_named(text) {
+            return Some(Word::Hold);
+        }
+        if Word::Close.is_named(text) {
+            return Some(Word::Close);
+        }
+        if Word::Refuse.is_named(text) {
+            return Some(Word::Refuse);
+        }
+        if Word::Restart.is_named(text) {
+            return Some(Word::Restart);
+        }
+        if Word::Kill.is_named(text) {
+            return Some(Word::Kill);
+        }
+        None
+    }
+}
+
+// What a line says: a word, how often it applies, and among which numbers it draws.
+#[derive(Clone, Copy)]
+pub(crate) struct Saying {
+    pub(crate) word: Word,
+    pub(crate) chance: Chance,
+}
+
+/// What is wrong with a line.
+#[derive(Clone, Copy, Debug, PartialEq, Eq)]
+pub enum Ill {
+    /// Its first word is no word of the text.
+    NoWord,
+    /// What follows this word hasn't the form or the range that it takes.
+    Form(Word),
+    /// An earlier line has this word.
+    Again(Word),
+}
+
+// Reads a time in milliseconds, or how many times. `None`: the word is no number up to `most`.
+fn read_number(word: &[u8], most: u64) -> Option<u32>
+    requires { most < 4294967296 }
+    ensures { MatchOption result ((n : ℕ) → IsNumber word.now n most → ⊥) (λ n. IsNumber word.now n most) }
+{
+    match number_of(word, most) {
+        Some(number) => Some(number as u32),
+        None => None,
+    }
+}
+
+// Reads `P`. `None`: the text has another form.
+fn read_percentage(text: &[u8]) -> Option<Chance>
+    ensures { MatchOption result ((chance : Chance) → IsPercentage text.now chance → ⊥) (λ chance. IsPercentage text.now chance) }
+{
+    let Some(share) = read_share(first_word(text)) else {
+        return None
+    };
+    if !is_blank(other_words(text)) {
+        return None;
+    }
+    Some(Chance {
+        share,
+        least: 0,
+        most: 0,
+    })
+}
+
+// Reads `P MS`. `None`: the text has another form.
+fn read_lasting(text: &[u8]) -> Option<Chance>
+    ensures { MatchOption result ((chance : Chance) → IsLasting text.now chance → ⊥) (λ chance. IsLasting text.now chance) }
+{
+    let Some(share) = read_share(first_word(text)) else {
+        return None
+    };
+    let others = other_words(text);
+    let Some(millis) = read_number(first_word(others), MILLIS_MAX) else {
+        return None
+    };
+    if !is_blank(other_words(others)) {
+        return None;
+    }
+    Some(Chance {
+        share,
+        least: millis,
+        most: millis,
+    })
+}
+
+// Reads `FROM TO`. `None`: the text has another form, or FROM is above TO.
+fn read_span(text: &[u8]) -> Option<Chance>
+    ensures { MatchOption result ((chance : Chance) → IsSpan text.now chance → ⊥) (λ chance. IsSpan text.now chance) }
+{
+    let Some(least) = read_number(first_word(text), MILLIS_MAX) else {
+        return None
+    };
+    let others = other_words(text);
+    let Some(most) = read_number(first_word(others), MILLIS_MAX) else {
+        return None
+    };
+    if least > most {
+        return None;
+    }
+    if !is_blank(other_words(others)) {
+        return None;
+    }
+    Some(Chance {
+        share: WHOLE as u32,
+        least,
+        most,
+    })
+}
+
+// Reads `N`. `None`: the text has another form.
+fn read_times(text: &[u8]) -> Option<Chance>
+    ensures { MatchOption result ((chance : Chance) → AreTimes text.now chance → ⊥) (λ chance. AreTimes text.now chance) }
+{
+    let Some(times) = read_number(first_word(text), TIMES_MAX) else {
+        return None
+    };
+    if !is_blank(other_words(text)) {
+        return None;
+    }
+    Some(Chance {
+        share: WHOLE as u32,
+        least: times,
+        most: times,
+    })
+}
+
+// Reads what follows a word of this shape. `None`: the text has another form, or a number lies outside its range.
+fn read_chance(shape: Shape, text: &[u8]) -> Option<Chance>
+    ensures { MatchOption result ((chance : Chance) → IsChance shape text.now chance → ⊥) (λ chance. IsChance shape text.now chance) }
+{
+    match shape {
+        Shape::Share => read_percentage(text),
+        Shape::Lasting => read_lasting(text),
+        Shape::Span => read_span(text),
+        Shape::Times => read_times(text),
+    }
+}
+
+// Reads what a line says that has a word. `Err`: what is wrong with it, which isn't `Again`.
+pub(crate) fn read_saying(text: &[u8]) -> Result<Saying, Ill>
+    ensures found { IfOk result (λ saying. IsSaid text.now saying) }
+    ensures fault { IfErr result (λ ill. IsIllSaid text.now ill) }
+{
+    let Some(word) = Word::of(first_word(text)) else {
+        return Err(Ill::NoWord);
+    };
+    match read_chance(word.shape(), other_words(text)) {
+        Some(chance) => Ok(Saying { word, chance }),
+        None => Err(Ill::Form(word)),
+    }
+}

@@ -1,0 +1,45 @@
+//! Percentages: 0 to 100 with at most three decimals, as thousandths.
+
+ghost use Rattle.std.specs.Prelude.{◌≡◌, ◌≤◌, ◌*◌, ℕ, MatchOption};
+ghost use Rattle.gc_fates.specs.Shares.{IsShare, IsPlaces};
+
+use gc_texts::{cut_at, number_of};
+
+// A percentage of 100, in thousandths.
+pub(crate) const WHOLE: u64 = 100_000;
+
+// Reads one to three decimals as thousandths. `None`: they are fewer or more, or no digits.
+fn read_places(digits: &[u8]) -> Option<u64>
+    ensures { MatchOption result ((n : ℕ) → IsPlaces digits.now n → ⊥) (λ n. IsPlaces digits.now n) }
+{
+    let Some(number) = number_of(digits, 999) else {
+        return None
+    };
+    match digits.len() {
+        1 => Some(number * 100),
+        2 => Some(number * 10),
+        3 => Some(number),
+        _ => None,
+    }
+}
+
+// Reads a percentage, in thousandths. `None`: the word is no percentage, or is above 100.
+pub(crate) fn read_share(word: &[u8]) -> Option<u32>
+    ensures { MatchOption result ((n : ℕ) → IsShare word.now n → ⊥) (λ n. IsShare word.now n) }
+{
+    let (whole, places) = cut_at(b'.', word);
+    let Some(whole) = number_of(whole, 100) else {
+        return None
+    };
+    let Some(places) = places else {
+        return Some((whole * 1000) as u32);
+    };
+    let Some(thousandths) = read_places(places) else {
+        return None
+    };
+    let share = whole * 1000 + thousandths;
+    if share > WHOLE {
+        return None;
+    }
+    Some(share as u32)
+}

@@ -1,0 +1,30 @@
+-- What the functions of a queue find in bytes, and at its back.
+use Rattle.std.proofs.Common.{◌≡◌, inl, inr, ℕ, suc, ◌-◌, ◌<◌, true, List, [], ◌∷◌, ◌++◌, drop, length, take, get_or, nat_eq, refl, sym, ◌∙◌, ap, subst, arith}
+use Rattle.std.proofs.Math.Seq.{take-length, take-suc}
+use Rattle.std.proofs.lemmas.List.{take-append-drop}
+use Rattle.std.specs.Cmp.Lexicographic.{pointwise, same_text}
+use Rattle.gc_lines.specs.Lines.{with_end}
+use Rattle.gc_rehearsal.specs.Queues.{MayAdd, MayRepeat, texts}
+use Rattle.gc_rehearsal.specs.declared.flight.Flight.{Flight}
+use Rattle.gc_rehearsal.proofs.Happened.{texts_on}
+
+-- bytes that end in CR LF are the line before it
+pub line_found : (bytes line : List ℕ) → pointwise nat_eq (drop (length bytes - 2) bytes) (13 ∷ 10 ∷ []) ≡ true → line ≡ take (length bytes - 2) bytes → bytes ≡ with_end line
+line_found bytes line ends is =
+    let n = length bytes - 2 in
+    sym (take-append-drop n bytes) ∙ ap (λ d. take n bytes ++ d) (same_text (drop n bytes) (13 ∷ 10 ∷ []) (sym ends)) ∙ ap (λ l. l ++ 13 ∷ 10 ∷ []) (sym is)
+
+-- a queue is what is before its last line, and that line
+last_of : (flights : List Flight) (last : Flight) → 0 < length flights → last ≡ get_or flights (length flights - 1) last → flights ≡ take (length flights - 1) flights ++ last ∷ []
+last_of flights last some is =
+    let n = length flights - 1 in
+    let all : suc n ≡ length flights = omega (arith, some) in
+    sym (take-length flights) ∙ ap (λ k. take k flights) (sym all) ∙ take-suc flights n last (omega (arith, some)) ∙ ap (λ x. take n flights ++ x ∷ []) (sym is)
+
+-- the last line of a queue may come twice
+pub repeated : (old new : List Flight) (last again : Flight) → 0 < length old → last ≡ get_or old (length old - 1) last → again.line.items ≡ last.line.items → MayAdd old again new
+    → MayRepeat old new
+repeated old new last again some is same (inl none) = inl none
+repeated old new last again some is same (inr more) =
+    let front = take (length old - 1) old in
+    inr (texts front, last.line.items, ap texts (last_of old last some is) ∙ texts_on front last, ap texts more ∙ texts_on old again ∙ ap (λ x. texts old ++ x ∷ []) same)

@@ -1,0 +1,8 @@
+use Rattle.gc_rehearsal.specs.Queues.{texts}
+use Rattle.gc_rehearsal.proofs.Happened.{restarts}
+use Rattle.gc_rehearsal.proofs.carried.Carried.restart.Goals as goal
+
+pub invariant_of-self : goal.invariant_of-self
+invariant_of-self c =
+    let i = c.self.inside in
+    restarts i.history.acts (texts i.up.items) (texts i.down.items) i.instrument _ c.restart.ensures c.self.invariant

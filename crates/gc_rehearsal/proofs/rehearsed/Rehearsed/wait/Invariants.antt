@@ -1,0 +1,5 @@
+use Rattle.std.proofs.Common.{◌≡◌}
+use Rattle.gc_rehearsal.proofs.rehearsed.Rehearsed.wait.Given as goal
+
+abbrev pub invariant-loop : goal.invariant-loop
+invariant-loop g l = l.self.carried ≡ l.initial.self.carried

@@ -1,0 +1,129 @@
+-- What happens on a line that keeps order, this project's own: requests up to an instrument and replies down from it, each the line
+-- without its CR LF. Each line arrives whole or not at all, and behind those that set out before it; where one comes twice, it
+-- comes directly behind itself.
+use Rattle.std.specs.Prelude.{◌≡◌, ◌⊎◌, ℕ, ◌≤◌, List, [], ◌∷◌, ◌++◌, length, Option, Some, None}
+use Rattle.gc_lines.specs.Lines.{IsPlain, with_end}
+use Rattle.gc_links.specs.Acts.{Act, Told, Untold, Put, Cut, Gave, Silent, Ended, Broke, Closed, Opened, Unopened}
+use Rattle.gc_scenes.specs.SceneReplying.{IsPlayed}
+use Rattle.gc_scenes.specs.SceneState.{SceneState, scene_restarted, at}
+
+-- the lines under way, the one that set out first in front, and the instrument
+pub record Lines : Type 0 where
+  pub up : List (List ℕ)
+  pub down : List (List ℕ)
+  pub state : SceneState
+
+-- one thing that happens
+pub data Happening : Type 0 where
+  -- a call of the link came to this
+  Call : (act : Act) → Happening
+  -- the request in front is handed to the instrument; its reply, if there is one, sets out or is lost
+  Reaches : Happening
+  -- the instrument starts anew
+  Restarts : Happening
+  -- the instrument's clock comes to this moment
+  Passes : (moment : ℕ) → Happening
+  -- the line that set out last comes twice: a request, or a reply
+  Repeats_up : Happening
+  Repeats_down : Happening
+  -- all requests under way are lost, or all replies
+  Loses_up : Happening
+  Loses_down : Happening
+  -- the reply in front is lost
+  Loses_front : Happening
+
+-- bytes were put: nothing of them arrives, or they are a line, which sets out
+abbrev pub IsPut : Lines → List ℕ → Lines → Type 0
+IsPut l bytes m = (m ≡ l) ⊎ ((line : List ℕ) × (bytes ≡ with_end line) × (m ≡ record l { up = l.up ++ line ∷ [] }))
+
+-- bytes were given: they are the reply in front, whole
+abbrev pub IsGiven : Lines → List ℕ → Lines → Type 0
+IsGiven l bytes m = (line : List ℕ) × (rest : List (List ℕ)) × (l.down ≡ line ∷ rest) × (bytes ≡ with_end line) × (m ≡ record l { down = rest })
+
+-- what a call does to the lines: of those calls that carry nothing, nothing
+abbrev pub Does : Lines → Act → Lines → Type 0
+Does l (Put bytes) m = IsPut l bytes m
+Does l (Gave bytes moment) m = IsGiven l bytes m
+Does l (Told moment) m = m ≡ l
+Does l Untold m = m ≡ l
+Does l (Cut bytes count) m = m ≡ l
+Does l (Silent moment) m = m ≡ l
+Does l Ended m = m ≡ l
+Does l Broke m = m ≡ l
+Does l Closed m = m ≡ l
+Does l Opened m = m ≡ l
+Does l Unopened m = m ≡ l
+
+-- an act that carries no bytes whole
+abbrev pub IsQuiet : Act → Type 0
+IsQuiet (Put bytes) = ⊥
+IsQuiet (Gave bytes moment) = ⊥
+IsQuiet (Told moment) = Unit {0}
+IsQuiet Untold = Unit {0}
+IsQuiet (Cut bytes count) = Unit {0}
+IsQuiet (Silent moment) = Unit {0}
+IsQuiet Ended = Unit {0}
+IsQuiet Broke = Unit {0}
+IsQuiet Closed = Unit {0}
+IsQuiet Opened = Unit {0}
+IsQuiet Unopened = Unit {0}
+
+-- these replies are those, or one more behind them: `reply`, if there is one, which is one line
+abbrev pub MaySendOut : List (List ℕ) → Option (List ℕ) → List (List ℕ) → Type 0
+MaySendOut down None new = new ≡ down
+MaySendOut down (Some line) new = (new ≡ down) ⊎ (IsPlain line × (length line ≤ 512) × (new ≡ down ++ line ∷ []))
+
+-- the request in front reached the instrument, which did with it what it does with such a line
+pub record HasReached (l m : Lines) : Type 0 where
+  pub line : List ℕ
+  pub reply : Option (List ℕ)
+  pub front : l.up ≡ line ∷ m.up
+  pub played : IsPlayed l.state line m.state reply
+  pub sends : MaySendOut l.down reply m.down
+
+-- the line at the back comes twice
+abbrev pub IsRepeated : List (List ℕ) → List (List ℕ) → Type 0
+IsRepeated lines new = (front : List (List ℕ)) × (line : List ℕ) × (lines ≡ front ++ line ∷ []) × (new ≡ lines ++ line ∷ [])
+
+-- what happens leads from these lines to those
+abbrev pub Leads : Lines → Happening → Lines → Type 0
+Leads l (Call act) m = Does l act m
+Leads l Reaches m = HasReached l m
+Leads l Restarts m = m ≡ record l { state = scene_restarted l.state }
+Leads l (Passes moment) m = m ≡ record l { state = at moment l.state }
+Leads l Repeats_up m = (up : List (List ℕ)) × IsRepeated l.up up × (m ≡ record l { up = up })
+Leads l Repeats_down m = (down : List (List ℕ)) × IsRepeated l.down down × (m ≡ record l { down = down })
+Leads l Loses_up m = m ≡ record l { up = [] }
+Leads l Loses_down m = m ≡ record l { down = [] }
+Leads l Loses_front m = (line : List ℕ) × (l.down ≡ line ∷ m.down) × (m ≡ record l { down = m.down })
+
+-- all of these happen, in order
+abbrev pub LeadAll : Lines → List Happening → Lines → Type 0
+LeadAll l [] m = m ≡ l
+LeadAll l (h ∷ hs) m = (n : Lines) × Leads l h n × LeadAll n hs m
+
+-- the acts among what happens
+abbrev pub acts_of : List Happening → List Act
+acts_of [] = []
+acts_of (Call act ∷ hs) = act ∷ acts_of hs
+acts_of (Reaches ∷ hs) = acts_of hs
+acts_of (Restarts ∷ hs) = acts_of hs
+acts_of (Passes moment ∷ hs) = acts_of hs
+acts_of (Repeats_up ∷ hs) = acts_of hs
+acts_of (Repeats_down ∷ hs) = acts_of hs
+acts_of (Loses_up ∷ hs) = acts_of hs
+acts_of (Loses_down ∷ hs) = acts_of hs
+acts_of (Loses_front ∷ hs) = acts_of hs
+
+-- these acts are those of a line on which nothing was under way at first, and whose instrument kept no reply; it has now come to
+-- these lines
+pub record HasComeTo (acts : List Act) (lines : Lines) : Type 0 where
+  pub start : SceneState
+  pub happened : List Happening
+  pub none : start.base.kept ≡ None
+  pub acts_are : acts_of happened ≡ acts
+  pub leads : LeadAll (record { up = []; down = []; state = start }) happened lines
+
+-- these acts are those of such a line
+abbrev pub IsOfLine : List Act → Type 0
+IsOfLine acts = (lines : Lines) × HasComeTo acts lines

@@ -1,0 +1,18 @@
+-- No part of a promise: what the fields of the carried lines are to contracts.
+use Rattle.std.specs.Prelude.{List}
+use Rattle.gc_links.specs.Acts.{Act}
+use Rattle.gc_rehearsal.specs.Carrying.{Lines, HasComeTo}
+use Rattle.gc_rehearsal.specs.Queues.{texts}
+use Rattle.gc_rehearsal.specs.declared.carried.Carried.TheInside.{Inside}
+
+-- the acts so far
+abbrev pub acts_in : Inside → List Act
+acts_in c = c.history.acts
+
+-- the lines under way, and the instrument
+abbrev pub lines_in : Inside → Lines
+lines_in c = record { up = texts c.up.items; down = texts c.down.items; state = c.instrument }
+
+-- the acts led to these lines
+abbrev pub KeepsToLine : Inside → Type 0
+KeepsToLine c = HasComeTo c.history.acts (lines_in c)

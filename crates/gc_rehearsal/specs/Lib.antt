@@ -1,0 +1,4 @@
+pub mod Carrying
+pub mod Inside
+pub mod Queues
+pub mod Reading

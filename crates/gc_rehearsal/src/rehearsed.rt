@@ -1,0 +1,300 @@
+//! The line of a rehearsal as a link: what its chance decides, and what comes of each call.
+
+ghost use Rattle.std.specs.Prelude.{◌≡◌, ◌<◌, ◌++◌, ◌∷◌, [], length};
+ghost use Rattle.gc_links.specs.Acts.{Cut, IsPart, Put, put_as};
+ghost use Rattle.gc_rehearsal.specs.Carrying.{IsOfLine};
+ghost use Rattle.gc_rehearsal.specs.Reading.{MayRead, Reads};
+
+use crate::carried::Carried;
+use crate::chance::Chance;
+use crate::counts::Counts;
+use crate::course::{Course, Next};
+use crate::truth::Truth;
+use gc_lines::PortFailed;
+use gc_links::{Came, Link, Moment, Note};
+use gc_scenes::SceneInstrument;
+use std::alloc::Global;
+
+/// A link in memory, in simulated time, at whose other end the instrument of a scene stands. Its chance decides what becomes of
+/// each line. It has no clock of the system and no socket: time goes by in reads alone, and in [`Rehearsed::wait`].
+///
+/// A read gives one line with its CR LF. A line that the reader's buffer has no room for is lost whole, and so is one of more than
+/// 512 bytes.
+#[derive(Drop)]
+pub struct Rehearsed<C> {
+    /// What decides.
+    pub chance: C,
+    carried: Carried,
+    course: Course,
+}
+
+impl<C> Rehearsed<C> {
+    /// A link without a connection, with nothing under way, and with the instrument restarted. It has been 0 milliseconds since its
+    /// start, which was `utc` milliseconds after 1970.
+    pub fn new(alloc: Global, chance: C, instrument: SceneInstrument, utc: u64) -> Rehearsed<C>
+        ensures { result.carried ≡ [] }
+    {
+        Rehearsed {
+            chance,
+            carried: Carried::new(alloc, instrument),
+            course: Course::new(alloc, utc),
+        }
+    }
+
+    /// What its calls came to is what comes of a line that keeps order and loses lines whole, whatever its chance decided.
+    pub fn is_of_line(&self)
+        ensures { IsOfLine self.now.carried }
+    {
+        self.carried.is_of_line();
+    }
+
+    /// Milliseconds since the start.
+    pub fn elapsed(&self) -> u64 {
+        self.course.now
+    }
+
+    /// How often what happened.
+    pub fn counts(&self) -> Counts {
+        self.course.counts
+    }
+
+    /// The truth of each reply that reads gave since they were forgotten last, in their order.
+    pub fn truths(&self) -> &[Truth] {
+        self.course.truths.as_slice()
+    }
+
+    /// Forgets the truths so far.
+    pub fn forget(&mut self)
+        ensures { self.new.carried ≡ self.old.carried }
+    {
+        self.course.truths.clear();
+    }
+
+    /// How many truths couldn't be kept, because memory was refused.
+    pub fn untold(&self) -> u64 {
+        self.course.untold
+    }
+
+    // What comes next up to the moment `limit`.
+    fn next(&self, limit: u64) -> Next {
+        let request = self.carried.request_due();
+        let reply = self.carried.reply_due();
+        self.course.next(request, reply, limit)
+    }
+
+    // Nothing comes until the moment `limit`.
+    fn be_silent(&mut self, limit: u64, buf: &[u8]) -> Came
+        ensures { Reads self.old.carried self.new.carried result buf.now }
+    {
+        let _ = buf;
+        self.course.come_to(limit);
+        let moment = self.course.moment();
+        self.carried.note(&Note::Silent(moment));
+        Came::Silence(moment)
+    }
+
+    // The other end closes the connection at this moment.
+    fn end(&mut self, moment: u64, buf: &[u8]) -> Came
+        ensures { Reads self.old.carried self.new.carried result buf.now }
+    {
+        let _ = buf;
+        self.course.come_to(moment);
+        self.carried.note(&Note::Ended);
+        Came::End
+    }
+
+    // The reply in front arrives at this moment, and is given. `None`: `buf` has no room for it, and it is lost.
+    fn give(&mut self, moment: u64, buf: &mut [u8]) -> Option<Came>
+        ensures { MayRead self.old.carried self.new.carried result buf.new }
+    {
+        self.course.come_to(moment);
+        let moment = self.course.moment();
+        let Some(flight) = self.carried.give(buf, moment) else {
+            self.course.count_lost();
+            return None;
+        };
+        let n = flight.line.len() + 2;
+        self.course.tell(flight);
+        Some(Came::Bytes(n, moment))
+    }
+}
+
+impl<C: Chance> Rehearsed<C> {
+    /// Lets this many milliseconds go by, as while no station runs. Requests that are under way reach the instrument meanwhile, and
+    /// nothing is read.
+    pub fn wait(&mut self, millis: u64)
+        ensures { self.new.carried ≡ self.old.carried }
+    {
+        let limit = self.course.behind(millis);
+        for _ in 0..u64::MAX {
+            match self.carried.request_due() {
+                Some(moment) if moment <= limit => self.reach(moment),
+                _ => break,
+            }
+        }
+        self.course.come_to(limit);
+    }
+
+    // The instrument starts anew, where the chance says so.
+    fn restart(&mut self)
+        ensures { self.new.carried ≡ self.old.carried }
+    {
+        if self.chance.restarts() {
+            self.course.count_restart();
+            self.carried.restart();
+        }
+    }
+
+    // The request in front reaches the instrument at this moment, or now, if that is later. Its reply sets out.
+    fn reach(&mut self, moment: u64)
+        ensures { self.new.carried ≡ self.old.carried }
+    {
+        self.course.come_to(moment);
+        self.restart();
+        self.carried.pass(self.course.now);
+        let fate = self.chance.fate();
+        let arrives = self.course.reply_arrives(fate);
+        let answered = self.carried.reach(fate.lost, arrives);
+        if answered && fate.repeated && !fate.lost {
+            self.carried.repeat_reply();
+        }
+    }
+
+    // What comes next up to the moment `limit` happens. `None`: it is nothing to the reader.
+    fn step(&mut self, limit: u64, buf: &mut [u8]) -> Option<Came>
+        ensures { MayRead self.old.carried self.new.carried result buf.new }
+    {
+        match self.next(limit) {
+            Next::Request(moment) => {
+                self.reach(moment);
+                None
+            }
+            Next::Reply(moment) => self.give(moment, buf),
+            Next::End(moment) => Some(self.end(moment, buf)),
+            Next::Nothing => Some(self.be_silent(limit, buf)),
+        }
+    }
+
+    // A request is put whole, with this fate.
+    fn send(&mut self, bytes: &[u8], lost: bool, repeated: bool, arrives: u64)
+        ensures { self.new.carried ≡ self.old.carried ++ Put bytes.now ∷ [] }
+    {
+        if lost {
+            self.carried.put_nothing(bytes);
+            return;
+        }
+        let request = self.course.counts.requests.saturating_sub(1);
+        self.carried.put(bytes, arrives, request, self.course.now);
+        if repeated {
+            self.carried.repeat_request();
+        }
+    }
+
+    // A request is cut, because the connection closes. Returns how many of its bytes went out.
+    fn cut(&mut self, bytes: &[u8]) -> usize
+        requires { 0 < length bytes.now }
+        ensures tells { self.new.carried ≡ self.old.carried ++ Cut bytes.now result ∷ [] }
+        ensures part { result < length bytes.now }
+    {
+        let n = self.chance.cut().min(bytes.len() - 1);
+        self.course.cut();
+        self.carried.note(&Note::Cut(bytes, n));
+        n
+    }
+
+    // A request is put: it sets out, or the connection closes at it, and it is cut.
+    fn put_request(&mut self, bytes: &[u8]) -> Result<(), usize>
+        requires { 0 < length bytes.now }
+        ensures tells { self.new.carried ≡ self.old.carried ++ put_as result bytes.now ∷ [] }
+        ensures part { IsPart result bytes.now }
+    {
+        let fate = self.chance.fate();
+        if fate.closes {
+            return Err(self.cut(bytes));
+        }
+        let arrives = self.course.request_arrives(fate);
+        self.send(bytes, fate.lost, fate.repeated, arrives);
+        Ok(())
+    }
+
+    // Whether a connection can't be made now.
+    fn is_refused(&mut self) -> bool
+        ensures { self.new.carried ≡ self.old.carried }
+    {
+        if self.course.is_refused() {
+            return true;
+        }
+        let millis = self.chance.refusal();
+        if millis == 0 {
+            return false;
+        }
+        self.course.refuse(millis);
+        true
+    }
+
+    // What is under way is lost, where the chance says so.
+    fn lose(&mut self)
+        ensures { self.new.carried ≡ self.old.carried }
+    {
+        if !self.chance.keeps() {
+            self.carried.lose_requests();
+        }
+        if !self.chance.keeps() {
+            self.carried.lose_replies();
+        }
+    }
+}
+
+impl<C: Chance> Link for Rehearsed<C> {
+    ghost use Rattle.std.specs.Prelude.{Some};
+
+    ghost acts = { λ r. Some r.carried };
+
+    fn now(&mut self) -> Result<Moment, PortFailed> {
+        let moment = self.course.moment();
+        self.carried.note(&Note::Told(moment));
+        Ok(moment)
+    }
+
+    // Gives the next reply, whole. Where there is no connection, it only waits. It waits for a millisecond at least.
+    fn read(&mut self, buf: &mut [u8], millis: u64) -> Came {
+        let limit = self.course.behind(millis.max(1));
+        for _ in 0..u64::MAX {
+            if let Some(came) = self.step(limit, buf) {
+                return came;
+            }
+        }
+        // Never in practice: 2^64 lines.
+        self.be_silent(limit, buf)
+    }
+
+    // A line feed clears the instrument's receiver, and is no request.
+    fn put(&mut self, bytes: &[u8]) -> Result<(), usize> {
+        if !self.course.is_up() {
+            self.carried.note(&Note::Cut(bytes, 0));
+            return Err(0);
+        }
+        if bytes == b"\n".as_slice() {
+            self.carried.put_nothing(bytes);
+            return Ok(());
+        }
+        self.put_request(bytes)
+    }
+
+    // What is under way is lost, or arrives later.
+    fn close(&mut self) {
+        self.course.close();
+        self.lose();
+        self.carried.note(&Note::Closed);
+    }
+
+    fn open(&mut self) -> Result<(), PortFailed> {
+        if self.is_refused() {
+            self.carried.note(&Note::Unopened);
+            return Err(PortFailed);
+        }
+        self.course.open();
+        self.carried.note(&Note::Opened);
+        Ok(())
+    }
+}

@@ -1,0 +1,19 @@
+//! The truth of a reply: the request on whose execution it was made.
+
+use gc_lines::Line;
+
+/// A reply line that a read gave, and the request on whose execution the instrument made it. Where the instrument sent an older
+/// line again, that is the request of then. Times are in milliseconds since the line was made.
+#[derive(Debug, Drop)]
+pub struct Truth {
+    /// Which request it was: its place among all that were put whole, from 0.
+    pub request: u64,
+    /// When that request was put.
+    pub sent: u64,
+    /// When a read gave the reply.
+    pub given: u64,
+    /// The line of that request, with its id and without CR LF.
+    pub asked: Line,
+    /// The line of the reply, without CR LF.
+    pub reply: Line,
+}

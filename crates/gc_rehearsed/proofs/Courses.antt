@@ -1,0 +1,255 @@
+-- Courses of the line from a beginning or from a client on, in front of which something happens.
+use Rattle.std.proofs.Common.{◌≡◌, ◌⊎◌, inl, inr, ℕ, ◌+◌, ◌≤◌, Bool, true, false, List, [], ◌∷◌, ◌++◌, map, Option, refl, sym, ◌∙◌, ap, subst, arith}
+use Rattle.gc_catalogue.specs.declared.asked.Asked.{Asked}
+use Rattle.gc_client.specs.Beginning.{the_word}
+use Rattle.gc_client.specs.OneForOne as client
+use Rattle.gc_client.specs.declared.window.TheConstants.{WINDOW}
+use Rattle.gc_client.specs.Rule.{ById}
+use Rattle.gc_scenes.specs.SceneState.{SceneState}
+use Rattle.gc_station.specs.Parts as part
+use Rattle.gc_station.specs.Parts.{Part, nothing}
+use Rattle.gc_world.specs.Clients.{by_ids}
+use Rattle.gc_field.specs.Begin as begin
+use Rattle.gc_field.specs.Begin.{Aged, AreTurns, IsTurn, Model, UnderWay, begins, leaves, turned, turns}
+use Rattle.gc_field.specs.Beginnings.{ArePossibleIf, AreRuns, Run, killed_if, left_by_run, left_if, on_line}
+use Rattle.gc_field.specs.Begun.{ids_begun}
+use Rattle.gc_field.specs.Field as field
+use Rattle.gc_field.specs.Field.{Move, ArePossible, IsPossible, moved, moves, seen}
+use Rattle.gc_field.specs.InARow.{AreFew, killed_by, killed_over, left_over}
+use Rattle.gc_rehearsed.specs.Rehearsals.{unbegun}
+use Rattle.gc_field.specs.SceneField.{KeepsAReply, scene_ends, scene_kept}
+use Rattle.gc_field.specs.Shown.{AreShownAs, shown, shows}
+use Rattle.gc_field.specs.World.{Numbered, Request, World}
+use Rattle.gc_rehearsal.specs.Carrying.{Lines}
+use Rattle.gc_rehearsed.proofs.Sides.{client_move, is_move, is_turn, leaves_turn, left_turn, line_move, move_of, seen_none, shows_none, turn_of}
+use Rattle.gc_rehearsed.proofs.Steps.{AreSteps, Holds, Step, all_stepped, flow, stepped}
+
+-- a client's rule with the window of seven
+abbrev pub World7 : Type 0
+World7 = World (ById Asked) SceneState
+
+-- the world after a move, and after moves
+abbrev pub move7 : World7 → Move SceneState → World7
+move7 w m = moves scene_ends (by_ids WINDOW scene_ends) w m
+
+abbrev pub moved7 : List (Move SceneState) → World7 → World7
+moved7 ms w = moved scene_ends (by_ids WINDOW scene_ends) ms w
+
+-- runs over what is under way show these parts, are possible, and lead to these lines. The station behind the last one has begun
+-- (`done`), or is killed while it begins, and then counts as one more
+pub record Later (u : UnderWay SceneState) (rs : List (Run SceneState)) (ps : List Part) (m : Lines) (done : Bool) : Type 0 where
+  pub show : AreShownAs scene_ends u rs ps
+  pub may : AreRuns WINDOW scene_ends KeepsAReply scene_kept u rs
+  pub holds : Holds (left_over scene_ends u rs) m
+  pub few : AreFew scene_ends 0 u rs
+  pub ends : killed_over scene_ends 0 u rs ≤ unbegun 0 done
+
+-- where some ids of a beginning aren't answered, nothing follows it, and the station hasn't begun at the end
+abbrev pub Rest : List ℕ → Bool → List (Run SceneState) → Type 0
+Rest [] done rs = Unit {0}
+Rest (asked ∷ word) done rs = (rs ≡ []) × (done ≡ false)
+
+-- from a beginning on: its turns show `turns`, and the moves behind it `steps`; later runs show the other parts, and lead to these
+-- lines
+pub record FromBegin (b : Model SceneState) (turns : List part.Turn) (steps : List (client.Step Asked)) (others : List Part) (m : Lines) (done : Bool) : Type 0 where
+  pub ts : List (begin.Turn SceneState)
+  pub ms : List (Move SceneState)
+  pub rs : List (Run SceneState)
+  pub show : shown scene_ends ts b ≡ turns
+  pub see : seen ms ≡ steps
+  pub are : AreTurns scene_ends KeepsAReply scene_kept ts b
+  pub may : ArePossibleIf WINDOW scene_ends KeepsAReply scene_kept (turned scene_ends ts b).left (turned scene_ends ts b) ms
+  pub later : Later (left_if WINDOW scene_ends (turned scene_ends ts b).left (turned scene_ends ts b) ms) rs others m done
+  pub rest : Rest (turned scene_ends ts b).left done rs
+
+-- from a client on: its moves show `steps`; later runs show the other parts, and lead to these lines
+pub record FromClient (w : World7) (steps : List (client.Step Asked)) (others : List Part) (m : Lines) (done : Bool) : Type 0 where
+  pub ms : List (Move SceneState)
+  pub rs : List (Run SceneState)
+  pub see : seen ms ≡ steps
+  pub may : ArePossible scene_ends KeepsAReply scene_kept (by_ids WINDOW scene_ends) ms w
+  pub later : Later (on_line (moved7 ms w).wire) rs others m done
+
+-- In front.
+
+-- a turn in front
+pub turn_first : (b : Model SceneState) (t : begin.Turn SceneState) (xs : List part.Turn) (steps : List (client.Step Asked)) (others : List Part) (m : Lines) (done : Bool)
+    → IsTurn KeepsAReply scene_kept b t → FromBegin (turns scene_ends b t) xs steps others m done → FromBegin b (shows b t ++ xs) steps others m done
+turn_first b t xs steps others m done is f = record { ts = t ∷ f.ts; ms = f.ms; rs = f.rs; show = ap (λ l. shows b t ++ l) f.show; see = f.see; are = (is, f.are); may = f.may; later = f.later; rest = f.rest }
+
+-- steps in front of what follows a beginning
+pub steps_turn : (xs : List Step) (b : Model SceneState) (show : List part.Turn) (steps : List (client.Step Asked)) (others : List Part) (m : Lines) (done : Bool) → AreSteps xs (leaves b)
+    → ((c : Model SceneState) → leaves c ≡ all_stepped xs (leaves b) → c.left ≡ b.left → FromBegin c show steps others m done) → FromBegin b show steps others m done
+steps_turn [] b show steps others m done are on = on b refl refl
+steps_turn (x ∷ xs) b show steps others m done are on =
+    let one = leaves_turn b x in
+    subst (λ l. FromBegin b (l ++ show) steps others m done) (shows_none b x)
+    (turn_first b (turn_of x) show steps others m done (is_turn b x are.0)
+    (steps_turn xs (turns scene_ends b (turn_of x)) show steps others m done (subst (AreSteps xs) (sym one) are.1)
+    (λ c e l. on c (e ∙ ap (all_stepped xs) one) (l ∙ left_turn b x))))
+
+-- what the client sees of moves with one in front
+seen_first : (m : Move SceneState) (ms : List (Move SceneState)) → seen (m ∷ ms) ≡ seen (m ∷ []) ++ seen ms
+seen_first (field.Sends target call deadline) ms = refl
+seen_first (field.Tells now) ms = refl
+seen_first (field.Comes line) ms = refl
+seen_first (field.Foreign line) ms = refl
+seen_first (field.OnLine step) ms = refl
+seen_first field.Anew ms = refl
+seen_first (field.Changes state) ms = refl
+seen_first (field.Joins line) ms = refl
+
+-- a move in front
+pub move_first : (w : World7) (x : Move SceneState) (steps : List (client.Step Asked)) (others : List Part) (m : Lines) (done : Bool) → IsPossible KeepsAReply scene_kept w x
+    → FromClient (move7 w x) steps others m done → FromClient w (seen (x ∷ []) ++ steps) others m done
+move_first w x steps others m done is f = record { ms = x ∷ f.ms; rs = f.rs; see = seen_first x f.ms ∙ ap (λ l. seen (x ∷ []) ++ l) f.see; may = (is, f.may); later = f.later }
+
+-- steps in front of what follows a client
+pub steps_move : (xs : List Step) (w : World7) (steps : List (client.Step Asked)) (others : List Part) (m : Lines) (done : Bool) → AreSteps xs (on_line w.wire)
+    → ((v : World7) → on_line v.wire ≡ all_stepped xs (on_line w.wire) → v.client ≡ w.client → FromClient v steps others m done) → FromClient w steps others m done
+steps_move [] w steps others m done are on = on w refl refl
+steps_move (x ∷ xs) w steps others m done are on =
+    let one = line_move w x in
+    subst (λ l. FromClient w (l ++ steps) others m done) (seen_none x)
+    (move_first w (move_of x) steps others m done (is_move w x are.0)
+    (steps_move xs (move7 w (move_of x)) steps others m done (subst (AreSteps xs) (sym one) are.1)
+    (λ v e c. on v (e ∙ ap (all_stepped xs) one) (c ∙ client_move w x))))
+
+-- From one side to the other.
+
+-- lines with a number, without it
+without_number : {Line : Type 0} (xs : List Line) → map (λ (x : Numbered Line). x.line) (map (λ x. record { number = 7; line = x }) xs) ≡ xs
+without_number [] = refl
+without_number (x ∷ xs) = ap (λ l. x ∷ l) (without_number xs)
+
+-- old lines, without their marks
+without_mark : {Line : Type 0} (xs : List Line) → map (λ (x : Aged Line). x.line) (map (λ x. record { old = true; line = x }) xs) ≡ xs
+without_mark [] = refl
+without_mark (x ∷ xs) = ap (λ l. x ∷ l) (without_mark xs)
+
+-- a client that begins finds under way what the beginning leaves
+pub begun_line : (u : UnderWay SceneState) → on_line (ids_begun u).wire ≡ u
+begun_line u = ap (λ q. flow q (on_line (ids_begun u).wire).down u.state) (without_number u.up) ∙ ap (λ q. flow u.up q u.state) (without_number u.down)
+
+-- a beginning finds under way what is
+pub begins_line : (u : UnderWay SceneState) → leaves (begins u) ≡ u
+begins_line u = ap (λ q. flow q (leaves (begins u)).down u.state) (without_mark u.up) ∙ ap (λ q. flow u.up q u.state) (without_mark u.down)
+
+-- where all ids are answered, what follows the client follows the beginning
+pub begun_from : (b : Model SceneState) (show : List part.Turn) (steps : List (client.Step Asked)) (others : List Part) (m : Lines) (done : Bool) → b.left ≡ [] → show ≡ []
+    → FromClient (ids_begun (leaves b)) steps others m done → FromBegin b show steps others m done
+begun_from b show steps others m done none quiet f = record {
+  ts = [];
+  ms = f.ms;
+  rs = f.rs;
+  show = sym quiet;
+  see = f.see;
+  are = tt;
+  may = subst (λ left. ArePossibleIf WINDOW scene_ends KeepsAReply scene_kept left b f.ms) (sym none) f.may;
+  later = subst (λ left. Later (left_if WINDOW scene_ends left b f.ms) f.rs others m done) (sym none) f.later;
+  rest = subst (λ left. Rest left done f.rs) (sym none) tt;
+}
+
+-- a run with these turns and moves
+abbrev pub run : List (begin.Turn SceneState) → List (Move SceneState) → Run SceneState
+run ts ms = record { turns = ts; moves = ms }
+
+-- some ids are not none
+not_nil : (id : ℕ) (ids : List ℕ) → id ∷ ids ≡ [] → ⊥
+not_nil id ids e = cc
+
+-- how many are killed in a row where one run follows `n`, by the ids that it leaves and its turns
+killed_first : (n : ℕ) (u : UnderWay SceneState) (r : Run SceneState) (left : List ℕ) (ts : List (begin.Turn SceneState)) (done : Bool) (rs : List (Run SceneState))
+    → (turned scene_ends ts (begins u)).left ≡ left → r.turns ≡ ts → Rest left done rs
+    → ((left ≡ []) × (killed_by scene_ends n u r ts ≡ 0)) ⊎ ((rs ≡ []) × (done ≡ false) × (killed_by scene_ends n u r ts ≤ n + 1))
+killed_first n u r [] [] done rs e same rest = absurd (not_nil _ _ e)
+killed_first n u r [] (t ∷ ts) done rs e same rest = inl (refl, ap (λ l. killed_if WINDOW scene_ends l n) (ap (λ xs. (turned scene_ends xs (begins u)).left) same ∙ e))
+killed_first n u r (asked ∷ word) [] done rs e same rest = inr (rest.0, rest.1, omega arith)
+killed_first n u r (asked ∷ word) (t ∷ ts) done rs e same rest =
+    let one : killed_by scene_ends n u r (t ∷ ts) ≡ n + 1 = ap (λ l. killed_if WINDOW scene_ends l n) (ap (λ xs. (turned scene_ends xs (begins u)).left) same ∙ e) in
+    inr (rest.0, rest.1, omega (arith, one))
+
+-- runs from a beginning on: at most five in a row are killed while they begin, where that is so with one more if the last one hasn't begun
+pub few_from : (n : ℕ) (u : UnderWay SceneState) (show : List part.Turn) (steps : List (client.Step Asked)) (others : List Part) (m : Lines) (done : Bool)
+    → (f : FromBegin (begins u) show steps others m done) → unbegun n done ≤ 5
+    → AreFew scene_ends n u (run f.ts f.ms ∷ f.rs) × (killed_over scene_ends n u (run f.ts f.ms ∷ f.rs) ≤ unbegun n done)
+few_from n u show steps others m done f small = by_end (killed_first n u (run f.ts f.ms) (turned scene_ends f.ts (begins u)).left f.ts done f.rs refl refl f.rest) where
+  none_killed : killed_by scene_ends n u (run f.ts f.ms) f.ts ≡ 0 → killed_by scene_ends n u (run f.ts f.ms) f.ts ≤ 5
+  none_killed none = omega (arith, none)
+
+  by_done : (d : Bool) → killed_over scene_ends 0 (left_by_run WINDOW scene_ends u (run f.ts f.ms)) f.rs ≤ unbegun 0 d → killed_over scene_ends 0 (left_by_run WINDOW scene_ends u (run f.ts f.ms)) f.rs ≤ unbegun n d
+  by_done true h = h
+  by_done false h = omega (arith, h)
+
+  by_end : (((turned scene_ends f.ts (begins u)).left ≡ []) × (killed_by scene_ends n u (run f.ts f.ms) f.ts ≡ 0)) ⊎ ((f.rs ≡ []) × (done ≡ false) × (killed_by scene_ends n u (run f.ts f.ms) f.ts ≤ n + 1))
+      → AreFew scene_ends n u ((run f.ts f.ms) ∷ f.rs) × (killed_over scene_ends n u ((run f.ts f.ms) ∷ f.rs) ≤ unbegun n done)
+  by_end (inl begun) = (
+    (none_killed begun.1, subst (λ k. AreFew scene_ends k (left_by_run WINDOW scene_ends u (run f.ts f.ms)) f.rs) (sym begun.1) f.later.few),
+    subst (λ k. killed_over scene_ends k (left_by_run WINDOW scene_ends u (run f.ts f.ms)) f.rs ≤ unbegun n done) (sym begun.1) (by_done done f.later.ends),
+  )
+  by_end (inr killed) =
+      let count : killed_by scene_ends n u (run f.ts f.ms) f.ts ≤ unbegun n done = subst (λ d. killed_by scene_ends n u (run f.ts f.ms) f.ts ≤ unbegun n d) (sym killed.1) killed.2 in (
+        (omega (arith, count, small), subst (λ rs. AreFew scene_ends (killed_by scene_ends n u (run f.ts f.ms) f.ts) (left_by_run WINDOW scene_ends u (run f.ts f.ms)) rs) (sym killed.0) tt),
+        subst (λ rs. killed_over scene_ends (killed_by scene_ends n u (run f.ts f.ms) f.ts) (left_by_run WINDOW scene_ends u (run f.ts f.ms)) rs ≤ unbegun n done) (sym killed.0) count,
+      )
+
+-- one is few
+one_few : (done : Bool) → unbegun 0 done ≤ 5
+one_few true = omega arith
+one_few false = omega arith
+
+-- where a part ends, what follows the next beginning follows the client
+pub ended_from : (w : World7) (p : Part) (others : List Part) (m : Lines) (done : Bool) → FromBegin (begins (on_line w.wire)) p.turns p.steps others m done → FromClient w [] (p ∷ others) m done
+ended_from w p others m done f =
+    let few = few_from 0 (on_line w.wire) p.turns p.steps others m done f (one_few done) in
+    record {
+      ms = [];
+      rs = run f.ts f.ms ∷ f.rs;
+      see = refl;
+      may = tt;
+      later = record { show = (f.show, f.see, f.later.show); may = ((f.are, f.may), f.later.may); holds = f.later.holds; few = few.0; ends = few.1 };
+    }
+
+-- at the end of a run that has begun, which is over, nothing happens any more
+pub ended_over : (w : World7) (m : Lines) (done : Bool) → Holds (on_line w.wire) m → FromClient w [] (nothing ∷ []) m done
+ended_over w m done holds =
+    record {
+      ms = [];
+      rs = record { turns = []; moves = [] } ∷ [];
+      see = refl;
+      may = tt;
+      later = record {
+        show = (refl, refl, tt);
+        may = ((tt, refl), tt);
+        holds = subst (λ u. Holds u m) (sym (begins_line (on_line w.wire))) holds;
+        few = (omega arith, tt);
+        ends = by_done done;
+      };
+    } where
+      by_done : (d : Bool) → 0 ≤ unbegun 0 d
+      by_done true = omega arith
+      by_done false = omega arith
+
+-- nothing more happens to a client
+pub ends_client : (w : World7) (m : Lines) (done : Bool) → Holds (on_line w.wire) m → FromClient w [] [] m done
+ends_client w m done holds = record { ms = []; rs = []; see = refl; may = tt; later = record { show = tt; may = tt; holds = holds; few = tt; ends = by_done done } } where
+  by_done : (d : Bool) → 0 ≤ unbegun 0 d
+  by_done true = omega arith
+  by_done false = omega arith
+
+-- nothing more happens in a beginning
+pub ends_begin : (b : Model SceneState) (m : Lines) → (b.left ≡ [] → ⊥) → Holds (leaves b) m → FromBegin b [] [] [] m false
+ends_begin b m some holds = by_left b.left refl where
+  by_left : (left : List ℕ) → b.left ≡ left → FromBegin b [] [] [] m false
+  by_left [] e = absurd (some e)
+  by_left (asked ∷ rest) e = record {
+    ts = [];
+    ms = [];
+    rs = [];
+    show = refl;
+    see = refl;
+    are = tt;
+    may = subst (λ left. ArePossibleIf WINDOW scene_ends KeepsAReply scene_kept left b []) (sym e) refl;
+    later = subst (λ left. Later (left_if WINDOW scene_ends left b []) [] [] m false) (sym e) (record { show = tt; may = tt; holds = holds; few = tt; ends = omega arith });
+    rest = subst (λ left. Rest left false []) (sym e) (refl, refl);
+  }

@@ -1,0 +1,6 @@
+pub mod Steps
+pub mod Sides
+pub mod Courses
+pub mod Acted
+pub mod Rehearsed
+pub mod Row

@@ -1,0 +1,168 @@
+-- Steps of the line on both sides of a beginning: as turns while a station begins, and as moves once it has begun.
+use Rattle.std.proofs.Common.{◌≡◌, ℕ, ◌<◌, ◌≤◌, Bool, true, false, List, [], ◌∷◌, ◌++◌, length, map, nat_lt, Option, refl, sym, ◌∙◌, ap, subst}
+use Rattle.std.proofs.lemmas.Bool.{ltb-false}
+use Rattle.std.proofs.lemmas.List.{map-append}
+use Rattle.gc_catalogue.specs.declared.asked.Asked.{Asked}
+use Rattle.gc_client.specs.declared.window.TheConstants.{WINDOW}
+use Rattle.gc_client.specs.Rule.{ById}
+use Rattle.gc_scenes.specs.SceneState.{SceneState}
+use Rattle.gc_station.specs.Parts as part
+use Rattle.gc_world.specs.Clients.{by_ids}
+use Rattle.gc_world.proofs.Queues.{without_map, doubled_map, without_past, doubled_past}
+use Rattle.gc_field.specs.Begin as begin
+use Rattle.gc_field.specs.Begin.{Aged, Model, UnderWay, IsTurn, leaves, turns}
+use Rattle.gc_field.specs.Beginnings.{on_line}
+use Rattle.gc_field.specs.Field as field
+use Rattle.gc_field.specs.Field.{Move, IsPossible, moves, seen}
+use Rattle.gc_field.specs.SceneField.{KeepsAReply, scene_ends, scene_handed, scene_kept}
+use Rattle.gc_field.specs.Shown.{shows}
+use Rattle.gc_field.specs.World as world
+use Rattle.gc_field.specs.World.{Numbered, Request, Wire, World, without, doubled, idle, up_delivered, with_up, with_down}
+use Rattle.gc_rehearsed.proofs.Steps.{Step, Reach, Lose_up, Repeat_up, Lose_down, Repeat_down, Start, Change, IsStep, flow, reached, stepped}
+
+-- While a station begins.
+
+-- the turn of a step
+abbrev pub turn_of : Step → begin.Turn SceneState
+turn_of Reach = begin.Reaches
+turn_of (Lose_up k) = begin.Up_lose k
+turn_of (Repeat_up k) = begin.Up_repeat k
+turn_of (Lose_down k) = begin.Down_lose k
+turn_of (Repeat_down k) = begin.Down_repeat k
+turn_of Start = begin.Anew
+turn_of (Change state) = begin.Changes state
+
+-- what a request that reaches the instrument leaves
+leaves_reach : (b : Model SceneState) (q : List (Aged Request)) → leaves (begin.reaches scene_ends b q) ≡ reached (leaves b) (map (λ x. x.line) q)
+leaves_reach b [] = refl
+leaves_reach b (x ∷ rest) =
+    let h = scene_handed b.state x.line.id x.line.call in
+    let reply : Aged (List ℕ) = record { old = x.old; line = h.reply } in
+    ap (λ d. flow (map (λ y. y.line) rest) d h.state) (map-append (λ (y : Aged (List ℕ)). y.line) b.down (reply ∷ []))
+
+-- what a turn leaves is what its step leaves
+pub leaves_turn : (b : Model SceneState) (x : Step) → leaves (turns scene_ends b (turn_of x)) ≡ stepped (leaves b) x
+leaves_turn b Reach = leaves_reach b b.up
+leaves_turn b (Lose_up k) = ap (λ q. flow q (leaves b).down b.state) (sym (without_map (λ (y : Aged Request). y.line) k b.up))
+leaves_turn b (Repeat_up k) = ap (λ q. flow q (leaves b).down b.state) (sym (doubled_map (λ (y : Aged Request). y.line) k b.up))
+leaves_turn b (Lose_down k) = ap (λ q. flow (leaves b).up q b.state) (sym (without_map (λ (y : Aged (List ℕ)). y.line) k b.down))
+leaves_turn b (Repeat_down k) = ap (λ q. flow (leaves b).up q b.state) (sym (doubled_map (λ (y : Aged (List ℕ)). y.line) k b.down))
+leaves_turn b Start = refl
+leaves_turn b (Change state) = refl
+
+-- a step shows nothing to the station
+pub shows_none : (b : Model SceneState) (x : Step) → shows b (turn_of x) ≡ []
+shows_none b Reach = refl
+shows_none b (Lose_up k) = refl
+shows_none b (Repeat_up k) = refl
+shows_none b (Lose_down k) = refl
+shows_none b (Repeat_down k) = refl
+shows_none b Start = refl
+shows_none b (Change state) = refl
+
+-- a request that reaches the instrument answers no id
+left_reach : (b : Model SceneState) (q : List (Aged Request)) → (begin.reaches scene_ends b q).left ≡ b.left
+left_reach b [] = refl
+left_reach b (x ∷ rest) = refl
+
+-- a step answers no id
+pub left_turn : (b : Model SceneState) (x : Step) → (turns scene_ends b (turn_of x)).left ≡ b.left
+left_turn b Reach = left_reach b b.up
+left_turn b (Lose_up k) = refl
+left_turn b (Repeat_up k) = refl
+left_turn b (Lose_down k) = refl
+left_turn b (Repeat_down k) = refl
+left_turn b Start = refl
+left_turn b (Change state) = refl
+
+-- a step that is possible is a turn that is
+pub is_turn : (b : Model SceneState) (x : Step) → IsStep (leaves b) x → IsTurn KeepsAReply scene_kept b (turn_of x)
+is_turn b Reach is = tt
+is_turn b (Lose_up k) is = tt
+is_turn b (Repeat_up k) is = tt
+is_turn b (Lose_down k) is = tt
+is_turn b (Repeat_down k) is = tt
+is_turn b Start is = tt
+is_turn b (Change state) is = is
+
+-- Once it has begun.
+
+-- the move of a step
+abbrev pub move_of : Step → Move SceneState
+move_of Reach = field.OnLine world.Up_deliver
+move_of (Lose_up k) = field.OnLine (world.Up_lose k)
+move_of (Repeat_up k) = field.OnLine (world.Up_repeat k)
+move_of (Lose_down k) = field.OnLine (world.Down_lose k)
+move_of (Repeat_down k) = field.OnLine (world.Down_repeat k)
+move_of Start = field.Anew
+move_of (Change state) = field.Changes state
+
+-- what a request that reaches the instrument leaves
+line_reach : (w : Wire SceneState) (q : List (Numbered Request)) → on_line (up_delivered scene_ends w q) ≡ reached (on_line w) (map (λ x. x.line) q)
+line_reach w [] = refl
+line_reach w (x ∷ rest) =
+    let h = scene_handed w.state x.line.id x.line.call in
+    let reply : Numbered (List ℕ) = record { number = x.number; line = h.reply } in
+    ap (λ d. flow (map (λ y. y.line) rest) d h.state) (map-append (λ (y : Numbered (List ℕ)). y.line) w.down (reply ∷ []))
+
+-- what a change of the requests leaves, which may be impossible where it changes nothing
+line_up : (w : Wire SceneState) (q : List (Numbered Request)) (b : Bool) → (b ≡ false → q ≡ w.up) → on_line (with_up w q b) ≡ flow (map (λ x. x.line) q) (on_line w).down w.state
+line_up w q true same = refl
+line_up w q false same = ap (λ (l : List (Numbered Request)). flow (map (λ x. x.line) l) (on_line w).down w.state) (sym (same refl))
+
+-- what a change of the replies leaves, which may be impossible where it changes nothing
+line_down : (w : Wire SceneState) (q : List (Numbered (List ℕ))) (b : Bool) → (b ≡ false → q ≡ w.down) → on_line (with_down w q b) ≡ flow (on_line w).up (map (λ x. x.line) q) w.state
+line_down w q true same = refl
+line_down w q false same = ap (λ (l : List (Numbered (List ℕ))). flow (on_line w).up (map (λ x. x.line) l) w.state) (sym (same refl))
+
+-- what a move leaves on the line is what its step leaves
+pub line_move : (w : World (ById Asked) SceneState) (x : Step) → on_line (moves scene_ends (by_ids WINDOW scene_ends) w (move_of x)).wire ≡ stepped (on_line w.wire) x
+line_move w Reach = line_reach w.wire w.wire.up
+line_move w (Lose_up k) =
+    let q = w.wire.up in
+    line_up w.wire (without k q) (nat_lt k (length q)) (λ no. without_past k q (ltb-false k (length q) no))
+    ∙ ap (λ l. flow l (on_line w.wire).down w.wire.state) (sym (without_map (λ (y : Numbered Request). y.line) k q))
+line_move w (Repeat_up k) =
+    let q = w.wire.up in
+    line_up w.wire (doubled k q) (nat_lt k (length q)) (λ no. doubled_past k q (ltb-false k (length q) no))
+    ∙ ap (λ l. flow l (on_line w.wire).down w.wire.state) (sym (doubled_map (λ (y : Numbered Request). y.line) k q))
+line_move w (Lose_down k) =
+    let q = w.wire.down in
+    line_down w.wire (without k q) (nat_lt k (length q)) (λ no. without_past k q (ltb-false k (length q) no))
+    ∙ ap (λ l. flow (on_line w.wire).up l w.wire.state) (sym (without_map (λ (y : Numbered (List ℕ)). y.line) k q))
+line_move w (Repeat_down k) =
+    let q = w.wire.down in
+    line_down w.wire (doubled k q) (nat_lt k (length q)) (λ no. doubled_past k q (ltb-false k (length q) no))
+    ∙ ap (λ l. flow (on_line w.wire).up l w.wire.state) (sym (doubled_map (λ (y : Numbered (List ℕ)). y.line) k q))
+line_move w Start = refl
+line_move w (Change state) = refl
+
+-- the client has no part in a step
+pub client_move : (w : World (ById Asked) SceneState) (x : Step) → (moves scene_ends (by_ids WINDOW scene_ends) w (move_of x)).client ≡ w.client
+client_move w Reach = refl
+client_move w (Lose_up k) = refl
+client_move w (Repeat_up k) = refl
+client_move w (Lose_down k) = refl
+client_move w (Repeat_down k) = refl
+client_move w Start = refl
+client_move w (Change state) = refl
+
+-- a step that is possible is a move that is
+pub is_move : (w : World (ById Asked) SceneState) (x : Step) → IsStep (on_line w.wire) x → IsPossible KeepsAReply scene_kept w (move_of x)
+is_move w Reach is = tt
+is_move w (Lose_up k) is = tt
+is_move w (Repeat_up k) is = tt
+is_move w (Lose_down k) is = tt
+is_move w (Repeat_down k) is = tt
+is_move w Start is = tt
+is_move w (Change state) is = is
+
+-- the client sees nothing of a step
+pub seen_none : (x : Step) → seen (move_of x ∷ []) ≡ []
+seen_none Reach = refl
+seen_none (Lose_up k) = refl
+seen_none (Repeat_up k) = refl
+seen_none (Lose_down k) = refl
+seen_none (Repeat_down k) = refl
+seen_none Start = refl
+seen_none (Change state) = refl

@@ -1,0 +1,270 @@
+-- What happens on a rehearsed line, as steps of what is under way in the field: requests with their ids, replies, and the instrument.
+use Rattle.std.proofs.Common.{◌≡◌, ◌⊎◌, inl, inr, ℕ, zero, suc, ◌<◌, ◌≤◌, List, [], ◌∷◌, ◌++◌, length, map, Option, Some, None, refl, sym, ◌∙◌, ap, subst}
+use Rattle.gc_lines.specs.Lines.{IsPlain}
+use Rattle.gc_links.specs.Acts.{Act}
+use Rattle.gc_catalogue.specs.Asked.{asked_line, IsAskedFitting}
+use Rattle.gc_catalogue.specs.declared.asked.Asked.{Asked}
+use Rattle.gc_catalogue.specs.declared.asked.Asked.TheVariants.{Table, Raw}
+use Rattle.gc_scenes.proofs.Turns.{one_reply}
+use Rattle.gc_scenes.specs.SceneReplying.{IsPlayed}
+use Rattle.gc_scenes.specs.SceneState.{SceneState, scene_restarted, at}
+use Rattle.gc_world.specs.Order.{Each}
+use Rattle.gc_world.proofs.Options.{some_is}
+use Rattle.gc_field.specs.Begin.{UnderWay}
+use Rattle.gc_field.specs.Instrument.{MayBecome}
+use Rattle.gc_field.specs.SceneField.{KeepsAReply, scene_handed, scene_kept}
+use Rattle.gc_field.specs.World.{Request, without, doubled}
+use Rattle.gc_field.proofs.BeginLists.{each_append}
+use Rattle.gc_field.proofs.SceneField.{scene_is_an_instrument}
+use Rattle.gc_rehearsal.specs.Carrying.{Lines, Happening, Call, Reaches, Restarts, Passes, Repeats_up, Repeats_down, Loses_up, Loses_down, Loses_front, HasReached, IsRepeated, Leads, MaySendOut}
+
+-- What is under way.
+
+-- this is the line of the request, and it reads back
+pub record IsLineOf (r : Request) (line : List ℕ) : Type 0 where
+  pub text : line ≡ asked_line (Some r.id) r.call
+  pub id : r.id < 8
+  pub fits : IsAskedFitting r.call
+
+-- these are the lines of the requests, in order
+abbrev pub AreLinesOf : List Request → List (List ℕ) → Type 0
+AreLinesOf [] [] = Unit {0}
+AreLinesOf (r ∷ rs) (line ∷ lines) = IsLineOf r line × AreLinesOf rs lines
+AreLinesOf _ _ = ⊥
+
+-- the bytes are one line
+abbrev pub IsOne : List ℕ → Type 0
+IsOne line = IsPlain line × (length line ≤ 512)
+
+-- what is under way, with this instrument
+abbrev pub flow : List Request → List (List ℕ) → SceneState → UnderWay SceneState
+flow up down state = record { up = up; down = down; state = state }
+
+-- what is under way in the field is what is under way on the line
+pub record Holds (u : UnderWay SceneState) (l : Lines) : Type 0 where
+  pub up : AreLinesOf u.up l.up
+  pub down : u.down ≡ l.down
+  pub one : Each IsOne l.down
+  pub state : u.state ≡ l.state
+  pub good : KeepsAReply u.state
+
+-- Steps.
+
+-- one step of the line or of the instrument
+pub data Step : Type 0 where
+  Reach : Step
+  Lose_up : (which : ℕ) → Step
+  Repeat_up : (which : ℕ) → Step
+  Lose_down : (which : ℕ) → Step
+  Repeat_down : (which : ℕ) → Step
+  Start : Step
+  Change : (state : SceneState) → Step
+
+-- what is under way once the request in front reached the instrument
+abbrev pub reached : UnderWay SceneState → List Request → UnderWay SceneState
+reached u [] = u
+reached u (r ∷ rest) = flow rest (u.down ++ (scene_handed u.state r.id r.call).reply ∷ []) (scene_handed u.state r.id r.call).state
+
+-- what is under way after a step
+abbrev pub stepped : UnderWay SceneState → Step → UnderWay SceneState
+stepped u Reach = reached u u.up
+stepped u (Lose_up k) = record u { up = without k u.up }
+stepped u (Repeat_up k) = record u { up = doubled k u.up }
+stepped u (Lose_down k) = record u { down = without k u.down }
+stepped u (Repeat_down k) = record u { down = doubled k u.down }
+stepped u Start = record u { state = scene_restarted u.state }
+stepped u (Change state) = record u { state = state }
+
+-- what is under way after steps
+abbrev pub all_stepped : List Step → UnderWay SceneState → UnderWay SceneState
+all_stepped [] u = u
+all_stepped (x ∷ xs) u = all_stepped xs (stepped u x)
+
+-- a step is possible
+abbrev pub IsStep : UnderWay SceneState → Step → Type 0
+IsStep u (Change state) = MayBecome KeepsAReply scene_kept u.state state
+IsStep u _ = Unit {0}
+
+-- each of these steps is possible when it comes
+abbrev pub AreSteps : List Step → UnderWay SceneState → Type 0
+AreSteps [] u = Unit {0}
+AreSteps (x ∷ xs) u = IsStep u x × AreSteps xs (stepped u x)
+
+-- steps lead from what is under way in the field to what is under way on the line
+pub record Steps (u : UnderWay SceneState) (m : Lines) : Type 0 where
+  pub steps : List Step
+  pub are : AreSteps steps u
+  pub holds : Holds (all_stepped steps u) m
+
+-- Lists.
+
+-- the last element is lost
+pub without_last : {A : Type 0} (xs : List A) (x : A) → without (length xs) (xs ++ x ∷ []) ≡ xs
+without_last [] x = refl
+without_last (y ∷ xs) x = ap (λ l. y ∷ l) (without_last xs x)
+
+-- the last element comes twice
+pub doubled_last : {A : Type 0} (xs : List A) (x : A) → doubled (length xs) (xs ++ x ∷ []) ≡ (xs ++ x ∷ []) ++ x ∷ []
+doubled_last [] x = refl
+doubled_last (y ∷ xs) x = ap (λ l. y ∷ l) (doubled_last xs x)
+
+-- lines of requests, and of one more
+pub lines_on : (rs : List Request) (lines : List (List ℕ)) (r : Request) (line : List ℕ) → AreLinesOf rs lines → IsLineOf r line → AreLinesOf (rs ++ r ∷ []) (lines ++ line ∷ [])
+lines_on [] [] r line all one = (one, tt)
+lines_on [] (x ∷ lines) r line all one = absurd all
+lines_on (s ∷ rs) [] r line all one = absurd all
+lines_on (s ∷ rs) (x ∷ lines) r line all one = (all.0, lines_on rs lines r line all.1 one)
+
+-- where the last of these lines comes twice, the last request does
+pub lines_twice : (rs : List Request) (front : List (List ℕ)) (line : List ℕ) → AreLinesOf rs (front ++ line ∷ [])
+    → (k : ℕ) × AreLinesOf (doubled k rs) ((front ++ line ∷ []) ++ line ∷ [])
+lines_twice [] [] line all = absurd all
+lines_twice [] (x ∷ front) line all = absurd all
+lines_twice (r ∷ []) [] line all = (zero, (all.0, (all.0, tt)))
+lines_twice (r ∷ s ∷ rs) [] line all = absurd all.1
+lines_twice (r ∷ rs) (x ∷ front) line all = let rest = lines_twice rs front line all.1 in (suc rest.0, (all.0, rest.1))
+
+-- what the instrument of the field does with a request is what it does with the request's line
+played_as : (s : SceneState) (r : Request) (line : List ℕ) → IsLineOf r line → IsPlayed s line (scene_handed s r.id r.call).state (Some (scene_handed s r.id r.call).reply)
+played_as s r line is = subst (λ x. IsPlayed s x (scene_handed s r.id r.call).state (Some (scene_handed s r.id r.call).reply)) (sym is.text) (by_call r.call is.fits) where
+  by_call : (call : Asked) → IsAskedFitting call → IsPlayed s (asked_line (Some r.id) call) (scene_handed s r.id call).state (Some (scene_handed s r.id call).reply)
+  by_call (Table call) fits = scene_is_an_instrument.calls s r.id call is.id fits
+  by_call (Raw raw) fits = scene_is_an_instrument.raws s r.id raw is.id
+
+-- What happens.
+
+-- all requests are lost, one after the other
+lose_all_up : (rs : List Request) (down : List (List ℕ)) (state : SceneState) → (xs : List Step) × AreSteps xs (flow rs down state) × (all_stepped xs (flow rs down state) ≡ flow [] down state)
+lose_all_up [] down state = ([], tt, refl)
+lose_all_up (r ∷ rs) down state = let rest = lose_all_up rs down state in (Lose_up zero ∷ rest.0, (tt, rest.1), rest.2)
+
+-- all replies are lost, one after the other
+lose_all_down : (up : List Request) (down : List (List ℕ)) (state : SceneState) → (xs : List Step) × AreSteps xs (flow up down state) × (all_stepped xs (flow up down state) ≡ flow up [] state)
+lose_all_down up [] state = ([], tt, refl)
+lose_all_down up (x ∷ down) state = let rest = lose_all_down up down state in (Lose_down zero ∷ rest.0, (tt, rest.1), rest.2)
+
+-- the reply sets out, or it is lost
+sends_out : (rs : List Request) (down : List (List ℕ)) (s t : SceneState) (reply : List ℕ) (r : Request) (up' down' : List (List ℕ)) (t' : SceneState)
+    → reply ≡ (scene_handed s r.id r.call).reply → t' ≡ (scene_handed s r.id r.call).state → KeepsAReply (scene_handed s r.id r.call).state
+    → AreLinesOf rs up' → Each IsOne down → MaySendOut down (Some reply) down'
+    → Steps (flow (r ∷ rs) down s) (record { up = up'; down = down'; state = t' })
+sends_out rs down s t reply r up' down' t' is state good lines one (inl lost) =
+    let h = scene_handed s r.id r.call in
+    record {
+      steps = Reach ∷ Lose_down (length down) ∷ [];
+      are = (tt, (tt, tt));
+      holds = record {
+        up = lines;
+        down = without_last down h.reply ∙ sym lost;
+        one = subst (Each IsOne) (sym lost) one;
+        state = sym state;
+        good = good;
+      };
+    }
+sends_out rs down s t reply r up' down' t' is state good lines one (inr out) =
+    let h = scene_handed s r.id r.call in
+    record {
+      steps = Reach ∷ [];
+      are = (tt, tt);
+      holds = record {
+        up = lines;
+        down = ap (λ x. down ++ x ∷ []) (sym is) ∙ sym out.2;
+        one = subst (Each IsOne) (sym out.2) (each_append IsOne down (reply ∷ []) one ((out.0, out.1), tt));
+        state = sym state;
+        good = good;
+      };
+    }
+
+-- a request reaches the instrument
+reaches : (rs : List Request) (down : List (List ℕ)) (s : SceneState) (l m : Lines) → Holds (flow rs down s) l → HasReached l m → Steps (flow rs down s) m
+reaches [] down s l m holds h = absurd (subst (AreLinesOf []) h.front holds.up)
+reaches (r ∷ rs) down s l m holds h = by_reply h.reply refl where
+  lines : AreLinesOf (r ∷ rs) (h.line ∷ m.up)
+  lines = subst (AreLinesOf (r ∷ rs)) h.front holds.up
+
+  played : IsPlayed s h.line m.state h.reply
+  played = subst (λ x. IsPlayed x h.line m.state h.reply) (sym holds.state) h.played
+
+  same : (m.state ≡ (scene_handed s r.id r.call).state) × (h.reply ≡ Some (scene_handed s r.id r.call).reply)
+  same = one_reply s m.state (scene_handed s r.id r.call).state h.line h.reply (Some (scene_handed s r.id r.call).reply) played (played_as s r h.line lines.0)
+
+  by_reply : (o : Option (List ℕ)) → h.reply ≡ o → Steps (flow (r ∷ rs) down s) m
+  by_reply None e = let some = same.1 in let wrong : ⊥ = cc in absurd wrong
+  by_reply (Some reply) e =
+      sends_out rs down s s reply r m.up m.down m.state (some_is reply (scene_handed s r.id r.call).reply (sym e ∙ same.1)) same.0
+      (scene_is_an_instrument.is.stays_good s r.id r.call holds.good lines.0.id) lines.1 (subst (Each IsOne) (sym holds.down) holds.one)
+      (subst (λ x. MaySendOut x (Some reply) m.down) (sym holds.down) (subst (λ x. MaySendOut l.down x m.down) e h.sends))
+
+-- what happens on the line, and is no act, are steps
+pub happens : (u : UnderWay SceneState) (l m : Lines) (h : Happening) → ((act : Act) → h ≡ Call act → ⊥) → Holds u l → Leads l h m → Steps u m
+happens u l m (Call act) never holds leads = absurd (never act refl)
+happens u l m Reaches never holds leads = reaches u.up u.down u.state l m holds leads
+happens u l m Restarts never holds leads = record {
+  steps = Start ∷ [];
+  are = (tt, tt);
+  holds = subst (Holds (stepped u Start)) (sym leads) (record { up = holds.up; down = holds.down; one = holds.one; state = ap scene_restarted holds.state; good = scene_is_an_instrument.is.starts_good u.state holds.good });
+}
+happens u l m (Passes moment) never holds leads = record {
+  steps = Change (at moment u.state) ∷ [];
+  are = (scene_is_an_instrument.passes u.state moment holds.good, tt);
+  holds = subst (Holds (stepped u (Change (at moment u.state)))) (sym leads)
+      (record { up = holds.up; down = holds.down; one = holds.one; state = ap (at moment) holds.state; good = (scene_is_an_instrument.passes u.state moment holds.good).0 });
+}
+happens u l m Repeats_up never holds leads =
+    let twice = leads.1 in
+    let lines = lines_twice u.up twice.0 twice.1 (subst (AreLinesOf u.up) twice.2 holds.up) in
+    record {
+      steps = Repeat_up lines.0 ∷ [];
+      are = (tt, tt);
+      holds = subst (Holds (stepped u (Repeat_up lines.0))) (sym leads.2) (record {
+        up = subst (AreLinesOf (doubled lines.0 u.up)) (ap (λ q. q ++ twice.1 ∷ []) (sym twice.2) ∙ sym twice.3) lines.1;
+        down = holds.down;
+        one = holds.one;
+        state = holds.state;
+        good = holds.good;
+      });
+    }
+happens u l m Repeats_down never holds leads =
+    let twice = leads.1 in
+    let ones = subst (Each IsOne) twice.2 holds.one in
+    let new : doubled (length twice.0) u.down ≡ leads.0 =
+    ap (doubled (length twice.0)) (holds.down ∙ twice.2) ∙ doubled_last twice.0 twice.1 ∙ ap (λ q. q ++ twice.1 ∷ []) (sym twice.2) ∙ sym twice.3 in
+    record {
+      steps = Repeat_down (length twice.0) ∷ [];
+      are = (tt, tt);
+      holds = subst (Holds (stepped u (Repeat_down (length twice.0)))) (sym leads.2) (record {
+        up = holds.up;
+        down = new;
+        one = subst (Each IsOne) (ap (λ q. q ++ twice.1 ∷ []) (sym twice.2) ∙ sym twice.3) (each_append IsOne (twice.0 ++ twice.1 ∷ []) (twice.1 ∷ []) ones (last_one twice.0 twice.1 ones, tt));
+        state = holds.state;
+        good = holds.good;
+      });
+    } where
+      last_one : (front : List (List ℕ)) (line : List ℕ) → Each IsOne (front ++ line ∷ []) → IsOne line
+      last_one [] line each = each.0
+      last_one (x ∷ front) line each = last_one front line each.1
+happens u l m Loses_up never holds leads =
+    let lost = lose_all_up u.up u.down u.state in
+    record {
+      steps = lost.0;
+      are = lost.1;
+      holds = subst (λ v. Holds v m) (sym lost.2) (subst (Holds (flow [] u.down u.state)) (sym leads) (record { up = tt; down = holds.down; one = holds.one; state = holds.state; good = holds.good }));
+    }
+happens u l m Loses_down never holds leads =
+    let lost = lose_all_down u.up u.down u.state in
+    record {
+      steps = lost.0;
+      are = lost.1;
+      holds = subst (λ v. Holds v m) (sym lost.2) (subst (Holds (flow u.up [] u.state)) (sym leads) (record { up = holds.up; down = refl; one = tt; state = holds.state; good = holds.good }));
+    }
+happens u l m Loses_front never holds leads = record {
+  steps = Lose_down zero ∷ [];
+  are = (tt, tt);
+  holds = subst (Holds (stepped u (Lose_down zero))) (sym leads.2) (record {
+    up = holds.up;
+    down = ap (without zero) (holds.down ∙ leads.1);
+    one = (subst (Each IsOne) leads.1 holds.one).1;
+    state = holds.state;
+    good = holds.good;
+  });
+}
