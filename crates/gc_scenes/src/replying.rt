@@ -26,6 +26,9 @@ const UNKNOWN_PROCEDURE: u16 = 3081;
 /// The communication code for parameters that don't read.
 const WRONG_PARAMETERS: u16 = 3080;
 
+// The room of a line that is put together apart.
+const APART: usize = 1024;
+
 impl SceneInstrument {
     ghost use Rattle.gc_catalogue.specs.declared.call.Call.{Call};
     ghost use Rattle.gc_catalogue.specs.declared.answer.Answer.TheVariants.{Nothing};
@@ -201,8 +204,28 @@ impl SceneInstrument {
             let places = self.machine.precision();
             push_valued(out, id, rc, &there, call, &Decimal::zero(), places);
         } else {
-            encode_answer_onto(out, id, rc, answer, self.machine.precision());
+            self.answer_onto(id, rc, answer, out);
         }
+    }
+
+    // Appends the reply to an executed call with its answer. The line is put together in a room of its own size: so the simulator
+    // alone writes answers into the room of a served run, and LLVM puts that writing in place also in a program that serves scenes.
+    fn answer_onto<const N: usize>(
+        &self,
+        id: u8,
+        rc: u16,
+        answer: &Answer,
+        out: &mut ArrayVec<u8, N>,
+    )
+        requires id { id < 8 }
+        requires refused { rc ≢ 0 → answer.now ≡ Nothing }
+        requires room { array_vec_len out.old + 512 ≤ N }
+        ensures line { out.new.items ≡ out.old.items ++ reply_line id rc answer.now self.now.base.precision }
+        ensures bound { length out.new.items ≤ length out.old.items + 512 }
+    {
+        let mut line: ArrayVec<u8, APART> = ArrayVec::new();
+        encode_answer_onto(&mut line, id, rc, answer, self.machine.precision());
+        append(out, line.as_slice());
     }
 
     // Appends the reply to a request of a procedure that isn't in the table.
