@@ -10,7 +10,7 @@ use Rattle.gc_catalogue.specs.declared.raw.RawFault.TheVariants.{InTable}
 use Rattle.gc_texts.specs.Cuts.{before, behind}
 use Rattle.gc_texts.specs.Nears.{IsDouble}
 use Rattle.gc_texts.specs.Procedures.{IsNumber}
-use Rattle.gc_texts.specs.Words.{first_word, second_word, third_word, behind_two, behind_three}
+use Rattle.gc_texts.specs.Words.{first_word, second_word, third_word, after_two_words, after_three_words}
 use Rattle.gc_engines.specs.RuleScenes.{WantsClock}
 use Rattle.gc_engines.specs.declared.scene_trouble.SceneTrouble.{SceneTrouble}
 use Rattle.gc_engines.specs.declared.scene_trouble.SceneTrouble.TheVariants as trouble
@@ -72,7 +72,7 @@ IsReplyTrouble rpc params _ = ⊥
 
 -- the line is `answer` and a procedure's number, and this is at fault in the parameters of the reply
 abbrev pub IsAnswerTrouble : List ℕ → SceneTrouble → Type 0
-IsAnswerTrouble line t = Has word.Answer line × ((rpc : ℕ) × IsNumber (second_word line) rpc 65535 × IsReplyTrouble rpc (behind 44 (behind_two line)) t)
+IsAnswerTrouble line t = Has word.Answer line × ((rpc : ℕ) × IsNumber (second_word line) rpc 65535 × IsReplyTrouble rpc (behind 44 (after_two_words line)) t)
 
 -- in a line that is known to be faulty, this may be at fault; more than one trouble may fit a line. `Form`: the line begins with that word, and
 -- none of its fields is named
@@ -83,16 +83,16 @@ IsSceneTrouble line (trouble.Form w) = Has w line
 IsSceneTrouble line trouble.Serial = Has word.Serial line × ((n : ℤ) → NamesWhole (behind 32 line) n → FitsLong n → ⊥)
 IsSceneTrouble line trouble.Name = Has word.Name line × (text.IsText (behind 32 line) → ⊥)
 IsSceneTrouble line trouble.Rpc = (Has word.Fault line ⊎ (Has word.Answer line ⊎ Has word.Delay line)) × NotNumber (second_word line) 65535
-IsSceneTrouble line trouble.Rc = (Has word.Fault line × NotNumber (third_word line) 65535) ⊎ (Has word.Answer line × NotNumber (before 44 (behind_two line)) 65535)
+IsSceneTrouble line trouble.Rc = (Has word.Fault line × NotNumber (third_word line) 65535) ⊎ (Has word.Answer line × NotNumber (before 44 (after_two_words line)) 65535)
 IsSceneTrouble line trouble.Target = (Has word.Blocked line ⊎ Has word.Drift line) × NotNumber (second_word line) 32
 IsSceneTrouble line trouble.From = Has word.Blocked line × NotNumber (third_word line) 4294967295
-IsSceneTrouble line trouble.To = Has word.Blocked line × NotNumber (behind_three line) 4294967295
+IsSceneTrouble line trouble.To = Has word.Blocked line × NotNumber (after_three_words line) 4294967295
 IsSceneTrouble line trouble.Hz = ((Has word.Target line ⊎ Has word.Noise line) × NoDecimal (second_word line)) ⊎ (Has word.Drift line × NoDecimal (third_word line))
-IsSceneTrouble line trouble.V = ((Has word.Target line ⊎ Has word.Noise line) × NoDecimal (third_word line)) ⊎ (Has word.Drift line × NoDecimal (before 32 (behind_three line)))
-IsSceneTrouble line trouble.Distance = (Has word.Target line × NoDecimal (behind_three line))
-    ⊎ ((Has word.Noise line × NoDecimal (before 32 (behind_three line))) ⊎ (Has word.Drift line × NoDecimal (behind 32 (behind_three line))))
-IsSceneTrouble line trouble.Seed = Has word.Noise line × NotNumber (behind 32 (behind_three line)) 4294967295
-IsSceneTrouble line trouble.Ms = Has word.Delay line × NotNumber (behind_two line) 3600000
+IsSceneTrouble line trouble.V = ((Has word.Target line ⊎ Has word.Noise line) × NoDecimal (third_word line)) ⊎ (Has word.Drift line × NoDecimal (before 32 (after_three_words line)))
+IsSceneTrouble line trouble.Distance = (Has word.Target line × NoDecimal (after_three_words line))
+    ⊎ ((Has word.Noise line × NoDecimal (before 32 (after_three_words line))) ⊎ (Has word.Drift line × NoDecimal (behind 32 (after_three_words line))))
+IsSceneTrouble line trouble.Seed = Has word.Noise line × NotNumber (behind 32 (after_three_words line)) 4294967295
+IsSceneTrouble line trouble.Ms = Has word.Delay line × NotNumber (after_two_words line) 3600000
 IsSceneTrouble line (trouble.InTable n) = IsAnswerTrouble line (trouble.InTable n)
 IsSceneTrouble line trouble.Params = IsAnswerTrouble line trouble.Params
 
