@@ -22,7 +22,7 @@ use crate::link::Alone;
 use crate::looped::Loop;
 use crate::simulated::Simulates;
 use gc_instrument::{Instrument, ServeFault};
-use gc_lines::{FromReader, Sink, Source, ToWriter};
+use gc_lines::{Answers, FromReader, Sink, Source, ToWriter};
 use gc_links::{Place, Unusable, accept, both_ends, connect_here, wire_to};
 use gc_texts::{Command, RunFault, read_command_text};
 use std::alloc::Global;
@@ -40,10 +40,15 @@ pub const MOST_CONNECTIONS: u32 = 1000;
 ///
 /// The faults come as `run_loop_on` says, and `Socket` comes where a bind, a connect or an accept failed. No socket is opened
 /// before the whole text was read.
-pub fn loop_tcp_on<R: Net<Listener = TcpListener, Stream = TcpStream>, S: Source, K: Sink>(
+pub fn loop_tcp_on<
+    R: Net<Listener = TcpListener, Stream = TcpStream>,
+    S: Source,
+    K: Sink,
+    T: Answers + Drop,
+>(
     rt: &R,
     alloc: Global,
-    instrument: Instrument,
+    instrument: T,
     commands: &mut S,
     sink: &mut K,
     max_reads: u32,
@@ -69,9 +74,9 @@ pub fn loop_tcp_on<R: Net<Listener = TcpListener, Stream = TcpStream>, S: Source
 }
 
 // Asks commands over a connection that was just made, at whose far end an instrument answers.
-fn loop_over<K: Sink>(
+fn loop_over<K: Sink, T: Answers + Drop>(
     commands: &[Command],
-    instrument: Instrument,
+    instrument: T,
     near: &TcpStream,
     far: &TcpStream,
     sink: &mut K,

@@ -6,22 +6,21 @@ ghost use Rattle.gc_ask.specs.Links.{StepEnds, CountsReplies};
 ghost use Rattle.gc_lines.specs.Answering.{ports_of};
 
 use crate::unheard::Unheard;
-use gc_instrument::Instrument;
 use gc_lines::{Answers, Assembler, Line, Outgoing, Sink, Source, write_whole};
 use gc_texts::RunFault;
 
-/// An instrument, and the assembler that gives it its lines.
+/// An instrument, and the assembler that gives it its lines: the simulator, or the instrument of a scene.
 #[derive(Drop)]
-pub(crate) struct InstrumentEnd {
-    instrument: Instrument,
+pub(crate) struct InstrumentEnd<T> {
+    instrument: T,
     assembler: Assembler,
     // The bytes that were read and aren't used yet.
     ahead: Unheard,
 }
 
-impl InstrumentEnd {
+impl<T: Answers> InstrumentEnd<T> {
     // This instrument, on a link of which nothing was read.
-    pub(crate) fn new(instrument: Instrument) -> InstrumentEnd {
+    pub(crate) fn new(instrument: T) -> InstrumentEnd<T> {
         InstrumentEnd {
             instrument,
             assembler: Assembler::new(),

@@ -12,7 +12,7 @@ use crate::instrument_end::InstrumentEnd;
 use crate::link::{Link, send_line};
 use crate::unheard::Unheard;
 use gc_instrument::Instrument;
-use gc_lines::{Line, PortFailed, Sink, Source};
+use gc_lines::{Answers, Line, PortFailed, Sink, Source};
 use gc_texts::RunFault;
 use std::alloc::Global;
 
@@ -62,10 +62,10 @@ pub struct Duplex<I, O> {
     pub sink: O,
 }
 
-/// Does as `run_loop` does, with any instrument in place of the simulator. The results are the same.
-pub fn run_loop_on<S: Source, A: Source, B: Sink, C: Source, D: Sink, K: Sink>(
+/// Does as `run_loop` does, with any instrument in place of the simulator, also that of a scene with rules. The results are the same.
+pub fn run_loop_on<S: Source, A: Source, B: Sink, C: Source, D: Sink, K: Sink, T: Answers + Drop>(
     alloc: Global,
-    instrument: Instrument,
+    instrument: T,
     commands: &mut S,
     client: &mut Duplex<A, B>,
     instrument_end: &mut Duplex<C, D>,
@@ -97,16 +97,16 @@ pub fn run_loop_on<S: Source, A: Source, B: Sink, C: Source, D: Sink, K: Sink>(
 
 /// A link with an instrument at its other end, which answers each request once it is sent.
 #[derive(Drop)]
-pub(crate) struct Loop<'a, 'b, 'c, 'd, A, B, C, D> {
+pub(crate) struct Loop<'a, 'b, 'c, 'd, A, B, C, D, T> {
     pub(crate) client_in: &'a mut A,
     pub(crate) client_out: &'b mut B,
-    pub(crate) instrument: InstrumentEnd,
+    pub(crate) instrument: InstrumentEnd<T>,
     pub(crate) instrument_in: &'c mut C,
     pub(crate) instrument_out: &'d mut D,
 }
 
-impl<'a, 'b, 'c, 'd, A: Source, B: Sink, C: Source, D: Sink> Link
-    for Loop<'a, 'b, 'c, 'd, A, B, C, D> {
+impl<'a, 'b, 'c, 'd, A: Source, B: Sink, C: Source, D: Sink, T: Answers> Link
+    for Loop<'a, 'b, 'c, 'd, A, B, C, D, T> {
     ghost use Rattle.std.specs.Prelude.{false};
 
     ghost alone = { false };

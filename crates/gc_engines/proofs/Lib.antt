@@ -7,3 +7,4 @@ mod Scenes
 mod Shown
 pub mod RuleForms
 mod TimedForms
+mod SceneTroubles

@@ -10,8 +10,13 @@ use Rattle.gc_world.specs.Clients.{played}
 use Rattle.gc_world.specs.Faithful.{sent_seen}
 use Rattle.gc_world.specs.Reports.{IsReport, made_seen}
 use Rattle.gc_world.specs.World.{Wire}
+use Rattle.gc_scenes.specs.SceneState.{SceneState}
+use Rattle.gc_scene_world.specs.declared.report.SceneReport.{SceneReport}
+use Rattle.gc_scene_world.specs.SceneReports.{IsSceneReport}
+use Rattle.gc_scene_world.specs.SceneRuns.{scene_played}
 use Rattle.gc_texts.specs.Settlements.{settlement_lines}
-use Rattle.gc_engines.specs.Reports.{totals_text, report_text}
+use Rattle.gc_engines.specs.Reports.{totals_text, report_text, scene_report_text}
+use Rattle.gc_engines.specs.SceneDrill.{scene_wire_text, scene_drill_text}
 use Rattle.gc_engines.specs.Drill.{wire_text, drill_text_on}
 
 -- a text made of six counts is the same where the counts are
@@ -43,3 +48,24 @@ text_of_run opening width events totals = unfold drill_text_on in refl
 pub drill_shown : (opening : State) (width : ℕ) (events : List Event) (totals : Bool) (r : Report) → IsReport r (played width opening events).wire
     → report_text r totals ≡ drill_text_on opening width events totals
 drill_shown opening width events totals r is = text_shown r (played width opening events).wire totals is ∙ sym (text_of_run opening width events totals)
+
+-- The same of a run on the instrument of a scene.
+
+-- the text of a report is that of the run that it shows
+scene_text_shown : (r : SceneReport) (w : Wire SceneState) (totals : Bool) → IsSceneReport r w → scene_report_text r totals ≡ scene_wire_text w totals
+scene_text_shown r w totals is =
+    let settled : length r.settled.items ≡ length w.settled = sym (length-map r.settled.items settlement_seen) ∙ ap length is.settled.seen in
+    totals_where totals _ _ _ _
+    (ap settlement_lines is.settled.seen)
+    (six totals_text r.counts.sent r.counts.executed r.counts.made (length r.settled.items) r.counts.refused_sends r.counts.idle_events (length w.sent) (length w.executed)
+    (length w.made) (length w.settled) w.refused w.idle
+    is.counts.sent is.counts.executed is.counts.made settled is.counts.refused is.counts.idle)
+
+-- what a drill writes of events is the text of the wire with which their run ends
+scene_text_of_run : (opening : SceneState) (width : ℕ) (events : List Event) (totals : Bool) → scene_drill_text opening width events totals ≡ scene_wire_text (scene_played width opening events).wire totals
+scene_text_of_run opening width events totals = unfold scene_drill_text in refl
+
+-- the text of a report of a run is what a drill writes
+pub scene_drill_shown : (opening : SceneState) (width : ℕ) (events : List Event) (totals : Bool) (r : SceneReport) → IsSceneReport r (scene_played width opening events).wire
+    → scene_report_text r totals ≡ scene_drill_text opening width events totals
+scene_drill_shown opening width events totals r is = scene_text_shown r (scene_played width opening events).wire totals is ∙ sym (scene_text_of_run opening width events totals)

@@ -1,8 +1,11 @@
 -- Which lines have the forms of a scene that `serve` takes.
-use Rattle.std.proofs.Common.{◌≡◌, ℕ, List, codes}
+use Rattle.std.proofs.Common.{◌≡◌, ℕ, List, inl, codes}
 use Rattle.gc_scenes.specs.declared.delay.Delay.{Delay}
+use Rattle.gc_texts.specs.LineForms.{TextFault}
+use Rattle.gc_texts.specs.declared.fault.RunFault.{RunFault}
+use Rattle.gc_texts.specs.declared.fault.RunFault.TheVariants.{SceneFull, Memory}
 use Rattle.gc_engines.specs.RuleScenes.{IsRuleLine}
-use Rattle.gc_engines.specs.TimedScenes.{IsDelayLine, IsTimedLine}
+use Rattle.gc_engines.specs.TimedScenes.{IsDelayLine, IsTimedLine, TimedFault}
 use Rattle.gc_engines.specs.declared.rule_line.RuleLine.{RuleLine}
 use Rattle.gc_engines.specs.declared.timed_line.TimedLine.{TimedLine}
 use Rattle.gc_engines.specs.declared.timed_line.TimedLine.TheVariants as says
@@ -14,3 +17,9 @@ no_timed line r d q b (says.Rule rule) h = r rule h
 no_timed line r d q b (says.Delay x) h = d x h
 no_timed line r d q b says.Queues h = q h
 no_timed line r d q b says.Drops h = b h
+
+-- why a text of lines isn't read is why it sets up no instrument
+pub timed_fault : (text : List ℕ) (e : RunFault) → TextFault IsTimedLine text e → TimedFault text e
+timed_fault text SceneFull h = absurd h
+timed_fault text Memory h = (h.0, inl h.1)
+timed_fault text e h = h

@@ -2,9 +2,11 @@ pub mod Schedule
 pub mod Scenes
 pub mod Reports
 pub mod Drill
+pub mod SceneDrill
 pub mod Verdicts
 pub mod Checking
 pub mod LogChecking
 pub mod Laws
 pub mod RuleScenes
 pub mod TimedScenes
+pub mod SceneTroubles

@@ -2,6 +2,7 @@
 use Rattle.std.specs.Prelude.{ℕ, Bool, List, [], ◌++◌, length, map, if◌then◌else◌, codes}
 use Rattle.std.specs.Fmt.{decimal}
 use Rattle.gc_client.specs.Settlements.{settlement_seen}
+use Rattle.gc_scene_world.specs.declared.report.SceneReport.{SceneReport}
 use Rattle.gc_world.specs.declared.report.Report.{Report}
 use Rattle.gc_texts.specs.Settlements.{settlement_lines}
 
@@ -16,3 +17,9 @@ abbrev pub report_text : Report → Bool → List ℕ
 report_text r totals =
     settlement_lines (map settlement_seen r.settled)
     ++ (if totals then totals_text (length r.sent) (length r.executed) (length r.made) (length r.settled) r.refused_sends r.idle_events else [])
+
+-- the same of a run on the instrument of a scene
+abbrev pub scene_report_text : SceneReport → Bool → List ℕ
+scene_report_text r totals =
+    settlement_lines (map settlement_seen r.settled.items)
+    ++ (if totals then totals_text r.counts.sent r.counts.executed r.counts.made (length r.settled.items) r.counts.refused_sends r.counts.idle_events else [])

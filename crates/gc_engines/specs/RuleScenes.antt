@@ -1,5 +1,5 @@
 -- A scene's text with rules, and the instrument that it sets up: this project's own.
-use Rattle.std.specs.Prelude.{◌≡◌, ◌⊎◌, ℕ, ℤ, suc, ◌==◌, ◌≤◌, Bool, true, false, List, [], ◌∷◌, length, Option, Some, None, if◌then◌else◌, codes}
+use Rattle.std.specs.Prelude.{◌≡◌, ◌⊎◌, ℕ, ℤ, suc, ◌==◌, ◌<◌, ◌≤◌, Bool, true, false, List, [], ◌∷◌, length, Option, Some, None, if◌then◌else◌, codes}
 use Rattle.gc_catalogue.specs.RawTexts.{raw_bytes}
 use Rattle.gc_catalogue.specs.declared.raw.RawCall.{RawCall}
 use Rattle.gc_instrument.specs.State.{opening, simulator_opening}
@@ -15,9 +15,12 @@ use Rattle.gc_scenes.specs.declared.ways.Ways.{Ways}
 use Rattle.gc_scenes.specs.declared.ways.Way.{Way}
 use Rattle.gc_scenes.specs.declared.ways.Way.TheVariants as way
 use Rattle.gc_texts.specs.Cuts.{before, behind}
-use Rattle.gc_texts.specs.LineForms.{IsText}
+use Rattle.gc_texts.specs.LineForms.{Form, IsText, TextFault}
 use Rattle.gc_texts.specs.Nears.{IsDouble}
 use Rattle.gc_texts.specs.Procedures.{IsNumber}
+use Rattle.gc_texts.specs.declared.fault.RunFault.{RunFault}
+use Rattle.gc_texts.specs.declared.fault.RunFault.TheVariants.{SceneFull}
+use Rattle.gc_texts.specs.declared.text.TheConstants.{TEXT_LIMIT}
 use Rattle.gc_engines.specs.Scenes.{IsSerial, IsName, IsTarget}
 use Rattle.gc_engines.specs.declared.rule_line.RuleLine.{RuleLine}
 use Rattle.gc_engines.specs.declared.rule_line.RuleLine.TheVariants as says
@@ -200,16 +203,38 @@ rules_opening lines = record {
   moment = 0;
 }
 
--- the text is a scene with rules, of at most 32 targets, 32 faults and 16 replies, and this is the opening state of its instrument
-pub record IsRuleScene (text : List ℕ) (state : SceneState) : Type 0 where
+-- the lines have no more than an instrument has
+pub record AreFew (lines : List RuleLine) : Type 0 where
+  pub targets : length (rules_targets lines) ≤ 32
+  pub faults : length (rules_faults lines) ≤ 32
+  pub answers : length (rules_answers lines) ≤ 16
+
+-- the lines have more targets, more faults or more replies than an instrument has
+abbrev pub AreMany : List RuleLine → Type 0
+AreMany lines = (32 < length (rules_targets lines)) ⊎ ((32 < length (rules_faults lines)) ⊎ (16 < length (rules_answers lines)))
+
+-- the text is a scene of lines in this form, of at most 32 targets, 32 faults and 16 replies, and this is the opening state of its instrument
+pub record IsSceneOf (form : Form RuleLine) (text : List ℕ) (state : SceneState) : Type 0 where
   pub lines : List RuleLine
-  pub are : IsText IsRuleLine text lines
-  pub few : length (rules_targets lines) ≤ 32
+  pub are : IsText form text lines
+  pub few : AreFew lines
   pub opens : state ≡ rules_opening lines
 
--- the same, and no line asks for a clock
-pub record IsStillScene (text : List ℕ) (state : SceneState) : Type 0 where
+-- the text is a scene of lines in this form, of more than an instrument has
+pub record IsFullOf (form : Form RuleLine) (text : List ℕ) : Type 0 where
   pub lines : List RuleLine
-  pub are : IsText IsStillLine text lines
-  pub few : length (rules_targets lines) ≤ 32
-  pub opens : state ≡ rules_opening lines
+  pub are : IsText form text lines
+  pub many : AreMany lines
+
+-- why a text of lines in this form sets up no instrument: it is a scene of more than an instrument has, or no text of such lines, or memory was refused
+abbrev pub SceneFaultOf : Form RuleLine → List ℕ → RunFault → Type 0
+SceneFaultOf form text SceneFull = (length text ≤ TEXT_LIMIT) × IsFullOf form text
+SceneFaultOf form text fault = TextFault form text fault
+
+-- the text is a scene with rules
+abbrev pub IsRuleScene : List ℕ → SceneState → Type 0
+IsRuleScene text state = IsSceneOf IsRuleLine text state
+
+-- the text is a scene with rules for an instrument without a clock: no line asks for one
+abbrev pub IsStillScene : List ℕ → SceneState → Type 0
+IsStillScene text state = IsSceneOf IsStillLine text state

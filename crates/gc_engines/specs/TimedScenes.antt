@@ -1,13 +1,14 @@
 -- A scene's text with words that want a clock, which `serve` alone has, and the instrument that it sets up: this project's own.
-use Rattle.std.specs.Prelude.{◌≡◌, ℕ, ◌≤◌, Bool, true, false, List, [], ◌∷◌, length, codes}
+use Rattle.std.specs.Prelude.{◌≡◌, ◌⊎◌, ℕ, ◌<◌, ◌≤◌, Bool, true, false, List, [], ◌∷◌, length, codes}
 use Rattle.gc_scenes.specs.Slow.{SlowState}
 use Rattle.gc_scenes.specs.declared.delay.Delay.{Delay}
 use Rattle.gc_texts.specs.Cuts.{before, behind}
-use Rattle.gc_texts.specs.LineForms.{IsText, TextFault}
+use Rattle.gc_texts.specs.LineForms.{IsText, ReachesASoundLine, TextFault}
 use Rattle.gc_texts.specs.Procedures.{IsNumber}
 use Rattle.gc_texts.specs.declared.fault.RunFault.{RunFault}
 use Rattle.gc_texts.specs.declared.fault.RunFault.TheVariants.{SceneFull, Memory}
-use Rattle.gc_engines.specs.RuleScenes.{Begins, IsRuleLine, rules_opening, rules_targets}
+use Rattle.gc_texts.specs.declared.text.TheConstants.{TEXT_LIMIT}
+use Rattle.gc_engines.specs.RuleScenes.{Begins, IsRuleLine, AreFew, AreMany, rules_opening}
 use Rattle.gc_engines.specs.declared.rule_line.RuleLine.{RuleLine}
 use Rattle.gc_engines.specs.declared.timed_line.TimedLine.{TimedLine}
 use Rattle.gc_engines.specs.declared.timed_line.TimedLine.TheVariants as says
@@ -55,17 +56,34 @@ timed_opening lines = record {
   free_from = 0;
 }
 
+-- the lines have more than an instrument has: more targets, faults or replies, or more delays
+abbrev pub AreManyTimed : List TimedLine → Type 0
+AreManyTimed lines = AreMany (rules_of lines) ⊎ (32 < length (delays_of lines))
+
 -- the text is a scene with words that want a clock, of at most 32 targets, 32 faults, 16 replies and 32 delays, and this is the opening
 -- state of its instrument
 pub record IsTimedScene (text : List ℕ) (state : SlowState) : Type 0 where
   pub lines : List TimedLine
   pub are : IsText IsTimedLine text lines
-  pub few : length (rules_targets (rules_of lines)) ≤ 32
+  pub few : AreFew (rules_of lines)
+  pub few_delays : length (delays_of lines) ≤ 32
   pub opens : state ≡ timed_opening lines
 
--- why a text sets up no instrument: each of its lines has a form, and they are more than an instrument has; or memory was refused; or it is no
--- text of such lines
+-- the text is a scene with words that want a clock, of more than an instrument has
+pub record IsFullTimed (text : List ℕ) : Type 0 where
+  pub lines : List TimedLine
+  pub are : IsText IsTimedLine text lines
+  pub many : AreManyTimed lines
+
+-- each line that isn't skipped has a form, and one of them is a line of a scene with rules: such lines are gathered, which wants memory
+pub record GathersRules (text : List ℕ) : Type 0 where
+  pub lines : List TimedLine
+  pub are : IsText IsTimedLine text lines
+  pub some : rules_of lines ≡ [] → ⊥
+
+-- why a text sets up no instrument: it is a scene of more than an instrument has; or memory was refused, at a line that has a form or where the lines
+-- with rules were gathered; or it is no text of such lines
 abbrev pub TimedFault : List ℕ → RunFault → Type 0
-TimedFault text SceneFull = (lines : List TimedLine) × IsText IsTimedLine text lines
-TimedFault text Memory = Unit {0}
+TimedFault text SceneFull = (length text ≤ TEXT_LIMIT) × IsFullTimed text
+TimedFault text Memory = (length text ≤ TEXT_LIMIT) × (ReachesASoundLine IsTimedLine text ⊎ GathersRules text)
 TimedFault text fault = TextFault IsTimedLine text fault

@@ -2,12 +2,24 @@
 
 ghost use Rattle.std.specs.Prelude.{◌≡◌, ◌++◌, length, OnOk, IfOk};
 ghost use Rattle.std.specs.Fmt.{decimal};
-ghost use Rattle.gc_engines.specs.Reports.{totals_text, report_text};
+ghost use Rattle.gc_engines.specs.Reports.{totals_text, report_text, scene_report_text};
 
+use gc_scene_world::SceneReport;
 use gc_texts::append_settlements;
 use gc_world::Report;
 use itoa::Buffer;
 use std::alloc::{AllocError, Global};
+
+// The six counts of the line of totals.
+#[derive(Clone, Copy)]
+struct Totals {
+    sent: usize,
+    executed: usize,
+    made: usize,
+    settled: usize,
+    refused: usize,
+    idle: usize,
+}
 
 /// The lines of a report's settlements, and with `totals` the line of totals behind them. It fails where memory was refused.
 pub(crate) fn text_of(alloc: Global, report: &Report, totals: bool) -> Result<Vec<u8>, AllocError>
@@ -16,21 +28,53 @@ pub(crate) fn text_of(alloc: Global, report: &Report, totals: bool) -> Result<Ve
     let mut text = Vec::new(alloc);
     append_settlements(&mut text, report.settled.as_slice())?;
     if totals {
-        append_totals(&mut text, report)?;
+        let counts = Totals {
+            sent: report.sent.len(),
+            executed: report.executed.len(),
+            made: report.made.len(),
+            settled: report.settled.len(),
+            refused: report.refused_sends,
+            idle: report.idle_events,
+        };
+        append_totals(&mut text, counts)?;
+    }
+    Ok(text)
+}
+
+/// The same of a run on the instrument of a scene.
+pub(crate) fn scene_text_of(
+    alloc: Global,
+    report: &SceneReport,
+    totals: bool,
+) -> Result<Vec<u8>, AllocError>
+    ensures { IfOk result (λ text. text.items ≡ scene_report_text report.now totals) }
+{
+    let mut text = Vec::new(alloc);
+    append_settlements(&mut text, report.settled.as_slice())?;
+    if totals {
+        let counts = Totals {
+            sent: report.counts.sent,
+            executed: report.counts.executed,
+            made: report.counts.made,
+            settled: report.settled.len(),
+            refused: report.counts.refused_sends,
+            idle: report.counts.idle_events,
+        };
+        append_totals(&mut text, counts)?;
     }
     Ok(text)
 }
 
 // Appends the line of totals: six counts, each behind its word. It fails where memory was refused.
-fn append_totals(text: &mut Vec<u8>, report: &Report) -> Result<(), AllocError>
-    ensures { OnOk result (text.new.items ≡ text.old.items ++ totals_text (length report.now.sent) (length report.now.executed) (length report.now.made) (length report.now.settled) report.now.refused_sends report.now.idle_events) }
+fn append_totals(text: &mut Vec<u8>, counts: Totals) -> Result<(), AllocError>
+    ensures { OnOk result (text.new.items ≡ text.old.items ++ totals_text counts.sent counts.executed counts.made counts.settled counts.refused counts.idle) }
 {
-    append_number(text, b"sent ", report.sent.len())?;
-    append_number(text, b" executed ", report.executed.len())?;
-    append_number(text, b" made ", report.made.len())?;
-    append_number(text, b" settled ", report.settled.len())?;
-    append_number(text, b" refused ", report.refused_sends)?;
-    append_number(text, b" idle ", report.idle_events)?;
+    append_number(text, b"sent ", counts.sent)?;
+    append_number(text, b" executed ", counts.executed)?;
+    append_number(text, b" made ", counts.made)?;
+    append_number(text, b" settled ", counts.settled)?;
+    append_number(text, b" refused ", counts.refused)?;
+    append_number(text, b" idle ", counts.idle)?;
     text.extend_from_slice(b"\n")
 }
 

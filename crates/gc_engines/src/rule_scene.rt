@@ -1,12 +1,13 @@
 //! The text of a scene with rules, read into the instrument that it sets up.
 
-ghost use Rattle.std.specs.Prelude.{◌≡◌, ◌<◌, ◌≤◌, ◌↔◌, ◌++◌, length, Err, IfOk, IfSome, None, true};
+ghost use Rattle.std.specs.Prelude.{◌≡◌, ◌<◌, ◌≤◌, ◌↔◌, ℕ, length, Err, IfErr, IfOk, MatchOption, None, true};
 ghost use Rattle.gc_instrument.specs.State.{simulator_opening};
+ghost use Rattle.gc_texts.specs.LineForms.{FirstFaulty};
 ghost use Rattle.gc_texts.specs.declared.fault.RunFault.{RunFault};
 ghost use Rattle.gc_texts.specs.declared.text.TheConstants.{TEXT_LIMIT};
 ghost use Rattle.gc_scenes.specs.Laws.{still};
 ghost use Rattle.gc_scenes.specs.Ways.{no_ways};
-ghost use Rattle.gc_engines.specs.RuleScenes.{IsRuleScene, rules_opening, rules_serial, rules_name, rules_targets, rules_faults, rules_answers, rules_noise, rules_repeat, rules_prism, rules_prisms, rules_ways, ruled, IsStillScene};
+ghost use Rattle.gc_engines.specs.RuleScenes.{AreFew, AreMany, IsFullOf, IsRuleLine, IsRuleScene, IsStillLine, IsStillScene, SceneFaultOf, ruled, rules_answers, rules_faults, rules_name, rules_noise, rules_opening, rules_prism, rules_prisms, rules_repeat, rules_serial, rules_targets, rules_ways};
 
 use crate::rule_line::{RuleForm, RuleLine, StillForm};
 use arrayvec::ArrayVec;
@@ -23,11 +24,15 @@ use std::alloc::Global;
 /// `aims`, `takes`, `values`, `clock` and `real`, which is all of them. Of several lines `blocked` or `drift` of one
 /// target, or `noise`, the last one counts.
 ///
-/// `InputTooLong` refuses a text of more than 65,536 bytes, before any line is looked at. `Schedule` names the first line that has
-/// no form, counted from 1. `SceneFull` refuses more than 32 targets, 32 faults or 16 replies, where each line has a form. `Memory`
-/// comes only where the list of lines couldn't grow.
+/// `InputTooLong` refuses a text of more than 65,536 bytes, before any line is read. `Schedule` names the first line that has no form,
+/// counted from 1. `SceneFull` refuses more than 32 targets, 32 faults or 16 replies, if each line has a form. `Memory` comes only
+/// where the list of lines couldn't grow, at a line that has a form.
 pub fn read_rule_scene(alloc: Global, text: &[u8]) -> Result<SceneInstrument, RunFault>
-    ensures { IfOk result (λ instrument. IsRuleScene text.now instrument) }
+    ensures found { IfOk result (λ instrument. IsRuleScene text.now instrument) }
+    ensures too_long { (result ≡ Err RunFault.InputTooLong) ↔ (TEXT_LIMIT < length text.now) }
+    ensures faulty { (n : ℕ) → result ≡ Err (RunFault.Schedule n) → FirstFaulty IsRuleLine text.now n }
+    ensures full { result ≡ Err RunFault.SceneFull → IsFullOf IsRuleLine text.now }
+    ensures faults { IfErr result (λ e. SceneFaultOf IsRuleLine text.now e) }
 {
     let lines = match read_items::<RuleForm>(alloc, text) {
         Ok(lines) => lines,
@@ -41,7 +46,11 @@ pub fn read_rule_scene(alloc: Global, text: &[u8]) -> Result<SceneInstrument, Ru
 
 /// As `read_rule_scene`, for an instrument that is served without a clock: `behave clock` and `behave real` have no form.
 pub fn read_still_scene(alloc: Global, text: &[u8]) -> Result<SceneInstrument, RunFault>
-    ensures { IfOk result (λ instrument. IsStillScene text.now instrument) }
+    ensures found { IfOk result (λ instrument. IsStillScene text.now instrument) }
+    ensures too_long { (result ≡ Err RunFault.InputTooLong) ↔ (TEXT_LIMIT < length text.now) }
+    ensures faulty { (n : ℕ) → result ≡ Err (RunFault.Schedule n) → FirstFaulty IsStillLine text.now n }
+    ensures full { result ≡ Err RunFault.SceneFull → IsFullOf IsStillLine text.now }
+    ensures faults { IfErr result (λ e. SceneFaultOf IsStillLine text.now e) }
 {
     let lines = match read_items::<StillForm>(alloc, text) {
         Ok(lines) => lines,
@@ -55,7 +64,7 @@ pub fn read_still_scene(alloc: Global, text: &[u8]) -> Result<SceneInstrument, R
 
 // The instrument that these lines set up. `None`: they have too many targets, faults or replies.
 pub(crate) fn set_up(lines: &[RuleLine]) -> Option<SceneInstrument>
-    ensures { IfSome result (λ instrument. (instrument ≡ rules_opening lines.now) × (length (rules_targets lines.now) ≤ 32)) }
+    ensures { MatchOption result (AreMany lines.now) (λ instrument. (instrument ≡ rules_opening lines.now) × AreFew lines.now) }
 {
     let Some(targets) = targets_of(lines) else {
         return None
@@ -108,7 +117,7 @@ fn name_of(lines: &[RuleLine]) -> Text
 
 // The targets of these lines, in order. `None`: they are more than an instrument has.
 fn targets_of(lines: &[RuleLine]) -> Option<ArrayVec<Target, 32>>
-    ensures { IfSome result (λ targets. targets.items ≡ rules_targets lines.now) }
+    ensures { MatchOption result (32 < length (rules_targets lines.now)) (λ targets. targets.items ≡ rules_targets lines.now) }
 {
     let mut targets = ArrayVec::new();
     for line in lines {
@@ -124,7 +133,7 @@ fn targets_of(lines: &[RuleLine]) -> Option<ArrayVec<Target, 32>>
 
 // The faults of these lines, in order. `None`: they are more than an instrument has.
 fn faults_of(lines: &[RuleLine]) -> Option<ArrayVec<Fault, 32>>
-    ensures { IfSome result (λ faults. faults.items ≡ rules_faults lines.now) }
+    ensures { MatchOption result (32 < length (rules_faults lines.now)) (λ faults. faults.items ≡ rules_faults lines.now) }
 {
     let mut faults = ArrayVec::new();
     for line in lines {
@@ -140,7 +149,7 @@ fn faults_of(lines: &[RuleLine]) -> Option<ArrayVec<Fault, 32>>
 
 // The replies of these lines, in order. `None`: they are more than an instrument has.
 fn answers_of(lines: &[RuleLine]) -> Option<ArrayVec<Scripted, 16>>
-    ensures { IfSome result (λ answers. answers.items ≡ rules_answers lines.now) }
+    ensures { MatchOption result (16 < length (rules_answers lines.now)) (λ answers. answers.items ≡ rules_answers lines.now) }
 {
     let mut answers = ArrayVec::new();
     for line in lines {

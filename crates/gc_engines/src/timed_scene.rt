@@ -1,7 +1,10 @@
 //! The text of a scene that `serve` takes, read into the instrument that it sets up, with its delays.
 
-ghost use Rattle.std.specs.Prelude.{◌≡◌, ◌++◌, IfOk, IfErr, IfSome, true, false};
-ghost use Rattle.gc_engines.specs.TimedScenes.{IsTimedScene, TimedFault, rules_of, delays_of, drops_from};
+ghost use Rattle.std.specs.Prelude.{◌≡◌, ◌<◌, ◌↔◌, ℕ, [], length, Err, IfErr, IfOk, IsOk, MatchOption, false};
+ghost use Rattle.gc_texts.specs.LineForms.{FirstFaulty};
+ghost use Rattle.gc_texts.specs.declared.fault.RunFault.{RunFault};
+ghost use Rattle.gc_texts.specs.declared.text.TheConstants.{TEXT_LIMIT};
+ghost use Rattle.gc_engines.specs.TimedScenes.{IsFullTimed, IsTimedLine, IsTimedScene, TimedFault, delays_of, drops_from, rules_of};
 
 use crate::rule_line::RuleLine;
 use crate::rule_scene::set_up;
@@ -15,9 +18,13 @@ use std::alloc::{AllocError, Global};
 /// instrument that it sets up, in its opening state. Of several delays of one procedure, and of several lines `busy`, the last one
 /// counts.
 ///
-/// The faults are those of `read_rule_scene`, and `SceneFull` also refuses more than 32 delays.
+/// The faults are those of `read_rule_scene`. `SceneFull` also refuses more than 32 delays, and `Memory` also comes where the lines
+/// with rules were gathered behind the last line.
 pub fn read_timed_scene(alloc: Global, text: &[u8]) -> Result<SlowInstrument, RunFault>
     ensures found { IfOk result (λ slow. IsTimedScene text.now slow) }
+    ensures too_long { (result ≡ Err RunFault.InputTooLong) ↔ (TEXT_LIMIT < length text.now) }
+    ensures faulty { (n : ℕ) → result ≡ Err (RunFault.Schedule n) → FirstFaulty IsTimedLine text.now n }
+    ensures full { result ≡ Err RunFault.SceneFull → IsFullTimed text.now }
     ensures faults { IfErr result (λ e. TimedFault text.now e) }
 {
     let lines = match read_items::<TimedForm>(alloc, text) {
@@ -38,7 +45,8 @@ pub fn read_timed_scene(alloc: Global, text: &[u8]) -> Result<SlowInstrument, Ru
 
 // The lines of a scene with rules among these, in order. `Err`: memory was refused.
 fn rules_of(alloc: Global, lines: &[TimedLine]) -> Result<Vec<RuleLine>, AllocError>
-    ensures { IfOk result (λ rules. rules.items ≡ rules_of lines.now) }
+    ensures found { IfOk result (λ rules. rules.items ≡ rules_of lines.now) }
+    ensures none { rules_of lines.now ≡ [] → IsOk result }
 {
     let mut rules = Vec::new(alloc);
     for line in lines {
@@ -53,7 +61,7 @@ fn rules_of(alloc: Global, lines: &[TimedLine]) -> Result<Vec<RuleLine>, AllocEr
 
 // The delays of these lines, in order. `None`: they are more than an instrument has.
 fn delays_of(lines: &[TimedLine]) -> Option<ArrayVec<Delay, 32>>
-    ensures { IfSome result (λ delays. delays.items ≡ delays_of lines.now) }
+    ensures { MatchOption result (32 < length (delays_of lines.now)) (λ delays. delays.items ≡ delays_of lines.now) }
 {
     let mut delays = ArrayVec::new();
     for line in lines {

@@ -38,13 +38,14 @@ fn parts_of(name: &str) -> Option<(Engine, &str, &'static str)> {
     match ending {
         "requests" => Some((Engine::Exec, stem, ".replies")),
         "scene-requests" => Some((Engine::Rules, stem, ".scene-replies")),
+        "scene-schedule" => Some((Engine::DrillRules, stem, ".scene-expected")),
         "recording" => Some((Engine::Check, stem, ".verdicts")),
         "schedule" => Some((Engine::Drill, stem, ".expected")),
         _ => None,
     }
 }
 
-// Reads the two files of an example, and of requests to the instrument of a scene that scene.
+// Reads the two files of an example, and the scene of one that a scene's instrument answers.
 fn read(
     rt: &HostRuntime,
     engine: Engine,
@@ -55,7 +56,7 @@ fn read(
     let output = format!(in rt.alloc(); "{stem}{ending}")?;
     let input = fs::read(rt, input)?;
     let mut setup = Setup::new(rt.alloc(), engine, input);
-    if engine == Engine::Rules {
+    if engine == Engine::Rules || engine == Engine::DrillRules {
         let scene = format!(in rt.alloc(); "{stem}.scene")?;
         setup.scene = fs::read(rt, scene.as_str())?;
     }

@@ -8,7 +8,10 @@ use crate::outcome::Outcome;
 use gc_cases::Told;
 use gc_catalogue::Call;
 use gc_client::{Client, Ring, Slots, Window};
-use gc_engines::{read_rule_scene, read_schedule, run_check, run_drill, run_exec};
+use gc_engines::{
+    read_rule_scene, read_schedule, read_still_scene, run_check, run_drill, run_drill_scene,
+    run_exec,
+};
 use gc_instrument::Instrument;
 use gc_lines::ToWriter;
 use gc_probes::{PieceSink, PieceSource};
@@ -45,6 +48,7 @@ fn play_example(rt: &HostRuntime, name: &str, example: &Example) -> io::Result<b
     match example.setup.engine {
         Engine::Exec => tell(rt, name, "served", serves(input, expected)),
         Engine::Rules => tell(rt, name, "served", serves_scene(rt.alloc(), example)),
+        Engine::DrillRules => tell(rt, name, "drilled", drills_scene(rt.alloc(), example)),
         Engine::Check => tell(rt, name, "checked", checks(input, expected)),
         _ => play_schedule(rt, name, input, expected),
     }
@@ -125,6 +129,23 @@ fn drills(alloc: Global, input: &[u8], expected: &[u8]) -> Outcome {
 fn drill_into(alloc: Global, input: &[u8], sink: &mut PieceSink) -> Result<(), RunFault> {
     let mut source = PieceSource::new(input, &[], u64::MAX);
     run_drill(alloc, &mut source, sink, true)
+}
+
+// What a schedule comes to through `drill --totals` on the instrument of its scene.
+fn drills_scene(alloc: Global, example: &Example) -> Outcome {
+    match read_still_scene(alloc, example.setup.scene.as_slice()) {
+        Ok(instrument) => drills_on(alloc, instrument, example),
+        Err(RunFault::Memory) => Outcome::NoMemory,
+        Err(_) => Outcome::Other,
+    }
+}
+
+// What the example's schedule comes to on this instrument, with totals.
+fn drills_on(alloc: Global, instrument: SceneInstrument, example: &Example) -> Outcome {
+    let mut source = PieceSource::new(example.setup.input.as_slice(), &[], u64::MAX);
+    let mut sink = PieceSink::new(alloc, 5, u64::MAX);
+    let end = run_drill_scene(alloc, instrument, &mut source, &mut sink, true, 7);
+    Outcome::of(end, &sink, example.expected.as_slice())
 }
 
 // What a schedule comes to over a ring and over places, whose reports have to be the same. Where one allocation of the process is

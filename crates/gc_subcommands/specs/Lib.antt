@@ -1,4 +1,5 @@
 pub mod Drills
+pub mod Refusing
 pub mod Scenes
 pub mod Serves
 pub mod Staging

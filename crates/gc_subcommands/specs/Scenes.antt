@@ -3,8 +3,8 @@ use Rattle.std.specs.Prelude.{◌≡◌, ℕ, List, Option, None}
 use Rattle.std.specs.Io.KnownBytes.{Appends}
 use Rattle.gc_instrument.specs.State.{State, simulator_opening}
 use Rattle.gc_lines.specs.Answering.{Ports}
-use Rattle.gc_texts.specs.Faults.{run_fault_text, fault_line}
-use Rattle.gc_texts.specs.declared.fault.RunFault.{RunFault}
+use Rattle.gc_subcommands.specs.Refusing.{refusal_text}
+use Rattle.gc_subcommands.specs.declared.refusal.Refusal.{Refusal}
 
 -- nothing was read, and nothing written
 abbrev pub AreUnused : Ports → Ports → Type 0
@@ -13,9 +13,9 @@ AreUnused old new = (new.remaining ≡ old.remaining) × (new.taken ≡ old.take
 -- the scene that was named was refused, which is reported with status 1, and nothing was read or written; the messages had
 -- `told` before, and have `told'` now
 pub record RefusesScene {Name : Type 0} (scene : Option Name) (old new : Ports) (status : ℕ) (told told' : Option (List ℕ)) : Type 0 where
-  pub fault : RunFault
+  pub refusal : Refusal
   pub is : status ≡ 1
-  pub tells : Appends told told' (fault_line (run_fault_text fault))
+  pub tells : Appends told told' (refusal_text refusal)
   pub unused : AreUnused old new
   pub named : scene ≡ None → ⊥
 

@@ -1,8 +1,9 @@
 -- The instrument that a scene sets up, with rules or without them: this project's own.
-use Rattle.std.specs.Prelude.{ℕ, List}
-use Rattle.gc_engines.specs.Scenes.{IsScene}
-use Rattle.gc_engines.specs.RuleScenes.{IsStillScene}
-use Rattle.gc_engines.specs.TimedScenes.{IsTimedScene}
+use Rattle.std.specs.Prelude.{◌⊎◌, ℕ, List}
+use Rattle.gc_engines.specs.Scenes.{IsScene, SceneFault}
+use Rattle.gc_engines.specs.RuleScenes.{IsStillLine, IsStillScene, SceneFaultOf}
+use Rattle.gc_engines.specs.TimedScenes.{IsTimedScene, TimedFault}
+use Rattle.gc_texts.specs.declared.fault.RunFault.{RunFault}
 use Rattle.gc_subcommands.specs.declared.scene.Staged.{Staged}
 use Rattle.gc_subcommands.specs.declared.scene.Staged.TheVariants.{Plain, Ruled}
 use Rattle.gc_subcommands.specs.declared.scene.Timed.{Timed}
@@ -17,3 +18,11 @@ IsStaged text (Ruled state) = IsStillScene text state
 abbrev pub IsTimed : List ℕ → Timed → Type 0
 IsTimed text (Still staged) = IsStaged text staged
 IsTimed text (Slow state) = IsTimedScene text state
+
+-- why a text sets up no instrument: it is no scene without rules for this reason, or none with rules
+abbrev pub StagedFault : List ℕ → RunFault → Type 0
+StagedFault text fault = SceneFault text fault ⊎ SceneFaultOf IsStillLine text fault
+
+-- why a text sets up no instrument for one who has a clock
+abbrev pub TimedStagedFault : List ℕ → RunFault → Type 0
+TimedStagedFault text fault = StagedFault text fault ⊎ TimedFault text fault

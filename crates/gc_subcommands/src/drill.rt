@@ -2,18 +2,17 @@
 
 ghost use Rattle.std.specs.Prelude.{◌≡◌, ◌≤◌, IfOk};
 ghost use Rattle.std.specs.Process.{exit_status};
-ghost use Rattle.gc_subcommands.specs.Drills.{TellsSchedule, TellsWithin, TellsDrill, PlaysWhole, AreReadWhole};
-ghost use Rattle.gc_subcommands.specs.Scenes.{IsOfScene};
-ghost use Rattle.gc_instrument.specs.State.{State};
+ghost use Rattle.gc_subcommands.specs.Drills.{TellsSchedule, TellsRuledSchedule, TellsWithin, TellsRuledWithin, TellsDrill, PlaysWhole, PlaysRuled, PlaysScene, AreReadWhole};
 ghost use Rattle.gc_lines.specs.Answering.{ports_of};
 
-use crate::scene::instrument_of;
+use crate::scene::{Staged, staged_of};
 use clap::{ArgMatches, Command};
 use gc_client::WINDOW;
-use gc_engines::run_drill_on;
+use gc_engines::{run_drill_on, run_drill_scene};
 use gc_instrument::Instrument;
 use gc_lines::{Sink, Source};
 use gc_messages::{end_of, refuse_numbers};
+use gc_scenes::SceneInstrument;
 use gc_words::help::EVENTS;
 use gc_words::{Argument, FLAG, SCENE, Takes, command_of};
 use std::alloc::{AllocError, Global};
@@ -78,7 +77,7 @@ pub fn drill_scene<R: Files, S: Source, K: Sink, E: Write>(
     messages: &mut E,
 ) -> io::Result<ExitCode>
     // Either the scene or the width was refused, which is reported, and nothing was read or written; or the schedule was
-    // played on the instrument, which is the simulator where no scene is named, and how that ended is reported.
+    // played on the instrument, which is the simulator if no scene is named, and how that ended is reported.
     ensures told { IfOk result (λ status. TellsDrill drilling.entry
         (ports_of S.Source source.old K.Sink sink.old)
         (ports_of S.Source source.new K.Sink sink.new)
@@ -87,8 +86,8 @@ pub fn drill_scene<R: Files, S: Source, K: Sink, E: Write>(
     // A width from 1 to 7 isn't refused.
     ensures width { 1 ≤ drilling.entry.width → drilling.entry.width ≤ WINDOW → IfOk result (λ status. exit_status status ≤ 1) }
 
-    // Status 0 only where the sink took the output of the text's events, on the simulator where no scene is named.
-    ensures done { IfOk result (λ status. exit_status status ≡ 0 → (start : State) × IsOfScene drilling.entry.scene start × PlaysWhole start drilling.entry
+    // Status 0 only where the sink took the output of the text's events, on the simulator if no scene is named.
+    ensures done { IfOk result (λ status. exit_status status ≡ 0 → PlaysScene drilling.entry
         (ports_of S.Source source.old K.Sink sink.old)
         (ports_of S.Source source.new K.Sink sink.new)) }
 
@@ -98,9 +97,14 @@ pub fn drill_scene<R: Files, S: Source, K: Sink, E: Write>(
         (ports_of S.Source source.new K.Sink sink.new)) }
     ensures bound { IfOk result (λ status. exit_status status ≤ 2) }
 {
-    match instrument_of(rt, alloc, drilling.scene) {
-        Ok(instrument) => drill_within(alloc, instrument, drilling, source, sink, messages),
-        Err(fault) => end_of(Err(fault), messages),
+    match staged_of(rt, alloc, drilling.scene) {
+        Ok(Staged::Plain(instrument)) => {
+            drill_within(alloc, instrument, drilling, source, sink, messages)
+        }
+        Ok(Staged::Ruled(instrument)) => {
+            drill_ruled_within(alloc, instrument, drilling, source, sink, messages)
+        }
+        Err(refusal) => refusal.tell(messages),
     }
 }
 
@@ -175,6 +179,87 @@ fn drill<S: Source, K: Sink, E: Write>(
 {
     end_of(
         run_drill_on(
+            alloc,
+            instrument,
+            source,
+            sink,
+            drilling.totals,
+            drilling.width,
+        ),
+        messages,
+    )
+}
+
+// Plays a schedule on the instrument of a scene with rules, as `drill_within` does on another.
+fn drill_ruled_within<S: Source, K: Sink, E: Write>(
+    alloc: Global,
+    instrument: SceneInstrument,
+    drilling: Drilling<'_>,
+    source: &mut S,
+    sink: &mut K,
+    messages: &mut E,
+) -> io::Result<ExitCode>
+    // Either the width was refused with status 2 and a line, and nothing was read or written; or the schedule was played, and
+    // how that ended is reported.
+    ensures told { IfOk result (λ status. TellsRuledWithin instrument drilling.entry
+        (ports_of S.Source source.old K.Sink sink.old)
+        (ports_of S.Source source.new K.Sink sink.new)
+        (exit_status status) (E.contents messages.old) (E.contents messages.new)) }
+
+    // A width from 1 to 7 isn't refused.
+    ensures width { 1 ≤ drilling.entry.width → drilling.entry.width ≤ WINDOW → IfOk result (λ status. exit_status status ≤ 1) }
+
+    // Status 0 only where the sink took the output of the text's events.
+    ensures done { IfOk result (λ status. exit_status status ≡ 0 → PlaysRuled instrument drilling.entry
+        (ports_of S.Source source.old K.Sink sink.old)
+        (ports_of S.Source source.new K.Sink sink.new)) }
+
+    // Status 0 only where the last read was the end, and the source has no byte left.
+    ensures whole { IfOk result (λ status. exit_status status ≡ 0 → AreReadWhole
+        (ports_of S.Source source.old K.Sink sink.old)
+        (ports_of S.Source source.new K.Sink sink.new)) }
+    ensures bound { IfOk result (λ status. exit_status status ≤ 2) }
+{
+    if drilling.width == 0 {
+        return refuse_numbers(messages);
+    }
+    if usize::from(drilling.width) > WINDOW {
+        return refuse_numbers(messages);
+    }
+    drill_ruled(alloc, instrument, drilling, source, sink, messages)
+}
+
+// Plays a schedule on the instrument of a scene with rules, and reports how that ended.
+fn drill_ruled<S: Source, K: Sink, E: Write>(
+    alloc: Global,
+    instrument: SceneInstrument,
+    drilling: Drilling<'_>,
+    source: &mut S,
+    sink: &mut K,
+    messages: &mut E,
+) -> io::Result<ExitCode>
+    requires least { 1 ≤ drilling.width }
+    requires most { drilling.width ≤ WINDOW }
+
+    // The schedule was played, and the status and the messages report how that ended.
+    ensures told { IfOk result (λ status. TellsRuledSchedule instrument drilling.entry
+        (ports_of S.Source source.old K.Sink sink.old)
+        (ports_of S.Source source.new K.Sink sink.new)
+        (exit_status status) (E.contents messages.old) (E.contents messages.new)) }
+
+    // Status 0 only where the sink took the output of the text's events.
+    ensures done { IfOk result (λ status. exit_status status ≡ 0 → PlaysRuled instrument drilling.entry
+        (ports_of S.Source source.old K.Sink sink.old)
+        (ports_of S.Source source.new K.Sink sink.new)) }
+
+    // Status 0 only where the last read was the end, and the source has no byte left.
+    ensures whole { IfOk result (λ status. exit_status status ≡ 0 → AreReadWhole
+        (ports_of S.Source source.old K.Sink sink.old)
+        (ports_of S.Source source.new K.Sink sink.new)) }
+    ensures bound { IfOk result (λ status. exit_status status ≤ 1) }
+{
+    end_of(
+        run_drill_scene(
             alloc,
             instrument,
             source,

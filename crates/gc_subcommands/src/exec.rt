@@ -9,7 +9,7 @@ use crate::scene::{Staged, staged_of};
 use clap::Command;
 use gc_instrument::{Instrument, serve};
 use gc_lines::{Sink, Source};
-use gc_messages::{end_of, tell_end};
+use gc_messages::tell_end;
 use gc_scenes::{SceneInstrument, serve_scene};
 use gc_words::help::REQUESTS;
 use gc_words::{Argument, SCENE, command_of};
@@ -65,7 +65,7 @@ pub fn exec_scene<R: Files, S: Source, K: Sink, E: Write>(
     match staged_of(rt, alloc, scene) {
         Ok(Staged::Plain(instrument)) => exec(instrument, source, sink, messages),
         Ok(Staged::Ruled(instrument)) => exec_ruled(instrument, source, sink, messages),
-        Err(fault) => end_of(Err(fault), messages),
+        Err(refusal) => refusal.tell(messages),
     }
 }
 

@@ -7,6 +7,7 @@ pub mod check;
 pub mod drill;
 pub mod exec;
 pub mod looped;
+mod refusal;
 mod scene;
 pub mod serve;
 mod words;

@@ -3,10 +3,10 @@
 ghost use Rattle.std.specs.Prelude.{◌≤◌, IfOk};
 ghost use Rattle.std.specs.Process.{exit_status};
 
-use crate::scene::instrument_of;
+use crate::scene::{Staged, staged_of};
 use clap::Command;
 use gc_ask::loop_tcp_on;
-use gc_lines::{Sink, Source};
+use gc_lines::{Answers, Sink, Source};
 use gc_messages::end_of;
 use gc_texts::RunFault;
 use gc_words::help::COMMANDS;
@@ -48,14 +48,39 @@ pub fn loop_port<
 ) -> io::Result<ExitCode>
     ensures { IfOk result (λ status. exit_status status ≤ 1) }
 {
-    let instrument = match instrument_of(rt, alloc, scene) {
-        Ok(instrument) => instrument,
-        Err(fault) => {
-            let ended = end_of(Err(fault), messages);
-            let _ = tell_scene(scene, messages);
-            return ended;
+    match staged_of(rt, alloc, scene) {
+        Ok(Staged::Plain(instrument)) => {
+            loop_on(rt, alloc, scene, instrument, source, sink, messages)
         }
-    };
+        Ok(Staged::Ruled(instrument)) => {
+            loop_on(rt, alloc, scene, instrument, source, sink, messages)
+        }
+        Err(refusal) => {
+            let ended = refusal.tell(messages);
+            let _ = tell_scene(scene, messages);
+            ended
+        }
+    }
+}
+
+// Asks over a connection to this instrument, that of the scene if one is named, and reports how that ended.
+fn loop_on<
+    R: Net<Listener = TcpListener, Stream = TcpStream>,
+    T: Answers + Drop,
+    S: Source,
+    K: Sink,
+    E: Write,
+>(
+    rt: &R,
+    alloc: Global,
+    scene: Option<&str>,
+    instrument: T,
+    source: &mut S,
+    sink: &mut K,
+    messages: &mut E,
+) -> io::Result<ExitCode>
+    ensures { IfOk result (λ status. exit_status status ≤ 1) }
+{
     let end = loop_tcp_on(rt, alloc, instrument, source, sink, u32::MAX);
     let ended = end_of(end, messages);
     if let Err(RunFault::Schedule { .. } | RunFault::InputTooLong) = end {

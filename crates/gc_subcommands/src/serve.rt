@@ -146,8 +146,8 @@ fn serve_scene<
             serve_with(rt, serving, &mut instrument, None, messages)
         }
         Ok(Timed::Slow(slow)) => serve_slow(rt, serving, slow, messages),
-        Err(fault) => {
-            let ended = end_of(Err(fault), messages);
+        Err(refusal) => {
+            let ended = refusal.tell(messages);
             let _ = tell_scene(serving.scene, messages);
             ended
         }
@@ -201,6 +201,23 @@ fn serve_with<
     }
 }
 
+// Where an instrument is served: at an address, or on the device with this path.
+#[derive(Clone, Copy)]
+enum Spot<'a> {
+    Address(Address<'a>),
+    Device(&'a str),
+}
+
+// Where an instrument is served that has this place. `None`: on port 0, which clap refuses, though no clause of clap's says so.
+fn spot_of(place: Place<'_>) -> Option<Spot<'_>> {
+    match place {
+        Place::Port(0) => None,
+        Place::Port(port) => Some(Spot::Address(Address::Here(port))),
+        Place::Host(host) => Some(Spot::Address(Address::Named(host))),
+        Place::Device(path) => Some(Spot::Device(path)),
+    }
+}
+
 // Serves a port or a device, and reports how that ended. clap refuses numbers out of their range, though no clause of clap's says
 // so: hence they are refused here, too, but for 0 connections of a device, which is not opened then.
 fn serve_place<
@@ -217,26 +234,13 @@ fn serve_place<
 ) -> io::Result<ExitCode>
     ensures { IfOk result (λ status. exit_status status ≤ 2) }
 {
-    match place {
-        Place::Port(0) => refuse_numbers(messages),
-        Place::Port(port) => serve_address(
-            rt,
-            Address::Here(port),
-            connections,
-            instrument,
-            hours,
-            messages,
-        ),
-        Place::Host(host) => serve_address(
-            rt,
-            Address::Named(host),
-            connections,
-            instrument,
-            hours,
-            messages,
-        ),
-        Place::Device(_) if connections > MOST_CONNECTIONS => refuse_numbers(messages),
-        Place::Device(path) => {
+    match spot_of(place) {
+        None => refuse_numbers(messages),
+        Some(Spot::Address(address)) => {
+            serve_address(rt, address, connections, instrument, hours, messages)
+        }
+        Some(Spot::Device(_)) if connections > MOST_CONNECTIONS => refuse_numbers(messages),
+        Some(Spot::Device(path)) => {
             let end = serve_device(rt, path, connections, instrument, hours, u32::MAX);
             tell_served(place, end, messages)
         }
@@ -291,25 +295,12 @@ fn keep_place<
         idle,
         max_reads: u32::MAX,
     };
-    let kept = match place {
-        Place::Port(0) => return refuse_numbers(messages),
-        Place::Port(port) => keep_tcp(
-            rt,
-            Address::Here(port),
-            keeping,
-            instrument,
-            hours,
-            messages,
-        ),
-        Place::Host(host) => keep_tcp(
-            rt,
-            Address::Named(host),
-            keeping,
-            instrument,
-            hours,
-            messages,
-        ),
-        Place::Device(path) => keep_device(rt, path, keeping, instrument, hours, messages),
+    let kept = match spot_of(place) {
+        None => return refuse_numbers(messages),
+        Some(Spot::Address(address)) => {
+            keep_tcp(rt, address, keeping, instrument, hours, messages)
+        }
+        Some(Spot::Device(path)) => keep_device(rt, path, keeping, instrument, hours, messages),
     };
     match kept {
         Ok(_) => Ok(ExitCode::SUCCESS),

@@ -10,7 +10,7 @@ With --scene FILE the file describes it. A scene has one item a line; empty line
   serial N               the serial number; default 123456
   name TEXT              the name, at most 64 bytes; default GEOCOM SIM
   target HZ V DISTANCE   a target, at most 32: angles in radians, slope distance in metres
-A scene for `exec` or `serve` may have rules, too:
+A scene may have rules, too:
   fault RPC RC [after COUNT] [for COUNT]   answers a procedure with this return code without executing it
   answer RPC RC[,PARAMS]                   the reply to a procedure that isn't in the table
   blocked TARGET FROM TO                   hides a target, counted from 1, during these measurements and searches
@@ -25,7 +25,7 @@ A scene for `serve`, which has a clock, may also have:
 
 Exit status: 0 on success, 1 after a fault, 2 for a command line that doesn't parse.
 
-A fault is one line on standard error, `geocom: fault N`. For a place, a file or a station's text a second line gives the reason:
+A fault is one line on standard error, `geocom: fault N`. For a place, a file, a station's text or a scene a second line gives the reason:
   41  a scene has more than 32 targets, 32 faults or 16 replies
   42  the input, the connection or the scene file could not be read
   43  the output or the connection could not be written: R complete lines were written, and B bytes of the next

@@ -10,7 +10,7 @@ use gc_ask::{Duplex, run_ask, run_loop_on};
 use gc_cases::{Case, push_all};
 use gc_engines::{
     read_rule_scene, read_scene, read_still_scene, read_timed_scene, run_check, run_check_log,
-    run_drill_on, run_exec,
+    run_drill_on, run_drill_scene, run_exec,
 };
 use gc_instrument::serve;
 use gc_lines::{Line, Outgoing, ServeFault, Served, append, write_whole};
@@ -32,6 +32,7 @@ pub enum Engine {
     Loop,
     Scene,
     Rules,
+    DrillRules,
     RuleScene,
     Slow,
     TimedScene,
@@ -87,6 +88,7 @@ fn engine_of(word: &str) -> Engine {
         "loop" => Engine::Loop,
         "scene" => Engine::Scene,
         "rules" => Engine::Rules,
+        "drill-rules" => Engine::DrillRules,
         "rule-scene" => Engine::RuleScene,
         "slow" => Engine::Slow,
         "timed-scene" => Engine::TimedScene,
@@ -348,6 +350,7 @@ impl Setup {
     ) -> Result<(), RunFault> {
         match self.engine {
             Engine::Drill => self.drill(alloc, source, output),
+            Engine::DrillRules => self.drill_rules(alloc, source, output),
             Engine::Ask => self.ask(alloc, source, link, output),
             Engine::Loop => self.ask_in_a_loop(alloc, source, output),
             Engine::RuleScene => self.read_rules(alloc),
@@ -366,6 +369,21 @@ impl Setup {
     ) -> Result<(), RunFault> {
         let instrument = read_scene(alloc, self.scene.as_slice())?;
         run_drill_on(alloc, instrument, source, output, self.totals, self.width())
+    }
+
+    // Drills with the instrument of the scene, which has rules.
+    fn drill_rules(
+        &self,
+        alloc: Global,
+        source: &mut PieceSource<'_>,
+        output: &mut Taking,
+    ) -> Result<(), RunFault> {
+        match read_still_scene(alloc, self.scene.as_slice()) {
+            Ok(instrument) => {
+                run_drill_scene(alloc, instrument, source, output, self.totals, self.width())
+            }
+            Err(fault) => Err(fault),
+        }
     }
 
     // Reads the input as a scene.

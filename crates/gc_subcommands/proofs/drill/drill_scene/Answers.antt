@@ -1,20 +1,44 @@
 use Rattle.std.proofs.Common.{inl, inr}
 use Rattle.std.proofs.lemmas.Result.{IfOk-weaker}
-use Rattle.gc_subcommands.proofs.Started.{same_start}
+use Rattle.gc_subcommands.proofs.Started.{same_plain, never_ruled}
 use Rattle.gc_subcommands.proofs.drill.drill_scene.Goals as goal
 
-pub returns-in-Ok-clause-done : goal.returns-in-Ok-clause-done
-returns-in-Ok-clause-done g c =
+pub returns-in-Ok-Plain-clause-done : goal.returns-in-Ok-Plain-clause-done
+returns-in-Ok-Plain-clause-done g c =
     IfOk-weaker c.drill_within.result _ _
-    (λ status done zero. (
-      c.in-Ok.instrument,
-      (λ none. same_start c.instrument_of.result c.in-Ok.instrument _ c.in-Ok.is
-          (c.instrument_of.ensures.simulator none)),
+    (λ status done zero. inl (
+      c.in-Ok-Plain.instrument,
+      (λ none. same_plain c.staged_of.result c.in-Ok-Plain.field-0 c.in-Ok-Plain.instrument _ c.in-Ok-Plain.is c.in-Ok-Plain.field-0-is
+          (c.staged_of.ensures.simulator none)),
       done zero,
     )) c.drill_within.ensures.done
 
-pub returns-in-Ok-clause-told : goal.returns-in-Ok-clause-told
-returns-in-Ok-clause-told g c =
+pub returns-in-Ok-Plain-clause-told : goal.returns-in-Ok-Plain-clause-told
+returns-in-Ok-Plain-clause-told g c =
     IfOk-weaker c.drill_within.result _ _
-    (λ status told. inr (c.in-Ok.instrument, (λ none. same_start c.instrument_of.result c.in-Ok.instrument _ c.in-Ok.is (c.instrument_of.ensures.simulator none)), told))
+    (λ status told. inr (inl (
+      c.in-Ok-Plain.instrument,
+      (λ none. same_plain c.staged_of.result c.in-Ok-Plain.field-0 c.in-Ok-Plain.instrument _ c.in-Ok-Plain.is c.in-Ok-Plain.field-0-is
+          (c.staged_of.ensures.simulator none)),
+      told,
+    )))
     c.drill_within.ensures.told
+
+pub returns-in-Ok-Ruled-clause-done : goal.returns-in-Ok-Ruled-clause-done
+returns-in-Ok-Ruled-clause-done g c =
+    IfOk-weaker c.drill_ruled_within.result _ _
+    (λ status done zero. inr (
+      (λ none. never_ruled c.staged_of.result c.in-Ok-Ruled.field-0 c.in-Ok-Ruled.instrument _ c.in-Ok-Ruled.is c.in-Ok-Ruled.field-0-is
+          (c.staged_of.ensures.simulator none)),
+      (c.in-Ok-Ruled.instrument, done zero),
+    )) c.drill_ruled_within.ensures.done
+
+pub returns-in-Ok-Ruled-clause-told : goal.returns-in-Ok-Ruled-clause-told
+returns-in-Ok-Ruled-clause-told g c =
+    IfOk-weaker c.drill_ruled_within.result _ _
+    (λ status told. inr (inr (
+      (λ none. never_ruled c.staged_of.result c.in-Ok-Ruled.field-0 c.in-Ok-Ruled.instrument _ c.in-Ok-Ruled.is c.in-Ok-Ruled.field-0-is
+          (c.staged_of.ensures.simulator none)),
+      (c.in-Ok-Ruled.instrument, told),
+    )))
+    c.drill_ruled_within.ensures.told

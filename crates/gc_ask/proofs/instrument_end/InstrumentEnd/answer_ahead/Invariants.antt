@@ -2,7 +2,7 @@ use Rattle.std.proofs.Common.{◌≤◌, ◌-◌, length}
 use Rattle.gc_ask.proofs.instrument_end.InstrumentEnd.answer_ahead.Given as goal
 
 abbrev pub invariant-loop-at : goal.invariant-loop-at
-invariant-loop-at l = l.at ≤ length l.left
+invariant-loop-at g l = l.at ≤ length l.left
 
 abbrev pub decreases-loop-at : goal.decreases-loop-at
-decreases-loop-at l = length l.left - l.at
+decreases-loop-at g l = length l.left - l.at

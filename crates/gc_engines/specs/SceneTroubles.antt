@@ -1,0 +1,121 @@
+-- What is at fault in a faulty line of a scene: this project's own.
+use Rattle.std.specs.Prelude.{◌≡◌, ◌⊎◌, ℕ, ℤ, List, ◌++◌, codes}
+use Rattle.std.specs.Fmt.{decimal}
+use Rattle.gc_values.specs.Text as text
+use Rattle.gc_values.specs.Whole.{NamesWhole, FitsLong}
+use Rattle.gc_values.specs.declared.decimal.Decimal.{Decimal}
+use Rattle.gc_catalogue.specs.Raws.{IsRawRefusal}
+use Rattle.gc_catalogue.specs.declared.raw.RawFault.{RawFault}
+use Rattle.gc_catalogue.specs.declared.raw.RawFault.TheVariants.{InTable}
+use Rattle.gc_texts.specs.Cuts.{before, behind}
+use Rattle.gc_texts.specs.Nears.{IsDouble}
+use Rattle.gc_texts.specs.Procedures.{IsNumber}
+use Rattle.gc_texts.specs.Words.{first_word, second_word, third_word, after_two_words, after_three_words}
+use Rattle.gc_engines.specs.RuleScenes.{WantsClock}
+use Rattle.gc_engines.specs.declared.scene_trouble.SceneTrouble.{SceneTrouble}
+use Rattle.gc_engines.specs.declared.scene_trouble.SceneTrouble.TheVariants as trouble
+use Rattle.gc_engines.specs.declared.scene_trouble.SceneWord.{SceneWord}
+use Rattle.gc_engines.specs.declared.scene_trouble.SceneWord.TheVariants as word
+
+-- the words that lines of a scene begin with
+abbrev pub word_text : SceneWord → List ℕ
+word_text word.Serial = codes "serial"
+word_text word.Name = codes "name"
+word_text word.Target = codes "target"
+word_text word.Fault = codes "fault"
+word_text word.Answer = codes "answer"
+word_text word.Blocked = codes "blocked"
+word_text word.Drift = codes "drift"
+word_text word.Noise = codes "noise"
+word_text word.Repeats = codes "repeats"
+word_text word.Behave = codes "behave"
+word_text word.Delay = codes "delay"
+word_text word.Busy = codes "busy"
+
+-- how a line with this word is written
+abbrev pub form_text : SceneWord → List ℕ
+form_text word.Serial = codes "serial N"
+form_text word.Name = codes "name TEXT"
+form_text word.Target = codes "target HZ V DISTANCE"
+form_text word.Fault = codes "fault RPC RC [after COUNT] [for COUNT]"
+form_text word.Answer = codes "answer RPC RC[,PARAMS]"
+form_text word.Blocked = codes "blocked TARGET FROM TO"
+form_text word.Drift = codes "drift TARGET HZ V D"
+form_text word.Noise = codes "noise HZ V D SEED"
+form_text word.Repeats = codes "repeats no"
+form_text word.Behave = codes "behave faces, aims, takes, values, clock or real"
+form_text word.Delay = codes "delay RPC MS"
+form_text word.Busy = codes "busy queue or busy drop"
+
+-- the line begins with this word
+abbrev pub Has : SceneWord → List ℕ → Type 0
+Has w line = first_word line ≡ word_text w
+
+-- the line asks for a clock, or begins with a word that does
+abbrev pub NeedsClock : List ℕ → Type 0
+NeedsClock line = WantsClock line ⊎ (Has word.Delay line ⊎ Has word.Busy line)
+
+-- the text is no number up to this one
+unfoldable pub NotNumber : List ℕ → ℕ → Type 0
+NotNumber text max = (n : ℕ) → IsNumber text n max → ⊥
+
+-- the text is no decimal
+unfoldable pub NoDecimal : List ℕ → Type 0
+NoDecimal text = (d : Decimal) → IsDouble text d → ⊥
+
+-- what is at fault in these parameters of a reply to the procedure with this number: it is in the table; or they aren't those of a reply; or nothing is
+abbrev pub IsReplyTrouble : ℕ → List ℕ → SceneTrouble → Type 0
+IsReplyTrouble rpc params (trouble.InTable n) = (n ≡ rpc) × IsRawRefusal rpc params InTable
+IsReplyTrouble rpc params trouble.Params = (fault : RawFault) × IsRawRefusal rpc params fault
+IsReplyTrouble rpc params (trouble.Form w) = w ≡ word.Answer
+IsReplyTrouble rpc params _ = ⊥
+
+-- the line is `answer` and a procedure's number, and this is at fault in the parameters of the reply
+abbrev pub IsAnswerTrouble : List ℕ → SceneTrouble → Type 0
+IsAnswerTrouble line t = Has word.Answer line × ((rpc : ℕ) × IsNumber (second_word line) rpc 65535 × IsReplyTrouble rpc (behind 44 (after_two_words line)) t)
+
+-- in a line that is known to be faulty, this may be at fault; more than one trouble may fit a line. `Form`: the line begins with that word, and
+-- none of its fields is named
+abbrev pub IsSceneTrouble : List ℕ → SceneTrouble → Type 0
+IsSceneTrouble line trouble.NoWord = (w : SceneWord) → Has w line → ⊥
+IsSceneTrouble line trouble.Clock = NeedsClock line
+IsSceneTrouble line (trouble.Form w) = Has w line
+IsSceneTrouble line trouble.Serial = Has word.Serial line × ((n : ℤ) → NamesWhole (behind 32 line) n → FitsLong n → ⊥)
+IsSceneTrouble line trouble.Name = Has word.Name line × (text.IsText (behind 32 line) → ⊥)
+IsSceneTrouble line trouble.Rpc = (Has word.Fault line ⊎ (Has word.Answer line ⊎ Has word.Delay line)) × NotNumber (second_word line) 65535
+IsSceneTrouble line trouble.Rc = (Has word.Fault line × NotNumber (third_word line) 65535) ⊎ (Has word.Answer line × NotNumber (before 44 (after_two_words line)) 65535)
+IsSceneTrouble line trouble.Target = (Has word.Blocked line ⊎ Has word.Drift line) × NotNumber (second_word line) 32
+IsSceneTrouble line trouble.From = Has word.Blocked line × NotNumber (third_word line) 4294967295
+IsSceneTrouble line trouble.To = Has word.Blocked line × NotNumber (after_three_words line) 4294967295
+IsSceneTrouble line trouble.Hz = ((Has word.Target line ⊎ Has word.Noise line) × NoDecimal (second_word line)) ⊎ (Has word.Drift line × NoDecimal (third_word line))
+IsSceneTrouble line trouble.V = ((Has word.Target line ⊎ Has word.Noise line) × NoDecimal (third_word line)) ⊎ (Has word.Drift line × NoDecimal (before 32 (after_three_words line)))
+IsSceneTrouble line trouble.Distance = (Has word.Target line × NoDecimal (after_three_words line))
+    ⊎ ((Has word.Noise line × NoDecimal (before 32 (after_three_words line))) ⊎ (Has word.Drift line × NoDecimal (behind 32 (after_three_words line))))
+IsSceneTrouble line trouble.Seed = Has word.Noise line × NotNumber (behind 32 (after_three_words line)) 4294967295
+IsSceneTrouble line trouble.Ms = Has word.Delay line × NotNumber (after_two_words line) 3600000
+IsSceneTrouble line (trouble.InTable n) = IsAnswerTrouble line (trouble.InTable n)
+IsSceneTrouble line trouble.Params = IsAnswerTrouble line trouble.Params
+
+-- a trouble as it is printed
+abbrev pub scene_trouble_text : SceneTrouble → List ℕ
+scene_trouble_text trouble.NoWord = codes "no line of a scene begins so"
+scene_trouble_text trouble.Clock = codes "serve alone has a clock"
+scene_trouble_text (trouble.Form w) = codes "the form is " ++ form_text w
+scene_trouble_text trouble.Serial = codes "N is no whole number of 32 bits"
+scene_trouble_text trouble.Name = codes "TEXT has more than 64 bytes, a double quote or a carriage return"
+scene_trouble_text trouble.Rpc = codes "RPC is no number up to 65535"
+scene_trouble_text trouble.Rc = codes "RC is no number up to 65535"
+scene_trouble_text trouble.Target = codes "TARGET is no number up to 32"
+scene_trouble_text trouble.From = codes "FROM is no number up to 4294967295"
+scene_trouble_text trouble.To = codes "TO is no number up to 4294967295"
+scene_trouble_text trouble.Hz = codes "HZ is no decimal"
+scene_trouble_text trouble.V = codes "V is no decimal"
+scene_trouble_text trouble.Distance = codes "the distance is no decimal"
+scene_trouble_text trouble.Seed = codes "SEED is no number up to 4294967295"
+scene_trouble_text trouble.Ms = codes "MS is no number up to 3600000"
+scene_trouble_text (trouble.InTable rpc) = decimal rpc ++ codes " is in the table: answer is for other procedures"
+scene_trouble_text trouble.Params = codes "PARAMS has more than 16 parameters, a double quote without its end, or too many bytes"
+
+-- the line that the program writes of the trouble of a scene's line with this number, counted from 1
+abbrev pub scene_trouble_line : ℕ → SceneTrouble → List ℕ
+scene_trouble_line line t = (codes "geocom: line " ++ decimal line ++ codes " of the scene: ") ++ (scene_trouble_text t ++ codes "\n")

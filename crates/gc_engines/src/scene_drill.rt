@@ -1,0 +1,81 @@
+//! A schedule, read from a source, played on the instrument of a scene with rules, and its settlements written into a sink.
+
+ghost use Rattle.std.specs.Prelude.{◌≡◌, ◌+◌, ◌<◌, ◌≤◌, ℕ, List, length, true, Err, IfOk};
+ghost use Rattle.std.specs.Io.KnownBytes.{Consumes, IsAtEnd};
+ghost use Rattle.gc_texts.specs.Texts.{end_reads};
+ghost use Rattle.gc_texts.specs.declared.fault.RunFault.{RunFault};
+ghost use Rattle.gc_texts.specs.declared.text.TheConstants.{TEXT_LIMIT};
+ghost use Rattle.gc_engines.specs.Drill.{is_read_whole, source_failed, sink_failed};
+ghost use Rattle.gc_engines.specs.SceneDrill.{scene_drill_text, DrillsScene};
+
+use crate::report_text::scene_text_of;
+use crate::schedule::read_schedule;
+use gc_client::WINDOW;
+use gc_lines::{Sink, Source, write_whole};
+use gc_scene_world::play_scene;
+use gc_scenes::SceneInstrument;
+use gc_texts::{RunFault, read_text};
+use gc_world::Event;
+use std::alloc::{AllocError, Global};
+
+/// Plays the schedule that a source gives, as [`run_drill_on`](crate::run_drill_on) does, but on the instrument of a scene with rules.
+/// The lines that it writes and its faults are the same.
+///
+/// What a run on that instrument promises is less than what one on the simulator does: [`play_scene`] says which parts.
+pub fn run_drill_scene<S: Source, K: Sink>(
+    alloc: Global,
+    instrument: SceneInstrument,
+    source: &mut S,
+    sink: &mut K,
+    totals: bool,
+    width: u8,
+) -> Result<(), RunFault>
+    requires least { 1 ≤ width }
+    requires most { width ≤ WINDOW }
+
+    // Which bytes the source gave, and how much of their schedule's output the sink took. Each read gave at least one byte,
+    // except a last one that was the end. After the end nothing was read.
+    ensures drills { (given : List ℕ) × Consumes (S.remaining source.old) (S.remaining source.new) given
+        × (S.reads source.new ≤ S.reads source.old + length given + end_reads (S.ended source.new))
+        × DrillsScene instrument width given totals (K.taken sink.old) (K.taken sink.new) result }
+
+    // At most 65,537 reads were answered.
+    ensures bounded { S.reads source.new ≤ S.reads source.old + (TEXT_LIMIT + 1) }
+
+    // A schedule is played, or found faulty, only where the last read was the end, and the source has no byte left.
+    ensures whole { is_read_whole result ≡ true
+        → IsAtEnd (S.remaining source.new) × (S.ended source.new ≡ true) × (S.reads source.old < S.reads source.new) }
+
+    // `Memory` comes only after a read that was answered.
+    ensures memory { result ≡ Err RunFault.Memory → S.reads source.old < S.reads source.new }
+
+    // `Read` exactly where the source failed, and `Output` exactly where the sink did.
+    ensures source { S.failed source.new ≡ source_failed result (S.failed source.old) }
+    ensures sink { K.failed sink.new ≡ sink_failed result (K.failed sink.old) }
+{
+    let text = read_text(alloc, source)?;
+    let events = read_schedule(alloc, text.as_slice())?;
+    let Ok(output) = output_of(alloc, instrument, events.as_slice(), totals, width) else {
+        return Err(RunFault::Memory);
+    };
+    match write_whole(sink, output.as_slice()) {
+        Ok(()) => Ok(()),
+        Err(_) => Err(RunFault::Output),
+    }
+}
+
+// The text that is written of these events, played on the instrument. `Err`: memory was refused.
+fn output_of(
+    alloc: Global,
+    instrument: SceneInstrument,
+    events: &[Event],
+    totals: bool,
+    width: u8,
+) -> Result<Vec<u8>, AllocError>
+    requires least { 1 ≤ width }
+    requires most { width ≤ WINDOW }
+    ensures { IfOk result (λ text. text.items ≡ scene_drill_text instrument width events.now totals) }
+{
+    let report = play_scene(alloc, instrument, width, events)?;
+    scene_text_of(alloc, &report, totals)
+}

@@ -1,0 +1,450 @@
+//! Troubles of scenes: what is at fault in a faulty line of a scene, and what is printed of it.
+
+ghost use Rattle.std.specs.Prelude.{◌≡◌, ◌++◌, IsTrue, MatchOption, OnOk, codes};
+ghost use Rattle.std.specs.Io.KnownBytes.{Appends};
+ghost use Rattle.gc_texts.specs.Words.{first_word};
+ghost use Rattle.gc_engines.specs.SceneTroubles.{IsReplyTrouble, IsSceneTrouble, NeedsClock, NoDecimal, NotNumber, form_text, scene_trouble_text, scene_trouble_line, word_text};
+
+use crate::event::is_plain;
+use gc_catalogue::{RawFault, raw_call};
+use gc_texts::{before, behind, number_of, read_double};
+use gc_values::{Text, read_long};
+use std::io::{self, Write};
+
+// The greatest number of a procedure, and the greatest return code.
+const CODE_MAX: u64 = 65535;
+
+// The greatest number of a target.
+const TARGETS: u64 = 32;
+
+// The greatest number of 32 bits.
+const COUNT_MAX: u64 = 4294967295;
+
+// The longest delay in milliseconds: an hour.
+const LONGEST: u64 = 3_600_000;
+
+/// A word that a line of a scene begins with.
+#[derive(Clone, Copy, Debug, PartialEq, Eq)]
+pub enum SceneWord {
+    Serial,
+    Name,
+    Target,
+    Fault,
+    Answer,
+    Blocked,
+    Drift,
+    Noise,
+    Repeats,
+    Behave,
+    Delay,
+    Busy,
+}
+
+/// What is at fault in a faulty line of a scene. The texts are this project's own.
+#[derive(Clone, Copy, Debug, PartialEq, Eq)]
+pub enum SceneTrouble {
+    /// No line of a scene begins with the line's first word.
+    NoWord,
+    /// The line asks for a clock, which `serve` alone has.
+    Clock,
+    /// The line begins with this word, and hasn't its form otherwise: it has too few fields, or too many, or another word.
+    Form(SceneWord),
+    /// The serial number is no whole number of 32 bits.
+    Serial,
+    /// The name has more than 64 bytes, a double quote or a carriage return.
+    Name,
+    /// The procedure is no number up to 65535.
+    Rpc,
+    /// The return code is no number up to 65535.
+    Rc,
+    /// The number of the target is no number up to 32.
+    Target,
+    /// The first look of a line `blocked` is no number up to 4294967295.
+    From,
+    /// The last look of a line `blocked` is no number up to 4294967295.
+    To,
+    /// The horizontal angle is no decimal.
+    Hz,
+    /// The vertical angle is no decimal.
+    V,
+    /// The distance is no decimal.
+    Distance,
+    /// The seed of a line `noise` is no number up to 4294967295.
+    Seed,
+    /// The delay is no number up to 3600000.
+    Ms,
+    /// The procedure of a line `answer` is in the table, which has its replies.
+    InTable(u16),
+    /// The parameters of a line `answer` can't be those of a reply.
+    Params,
+}
+
+impl SceneWord {
+    // How a line with this word is written.
+    fn form(self) -> &'static str
+        ensures { result.now ≡ form_text self }
+    {
+        match self {
+            SceneWord::Serial => "serial N",
+            SceneWord::Name => "name TEXT",
+            SceneWord::Target => "target HZ V DISTANCE",
+            SceneWord::Fault => "fault RPC RC [after COUNT] [for COUNT]",
+            SceneWord::Answer => "answer RPC RC[,PARAMS]",
+            SceneWord::Blocked => "blocked TARGET FROM TO",
+            SceneWord::Drift => "drift TARGET HZ V D",
+            SceneWord::Noise => "noise HZ V D SEED",
+            SceneWord::Repeats => "repeats no",
+            SceneWord::Behave => "behave faces, aims, takes, values, clock or real",
+            SceneWord::Delay => "delay RPC MS",
+            SceneWord::Busy => "busy queue or busy drop",
+        }
+    }
+}
+
+impl SceneTrouble {
+    /// Writes the trouble of the scene's line with this number, counted from 1: the program's name, the number, and what is at fault.
+    pub fn tell<E: Write>(self, line: u32, messages: &mut E) -> io::Result<()>
+        ensures { OnOk result (Appends (E.contents messages.old) (E.contents messages.new) (scene_trouble_line line self)) }
+    {
+        write!(messages, "geocom: line {line} of the scene: ")?;
+        self.tell_fault(messages)
+    }
+
+    // Writes what is at fault, and a line feed.
+    fn tell_fault<E: Write>(self, messages: &mut E) -> io::Result<()>
+        ensures { OnOk result (Appends (E.contents messages.old) (E.contents messages.new) (scene_trouble_text self ++ codes "\n")) }
+    {
+        match self {
+            SceneTrouble::NoWord => writeln!(messages, "no line of a scene begins so"),
+            SceneTrouble::Clock => writeln!(messages, "serve alone has a clock"),
+            SceneTrouble::Form(word) => tell_form(word.form(), messages),
+            SceneTrouble::Serial => writeln!(messages, "N is no whole number of 32 bits"),
+            SceneTrouble::Name => writeln!(
+                messages,
+                "TEXT has more than 64 bytes, a double quote or a carriage return"
+            ),
+            SceneTrouble::Rpc => writeln!(messages, "RPC is no number up to 65535"),
+            SceneTrouble::Rc => writeln!(messages, "RC is no number up to 65535"),
+            SceneTrouble::Target => writeln!(messages, "TARGET is no number up to 32"),
+            SceneTrouble::From => writeln!(messages, "FROM is no number up to 4294967295"),
+            SceneTrouble::To => writeln!(messages, "TO is no number up to 4294967295"),
+            SceneTrouble::Hz => writeln!(messages, "HZ is no decimal"),
+            SceneTrouble::V => writeln!(messages, "V is no decimal"),
+            SceneTrouble::Distance => writeln!(messages, "the distance is no decimal"),
+            SceneTrouble::Seed => writeln!(messages, "SEED is no number up to 4294967295"),
+            SceneTrouble::Ms => writeln!(messages, "MS is no number up to 3600000"),
+            SceneTrouble::InTable(rpc) => {
+                writeln!(
+                    messages,
+                    "{rpc} is in the table: answer is for other procedures"
+                )
+            }
+            SceneTrouble::Params => {
+                writeln!(
+                    messages,
+                    "PARAMS has more than 16 parameters, a double quote without its end, or too many bytes"
+                )
+            }
+        }
+    }
+}
+
+// Writes which form a line with its first word has, and a line feed.
+fn tell_form<E: Write>(form: &str, messages: &mut E) -> io::Result<()>
+    ensures { OnOk result (Appends (E.contents messages.old) (E.contents messages.new) (codes "the form is " ++ form.now ++ codes "\n")) }
+{
+    writeln!(messages, "the form is {form}")
+}
+
+/// What is at fault in a faulty line of a scene. `has_clock` says whether the scene is that of one who has a clock. Of a line that isn't
+/// faulty it gives the form of its first word.
+///
+/// The first thing that is amiss is at fault: the first word, then how many fields there are, and then the first field that doesn't
+/// read.
+pub fn scene_trouble_of(line: &[u8], has_clock: bool) -> SceneTrouble
+    ensures { IsSceneTrouble line.now result }
+{
+    if !has_clock {
+        if needs_clock(line) {
+            return SceneTrouble::Clock;
+        }
+    }
+    match word_of(before(b' ', line)) {
+        Some(word) => trouble_behind(word, line),
+        None => SceneTrouble::NoWord,
+    }
+}
+
+// Whether a line asks for a clock, or begins with a word that does.
+fn needs_clock(line: &[u8]) -> bool
+    ensures { IsTrue result → NeedsClock line.now }
+{
+    let first = before(b' ', line);
+    is_plain(b"behave clock", line)
+        || is_plain(b"behave real", line)
+        || is_plain(b"delay", first)
+        || is_plain(b"busy", first)
+}
+
+// The word of a scene that these bytes are. `None`: they are none.
+fn word_of(first: &[u8]) -> Option<SceneWord>
+    ensures { MatchOption result ((word : SceneWord) → first.now ≡ word_text word → ⊥) (λ word. first.now ≡ word_text word) }
+{
+    if is_plain(b"serial", first) {
+        return Some(SceneWord::Serial);
+    }
+    if is_plain(b"name", first) {
+        return Some(SceneWord::Name);
+    }
+    if is_plain(b"target", first) {
+        return Some(SceneWord::Target);
+    }
+    if is_plain(b"fault", first) {
+        return Some(SceneWord::Fault);
+    }
+    if is_plain(b"answer", first) {
+        return Some(SceneWord::Answer);
+    }
+    if is_plain(b"blocked", first) {
+        return Some(SceneWord::Blocked);
+    }
+    if is_plain(b"drift", first) {
+        return Some(SceneWord::Drift);
+    }
+    if is_plain(b"noise", first) {
+        return Some(SceneWord::Noise);
+    }
+    if is_plain(b"repeats", first) {
+        return Some(SceneWord::Repeats);
+    }
+    if is_plain(b"behave", first) {
+        return Some(SceneWord::Behave);
+    }
+    if is_plain(b"delay", first) {
+        return Some(SceneWord::Delay);
+    }
+    if is_plain(b"busy", first) {
+        return Some(SceneWord::Busy);
+    }
+    None
+}
+
+// What is at fault in a line that begins with this word.
+fn trouble_behind(word: SceneWord, line: &[u8]) -> SceneTrouble
+    requires { first_word line.now ≡ word_text word }
+    ensures { IsSceneTrouble line.now result }
+{
+    match word {
+        SceneWord::Serial => serial_trouble(line),
+        SceneWord::Name => name_trouble(line),
+        SceneWord::Target => target_trouble(line),
+        SceneWord::Fault => fault_trouble(line),
+        SceneWord::Answer => answer_trouble(line),
+        SceneWord::Blocked => blocked_trouble(line),
+        SceneWord::Drift => drift_trouble(line),
+        SceneWord::Noise => noise_trouble(line),
+        SceneWord::Delay => delay_trouble(line),
+        _ => SceneTrouble::Form(word),
+    }
+}
+
+// Whether these bytes are no decimal.
+#[tactic(auto, unfolding(crate::specs::SceneTroubles::NoDecimal))]
+fn is_no_double(text: &[u8]) -> bool
+    ensures { IsTrue result → NoDecimal text.now }
+{
+    match read_double(text) {
+        Some(_) => false,
+        None => true,
+    }
+}
+
+// Whether these bytes are no number up to this one.
+#[tactic(auto, unfolding(crate::specs::SceneTroubles::NotNumber))]
+fn is_no_number(text: &[u8], max: u64) -> bool
+    ensures { IsTrue result → NotNumber text.now max }
+{
+    match number_of(text, max) {
+        Some(_) => false,
+        None => true,
+    }
+}
+
+// How many fields stand behind the first word of a line.
+fn fields_in(line: &[u8]) -> usize {
+    line.iter().filter(|byte| **byte == b' ').count()
+}
+
+// What is at fault in a line that begins with `serial`.
+fn serial_trouble(line: &[u8]) -> SceneTrouble
+    requires { first_word line.now ≡ codes "serial" }
+    ensures { IsSceneTrouble line.now result }
+{
+    if fields_in(line) == 1 {
+        if read_long(behind(b' ', line)).is_err() {
+            return SceneTrouble::Serial;
+        }
+    }
+    SceneTrouble::Form(SceneWord::Serial)
+}
+
+// What is at fault in a line that begins with `name`.
+fn name_trouble(line: &[u8]) -> SceneTrouble
+    requires { first_word line.now ≡ codes "name" }
+    ensures { IsSceneTrouble line.now result }
+{
+    if Text::new(behind(b' ', line)).is_err() {
+        return SceneTrouble::Name;
+    }
+    SceneTrouble::Form(SceneWord::Name)
+}
+
+// What is at fault in a line that begins with `target`.
+fn target_trouble(line: &[u8]) -> SceneTrouble
+    requires { first_word line.now ≡ codes "target" }
+    ensures { IsSceneTrouble line.now result }
+{
+    let rest = behind(b' ', line);
+    if fields_in(line) == 3 {
+        if is_no_double(before(b' ', rest)) {
+            return SceneTrouble::Hz;
+        }
+        if is_no_double(before(b' ', behind(b' ', rest))) {
+            return SceneTrouble::V;
+        }
+        if is_no_double(behind(b' ', behind(b' ', rest))) {
+            return SceneTrouble::Distance;
+        }
+    }
+    SceneTrouble::Form(SceneWord::Target)
+}
+
+// What is at fault in a line that begins with `fault`.
+fn fault_trouble(line: &[u8]) -> SceneTrouble
+    requires { first_word line.now ≡ codes "fault" }
+    ensures { IsSceneTrouble line.now result }
+{
+    let rest = behind(b' ', line);
+    if fields_in(line) >= 2 {
+        if is_no_number(before(b' ', rest), CODE_MAX) {
+            return SceneTrouble::Rpc;
+        }
+        if is_no_number(before(b' ', behind(b' ', rest)), CODE_MAX) {
+            return SceneTrouble::Rc;
+        }
+    }
+    SceneTrouble::Form(SceneWord::Fault)
+}
+
+// What is at fault in a line that begins with `answer`.
+fn answer_trouble(line: &[u8]) -> SceneTrouble
+    requires { first_word line.now ≡ codes "answer" }
+    ensures { IsSceneTrouble line.now result }
+{
+    let rest = behind(b' ', line);
+    let reply = behind(b' ', rest);
+    if is_no_number(before(b' ', rest), CODE_MAX) {
+        return SceneTrouble::Rpc;
+    }
+    if is_no_number(before(b',', reply), CODE_MAX) {
+        return SceneTrouble::Rc;
+    }
+    match number_of(before(b' ', rest), CODE_MAX) {
+        Some(rpc) => reply_trouble(rpc as u16, behind(b',', reply)),
+        None => SceneTrouble::Form(SceneWord::Answer),
+    }
+}
+
+// What is at fault in the parameters of a reply to the procedure with this number.
+fn reply_trouble(rpc: u16, params: &[u8]) -> SceneTrouble
+    ensures { IsReplyTrouble rpc params.now result }
+{
+    match raw_call(rpc, params) {
+        Ok(_) => SceneTrouble::Form(SceneWord::Answer),
+        Err(RawFault::InTable) => SceneTrouble::InTable(rpc),
+        Err(_) => SceneTrouble::Params,
+    }
+}
+
+// What is at fault in a line that begins with `blocked`.
+fn blocked_trouble(line: &[u8]) -> SceneTrouble
+    requires { first_word line.now ≡ codes "blocked" }
+    ensures { IsSceneTrouble line.now result }
+{
+    let rest = behind(b' ', line);
+    if fields_in(line) == 3 {
+        if is_no_number(before(b' ', rest), TARGETS) {
+            return SceneTrouble::Target;
+        }
+        if is_no_number(before(b' ', behind(b' ', rest)), COUNT_MAX) {
+            return SceneTrouble::From;
+        }
+        if is_no_number(behind(b' ', behind(b' ', rest)), COUNT_MAX) {
+            return SceneTrouble::To;
+        }
+    }
+    SceneTrouble::Form(SceneWord::Blocked)
+}
+
+// What is at fault in a line that begins with `drift`.
+fn drift_trouble(line: &[u8]) -> SceneTrouble
+    requires { first_word line.now ≡ codes "drift" }
+    ensures { IsSceneTrouble line.now result }
+{
+    let rest = behind(b' ', line);
+    if fields_in(line) == 4 {
+        if is_no_number(before(b' ', rest), TARGETS) {
+            return SceneTrouble::Target;
+        }
+        if is_no_double(before(b' ', behind(b' ', rest))) {
+            return SceneTrouble::Hz;
+        }
+        if is_no_double(before(b' ', behind(b' ', behind(b' ', rest)))) {
+            return SceneTrouble::V;
+        }
+        if is_no_double(behind(b' ', behind(b' ', behind(b' ', rest)))) {
+            return SceneTrouble::Distance;
+        }
+    }
+    SceneTrouble::Form(SceneWord::Drift)
+}
+
+// What is at fault in a line that begins with `noise`.
+fn noise_trouble(line: &[u8]) -> SceneTrouble
+    requires { first_word line.now ≡ codes "noise" }
+    ensures { IsSceneTrouble line.now result }
+{
+    let rest = behind(b' ', line);
+    if fields_in(line) == 4 {
+        if is_no_double(before(b' ', rest)) {
+            return SceneTrouble::Hz;
+        }
+        if is_no_double(before(b' ', behind(b' ', rest))) {
+            return SceneTrouble::V;
+        }
+        if is_no_double(before(b' ', behind(b' ', behind(b' ', rest)))) {
+            return SceneTrouble::Distance;
+        }
+        if is_no_number(behind(b' ', behind(b' ', behind(b' ', rest))), COUNT_MAX) {
+            return SceneTrouble::Seed;
+        }
+    }
+    SceneTrouble::Form(SceneWord::Noise)
+}
+
+// What is at fault in a line that begins with `delay`.
+fn delay_trouble(line: &[u8]) -> SceneTrouble
+    requires { first_word line.now ≡ codes "delay" }
+    ensures { IsSceneTrouble line.now result }
+{
+    let rest = behind(b' ', line);
+    if fields_in(line) == 2 {
+        if is_no_number(before(b' ', rest), CODE_MAX) {
+            return SceneTrouble::Rpc;
+        }
+        if is_no_number(behind(b' ', rest), LONGEST) {
+            return SceneTrouble::Ms;
+        }
+    }
+    SceneTrouble::Form(SceneWord::Delay)
+}

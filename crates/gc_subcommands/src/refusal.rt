@@ -1,0 +1,67 @@
+//! Why a scene was refused, and how that is reported.
+
+ghost use Rattle.std.specs.Prelude.{◌≡◌, IfOk, OnOk};
+ghost use Rattle.std.specs.Io.KnownBytes.{Appends};
+ghost use Rattle.std.specs.Process.{exit_status};
+ghost use Rattle.gc_subcommands.specs.Refusing.{refusal_fault, refusal_text};
+
+use gc_engines::{SceneTrouble, scene_trouble_of};
+use gc_messages::end_of;
+use gc_texts::{RunFault, line_at};
+use std::io::{self, Write};
+use std::process::ExitCode;
+
+/// Why a scene was refused.
+#[derive(Clone, Copy, Debug, PartialEq, Eq)]
+pub(crate) enum Refusal {
+    /// Its file can't be read, or its text sets up no instrument for this reason.
+    Fault(RunFault),
+    /// The line of its text with this number, counted from 1, is the first faulty one, and this is at fault in it.
+    Line(u32, SceneTrouble),
+}
+
+impl Refusal {
+    /// The refusal of a scene's text for this reason. `has_clock` says whether the scene is that of one who has a clock.
+    pub(crate) fn of(fault: RunFault, text: &[u8], has_clock: bool) -> Refusal
+        ensures { refusal_fault result ≡ fault }
+    {
+        match fault {
+            RunFault::Schedule { line } => {
+                Refusal::Line(line, scene_trouble_of(line_at(text, line), has_clock))
+            }
+            _ => Refusal::Fault(fault),
+        }
+    }
+
+    /// The reason by itself.
+    pub(crate) fn fault(self) -> RunFault
+        ensures { result ≡ refusal_fault self }
+    {
+        match self {
+            Refusal::Fault(fault) => fault,
+            Refusal::Line(line, _) => RunFault::Schedule { line },
+        }
+    }
+
+    /// Reports the refusal with status 1 and the line of the fault. If a line of the text is faulty, a second line says what is at
+    /// fault in it.
+    pub(crate) fn tell<E: Write>(self, messages: &mut E) -> io::Result<ExitCode>
+        ensures { IfOk result (λ status. (exit_status status ≡ 1) × Appends (E.contents messages.old) (E.contents messages.new) (refusal_text self)) }
+    {
+        match self {
+            Refusal::Fault(fault) => end_of(Err(fault), messages),
+            Refusal::Line(line, trouble) => {
+                tell_line(line, trouble, messages)?;
+                Ok(ExitCode::from(1))
+            }
+        }
+    }
+}
+
+// Writes the fault of a faulty line of a scene, and a second line: what is at fault in it.
+fn tell_line<E: Write>(line: u32, trouble: SceneTrouble, messages: &mut E) -> io::Result<()>
+    ensures { OnOk result (Appends (E.contents messages.old) (E.contents messages.new) (refusal_text (Refusal.Line line trouble))) }
+{
+    RunFault::Schedule { line }.tell(messages)?;
+    trouble.tell(line, messages)
+}
