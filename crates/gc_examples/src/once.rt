@@ -21,7 +21,8 @@ use gc_world::{Event, Report, play};
 use std::alloc::Global;
 use std::io;
 
-/// Plays each example once, and says whether none gave another answer than its own.
+/// Plays each example once, those without files first. `false`: one gave an answer that isn't the expected one. To run out of
+/// memory is no answer, and so not wrong.
 pub fn play_once(rt: &HostRuntime, names: &[String]) -> io::Result<bool> {
     let mut is_right = play_parts(rt)?;
     for name in names {

@@ -39,7 +39,7 @@ impl Said {
         self.tell_messages(alloc, case, port, &mut told);
         case.tell("status", self.status_text(case).as_bytes(), wrong);
         case.tell("output", self.compared(case), wrong);
-        self.compare_messages(alloc, case, &told, wrong);
+        self.tell_messages_and_parts(alloc, case, &told, wrong);
     }
 
     // The status in a digit, and `any` if any will do.
@@ -75,8 +75,15 @@ impl Said {
         }
     }
 
-    // Compares the messages, whole or by the parts that a case asks for.
-    fn compare_messages(&self, alloc: Global, case: &Case<'_>, told: &Told, wrong: &mut Told) {
+    // Reports where the messages came otherwise: compared whole, or not at all if the case asks for parts (such a case has no
+    // `messages`). Then reports each part that the output or the messages lack.
+    fn tell_messages_and_parts(
+        &self,
+        alloc: Global,
+        case: &Case<'_>,
+        told: &Told,
+        wrong: &mut Told,
+    ) {
         if are_parts(case) {
             case.tell("messages", b"", wrong);
         } else {

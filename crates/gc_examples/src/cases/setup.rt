@@ -272,7 +272,7 @@ impl Setup {
             Engine::Exec | Engine::Check | Engine::CheckLog => self.answer(source, came),
             Engine::Serve => self.serve(alloc, source, came),
             Engine::Rules => self.serve_rules(alloc, source, came),
-            Engine::Slow => self.hear_slowly(alloc, came),
+            Engine::Slow => self.serve_slow(alloc, came),
             Engine::None => came.end.text.text("no such engine"),
             _ => self.play(alloc, source, came),
         }
@@ -418,13 +418,13 @@ impl Setup {
         }
     }
 
-    // Tells the scene's instrument, whose replies take time, the lines of the input, each with its moment in front, and writes each reply
-    // behind the moment at which it goes out.
-    fn hear_slowly(&self, alloc: Global, came: &mut Came) {
+    // Gives the lines of the input to the scene's instrument, whose replies take time. A line has the moment in front at which it
+    // arrives, and a reply the one at which it goes out.
+    fn serve_slow(&self, alloc: Global, came: &mut Came) {
         match read_timed_scene(alloc, self.scene.as_slice()) {
             Ok(mut slow) => {
                 for row in self.input.split(|byte| *byte == b'\n') {
-                    hear_row(&mut slow, row, &mut came.output);
+                    serve_row(&mut slow, row, &mut came.output);
                 }
                 came.end.run(Ok(()));
             }
@@ -490,7 +490,7 @@ impl Setup {
 }
 
 // Tells an instrument the line of a row, which has its moment in front, and writes the reply behind the moment at which it goes out.
-fn hear_row(slow: &mut SlowInstrument, row: &[u8], output: &mut Taking) {
+fn serve_row(slow: &mut SlowInstrument, row: &[u8], output: &mut Taking) {
     let at = number_of(before(b' ', row), 4_294_967_295).unwrap_or(0);
     let mut reply = Line::new();
     if !slow.hear(behind(b' ', row), at, &mut reply) {
