@@ -88,10 +88,11 @@ fn loop_over<K: Sink, T: Answers + Drop>(
     let mut client_out = ToWriter::new(near);
     let mut instrument_in = FromReader::new(far);
     let mut instrument_out = ToWriter::new(far);
+    let mut answering = InstrumentEnd::new(instrument);
     let mut link = Loop {
         client_in: &mut client_in,
         client_out: &mut client_out,
-        instrument: InstrumentEnd::new(instrument),
+        instrument: &mut answering,
         instrument_in: &mut instrument_in,
         instrument_out: &mut instrument_out,
     };

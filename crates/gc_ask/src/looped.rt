@@ -43,10 +43,11 @@ pub fn run_loop<S: Source, A: Source, B: Sink, C: Source, D: Sink, K: Sink>(
     ensures memory { result ≡ Err RunFault.Memory → IsUnused (seen_of A.Source client_in.old B.Sink client_out.old C.Source instrument_in.old D.Sink instrument_out.old K.Sink sink.old)
         (seen_of A.Source client_in.new B.Sink client_out.new C.Source instrument_in.new D.Sink instrument_out.new K.Sink sink.new) }
 {
+    let mut answering = InstrumentEnd::new(Instrument::simulator());
     let mut link = Loop {
         client_in,
         client_out,
-        instrument: InstrumentEnd::new(Instrument::simulator()),
+        instrument: &mut answering,
         instrument_in,
         instrument_out,
     };
@@ -85,10 +86,11 @@ pub fn run_loop_on<S: Source, A: Source, B: Sink, C: Source, D: Sink, K: Sink, T
     ensures memory { result ≡ Err RunFault.Memory → IsUnused (seen_over A.Source B.Sink client.old C.Source D.Sink instrument_end.old K.Sink sink.old)
         (seen_over A.Source B.Sink client.new C.Source D.Sink instrument_end.new K.Sink sink.new) }
 {
+    let mut answering = InstrumentEnd::new(instrument);
     let mut link = Loop {
         client_in: &mut client.source,
         client_out: &mut client.sink,
-        instrument: InstrumentEnd::new(instrument),
+        instrument: &mut answering,
         instrument_in: &mut instrument_end.source,
         instrument_out: &mut instrument_end.sink,
     };
@@ -97,16 +99,16 @@ pub fn run_loop_on<S: Source, A: Source, B: Sink, C: Source, D: Sink, K: Sink, T
 
 /// A link with an instrument at its other end, which answers each request once it is sent.
 #[derive(Drop)]
-pub(crate) struct Loop<'a, 'b, 'c, 'd, A, B, C, D, T> {
+pub(crate) struct Loop<'a, 'b, 'c, 'd, 'e, A, B, C, D, T> {
     pub(crate) client_in: &'a mut A,
     pub(crate) client_out: &'b mut B,
-    pub(crate) instrument: InstrumentEnd<T>,
+    pub(crate) instrument: &'e mut InstrumentEnd<T>,
     pub(crate) instrument_in: &'c mut C,
     pub(crate) instrument_out: &'d mut D,
 }
 
-impl<'a, 'b, 'c, 'd, A: Source, B: Sink, C: Source, D: Sink, T: Answers> Link
-    for Loop<'a, 'b, 'c, 'd, A, B, C, D, T> {
+impl<'a, 'b, 'c, 'd, 'e, A: Source, B: Sink, C: Source, D: Sink, T: Answers> Link
+    for Loop<'a, 'b, 'c, 'd, 'e, A, B, C, D, T> {
     ghost use Rattle.std.specs.Prelude.{false};
 
     ghost alone = { false };

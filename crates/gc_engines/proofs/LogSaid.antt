@@ -9,7 +9,7 @@ use Rattle.gc_lines.specs.Frames.{is_line_feed, pieces_behind, rest_behind}
 use Rattle.gc_lines.specs.Ports.{TakesFront}
 use Rattle.gc_lines.proofs.Cutting.{pieces-append, rest-append}
 use Rattle.gc_lines.proofs.InOrder.{all_of-append}
-use Rattle.gc_lines.proofs.Known.{Appends-append, Appends-nil, Appends-is, Consumes-append}
+use Rattle.gc_lines.proofs.Known.{Appends-append, Appends-is, Consumes-append}
 use Rattle.gc_engines.specs.LogChecking.{IsLogVerdict, AreSaid, KeepsLine, SaysAll, SaysPart}
 use Rattle.gc_engines.specs.declared.check_log.Underway.{Underway}
 

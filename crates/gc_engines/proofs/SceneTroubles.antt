@@ -1,5 +1,5 @@
 -- What is at fault in a line of a scene.
-use Rattle.std.proofs.Common.{◌≡◌, ℕ, List, sym, ◌∙◌, subst, codes}
+use Rattle.std.proofs.Common.{◌≡◌, ℕ, List, sym, subst, codes}
 use Rattle.gc_texts.specs.Cuts.{behind}
 use Rattle.gc_texts.specs.Procedures.{IsNumber}
 use Rattle.gc_texts.specs.Words.{second_word, after_two_words}

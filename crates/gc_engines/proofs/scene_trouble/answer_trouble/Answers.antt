@@ -1,6 +1,4 @@
-use Rattle.std.proofs.Common.{◌≡◌, rules}
-use Rattle.gc_texts.specs.Cuts.{behind}
-use Rattle.gc_texts.specs.Words.{second_word, after_two_words}
+use Rattle.std.proofs.Common.{rules}
 use Rattle.gc_engines.proofs.SceneTroubles.{reply_fault}
 use Rattle.gc_engines.proofs.scene_trouble.answer_trouble.Goals as goal
 
