@@ -2,22 +2,18 @@
 use Rattle.std.proofs.Common.{◌≡◌, Result, Ok, sym, ◌∙◌}
 use Rattle.gc_instrument.specs.State.{State}
 use Rattle.gc_scenes.specs.SceneState.{SceneState}
+use Rattle.gc_subcommands.specs.declared.refusal.Refusal.{Refusal}
 use Rattle.gc_subcommands.specs.declared.scene.Staged.{Staged}
 use Rattle.gc_subcommands.specs.declared.scene.Staged.TheVariants.{Plain, Ruled}
-use Rattle.gc_texts.specs.declared.fault.RunFault.{RunFault}
 
 -- one result has one instrument
-pub same_start : (r : Result State RunFault) (i j : State) → r ≡ Ok i → r ≡ Ok j → i ≡ j
-same_start r i j e f = cc
-
--- one result has one instrument, whatever it is
-same_staged : (r : Result Staged RunFault) (x y : Staged) → r ≡ Ok x → r ≡ Ok y → x ≡ y
+same_staged : (r : Result Staged Refusal) (x y : Staged) → r ≡ Ok x → r ≡ Ok y → x ≡ y
 same_staged r x y e f = cc
 
 -- one result has one instrument without rules
-pub same_plain : (r : Result Staged RunFault) (x : Staged) (i j : State) → r ≡ Ok x → x ≡ Plain i → r ≡ Ok (Plain j) → i ≡ j
+pub same_plain : (r : Result Staged Refusal) (x : Staged) (i j : State) → r ≡ Ok x → x ≡ Plain i → r ≡ Ok (Plain j) → i ≡ j
 same_plain r x i j e is f = cc
 
 -- an instrument with rules is none without them
-pub never_ruled : (r : Result Staged RunFault) (x : Staged) (i : SceneState) (j : State) → r ≡ Ok x → x ≡ Ruled i → r ≡ Ok (Plain j) → ⊥
+pub never_ruled : (r : Result Staged Refusal) (x : Staged) (i : SceneState) (j : State) → r ≡ Ok x → x ≡ Ruled i → r ≡ Ok (Plain j) → ⊥
 never_ruled r x i j e is f = let apart : ◌≡◌ {A = Staged} (Ruled i) (Plain j) = sym is ∙ same_staged r x (Plain j) e f in let never : ⊥ = cc in never
