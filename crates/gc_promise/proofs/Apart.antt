@@ -279,10 +279,10 @@ outcome_found Skipped = refl
 outcome_found Missed = refl
 
 -- the codes and parameters of this line are found among these members
-record IsFound (ms : List Member) (line : List ℕ) : Type 0 where
-  rc_com : find (codes "rc_com") ms ≡ Some (json.number (without_zeros (com_of line)))
-  rc : find (codes "rc") ms ≡ Some (json.number (without_zeros (code_of line)))
-  values : find (codes "values") ms ≡ Some (json.string (escaped (values_of line)))
+pub record IsFound (ms : List Member) (line : List ℕ) : Type 0 where
+  pub rc_com : find (codes "rc_com") ms ≡ Some (json.number (without_zeros (com_of line)))
+  pub rc : find (codes "rc") ms ≡ Some (json.number (without_zeros (code_of line)))
+  pub values : find (codes "values") ms ≡ Some (json.string (escaped (values_of line)))
 
 -- two lines are equal where `Some` of the one equals `Some` of the other
 some_line : (x y : List ℕ) → Some x ≡ Some y → x ≡ y
