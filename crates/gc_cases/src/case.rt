@@ -1,5 +1,7 @@
 //! A case, and the cases of a text.
 
+use crate::told::number_or;
+
 /// One case.
 #[derive(Clone, Copy)]
 pub struct Case<'a> {
@@ -15,7 +17,7 @@ impl<'a> Case<'a> {
         self.value_at(key, 0).unwrap_or("")
     }
 
-    /// The value of the line at a place, counted from 0, among the lines with this key. `None`: there are not so many.
+    /// The value of the line at a place, counted from 0, among the lines with this key. `None`: there are fewer such lines.
     pub fn value_at(&self, key: &str, place: usize) -> Option<&'a str> {
         let mut left = place;
         for line in self.lines.lines() {
@@ -31,7 +33,7 @@ impl<'a> Case<'a> {
 
     /// The number under a key, and `or` where no number is there.
     pub fn number(&self, key: &str, or: u64) -> u64 {
-        self.value(key).parse::<u64>().unwrap_or(or)
+        number_or(self.value(key), or)
     }
 }
 

@@ -1,11 +1,10 @@
 -- What is asked: one thing for a number and parameters, and one for a line; and one reading for a reply.
 use Rattle.std.proofs.Common.{◌≡◌, ◌<◌, ℕ, List, refl, sym, ap, ◌∙◌, subst}
-use Rattle.std.specs.Prelude.{Option, IfSome, Result, Ok}
+use Rattle.std.specs.Prelude.{Option, IfSome}
 use Rattle.gc_lines.proofs.Written.{request_back}
 use Rattle.gc_lines.specs.Replies.{ReplyFields}
 use Rattle.gc_lines.specs.Requests.{RequestFields}
 use Rattle.gc_lines.specs.Readers.{request_at}
-use Rattle.gc_lines.specs.declared.fault.LineFault.{LineFault}
 use Rattle.gc_catalogue.specs.Asked.{asked_line, asked_request, raw_params, raw_request, IsAsked, IsAskedFitting, IsAskedReading}
 use Rattle.gc_catalogue.specs.AskedLaws.{ReadsBackAsked}
 use Rattle.gc_catalogue.specs.Calls.{IsCall}
@@ -21,11 +20,11 @@ use Rattle.gc_catalogue.specs.declared.raw_text.RawText.{RawText}
 use Rattle.gc_catalogue.proofs.AnswerLaws.{one_reading}
 use Rattle.gc_catalogue.proofs.CallLaws.{one_call}
 use Rattle.gc_catalogue.proofs.EachReply.{each_reply}
-use Rattle.gc_catalogue.proofs.LineLaws.{call_again}
+use Rattle.gc_catalogue.proofs.LineLaws.{call_again, read_once}
 use Rattle.gc_catalogue.proofs.SameText.{same_text}
 use Rattle.gc_catalogue.proofs.RawRules.{each_raw_reply, one_raw_reading}
 
--- the request with this number and these parameters, which may be asked for
+-- the raw request with this number and these parameters, by the proof that it may be asked for
 abbrev raw_call_of : (rpc : ℕ) (params : RawText) → IsRawCall rpc (raw_bytes params) → RawCall
 raw_call_of rpc params is = record { rpc = rpc; params = params; is = is }
 
@@ -52,19 +51,15 @@ one_asked rpc params (Table c) (Raw s) x y = absurd (no_call_is_raw rpc params c
 one_asked rpc params (Raw r) (Table d) x y = absurd (no_call_is_raw rpc params d r y x.0)
 one_asked rpc params (Raw r) (Raw s) x y = ap (λ z. Raw z) (same_raw r s (x.0 ∙ sym y.0) (x.1 ∙ sym y.1))
 
--- the line of what is asked reads back as that
+-- the line of what is asked reads back as what was asked
 pub asked_again : (id : Option ℕ) (asked : Asked) → IfSome id (λ n. n < 8) → IsAskedFitting asked → ReadsBackAsked id asked
 asked_again id (Table call) i fits = let again = call_again id call i fits in record { line = again.line; is_asked = again.is_call }
 asked_again id (Raw raw) i fits = record { line = request_back (raw_request id raw) (record { rpc = raw.is.bound; id = i }); is_asked = (refl, refl) }
 
--- the request has the id
+-- the request for what is asked has the id that it was given
 asked_id : (id : Option ℕ) (asked : Asked) → (asked_request id asked).id ≡ id
 asked_id id (Table call) = refl
 asked_id id (Raw raw) = refl
-
--- a result is one value at most
-read_once : (r : Result RequestFields LineFault) (p q : RequestFields) → r ≡ Ok p → r ≡ Ok q → p ≡ q
-read_once r p q e f = cc
 
 -- things that are asked by one line are one, with one id
 pub one_asked_for_a_line : (i j : Option ℕ) (a b : Asked) → IfSome i (λ n. n < 8) → IfSome j (λ n. n < 8) → IsAskedFitting a → IsAskedFitting b

@@ -11,6 +11,7 @@ use Rattle.gc_values.specs.Item.{text}
 use Rattle.gc_values.specs.declared.value.Value.{Value}
 use Rattle.gc_catalogue.specs.Lists.{before_commas, behind_commas, params_of}
 use Rattle.gc_values.proofs.TextShape.{text_is_some}
+use Rattle.gc_values.proofs.Trimming.{last_same}
 
 -- the texts of values, with a comma put before each, are `behind_commas`
 commas-map : (vs : List Value) → flat_map (λ u. 44 ∷ u) (map text vs) ≡ behind_commas vs
@@ -64,25 +65,13 @@ comma_list head vs begun old new start is cut =
     ∙ sym (append_assoc head (behind_commas vs) (44 ∷ [])) in
     cut ∙ ap (λ bytes. take (length bytes - 1) bytes) all ∙ without_last (head ++ behind_commas vs) 44
 
--- the empty list doesn't end in an element
-nothing_ends : (ys : List ℕ) (b : ℕ) → [] ≡ ys ++ b ∷ [] → ⊥
-nothing_ends [] b e = absurd (cc)
-nothing_ends (y ∷ ys) b e = absurd (cc)
-
--- two bytes that end the same list are equal
-ends_once : (xs ys : List ℕ) (a b : ℕ) → xs ++ a ∷ [] ≡ ys ++ b ∷ [] → a ≡ b
-ends_once [] [] a b e = cc
-ends_once [] (y ∷ ys) a b e = let rest : [] ≡ ys ++ b ∷ [] = cc in absurd (nothing_ends ys b rest)
-ends_once (x ∷ xs) [] a b e = let rest : [] ≡ xs ++ a ∷ [] = cc in absurd (nothing_ends xs a rest)
-ends_once (x ∷ xs) (y ∷ ys) a b e = let rest : xs ++ a ∷ [] ≡ ys ++ b ∷ [] = cc in ends_once xs ys a b rest
-
 -- where `old` is a head, a colon and values before commas, and `new` is `old` without a comma at its end, if one is there,
 -- `new` is the head, the colon and the values joined by commas
 colon_list : (head : List ℕ) (vs : List Value) (old new : List ℕ) → old ≡ (head ++ 58 ∷ []) ++ before_commas vs
     → ((front : List ℕ) → old ≡ front ++ 44 ∷ [] → new ≡ front) → (((front : List ℕ) → old ≢ front ++ 44 ∷ []) → new ≡ old)
     → new ≡ (head ++ 58 ∷ []) ++ params_of vs
 colon_list head [] old new is comma other =
-    other (λ front e. let same : 58 ≡ 44 = ends_once head front 58 44 (sym (append-nil (head ++ 58 ∷ [])) ∙ sym is ∙ e) in omega (arith, same)) ∙ is
+    other (λ front e. let same : 58 ≡ 44 = last_same head front 58 44 (sym (append-nil (head ++ 58 ∷ [])) ∙ sym is ∙ e) in omega (arith, same)) ∙ is
 colon_list head (v ∷ vs) old new is comma other =
     comma ((head ++ 58 ∷ []) ++ params_of (v ∷ vs)) (is ∙ ap (λ bytes. (head ++ 58 ∷ []) ++ bytes) (before-params v vs) ∙ sym (append_assoc (head ++ 58 ∷ []) (params_of (v ∷ vs)) (44 ∷ [])))
 

@@ -26,7 +26,7 @@ pub call_again : (id : Option ℕ) (call : Call) → IfSome id (λ n. n < 8) →
 call_again id call i fits = record { line = request_back (request_of id call) (record { rpc = number_fits call; id = i }); is_call = written_is_call call fits }
 
 -- a result is one value at most
-read_once : (r : Result RequestFields LineFault) (p q : RequestFields) → r ≡ Ok p → r ≡ Ok q → p ≡ q
+pub read_once : (r : Result RequestFields LineFault) (p q : RequestFields) → r ≡ Ok p → r ≡ Ok q → p ≡ q
 read_once r p q e f = cc
 
 -- calls with one line are one call, with one id

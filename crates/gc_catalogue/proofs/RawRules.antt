@@ -3,7 +3,7 @@ use Rattle.std.proofs.Common.{◌≡◌, ◌≤◌, ◌%◌, ◌⊎◌, ℕ, Lis
 use Rattle.std.proofs.lemmas.Bool.{cases_lt, cases_eq}
 use Rattle.gc_lines.specs.Replies.{ReplyFields}
 use Rattle.gc_values.proofs.EachItem.{each_list}
-use Rattle.gc_values.proofs.ParamLists.{one_list, params_even}
+use Rattle.gc_values.proofs.ParamLists.{one_list, params_even, even_not_odd}
 use Rattle.gc_values.specs.Lists.{IsListFault, open_quote, faulty_items}
 use Rattle.gc_values.specs.Params.{IsParams, quotes}
 use Rattle.gc_values.specs.declared.fault.ValueFault.{ValueFault}
@@ -15,15 +15,11 @@ use Rattle.gc_catalogue.specs.declared.raw.RawFault.{RawFault}
 use Rattle.gc_catalogue.specs.declared.raw.RawFault.TheVariants.{InTable, NotPlain, TooLong, OpenQuote, TooMany}
 use Rattle.gc_catalogue.specs.Raws.{AreFewItems, AreManyItems, IsItemsRefusal, IsRawCall, IsRawReading, IsRawRefusal}
 
--- no number is even and odd
-even_not_odd : (n : ℕ) → n % 2 ≡ 0 → n % 2 ≡ 1 → ⊥
-even_not_odd n e o = omega arith
-
 -- parameters of at most 16 items have their double quotes in pairs
 pub few_closed : (params : List ℕ) → AreFewItems params → quotes params % 2 ≡ 0
 few_closed params few = params_even params few.0 few.1
 
--- parameters of at most 16 items aren't more than 16 however they are split
+-- where parameters are at most 16 items, each way to split them gives at most 16
 pub few_always : (params : List ℕ) → AreFewItems params → (items : List (List ℕ)) → IsParams params items → length items ≤ 16
 few_always params few items is = subst (λ (xs : List (List ℕ)). length xs ≤ 16) (one_list params few.0 items few.1 is) few.2
 
@@ -31,12 +27,12 @@ few_always params few items is = subst (λ (xs : List (List ℕ)). length xs ≤
 not_many : (params : List ℕ) → ((items : List (List ℕ)) → IsParams params items → length items ≤ 16) → AreManyItems params → ⊥
 not_many params few many = let f = few many.0 many.1 in let m = many.2 in omega (arith, f, m)
 
--- parameters aren't at most 16 items where they have a refusal
+-- parameters of at most 16 items have no refusal
 no_items_refusal : (params : List ℕ) (e : ValueFault) → AreFewItems params → IsItemsRefusal params e → ⊥
 no_items_refusal params e few (inl odd) = even_not_odd _ (few_closed params few) odd.1
 no_items_refusal params e few (inr many) = not_many params (few_always params few) many.1
 
--- parameters have one such refusal at most
+-- parameters have one refusal at most for not being at most 16 items
 one_items_refusal : (params : List ℕ) (e f : ValueFault) → IsItemsRefusal params e → IsItemsRefusal params f → e ≡ f
 one_items_refusal params e f (inl x) (inl y) = x.0 ∙ sym y.0
 one_items_refusal params e f (inl x) (inr y) = absurd (even_not_odd _ (params_even params y.1.0 y.1.1) x.1)

@@ -16,20 +16,20 @@ use Rattle.gc_catalogue.specs.Texts.{request_of}
 abbrev pub raw_params : RawCall → List ℕ
 raw_params raw = raw_bytes raw.params
 
--- the fields of its request
+-- the fields of the request for a procedure that isn't in the table, with an id or without one
 abbrev pub raw_request : Option ℕ → RawCall → RequestFields
 raw_request id raw = record { rpc = raw.rpc; id = id; params = raw_params raw }
 
--- its line, with an id or without one: the parameters are in it as they are
+-- the line of the request for a procedure that isn't in the table, with an id or without one: the parameters are in it as they are
 abbrev pub raw_line : Option ℕ → RawCall → List ℕ
 raw_line id raw = request_text (raw_request id raw)
 
--- the fields of the request
+-- the fields of the request for what is asked, with an id or without one
 abbrev pub asked_request : Option ℕ → Asked → RequestFields
 asked_request id (Table call) = request_of id call
 asked_request id (Raw raw) = raw_request id raw
 
--- the request's line, with an id or without one
+-- the line of the request for what is asked, with an id or without one
 abbrev pub asked_line : Option ℕ → Asked → List ℕ
 asked_line id asked = request_text (asked_request id asked)
 
@@ -48,7 +48,7 @@ abbrev pub IsAskedFitting : Asked → Type 0
 IsAskedFitting (Table call) = IsFitting call
 IsAskedFitting (Raw raw) = IsRawCall raw.rpc (raw_params raw)
 
--- whether it is a call of the table
+-- whether what is asked is a call of the table
 abbrev pub is_of_table : Asked → Bool
 is_of_table (Table call) = true
 is_of_table (Raw raw) = false

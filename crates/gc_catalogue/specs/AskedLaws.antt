@@ -15,7 +15,7 @@ pub record FitsALine (id : Option ℕ) (raw : RawCall) : Type 0 where
   pub short : length (raw_line id raw) ≤ 512
   pub number : IsNoProcedure raw.rpc
 
--- so is each such line
+-- each line of a procedure that isn't in the table fits in a line, as `FitsALine` has it
 abbrev pub RawLinesFit : Type 0
 RawLinesFit = (id : Option ℕ) (raw : RawCall) → IfSome id (λ n. n < 8) → FitsALine id raw
 
@@ -33,7 +33,7 @@ pub record ReadsBackAsked (id : Option ℕ) (asked : Asked) : Type 0 where
   pub line : request_at (asked_line id asked) ≡ Ok (asked_request id asked)
   pub is_asked : IsAsked (asked_request id asked).rpc (asked_request id asked).params asked
 
--- the line of all that is asked reads back as that
+-- the line of whatever is asked reads back as what was asked
 abbrev pub AskedReadBack : Type 0
 AskedReadBack = (id : Option ℕ) (asked : Asked) → IfSome id (λ n. n < 8) → IsAskedFitting asked → ReadsBackAsked id asked
 
@@ -41,6 +41,6 @@ AskedReadBack = (id : Option ℕ) (asked : Asked) → IfSome id (λ n. n < 8) �
 abbrev pub OneAskedReading : Type 0
 OneAskedReading = (asked : Asked) (reply : ReplyFields) (x y : Reading) → IsAskedReading asked reply x → IsAskedReading asked reply y → x ≡ y
 
--- each reply has a reading for all that is asked
+-- each reply has a reading for whatever is asked
 abbrev pub EachReplyIsReadForAsked : Type 0
 EachReplyIsReadForAsked = (asked : Asked) (reply : ReplyFields) → (reading : Reading) × IsAskedReading asked reply reading

@@ -62,6 +62,6 @@ pub enum Reading {
     Refused(u16),
     /// The communication code, which isn't 0; nothing else is read.
     ComFault(u16),
-    /// Both codes are 0, and the parameters don't read as the call's answer.
+    /// Both codes are 0, and the parameters can't be read as the call's answer.
     Unreadable(ValueFault),
 }

@@ -21,7 +21,7 @@ use crate::requests::{decode_call, encode_call_onto};
 use arrayvec::ArrayVec;
 use gc_lines::{Line, Reply, Request, append, push_request};
 
-/// What is asked of an instrument.
+/// What is asked of an instrument: a call of the table, or a procedure that isn't in it.
 #[derive(Clone, Copy, Debug, PartialEq, Eq)]
 pub enum Asked {
     /// A call of the table.
@@ -106,7 +106,7 @@ pub fn encode_asked(id: Option<u8>, asked: &Asked) -> Line
 }
 
 /// Reads what a request asks for: a call of the table, or a procedure that isn't in it. `None`: its number is in the table
-/// and its parameters don't read, or it may not be asked for as it is.
+/// and its parameters can't be read as those of the call, or it may not be asked for as it is.
 pub fn decode_asked(request: &Request<'_>) -> Option<Asked>
     ensures found { IfSome result (λ asked. IsAsked request.now.rpc request.now.params.now asked) }
     ensures only { (asked : Asked) → IsAsked request.now.rpc request.now.params.now asked → result ≡ Some asked }

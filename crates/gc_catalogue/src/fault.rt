@@ -12,7 +12,7 @@ use std::fmt;
 pub enum CallFault {
     /// No procedure has the number.
     Unknown,
-    /// The parameters don't read as the procedure's.
+    /// The parameters can't be read as the procedure's.
     Parameters(ValueFault),
 }
 

@@ -59,7 +59,7 @@ pub fn one_asked_for_a_line()
     ensures { OneAskedForALine }
 {}
 
-/// The line of all that is asked reads back as that.
+/// The line of whatever is asked reads back as what was asked.
 pub fn asked_read_back()
     ensures { AskedReadBack }
 {}
@@ -69,7 +69,7 @@ pub fn one_asked_reading()
     ensures { OneAskedReading }
 {}
 
-/// Each reply has a reading for all that is asked.
+/// Each reply has a reading for whatever is asked.
 pub fn each_reply_is_read_for_asked()
     ensures { EachReplyIsReadForAsked }
 {}

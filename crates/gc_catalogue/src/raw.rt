@@ -47,7 +47,7 @@ impl RawFault {
     }
 }
 
-/// Why parameters aren't at most 16 items: `OpenQuote` or `TooMany`. `None`: they are.
+/// Why parameters aren't at most 16 items: `OpenQuote` or `TooMany`. `None`: they are at most 16 items.
 pub(crate) fn items_fault(params: &[u8]) -> Option<ValueFault>
     ensures found { IfSome result (λ e. IsItemsRefusal params.now e) }
     ensures none { IfNone result (AreFewItems params.now) }
@@ -105,7 +105,7 @@ pub fn raw_call(rpc: u16, params: &[u8]) -> Result<RawCall, RawFault>
 }
 
 impl RawCall {
-    /// The procedure's number, which is no procedure's of the table.
+    /// The procedure's number, which no procedure of the table has.
     pub fn number(&self) -> u16
         ensures { result ≡ self.now.rpc }
     {

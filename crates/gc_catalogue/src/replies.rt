@@ -80,7 +80,7 @@ fn read_quickly(call: &Call, params: &[u8], reading: &mut Reading) -> bool
 
 // Reads parameters in any spelling as the call's answer, or finds why they are none, into `reading`.
 #[inline(never)]
-fn read_by_the_book(call: &Call, params: &[u8], reading: &mut Reading)
+fn read_any_spelling(call: &Call, params: &[u8], reading: &mut Reading)
     ensures { IsReading call.now (beside_zeros params.now) reading.new }
 {
     let mut listed = Listed::new(params);
@@ -102,7 +102,7 @@ pub fn decode_answer_into(call: &Call, reply: &Reply<'_>, reading: &mut Reading)
     } else if reply.rc != 0 {
         *reading = Reading::Refused(reply.rc);
     } else if !read_quickly(call, reply.params, reading) {
-        read_by_the_book(call, reply.params, reading);
+        read_any_spelling(call, reply.params, reading);
     }
 }
 

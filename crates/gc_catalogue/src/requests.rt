@@ -63,7 +63,7 @@ fn read_quickly(rpc: u16, params: &[u8], call: &mut Call) -> bool
 
 // Reads a number and parameters in any spelling as a call, into `call`, or names the first fault.
 #[inline(never)]
-fn read_by_the_book(rpc: u16, params: &[u8], call: &mut Call) -> Result<(), CallFault>
+fn read_any_spelling(rpc: u16, params: &[u8], call: &mut Call) -> Result<(), CallFault>
     ensures found { OnOk result (IsCall rpc params.now call.new) }
     ensures fault { IfErr result (λ e. IsRefusal rpc params.now e) }
 {
@@ -86,7 +86,7 @@ fn read_call(rpc: u16, params: &[u8], call: &mut Call) -> Result<(), CallFault>
     if read_quickly(rpc, params, call) {
         return Ok(());
     }
-    read_by_the_book(rpc, params, call)
+    read_any_spelling(rpc, params, call)
 }
 
 /// As [`decode_call`], but the call is written into `call`, which may be any call after a fault.
@@ -104,7 +104,7 @@ pub fn decode_call_into(request: &Request<'_>, call: &mut Call) -> Result<(), Ca
 /// Reads the call that a request names.
 ///
 /// The faults come in this order: `Unknown` where no procedure has the number; then `Parameters` with `OpenQuote`,
-/// `TooMany`, `Count`, or `Spelling` or `Range` of the first parameter from the left that doesn't read.
+/// `TooMany`, `Count`, or `Spelling` or `Range` of the first parameter from the left that can't be read.
 pub fn decode_call(request: &Request<'_>) -> Result<Call, CallFault>
     ensures found { IfOk result (λ call. IsCall request.now.rpc request.now.params.now call) }
     ensures fitting { IfOk result (λ call. IsFitting call) }

@@ -9,7 +9,7 @@ use Rattle.gc_client.proofs.Lists.{take_turn}
 
 -- One turn of the loop: it looks at the request p, at place k of the requests ws that wait.
 module _ {Q : Type 0} (k : ℕ) (ws : List (Pending Q)) (p : Pending Q) (here : slice_get ws k ≡ Some p) where
-  -- the deadlines of the first k + 1 requests are those of the first k, and that of the one at place k if it has one
+  -- the deadlines of the first k + 1 requests are those of the first k, and that of the one at place k if it hasn't timed out
   next_deadlines : deadlines (take (k + 1) ws) ≡ deadlines (take k ws) ++ deadlines (p ∷ [])
   next_deadlines =
       let n : k + 1 ≡ suc k = omega arith in

@@ -1,6 +1,6 @@
--- For the loop that times out requests at a moment. A request has *got the moment* once the loop has looked at it: it has
--- timed out where its deadline was reached. Here `ws` are the requests that waited at the start, and `qs` what the loop has
--- made of them so far.
+-- For the loop that times out requests at a moment, which looks at one request after the other. Here `ws` are the requests that
+-- waited at the start, and `qs` what the loop has made of them so far: those that it has looked at have timed out if their
+-- deadlines were reached.
 use Rattle.std.proofs.Common.{◌≡◌, ℕ, zero, suc, ◌+◌, ◌<◌, ◌≤◌, Bool, true, false, ◌||◌, ◌&&◌, not, List, [], ◌∷◌, ◌++◌, map, filter, take, drop, Some, leb, refl, sym, ◌∙◌, ap, ap₂, subst, arith}
 use Rattle.std.specs.Prelude.{slice_get, nat_le}
 use Rattle.std.proofs.lemmas.Bool.{le-leb, lt-leb}
@@ -10,11 +10,11 @@ use Rattle.gc_client.specs.declared.pending.Pending.{Pending}
 use Rattle.gc_client.specs.Rule.{expired, is_expiring, expiring, given_up_at}
 use Rattle.gc_client.proofs.Lists.{take_turn, drop_turn}
 
--- the requests that wait once the first k of them have got the moment
+-- the requests that wait once the loop has looked at the first k of them: these have timed out if their deadlines were reached
 abbrev pub expired_up_to : {Q : Type 0} → ℕ → ℕ → List (Pending Q) → List (Pending Q)
 expired_up_to now k ws = map (expired now) (take k ws) ++ drop k ws
 
--- once the first k requests have got the moment, the one at place k is still the one that was there at the start
+-- once the loop has looked at the first k requests, the one at place k is still the one that was there at the start
 pub same_at : {Q : Type 0} (now k : ℕ) (ws : List (Pending Q)) (p : Pending Q) → slice_get (expired_up_to now k ws) k ≡ Some p → slice_get ws k ≡ Some p
 same_at now zero ws p e = e
 same_at now (suc k) [] p e = e
@@ -38,7 +38,7 @@ stays now p e = ap (λ b. record p { given_up = b }) (flag (nat_le p.deadline no
   flag true false e = e
   flag false false e = refl
 
--- timing out the request at place k, once the first k have got the moment, leaves those, that one marked as timed out, and
+-- timing out the request at place k, once the loop has looked at the first k, leaves those, that one marked as timed out, and
 -- the others
 given_up_in : {Q : Type 0} (now k : ℕ) (ws : List (Pending Q)) (p : Pending Q) → slice_get ws k ≡ Some p
     → given_up_at k (expired_up_to now k ws) ≡ map (expired now) (take k ws) ++ record p { given_up = true } ∷ drop (suc k) ws
@@ -46,7 +46,7 @@ given_up_in now k [] p e = cc
 given_up_in {Q} now zero (w ∷ ws) p e = let same : w ≡ p = cc in ap (λ (x : Pending Q). record x { given_up = true } ∷ ws) same
 given_up_in now (suc k) (w ∷ ws) p e = ap (λ qs. expired now w ∷ qs) (given_up_in now k ws p e)
 
--- once the request at place k got the moment too, the first k + 1 have got it
+-- once the loop has looked at the first k + 1 requests, it has made of them what it made of the first k and of the one at place k
 expired_one_more : {Q : Type 0} (now k : ℕ) (ws : List (Pending Q)) (p : Pending Q) → slice_get ws k ≡ Some p
     → expired_up_to now (suc k) ws ≡ map (expired now) (take k ws) ++ expired now p ∷ drop (suc k) ws
 expired_one_more now k [] p e = cc
@@ -61,7 +61,7 @@ next_expiring now k ws p e =
     ∙ ap (map (λ p. p.target)) (filter-append (is_expiring now) (take k ws) (p ∷ []))
     ∙ map-append (λ p. p.target) (filter (is_expiring now) (take k ws)) (filter (is_expiring now) (p ∷ []))
 
--- One turn of the loop: the first k have got the moment, and the loop looks at the request p at place k.
+-- One turn of the loop: it has looked at the first k requests, and looks at the request p at place k.
 module _ {Q : Type 0} (now k : ℕ) (ws qs : List (Pending Q)) (p : Pending Q) (done : qs ≡ expired_up_to now k ws) (here : slice_get qs k ≡ Some p) where
   -- the request at place k of all that wait is p
   at_k : slice_get ws k ≡ Some p
@@ -71,16 +71,16 @@ module _ {Q : Type 0} (now k : ℕ) (ws qs : List (Pending Q)) (p : Pending Q) (
   suc_k : suc k ≡ k + 1
   suc_k = omega arith
 
-  -- where the request at place k times out at the moment, and `qs'` are the requests with that one marked, they are the
-  -- requests of which the first k + 1 have got the moment
+  -- where the request at place k times out at the moment, and `qs'` are the requests with that one marked, they are what the loop
+  -- makes of the first k + 1
   pub due_done : (qs' : List (Pending Q)) → is_expiring now p ≡ true → qs' ≡ given_up_at k qs → qs' ≡ expired_up_to now (k + 1) ws
   due_done qs' b e =
       e ∙ ap (given_up_at k) done ∙ given_up_in now k ws p at_k
       ∙ ap (λ x. map (expired now) (take k ws) ++ x ∷ drop (suc k) ws) (sym (expired_is now p b))
       ∙ sym (expired_one_more now k ws p at_k) ∙ ap (λ m. expired_up_to now m ws) suc_k
 
-  -- where the request at place k doesn't time out at the moment, the requests stay as they are, and the first k + 1 have got
-  -- the moment
+  -- where the request at place k doesn't time out at the moment, the requests stay as they are, and are what the loop makes of the
+  -- first k + 1
   pub not_due_done : is_expiring now p ≡ false → qs ≡ expired_up_to now (k + 1) ws
   not_due_done b =
       done ∙ ap (λ l. map (expired now) (take k ws) ++ l) (drop_turn ws k p at_k)

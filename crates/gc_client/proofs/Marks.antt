@@ -1,4 +1,4 @@
--- Giving up the request at a place is a write at that place.
+-- Marking the request at a place as timed out is a write at that place.
 use Rattle.std.proofs.Common.{◌≡◌, ℕ, zero, suc, ◌<◌, ◌≤◌, List, [], ◌∷◌, length, get_or, set, Some, None, true, refl, ap, arith}
 use Rattle.std.specs.Prelude.{slice_get}
 use Rattle.gc_client.specs.declared.pending.Pending.{Pending}

@@ -16,7 +16,7 @@ settlements_in Stray = []
 settlements_in (Unread fault) = []
 
 -- what a client makes of a line, by the kind of what it heard: `old` is the client before the line and `new` after it. A stray
--- and a line that is no reply settle nothing and change nothing; what a reply settles is said by `AreSettlements`
+-- and a line that is no reply settle nothing and change nothing; what a reply settles is said by `AreSettledBy`
 abbrev pub HearsInto : {Q : Type 0} → ById Q → List ℕ → Hearing → List (Settlement Q) → ById Q → Type 0
 HearsInto old line kind.Settled settlements new = fits old (heard line) ≡ true
 HearsInto old line kind.Stray settlements new = IsOk (reply_at line) × (fits old (heard line) ≡ false) × (settlements ≡ []) × (new ≡ old)

@@ -15,14 +15,14 @@ pub record IsReplyWithId (line : List ℕ) : Type 0 where
 abbrev pub is_ours : List ℕ → Bool
 is_ours line = is_some (heard line)
 
--- `x`, with these settlements before its own
-abbrev pub first : {Q : Type 0} → List (Settlement Q) → Settled Q (ById Q) → Settled Q (ById Q)
-first settlements x = record { settlements = settlements ++ x.settlements; client = x.client }
+-- what x settles, with these earlier settlements before it, and the client of x
+abbrev pub preceded_by : {Q : Type 0} → List (Settlement Q) → Settled Q (ById Q) → Settled Q (ById Q)
+preceded_by settlements x = record { settlements = settlements ++ x.settlements; client = x.client }
 
 -- the client's rule over a list of lines, in order
 abbrev pub hears_all : {Q : Type 0} → ById Q → List (List ℕ) → Settled Q (ById Q)
 hears_all c [] = record { settlements = []; client = c }
-hears_all c (line ∷ lines) = first (hears c line (heard line)).settlements (hears_all (hears c line (heard line)).client lines)
+hears_all c (line ∷ lines) = preceded_by (hears c line (heard line)).settlements (hears_all (hears c line (heard line)).client lines)
 
 -- a list of lines and that list without its foreign lines give the same settlements and the same client
 abbrev pub IsSilent : {Q : Type 0} → ById Q → List (List ℕ) → Type 0

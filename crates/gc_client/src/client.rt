@@ -11,7 +11,7 @@ ghost use Rattle.gc_client.specs.Hearing.{HearsAs, HearsInto, settlements_in};
 ghost use Rattle.gc_client.specs.declared.heard.Hearing.TheVariants.{Unread};
 ghost use Rattle.gc_lines.specs.declared.fault.LineFault.TheVariants.{TooLong};
 
-use crate::ending::{lose, make_places, meet};
+use crate::ending::{lose, make_places, set_replied};
 use crate::heard::{Heard, Hearing};
 use crate::pending::Pending;
 use crate::settlement::Settlement;
@@ -235,7 +235,7 @@ impl<W: Window> Client<W> {
         ensures overlong { 512 < length line.now
             → (result ≡ Unread TooLong) × (settled.new.items ≡ []) × (self.new ≡ self.old) }
     {
-        match self.aim(line) {
+        match self.find_request(line) {
             Ok((k, reply)) => {
                 self.settle(k, &reply, line, settled);
                 Hearing::Settled
@@ -345,11 +345,11 @@ impl<W: Window> Client<W> {
 
     // The place of the request that a line replies to, and the reply. `Err`: the line is a stray, or no reply.
     #[inline]
-    fn aim<'a>(&self, line: &'a [u8]) -> Result<(usize, Reply<'a>), Hearing>
-        ensures reads { IfOk result (λ aim. reply_at line.now ≡ Ok (reply_seen aim.1)) }
-        ensures place { IfOk result (λ aim. place_heard self.now.ids.next (length self.now.ids.waiting) aim.1.id ≡ Some aim.0) }
-        ensures waits { IfOk result (λ aim. aim.0 < length self.now.ids.waiting) }
-        ensures narrow { IfOk result (λ aim. aim.0 < WINDOW) }
+    fn find_request<'a>(&self, line: &'a [u8]) -> Result<(usize, Reply<'a>), Hearing>
+        ensures reads { IfOk result (λ found. reply_at line.now ≡ Ok (reply_seen found.1)) }
+        ensures place { IfOk result (λ found. place_heard self.now.ids.next (length self.now.ids.waiting) found.1.id ≡ Some found.0) }
+        ensures waits { IfOk result (λ found. found.0 < length self.now.ids.waiting) }
+        ensures narrow { IfOk result (λ found. found.0 < WINDOW) }
         ensures short { IfOk result (λ _. length line.now ≤ 512) }
         ensures none { IfErr result (λ hearing. length line.now ≤ 512 → HearsInto self.now.ids line.now hearing [] self.now.ids) }
         ensures settled { IfErr result (λ _. length line.now ≤ 512
@@ -391,7 +391,7 @@ impl<W: Window> Client<W> {
         lose(&mut self.window, k, settled);
         let p = self.window.take_first();
         if let Some(settlement) = settled.get_mut(k) {
-            meet(&p, reply, line, settlement);
+            set_replied(&p, reply, line, settlement);
         }
     }
 }

@@ -78,7 +78,7 @@ fn set_lost<Q: Asking>(p: &Pending<Q>, settlement: &mut Settlement<Q>)
 
 /// Writes the settlement of a request whose reply came: late where the request had timed out, else answered.
 #[inline(never)]
-pub(crate) fn meet<Q: Asking>(
+pub(crate) fn set_replied<Q: Asking>(
     p: &Pending<Q>,
     reply: &Reply<'_>,
     line: &[u8],

@@ -10,7 +10,7 @@ use gc_lines::Line;
 #[derive(Debug, PartialEq, Eq, Drop)]
 pub enum Outcome {
     /// Its reply came in time: what the reply says of what was asked, and the very line.
-    /// A reply that doesn't read is an answer too, whose reading says so.
+    /// A reply whose parameters can't be read is an answer too, whose reading says so.
     Answered(Reading, Line),
     /// A reply to it came after it had timed out. What the reply said is dropped.
     Late,

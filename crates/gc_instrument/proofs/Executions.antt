@@ -1,8 +1,8 @@
 -- What holds of the outcome of every call, `ComesOut`: the serial number, the name and the scene stay, the values lie in their
 -- types, and with a code other than 0 comes no answer. A call *comes out* where this holds of its outcome. A state *fits* where
 -- its values lie in their types (`IsFittingState`).
-use Rattle.std.proofs.Common.{◌≡◌, ℕ, ℤ, pos, negsuc, ◌<◌, ◌≤◌, ◌&&◌, ◌||◌, Bool, true, false, cond, T, Option, Some, None, refl, sym, subst, lit≤, arith}
-use Rattle.std.proofs.lemmas.Bool.{and_parts}
+use Rattle.std.proofs.Common.{◌≡◌, ℕ, ℤ, pos, negsuc, ◌<◌, ◌≤◌, ◌&&◌, ◌||◌, Bool, true, false, cond, Option, Some, None, refl, subst, arith}
+use Rattle.std.proofs.lemmas.Bool.{and_parts, leb-true}
 use Rattle.std.specs.Prelude.{int_lt, int_le, nat_le, unsigned_abs}
 use Rattle.std.specs.Ordering.{int_eq}
 use Rattle.std.proofs.lemmas.Int.{ints}
@@ -103,18 +103,14 @@ searched_outcome s call area_hz area_v of_call = by_test (int_lt area_hz.digits 
 
 -- what the tests say
 
--- where the test of a ≤ b is true, a is at most b
-at_most : (a b : ℕ) → nat_le a b ≡ true → a ≤ b
-at_most a b h = lit≤ (subst T (sym h) tt)
-
 -- a precision that is allowed is at most 15
 precision_few : (n : ℤ) → is_precision n ≡ true → unsigned_abs n ≤ 15
-precision_few (pos k) h = at_most k 15 (and_parts (nat_le 0 k) (nat_le k 15) h).1
+precision_few (pos k) h = leb-true k 15 (and_parts (nat_le 0 k) (nat_le k 15) h).1
 precision_few (negsuc k) h = let wrong : ⊥ = cc in absurd wrong
 
 -- a year from 1 to 9999 fits in a Short
 short_fits : (z : ℤ) → int_le (pos 1) z ≡ true → int_le z (pos 9999) ≡ true → FitsShort z
-short_fits (pos k) low high = let few : k ≤ 9999 = at_most k 9999 high in (omega (arith, ints), omega (arith, ints, few))
+short_fits (pos k) low high = let few : k ≤ 9999 = leb-true k 9999 high in (omega (arith, ints), omega (arith, ints, few))
 short_fits (negsuc k) low high = let wrong : ⊥ = cc in absurd wrong
 
 -- where all nine tests of a date hold, a to i in the order of `is_date`, so does each that the ranges of its values need: all
@@ -144,11 +140,11 @@ date_fits : (d : DateTime) → is_date d ≡ true → AreValues (date_values d)
 date_fits d h =
     let t = date_tests (int_le (pos 1) d.year) (int_le d.year (pos 9999)) (nat_le 1 d.month) (nat_le d.month 12) (nat_le 1 d.day) (nat_le d.day 31)
     (nat_le d.hour 23) (nat_le d.minute 59) (nat_le d.second 59) h in
-    let month = at_most d.month 12 t.2 in
-    let day = at_most d.day 31 t.3 in
-    let hour = at_most d.hour 23 t.4 in
-    let minute = at_most d.minute 59 t.5 in
-    let second = at_most d.second 59 t.6 in
+    let month = leb-true d.month 12 t.2 in
+    let day = leb-true d.day 31 t.3 in
+    let hour = leb-true d.hour 23 t.4 in
+    let minute = leb-true d.minute 59 t.5 in
+    let second = leb-true d.second 59 t.6 in
     (short_fits d.year t.0 t.1, (omega (arith, month), (omega (arith, day), (omega (arith, hour), (omega (arith, minute), (omega (arith, second), tt))))))
 
 -- a face's number fits in a Long
@@ -158,7 +154,7 @@ face_fits Turned = (omega (arith, ints), omega (arith, ints))
 
 -- a prism type that is allowed fits in a Long
 prism_fits : (n : ℤ) → is_prism n ≡ true → FitsLong n
-prism_fits (pos k) h = let few : k ≤ 2147483647 = at_most k 2147483647 (and_parts (nat_le 0 k) (nat_le k 2147483647) h).1 in (omega (arith, ints), omega (arith, ints, few))
+prism_fits (pos k) h = let few : k ≤ 2147483647 = leb-true k 2147483647 (and_parts (nat_le 0 k) (nat_le k 2147483647) h).1 in (omega (arith, ints), omega (arith, ints, few))
 prism_fits (negsuc k) h = let wrong : ⊥ = cc in absurd wrong
 
 -- a precision of at most 15 fits in a Short

@@ -1,7 +1,8 @@
 -- Frames that an instrument answered are lines that it was handed; frames that are no lines are ignored.
-use Rattle.std.proofs.Common.{◌≡◌, ℕ, ◌+◌, ◌<◌, List, [], ◌∷◌, ◌++◌, length, map, take, suc, Option, Some, None, Result, Ok, Err, refl, sym, ap, ◌∙◌, subst, true, false, append_assoc}
+use Rattle.std.proofs.Common.{◌≡◌, ℕ, ◌+◌, ◌<◌, List, [], ◌∷◌, ◌++◌, length, map, take, Option, Some, None, Result, Ok, Err, refl, sym, ap, ◌∙◌, subst, true, false, append_assoc}
 use Rattle.std.specs.List.{filter_map}
 use Rattle.std.specs.Option.{option_map, option_to_list}
+use Rattle.std.proofs.lemmas.List.{length-map}
 use Rattle.std.proofs.lemmas.List.Elements.{filter_map-append}
 use Rattle.gc_lines.specs.Answering.{AnswersInOrder, AnswersAll, AnswersPart, AnswersFrames, AppendsAnswer, all_of}
 use Rattle.gc_lines.specs.Frames.{frames, line_in, lines, rest_of, rest_behind}
@@ -86,11 +87,6 @@ written_as : (replies : List (List ℕ)) → all_of (map with_end replies) ≡ r
 written_as [] = refl
 written_as (reply ∷ later) = ap (λ (bytes : List ℕ). with_end reply ++ bytes) (written_as later)
 
--- mapping a function over a list keeps its length
-length-mapped : {X Y : Type 0} (f : X → Y) (xs : List X) → length (map f xs) ≡ length xs
-length-mapped f [] = refl
-length-mapped f (x ∷ xs) = ap suc (length-mapped f xs)
-
 -- frames that were all answered are lines that were all served
 all_serves : (s t : State) (seen : List Frame) (a b : Option (List ℕ)) (i j : ℕ) → AnswersAll AnswersFrame s t seen a b i j → ServesAll s t (lines_of seen) a b i j
 all_serves s t seen a b i j all =
@@ -98,7 +94,7 @@ all_serves s t seen a b i j all =
     record {
       replies = h.replies;
       hears = h.hears;
-      counts = all.counts ∙ ap (λ (texts : List (List ℕ)). i + length texts) h.texts_are ∙ ap (λ n. i + n) (length-mapped with_end h.replies);
+      counts = all.counts ∙ ap (λ (texts : List (List ℕ)). i + length texts) h.texts_are ∙ ap (λ n. i + n) (length-map h.replies with_end);
       took = Appends-is a b _ _ (ap all_of h.texts_are ∙ written_as h.replies) all.took;
     }
 
@@ -142,7 +138,7 @@ part_serves s t seen a b i j bytes part =
       hears = h.hears;
       reply = d.reply;
       draws = d.replied;
-      counts = part.counts ∙ ap (λ (texts : List (List ℕ)). i + length texts) h.texts_are ∙ ap (λ n. i + n) (length-mapped with_end h.replies);
+      counts = part.counts ∙ ap (λ (texts : List (List ℕ)). i + length texts) h.texts_are ∙ ap (λ n. i + n) (length-map h.replies with_end);
       not_all = subst (λ (text : List ℕ). bytes < length text) d.text_is part.not_all;
       took = Appends-is a b _ _ (ap (λ (xs : List ℕ). xs ++ take bytes part.text) (ap all_of h.texts_are ∙ written_as h.replies)
           ∙ ap (λ (xs : List ℕ). replies_text h.replies ++ take bytes xs) d.text_is) part.took;

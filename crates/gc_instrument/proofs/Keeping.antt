@@ -1,7 +1,8 @@
 -- The reply that an instrument keeps: for which id it is found, that no call depends on it, and what is kept after an execution.
-use Rattle.std.proofs.Common.{◌≡◌, ℤ, pos, ◌||◌, Bool, true, false, cond, ℕ, List, Option, Some, None, refl, sym, ap, ◌∙◌, subst, eqb, ◌+◌, ◌-◌, [], ◌∷◌, ◌++◌, length, take, drop, arith, length-append}
+use Rattle.std.proofs.Common.{◌≡◌, ℤ, pos, ◌||◌, Bool, true, false, cond, ℕ, List, Option, Some, None, refl, sym, ap, ◌∙◌, subst, eqb, ◌+◌, ◌-◌, ◌++◌, length, take, drop, arith, length-append}
 use Rattle.std.specs.Prelude.{int_lt, unwrap_or}
 use Rattle.std.proofs.lemmas.List.{take_all}
+use Rattle.std.proofs.Math.Seq.{drop-append_seam}
 use Rattle.gc_lines.specs.Lines.{IsPlain}
 use Rattle.gc_lines.specs.Replies.{ReplyFields, IsReply}
 use Rattle.std.specs.Ordering.{int_eq}
@@ -109,22 +110,17 @@ executes_apart s kept call = sym (by_rows s kept call)
 kept_stays : (s : State) (call : Call) → (exec s call).state.kept ≡ s.kept
 kept_stays s call = ap (λ (x : Executed). x.state.kept) (executes_apart s s.kept call)
 
--- what follows a front is what was appended to it
-drop-append : (old text : List ℕ) → drop (length old) (old ++ text) ≡ text
-drop-append [] text = refl
-drop-append (b ∷ old) text = drop-append old text
-
 -- the bytes from the old length on are what was appended
-behind_it : (old new text : List ℕ) (start : ℕ) → new ≡ old ++ text → start ≡ length old → take (length new - start) (drop start new) ≡ text
-behind_it old new text start is first =
-    let whole : drop start new ≡ text = ap (λ n. drop n new) first ∙ ap (drop (length old)) is ∙ drop-append old text in
+appended_bytes_at : (old new text : List ℕ) (start : ℕ) → new ≡ old ++ text → start ≡ length old → take (length new - start) (drop start new) ≡ text
+appended_bytes_at old new text start is first =
+    let whole : drop start new ≡ text = ap (λ n. drop n new) first ∙ ap (drop (length old)) is ∙ drop-append_seam old text in
     let size : length new ≡ length old + length text = ap length is ∙ length-append old text in
     let enough : length new - start ≡ length text = omega (arith, size, first) in
     ap (take (length new - start)) whole ∙ ap (λ n. take n text) enough ∙ take_all (length text) text (omega arith)
 
 -- the bytes from the old length on, of a list that equals the new one, are what was appended
-pub behind : (old new all text : List ℕ) (start : ℕ) → all ≡ new → new ≡ old ++ text → start ≡ length old → take (length all - start) (drop start all) ≡ text
-behind old new all text start same is first = ap (λ xs. take (length xs - start) (drop start xs)) same ∙ behind_it old new text start is first
+pub appended_bytes : (old new all text : List ℕ) (start : ℕ) → all ≡ new → new ≡ old ++ text → start ≡ length old → take (length all - start) (drop start all) ≡ text
+appended_bytes old new all text start same is first = ap (λ xs. take (length xs - start) (drop start xs)) same ∙ appended_bytes_at old new text start is first
 
 -- the reply's id is the request's, where there is one
 number_is : (id : Option ℕ) (n number : ℕ) → id ≡ Some n → number ≡ unwrap_or id 0 → number ≡ n

@@ -35,9 +35,9 @@ take_out s t (line ∷ foreign) later ps none h =
     subst (λ (qs : List (List ℕ)). Hears s later t qs) (sym all) (subst (λ (u : State). Hears u later t h.2) same.0 rest)
 
 -- where ys have the replies of xs and lead where xs lead, from any state, they still do with the lines `first` before both
-behind : (s t : State) (first xs ys ps : List (List ℕ)) → ((u : State) (qs : List (List ℕ)) → Hears u xs t qs → Hears u ys t qs) → Hears s (first ++ xs) t ps → Hears s (first ++ ys) t ps
-behind s t [] xs ys ps change h = change s ps h
-behind s t (line ∷ first) xs ys ps change h = (h.0, h.1, h.2, h.3, behind h.0 t first xs ys h.2 change h.4, h.5)
+lines_before : (s t : State) (first xs ys ps : List (List ℕ)) → ((u : State) (qs : List (List ℕ)) → Hears u xs t qs → Hears u ys t qs) → Hears s (first ++ xs) t ps → Hears s (first ++ ys) t ps
+lines_before s t [] xs ys ps change h = change s ps h
+lines_before s t (line ∷ first) xs ys ps change h = (h.0, h.1, h.2, h.3, lines_before h.0 t first xs ys h.2 change h.4, h.5)
 
 -- a stream that is empty or ends in a line feed has no bytes after its last line feed
 whole_rest : (stream : List ℕ) → IsWhole stream → rest_of stream ≡ []
@@ -56,10 +56,10 @@ foreign_lines_are_silent s t front foreign back bytes front_whole foreign_whole 
     let shorter : lines (front ++ back) ≡ lines front ++ lines back = lines-next front back (whole_rest front front_whole) in (
       same_output s t (front ++ (foreign ++ back)) (front ++ back) bytes (λ ps h.
           subst (λ (xs : List (List ℕ)). Hears s xs t ps) (sym shorter)
-          (behind s t (lines front) (lines foreign ++ lines back) (lines back) ps
+          (lines_before s t (lines front) (lines foreign ++ lines back) (lines back) ps
           (λ u qs k. take_out u t (lines foreign) (lines back) qs none k) (subst (λ (xs : List (List ℕ)). Hears s xs t ps) longer h))),
       same_output s t (front ++ back) (front ++ (foreign ++ back)) bytes (λ ps h.
           subst (λ (xs : List (List ℕ)). Hears s xs t ps) (sym longer)
-          (behind s t (lines front) (lines back) (lines foreign ++ lines back) ps
+          (lines_before s t (lines front) (lines back) (lines foreign ++ lines back) ps
           (λ u qs k. put_in u t (lines foreign) (lines back) qs none k) (subst (λ (xs : List (List ℕ)). Hears s xs t ps) shorter h))),
     )

@@ -1,4 +1,4 @@
--- The reply to a line: what the instrument does with each line that it is handed. The communication codes are the manual's, the rest is this project's own.
+-- The reply to a line: what the instrument does with each line that it gets. The communication codes are the manual's, the rest is this project's own.
 use Rattle.std.specs.Prelude.{◌≡◌, ℕ, List, [], ◌++◌, Bool, true, false, Option, Some, None, if◌then◌else◌, ◌==◌, nat_eq, unwrap_or}
 use Rattle.gc_lines.specs.Lines.{IsPlain}
 use Rattle.gc_lines.specs.Replies.{ReplyFields, IsReply, reply_text}
@@ -19,7 +19,7 @@ use Rattle.gc_instrument.specs.Execution.{Executed, exec}
 abbrev pub reply_id : RequestFields → ℕ
 reply_id q = unwrap_or q.id 0
 
--- the communication code: 3081 for a procedure that isn't in the catalogue, 3080 for parameters that don't read
+-- the communication code: 3081 for a procedure that isn't in the catalogue, 3080 for parameters that can't be read
 abbrev pub com_code : CallFault → ℕ
 com_code Unknown = 3081
 com_code (Parameters _) = 3080

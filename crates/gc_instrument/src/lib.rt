@@ -13,6 +13,7 @@ mod target;
 pub use face::Face;
 pub use gc_lines::{ServeFault, Served};
 pub use instrument::{Instrument, SceneFull};
+pub use measurement::{first_at, first_within};
 pub use pointing::Pointing;
 pub use serving::serve;
 pub use target::Target;

@@ -22,11 +22,15 @@ use Rattle.gc_lines.specs.Readers.{digits_len, number_at}
 pub digits_are_numerals : IsNumeralModel (AllDigits 10) (digits_value 10)
 digits_are_numerals = numerals_by_value _ tells_digits
 
+-- an ASCII digit is a byte from 48 to 57
+pub digit_range : (b : ℕ) → is_ascii_digit b ≡ true → (48 ≤ b) × (b ≤ 57)
+digit_range b e = grind (arith, nat_tests)
+
 -- an ASCII digit is worth less than ten
 digit_value_of : (b : ℕ) → is_ascii_digit b ≡ true → digit_value b < 10
-digit_value_of b e = let r : (48 ≤ b) × (b ≤ 57) = grind (arith, nat_tests) in omega (arith, digit_value_digit b r)
+digit_value_of b e = let r = digit_range b e in omega (arith, digit_value_digit b r)
 
--- the run at the front has only digits
+-- the longest prefix of digits has only digits
 prefix_digits : (bs : List ℕ) → AllDigits 10 (take (prefix_len is_ascii_digit bs) bs)
 prefix_digits [] = tt
 prefix_digits (b ∷ bs) = elim (is_ascii_digit b) as (λ v. is_ascii_digit b ≡ v → AllDigits 10 (take (cond v (1 + prefix_len is_ascii_digit bs) 0) (b ∷ bs))) [
@@ -42,7 +46,7 @@ run_is bs = length-prefix_len is_ascii_digit bs
 pub run_digits : (bs : List ℕ) → AllDigits 10 (take (digits_len bs) bs)
 run_digits bs = subst (λ (n : ℕ). AllDigits 10 (take n bs)) (sym (run_is bs)) (prefix_digits bs)
 
--- no digit follows the run
+-- no digit follows the longest prefix of digits
 prefix_stops : (bs : List ℕ) → NoDigitFirst (drop (prefix_len is_ascii_digit bs) bs)
 prefix_stops [] = tt
 prefix_stops (b ∷ bs) = elim (is_ascii_digit b) as (λ v. is_ascii_digit b ≡ v → NoDigitFirst (drop (cond v (1 + prefix_len is_ascii_digit bs) 0) (b ∷ bs))) [
@@ -63,7 +67,7 @@ no_run (b ∷ bs) h = rw h refl
 is_digit : (c : ℕ) → digit_value c < 10 → is_ascii_digit c ≡ true
 is_digit c h = let r = digit_from_value c h in grind (arith, nat_tests)
 
--- digits that no digit follows are the run
+-- digits that no digit follows are the longest prefix of digits
 prefix_length : (text rest : List ℕ) → AllDigits 10 text → NoDigitFirst rest → prefix_len is_ascii_digit (text ++ rest) ≡ length text
 prefix_length [] rest a h = no_run rest h
 prefix_length (c ∷ cs) rest a h = rw (is_digit c a.0) (omega (arith, prefix_length cs rest a.1 h))
@@ -75,12 +79,9 @@ run_length text rest a h = run_is (text ++ rest) ∙ prefix_length text rest a h
 -- a run of one digit is that digit, and no digit follows
 pub run_of_one : (b : ℕ) (bs : List ℕ) → digits_len (b ∷ bs) ≡ 1 → (48 ≤ b) × (b ≤ 57) × NoDigitFirst bs
 run_of_one b bs e = elim (is_ascii_digit b) as (λ v. is_ascii_digit b ≡ v → cond v (1 + prefix_len is_ascii_digit bs) 0 ≡ 1 → (48 ≤ b) × (b ≤ 57) × NoDigitFirst bs) [
-  | true ↦ λ t h. let r = in_digits b t in let none : prefix_len is_ascii_digit bs ≡ 0 = omega arith in (r.0, r.1, subst (λ (n : ℕ). NoDigitFirst (drop n bs)) none (prefix_stops bs))
+  | true ↦ λ t h. let r = digit_range b t in let none : prefix_len is_ascii_digit bs ≡ 0 = omega arith in (r.0, r.1, subst (λ (n : ℕ). NoDigitFirst (drop n bs)) none (prefix_stops bs))
   | false ↦ λ _ h. absurd (omega arith)
-] refl (sym (run_is (b ∷ bs)) ∙ e) where
-  -- an ASCII digit is a byte from 48 to 57
-  in_digits : (b : ℕ) → is_ascii_digit b ≡ true → (48 ≤ b) × (b ≤ 57)
-  in_digits b t = grind (arith, nat_tests)
+] refl (sym (run_is (b ∷ bs)) ∙ e)
 
 -- one digit that no digit follows is the run
 pub one_digit_runs : (i : ℕ) (rest : List ℕ) → i < 10 → NoDigitFirst rest → digits_len ((48 + i) ∷ rest) ≡ 1
@@ -130,10 +131,6 @@ last_digit_written digits at left n room size small text =
 -- digits and a further digit are digits
 pub run_more : (bytes : List ℕ) (i : ℕ) → i < length bytes → AllDigits 10 (take i bytes) → is_ascii_digit (get_or bytes i 0) ≡ true → AllDigits 10 (take (i + 1) bytes)
 run_more bytes i within all digit = digits_more 10 bytes i within all (digit_value_of (get_or bytes i 0) digit)
-
--- an ASCII digit is a byte from 48 to 57
-pub digit_range : (b : ℕ) → is_ascii_digit b ≡ true → (48 ≤ b) × (b ≤ 57)
-digit_range b e = grind (arith, nat_tests)
 
 -- a further digit makes the value ten times as large, and adds its own
 pub value_next : (bytes : List ℕ) (i : ℕ) → i < length bytes → is_ascii_digit (get_or bytes i 0) ≡ true

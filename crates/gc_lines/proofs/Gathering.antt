@@ -1,9 +1,9 @@
 -- Texts that wait for one another: how one more joins them, how they are sent, and which part of them went out.
-use Rattle.std.proofs.Common.{◌≡◌, ℕ, ◌+◌, ◌-◌, ◌<◌, ◌≤◌, Bool, true, false, List, [], ◌∷◌, ◌++◌, length, take, map, Option, Some, None, nat_lt, cond, suc, refl, sym, ap, ◌∙◌, subst, arith, append_assoc, length-append}
+use Rattle.std.proofs.Common.{◌≡◌, ℕ, ◌+◌, ◌-◌, ◌<◌, ◌≤◌, Bool, true, false, List, [], ◌∷◌, ◌++◌, length, take, map, Option, Some, None, nat_lt, cond, refl, sym, ap, ◌∙◌, subst, arith, append_assoc, length-append}
 use Rattle.std.specs.Option.{option_to_list}
 use Rattle.std.specs.Io.KnownBytes.{Appends}
-use Rattle.std.proofs.lemmas.Bool.Decides.{nat_tests}
-use Rattle.std.proofs.lemmas.List.{append-nil, map-append, take-append-le}
+use Rattle.std.proofs.lemmas.Bool.{ltb-true, ltb-false, lt-ltb}
+use Rattle.std.proofs.lemmas.List.{append-nil, length-map, map-append, take-append-le}
 use Rattle.std.proofs.Math.Seq.{take-append-add}
 use Rattle.gc_lines.specs.Answering.{AnswerRule, AnswersInOrder, AnswersAll, AnswersPart, all_of}
 use Rattle.gc_lines.specs.Passing.{Gathering, GathersPart, parted, Progress}
@@ -80,11 +80,6 @@ gathering_more rule from to next seen frame text lengths more text' lengths' dra
   lengths_are = counted ∙ ap (λ (ns : List ℕ). ns ++ length more ∷ []) g.lengths_are ∙ sym (map-append length g.texts (more ∷ []));
 }
 
--- there are as many lengths as texts
-length-texts : (ts : List (List ℕ)) → length (map length ts) ≡ length ts
-length-texts [] = refl
-length-texts (t ∷ ts) = ap suc (length-texts ts)
-
 -- once all texts that waited went out, all frames were answered and their texts went out
 pub gathering_written : {State : Type 0} (rule : AnswerRule State) (from to : Progress State) (seen : List Frame) (text lengths : List ℕ) (after : Option (List ℕ)) (total : ℕ)
     → Gathering rule from to seen text lengths → Appends to.taken after text → total ≡ to.whole + length lengths
@@ -93,7 +88,7 @@ gathering_written rule from to seen text lengths after total g took counts =
     let out : AnswersAll rule g.state to.state g.held to.taken after to.whole total = record {
       texts = g.texts;
       answers = g.holds;
-      counts = counts ∙ ap (λ (ns : List ℕ). to.whole + length ns) g.lengths_are ∙ ap (λ n. to.whole + n) (length-texts g.texts);
+      counts = counts ∙ ap (λ (ns : List ℕ). to.whole + length ns) g.lengths_are ∙ ap (λ n. to.whole + n) (length-map g.texts length);
       took = Appends-is to.taken after text (all_of g.texts) g.text_is took;
     } in
     subst (λ (fs : List Frame). AnswersAll rule from.state to.state fs from.taken after from.whole total) (sym g.order)
@@ -116,19 +111,11 @@ record EndsWithin {State : Type 0} (rule : AnswerRule State) (from : State) (see
   not_all : bytes < length text
   front : take n (all_of texts) ≡ all_of out ++ take bytes text
 
--- where the test of m < n is true, m is below n
-nat_lt_true : (m n : ℕ) → nat_lt m n ≡ true → m < n
-nat_lt_true m n e = grind (arith, nat_tests)
-
--- where the test of m < n is false, n is at most m
-lt_false : (m n : ℕ) → nat_lt m n ≡ false → n ≤ m
-lt_false m n e = grind (arith, nat_tests)
-
 -- `EndsWithin` is true where the n bytes end within the first text
 ends_in_first : {State : Type 0} (rule : AnswerRule State) (s u : State) (frame : Frame) (later : List Frame) (t : List ℕ) (rest : List (List ℕ)) (whole n : ℕ)
     → rule s frame u (Some t) → nat_lt n (length t) ≡ true → EndsWithin rule s (frame ∷ later) (t ∷ rest) whole n
 ends_in_first rule s u frame later t rest whole n draws e =
-    let less : n < length t = nat_lt_true n (length t) e in
+    let less : n < length t = ltb-true n (length t) e in
     let within : n ≤ length t = omega arith in
     let same : whole ≡ whole + 0 = omega arith in
     record {
@@ -152,7 +139,7 @@ ends_in_first rule s u frame later t rest whole n draws e =
 ends_in_later : {State : Type 0} (rule : AnswerRule State) (s u : State) (frame : Frame) (later : List Frame) (t : List ℕ) (rest : List (List ℕ)) (whole n : ℕ)
     → rule s frame u (Some t) → nat_lt n (length t) ≡ false → EndsWithin rule u later rest (whole + 1) (n - length t) → EndsWithin rule s (frame ∷ later) (t ∷ rest) whole n
 ends_in_later rule s u frame later t rest whole n draws e k =
-    let more : length t ≤ n = lt_false n (length t) e in
+    let more : length t ≤ n = ltb-false n (length t) e in
     let sizes : n ≡ length t + (n - length t) = omega arith in
     let counted : (whole + 1) + length k.out ≡ whole + length (t ∷ k.out) = omega arith in
     record {
@@ -201,7 +188,7 @@ ends_at_text : {State : Type 0} (rule : AnswerRule State) (s u : State) (frame :
 ends_at_text rule s u frame later None rest whole n draws less next = ends_past_silent rule s u frame later rest whole n draws (next whole n less)
 ends_at_text rule s u frame later (Some t) rest whole n draws less next = elim (nat_lt n (length t)) as (λ b. nat_lt n (length t) ≡ b → EndsWithin rule s (frame ∷ later) (t ∷ rest) whole n) [
   | true ↦ λ e. ends_in_first rule s u frame later t rest whole n draws e
-  | false ↦ λ e. let more : length t ≤ n = lt_false n (length t) e in
+  | false ↦ λ e. let more : length t ≤ n = ltb-false n (length t) e in
       let left : n - length t < length (all_of rest) = omega (arith, less, more, length-append t (all_of rest)) in
       ends_in_later rule s u frame later t rest whole n draws e (next (whole + 1) (n - length t) left)
 ] refl
@@ -243,10 +230,6 @@ gathering_part rule from to seen text lengths after total bytes n g took counts 
           (part_then rule from.state g.state k.reached g.done g.held from.taken to.taken after from.whole to.whole total bytes g.all out),
     )
 
--- a number below another passes the test
-lt_nat_lt : (m n : ℕ) → m < n → nat_lt m n ≡ true
-lt_nat_lt m n e = grind (arith, nat_tests)
-
 -- a frame's text joins those that wait, and then a part of them is sent: frames were answered up to one whose text went out
 -- in part
 pub answered_part : {State : Type 0} (rule : AnswerRule State) (from to last : Progress State) (seen : List Frame) (frame : Frame)
@@ -262,7 +245,7 @@ answered_part rule from to last seen frame text lengths more text' lengths' byte
     let none = alone refl in
     let nothing : text ≡ [] = g.text_is ∙ ap all_of (no_texts g.texts (sym none ∙ g.lengths_are)) in
     let took_more : TakesFront to.taken last.taken n more = subst (λ (xs : List ℕ). TakesFront to.taken last.taken n xs) (longer ∙ ap (λ (xs : List ℕ). xs ++ more) nothing) took in
-    let less : nat_lt n (length more) ≡ true = lt_nat_lt n (length more) took_more.0 in
+    let less : nat_lt n (length more) ≡ true = lt-ltb n (length more) took_more.0 in
     let same : (last.whole, bytes) ≡ (to.whole, n) = counts ∙ ap (λ (ns : List ℕ). parted to.whole n ns) (counted ∙ ap (λ (ns : List ℕ). ns ++ length more ∷ []) none)
     ∙ ap (λ (b : Bool). cond b (to.whole, n) (to.whole + 1, n - length more)) less in
     let part : AnswersPart rule to.state last.state (frame ∷ []) to.taken last.taken to.whole to.whole n =

@@ -18,11 +18,11 @@ use Rattle.gc_lines.proofs.Cutting.{cut_first}
 use Rattle.gc_lines.proofs.Keeping.{line_frame, last-append}
 
 -- a byte is neither CR nor LF
-abbrev IsPlainByte : ℕ → Type 0
+abbrev pub IsPlainByte : ℕ → Type 0
 IsPlainByte b = (b ≢ 10) × (b ≢ 13)
 
 -- plain bytes after plain bytes are plain
-plain_append : (xs ys : List ℕ) → IsPlain xs → IsPlain ys → IsPlain (xs ++ ys)
+pub plain_append : (xs ys : List ℕ) → IsPlain xs → IsPlain ys → IsPlain (xs ++ ys)
 plain_append xs ys = All-append IsPlainByte xs ys
 
 -- what the fields are made of is plain
@@ -33,7 +33,7 @@ digits_plain [] h = tt
 digits_plain (d ∷ ds) h = let r = digit_from_value d h.0 in ((λ e. absurd (omega arith), λ e. absurd (omega arith)), digits_plain ds h.1)
 
 -- a written number is plain
-decimal_plain : (n : ℕ) → n < 65536 → IsPlain (decimal n)
+pub decimal_plain : (n : ℕ) → n < 65536 → IsPlain (decimal n)
 decimal_plain n h = All-from_recursion IsPlainByte (decimal n) (digits_plain (decimal n) (decimal_is_IsNumeral n (omega arith)).0.1)
 
 -- a byte above 13 is plain
@@ -41,21 +41,21 @@ plain_above_13 : (b : ℕ) → 13 < b → IsPlainByte b
 plain_above_13 b h = (λ e. absurd (omega arith), λ e. absurd (omega arith))
 
 -- a written id is plain
-id_plain : (id : Option ℕ) → IsPlain (id_text id)
+pub id_plain : (id : Option ℕ) → IsPlain (id_text id)
 id_plain None = All-from_recursion IsPlainByte [] tt
 id_plain (Some i) = All-from_recursion IsPlainByte (44 ∷ (48 + i) ∷ []) (plain_above_13 44 (omega arith), (plain_above_13 (48 + i) (omega arith), tt))
 
--- plain bytes after a colon are plain with it
-colon_plain : (xs : List ℕ) → IsPlain xs → IsPlain (58 ∷ xs)
-colon_plain xs h = plain_append (58 ∷ []) xs (All-from_recursion IsPlainByte (58 ∷ []) (plain_above_13 58 (omega arith), tt)) h
+-- plain bytes after a byte above 13 are plain with it
+pub plain_cons : (b : ℕ) (xs : List ℕ) → 13 < b → IsPlain xs → IsPlain (b ∷ xs)
+plain_cons b xs above h = plain_append (b ∷ []) xs (All-from_recursion IsPlainByte (b ∷ []) (plain_above_13 b above, tt)) h
 
 -- plain parameters are plain with the comma that a reply has before them
 params_plain : (params : List ℕ) → IsPlain params → IsPlain (params_text params)
 params_plain [] h = h
-params_plain (b ∷ bs) h = plain_append (44 ∷ []) (b ∷ bs) (All-from_recursion IsPlainByte (44 ∷ []) (plain_above_13 44 (omega arith), tt)) h
+params_plain (b ∷ bs) h = plain_cons 44 (b ∷ bs) (omega arith) h
 
 -- a signature is plain: `%R1`, a byte `c` (Q for a request, P for a reply), and a comma
-signature_plain : (c : ℕ) → 13 < c → IsPlain (37 ∷ 82 ∷ 49 ∷ c ∷ 44 ∷ [])
+pub signature_plain : (c : ℕ) → 13 < c → IsPlain (37 ∷ 82 ∷ 49 ∷ c ∷ 44 ∷ [])
 signature_plain c h = All-from_recursion IsPlainByte (37 ∷ 82 ∷ 49 ∷ c ∷ 44 ∷ []) (
   plain_above_13 37 (omega arith),
   (plain_above_13 82 (omega arith), (plain_above_13 49 (omega arith), (plain_above_13 c h, (plain_above_13 44 (omega arith), tt)))),
@@ -64,13 +64,13 @@ signature_plain c h = All-from_recursion IsPlainByte (37 ∷ 82 ∷ 49 ∷ c ∷
 -- a request with plain parameters is plain
 pub request_plain : (q : RequestFields) → IsRequestInRange q → IsPlain q.params → IsPlain (request_text q)
 request_plain q r h = plain_append (37 ∷ 82 ∷ 49 ∷ 81 ∷ 44 ∷ []) _ (signature_plain 81 (omega arith))
-    (plain_append (decimal q.rpc) _ (decimal_plain q.rpc r.rpc) (plain_append (id_text q.id) _ (id_plain q.id) (colon_plain q.params h)))
+    (plain_append (decimal q.rpc) _ (decimal_plain q.rpc r.rpc) (plain_append (id_text q.id) _ (id_plain q.id) (plain_cons 58 q.params (omega arith) h)))
 
 -- a reply with plain parameters is plain
 pub reply_plain : (r : ReplyFields) → IsReplyInRange r → IsPlain r.params → IsPlain (reply_text r)
 reply_plain r in_range h = plain_append (37 ∷ 82 ∷ 49 ∷ 80 ∷ 44 ∷ []) _ (signature_plain 80 (omega arith))
     (plain_append (decimal r.rc_com) _ (decimal_plain r.rc_com in_range.rc_com) (plain_append (id_text r.id) _ (id_plain r.id)
-    (colon_plain (decimal r.rc ++ params_text r.params) (plain_append (decimal r.rc) _ (decimal_plain r.rc in_range.rc) (params_plain r.params h)))))
+    (plain_cons 58 (decimal r.rc ++ params_text r.params) (omega arith) (plain_append (decimal r.rc) _ (decimal_plain r.rc in_range.rc) (params_plain r.params h)))))
 
 -- plain bytes and CR LF are one line
 

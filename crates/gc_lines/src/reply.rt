@@ -105,12 +105,12 @@ pub fn push_reply<const N: usize>(to: &mut ArrayVec<u8, N>, rc_com: u16, id: u8,
             ],
         );
     } else {
-        put_reply(to, rc_com, Some(id), rc);
+        push_reply_fields(to, rc_com, Some(id), rc);
     }
 }
 
 // Appends a reply through its return code; the id may be left out.
-fn put_reply<const N: usize>(to: &mut ArrayVec<u8, N>, rc_com: u16, id: Option<u8>, rc: u16)
+fn push_reply_fields<const N: usize>(to: &mut ArrayVec<u8, N>, rc_com: u16, id: Option<u8>, rc: u16)
     requires id { ForSome id (λ i. i < 8) }
     requires room { array_vec_len to.old + 18 ≤ N }
     ensures items { to.new.items ≡ to.old.items ++ reply_text (record { rc_com = rc_com; id = id; rc = rc; params = [] }) }
@@ -127,7 +127,7 @@ fn begin_reply(rc_com: u16, id: Option<u8>, rc: u16) -> Line
     ensures room { array_vec_len result ≤ 18 }
 {
     let mut line = Line::new();
-    put_reply(&mut line, rc_com, id, rc);
+    push_reply_fields(&mut line, rc_com, id, rc);
     line
 }
 

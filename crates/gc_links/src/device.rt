@@ -16,7 +16,7 @@ use std::thread;
 use std::time::{Clock, Duration};
 
 /// How long to rest where nothing has come, or nothing can go, in milliseconds. At 19,200 baud a byte takes half a millisecond.
-const REST: u64 = 2;
+pub(crate) const REST: u64 = 2;
 
 /// Why a path is no device that a link can be had over.
 #[derive(Clone, Copy, Debug, PartialEq, Eq)]

@@ -107,8 +107,8 @@ fn is_interrupted(error: &io::Error) -> bool {
     error.kind() == ErrorKind::Interrupted
 }
 
-// Whether an error of a read says only that nothing came in its time.
-fn is_silence(kind: ErrorKind) -> bool {
+/// Whether an error of a read says only that nothing came in its time.
+pub(crate) fn is_silence(kind: ErrorKind) -> bool {
     matches!(
         kind,
         ErrorKind::WouldBlock | ErrorKind::TimedOut | ErrorKind::Interrupted

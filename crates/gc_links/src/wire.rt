@@ -3,8 +3,9 @@
 ghost use Rattle.std.specs.Prelude.{◌≤◌, length, IfOk, IfSome};
 
 use crate::connection::{PATIENCE, Peer, connect};
-use crate::device::{Unusable, is_rest, open_device, rest, write_some};
+use crate::device::{REST, Unusable, is_rest, open_device, rest, write_some};
 use crate::place::Place;
+use crate::tcp::is_silence;
 use std::fs::File;
 use std::io::{self, ErrorKind, Read, Write};
 use std::net::{Net, TcpListener, TcpStream};
@@ -117,17 +118,9 @@ pub fn read_stream_within(
     stream.set_read_timeout(longest)?;
     match read {
         Ok(n) => Ok(Some(n)),
-        Err(error) if is_over(error.kind()) => Ok(None),
+        Err(error) if is_silence(error.kind()) => Ok(None),
         Err(error) => Err(error),
     }
-}
-
-// Whether a read failed only because nothing came in its time.
-fn is_over(kind: ErrorKind) -> bool {
-    matches!(
-        kind,
-        ErrorKind::WouldBlock | ErrorKind::TimedOut | ErrorKind::Interrupted
-    )
 }
 
 // Reads what has come over a device, and rests for about so many milliseconds at most until something has. A device that was pulled
@@ -141,7 +134,7 @@ fn read_device_within<R: Clock>(
     ensures { IfOk result (λ read. IfSome read (λ n. n ≤ length buf.new)) }
 {
     let mut file = file;
-    for _ in 0..millis / 2 + 1 {
+    for _ in 0..millis / REST + 1 {
         match file.read(buf) {
             Ok(n) => return Ok(Some(n)),
             Err(error) if is_rest(error.kind()) => rest(rt),

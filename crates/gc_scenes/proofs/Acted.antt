@@ -19,40 +19,40 @@ use Rattle.gc_scenes.specs.Machine.{seeing}
 use Rattle.gc_scenes.specs.Ways.{no_ways, nearest, other_hz, other_v}
 use Rattle.gc_scenes.specs.declared.ways.Ways.{Ways}
 
--- the return code is one, and with one that isn't 0 nothing is answered
+-- an outcome is sound: its return code has 16 bits, and with a code other than 0 there is no answer
 pub record IsSound (x : Executed) : Type 0 where
   pub code : x.rc < 65536
   pub refuses : x.rc ≢ 0 → x.answer ≡ answer.Nothing
 
--- of the table each outcome is
+-- each outcome of the table is sound
 table_sound : (s : State) (asked : Call) → IsSound (exec s asked)
 table_sound s asked = let is = exec_outcome s asked in record { code = is.code; refuses = is.refuses }
 
--- what is done with code 0 is
+-- an outcome with code 0 is sound
 done_sound : (s : State) (a : Answer) → IsSound (done s a)
 done_sound s a = record { code = lit< tt; refuses = λ some. absurd (some refl) }
 
--- what aims is
+-- the outcome of looking for a target is sound
 adjusted_sound : (s : State) (o : Option Target) → IsSound (adjusted s o)
 adjusted_sound s (Some t) = record { code = lit< tt; refuses = λ some. absurd (some refl) }
 adjusted_sound s None = record { code = lit< tt; refuses = λ some. refl }
 
--- what tells the distance is
+-- the outcome of asking for the distance is sound
 told_sound : (s : State) (f : Decimal → Answer) (o : Option Decimal) → IsSound (told s f o)
 told_sound s f (Some d) = record { code = lit< tt; refuses = λ some. absurd (some refl) }
 told_sound s f None = record { code = lit< tt; refuses = λ some. refl }
 
--- what tells the date is
+-- the outcome of asking for the date is sound
 dated_sound : (now : Option DateTime) (s : State) → IsSound (dated now s)
 dated_sound (Some d) s = done_sound s (answer.Date d)
 dated_sound None s = done_sound s (answer.Date s.date)
 
--- one of two is, where both are
+-- where two outcomes are sound, either is
 either_sound : (b : Bool) (x y : Executed) → IsSound x → IsSound y → IsSound (cond b x y)
 either_sound true x y is other = is
 either_sound false x y is other = other
 
--- each outcome by the ways is
+-- each outcome by the ways is sound
 acting_sound : (w : Ways) (now : Option DateTime) (s : State) (asked : Call) → IsSound (acting w now s asked)
 acting_sound w now s (call.Position hz v pos_mode atr_mode dummy) =
     either_sound (w.aims && int_eq atr_mode (pos 1)) _ _ (adjusted_sound (pointed s hz v) (nearest (record { hz = hz; v = v }) s.scene)) (table_sound s (call.Position hz v pos_mode atr_mode dummy))
@@ -63,7 +63,7 @@ acting_sound w now s (call.SimpleMea wait mode) =
 acting_sound w now s call.GetDate = dated_sound now s
 acting_sound w now s asked = table_sound s asked
 
--- each outcome of a scene's instrument is
+-- each outcome of a scene's instrument is sound
 pub outcome_sound : (s : SceneState) (asked : Call) → IsSound (outcome s asked)
 outcome_sound s asked =
     let is = acting_sound s.ways (shown s) (seeing (seen_by s asked) s.base) asked in
@@ -78,7 +78,7 @@ plain_acting s (call.SimpleMea wait mode) = refl
 plain_acting s call.GetDate = refl
 plain_acting s asked = refl
 
--- what no way changes is the table's
+-- a call that no way changes has the table's outcome
 pub acting_plain : (w : Ways) (now : Option DateTime) (s : State) (asked : Call) → is_plain asked ≡ true → acting w now s asked ≡ exec s asked
 acting_plain w now s (call.Position hz v pos_mode atr_mode dummy) is = let never : ⊥ = cc in absurd never
 acting_plain w now s (call.ChangeFace pos_mode atr_mode dummy) is = let never : ⊥ = cc in absurd never
@@ -86,21 +86,21 @@ acting_plain w now s (call.SimpleMea wait mode) is = let never : ⊥ = cc in abs
 acting_plain w now s call.GetDate is = let never : ⊥ = cc in absurd never
 acting_plain w now s asked is = refl
 
--- Rows of what the ways change.
+-- The outcomes that the ways change.
 
--- a face change to the other face's angles
+-- with `faces`, the outcome of a face change is that of turning to the other face's angles
 pub face_row : (w : Ways) (now : Option DateTime) (s : State) (pos_mode atr_mode : ℤ) (dummy : Bool) (x : Executed) → w.faces ≡ true
     → done (pointed s (other_hz s.pointing.hz) (other_v s.pointing.v)) answer.Nothing ≡ x → acting w now s (call.ChangeFace pos_mode atr_mode dummy) ≡ x
 face_row w now s pos_mode atr_mode dummy x is does =
     ap (λ (b : Bool). cond b (done (pointed s (other_hz s.pointing.hz) (other_v s.pointing.v)) answer.Nothing) (exec s (call.ChangeFace pos_mode atr_mode dummy))) is ∙ does
 
--- a distance that is taken along
+-- with `takes`, the outcome of TMC_GetSimpleMea is that of answering the distance and clearing it
 pub take_row : (w : Ways) (now : Option DateTime) (s : State) (wait mode : ℤ) (x : Executed) → w.takes ≡ true
     → told (unmeasured s) (λ d. answer.Measured s.pointing.hz s.pointing.v d) s.distance ≡ x → acting w now s (call.SimpleMea wait mode) ≡ x
 take_row w now s wait mode x is does =
     ap (λ (b : Bool). cond b (told (unmeasured s) (λ d. answer.Measured s.pointing.hz s.pointing.v d) s.distance) (exec s (call.SimpleMea wait mode))) is ∙ does
 
--- the table's date, where no clock runs
+-- where no clock runs, the outcome of asking for the date is the table's
 pub date_row : (w : Ways) (now : Option DateTime) (s : State) (x : Executed) → now ≡ None → exec s call.GetDate ≡ x → acting w now s call.GetDate ≡ x
 unfolding exec
 date_row w now s x is does = ap (λ (n : Option DateTime). dated n s) is ∙ does

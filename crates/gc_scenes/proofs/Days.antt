@@ -1,9 +1,9 @@
--- One day more.
+-- A step of the loop that counts days.
 use Rattle.std.proofs.Common.{◌≡◌, ℕ, suc, ◌+◌, refl, sym, ap, ◌∙◌, arith}
 use Rattle.gc_catalogue.specs.declared.call.DateTime.{DateTime}
 use Rattle.gc_scenes.specs.Clocks.{days_on, next_day}
 
--- the day after so many days is one day more
+-- the day after n days is the one after n + 1 days
 pub day_more : (n : ℕ) (d day after : DateTime) → day ≡ days_on n d → after ≡ next_day day → after ≡ days_on (n + 1) d
 day_more n d day after is next =
     let one : suc n ≡ n + 1 = omega arith in

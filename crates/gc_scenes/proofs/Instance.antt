@@ -24,10 +24,6 @@ use Rattle.gc_scenes.specs.Ways.{no_ways}
 use Rattle.gc_scenes.specs.declared.rules.Prism.{Prism}
 use Rattle.gc_scenes.proofs.Acted.{plain_acting}
 
--- false isn't true
-never_true : false ≡ true → ⊥
-never_true e = cc
-
 -- no number is at least 1 and at most 0
 no_look : (look : ℕ) (a b : Bool) → nat_le 1 look ≡ a → nat_le look 0 ≡ b → not (a && b) ≡ true
 no_look look true true x y = let low : 1 ≤ look = leb-true 1 look x in let high : look ≤ 0 = leb-true look 0 y in absurd (omega (arith, low, high))
@@ -60,7 +56,7 @@ behind_still : (b : Bool) (look : ℕ) (there : Pointing) (ts : List Target) →
 behind_still true look there ts = drifted_still look there ts
 behind_still false look there ts = refl
 
--- what has this state, this code and this answer
+-- an outcome with the state, the code and the answer of x
 abbrev same_outcome : Executed → Executed
 same_outcome x = record { state = x.state; rc = x.rc; answer = x.answer }
 
@@ -82,7 +78,7 @@ module _ (looks moment : ℕ) (s : State) (call : Call) where
       ap (λ (t : State). all_still t.scene) (exec_outcome s call).same ∙ sym (behind_still (is_measurement call) (look_of false looks call) s.pointing s.scene) in
       ap (λ (ps : List Prism). record (ruleless (look_of false looks call) moment (with_kept kept x.state)) { prisms = ps }) targets
 
-  -- what comes of the call
+  -- what comes of the call is made of the table's outcome
   played : plays (ruleless looks moment s) call ≡ told_of (ruleless looks moment s) call (exec s call)
   unfolding plays
   played = ap (told_of (ruleless looks moment s) call) outcome_is
@@ -118,7 +114,8 @@ unfolding handed_raw
 gave_refusal looks moment rpc s after id reply same line = record { state = ap (ruleless looks moment) same; line = line }
 
 -- what the instrument of the table does with a request, that of a scene without rules does
-request_instance : (s t : State) (q : RequestFields) (reply : List ℕ) (looks moment : ℕ) → table.AnswersRequest s q t reply → (more : ℕ) × AnswersRequest (ruleless looks moment s) q (ruleless more moment t) reply
+request_instance : (s t : State) (q : RequestFields) (reply : List ℕ) (looks moment : ℕ) → table.AnswersRequest s q t reply
+    → (more : ℕ) × AnswersRequest (ruleless looks moment s) q (ruleless more moment t) reply
 request_instance s t q reply looks moment (table.refuses Unknown is same line) = (looks, names_none is (gave_refusal looks moment q.rpc s t q.id reply same line))
 request_instance s t q reply looks moment (table.refuses (Parameters e) is same line) = (looks, unreadable e is (ap (ruleless looks moment) same) line)
 request_instance s t q reply looks moment (table.answers_call call is (table.repeats some same)) = (looks, names_call call is (gave_kept looks moment s call q.rpc q.id t reply some same))

@@ -1,19 +1,11 @@
 -- The target that is aimed at is the nearest one.
-use Rattle.std.proofs.Common.{◌≡◌, ℕ, ◌≤◌, ◌<◌, Bool, true, false, nat_le, cond, List, [], ◌∷◌, ◌++◌, Option, Some, None, refl, sym, ap, ◌∙◌, subst, append_assoc, append-nil, arith}
+use Rattle.std.proofs.Common.{◌≡◌, ◌≤◌, ◌<◌, Bool, true, false, nat_le, cond, List, [], ◌∷◌, ◌++◌, Option, Some, None, refl, sym, ap, ◌∙◌, subst, append_assoc, append-nil, arith}
 use Rattle.std.specs.List.{AllByRecursion}
-use borrow.Author.Tests.{leb-true, le-leb}
+use borrow.Author.Tests.{leb-true, leb-false}
 use Rattle.gc_instrument.specs.declared.pointing.Pointing.{Pointing}
 use Rattle.gc_instrument.specs.declared.target.Target.{Target}
 use Rattle.gc_scenes.specs.Laws.{IsNearest, IsFarOff, IsAimedAt, NearestIsNearest}
 use Rattle.gc_scenes.specs.Ways.{apart, window, nearer, nearest_of}
-
--- false isn't true
-never : false ≡ true → ⊥
-never e = cc
-
--- what isn't at most a number is above it
-above : (a b : ℕ) → nat_le a b ≡ false → b < a
-above a b beyond = omega (arith, (λ (small : a ≤ b). never (sym beyond ∙ le-leb a b small)))
 
 -- what holds of each target of a list
 map_all : (P Q : Target → Type 0) → ((t : Target) → P t → Q t) → (ts : List Target) → AllByRecursion P ts → AllByRecursion Q ts
@@ -26,7 +18,7 @@ both_all P [] us a b = b
 both_all P (t ∷ ts) us a b = (a.0, both_all P ts us a.1 b)
 
 module _ (there : Pointing) where
-  -- the first target within the window
+  -- where none was found so far, the next target is aimed at if it is within the window
   first : (done : List Target) (t : Target) (b : Bool) → nat_le (apart there t) window ≡ b → IsFarOff there done → IsAimedAt there (done ++ t ∷ []) (cond b (Some t) None)
   first done t true is far = record {
     front = done;
@@ -36,9 +28,9 @@ module _ (there : Pointing) where
     earlier = map_all (λ u. window < apart there u) (λ u. apart there t < apart there u) (λ u beyond. omega (arith, beyond, leb-true (apart there t) window is)) done far;
     later = tt;
   }
-  first done t false is far = both_all (λ u. window < apart there u) done (t ∷ []) far (above (apart there t) window is, tt)
+  first done t false is far = both_all (λ u. window < apart there u) done (t ∷ []) far (leb-false (apart there t) window is, tt)
 
-  -- one more target
+  -- where a target was found so far, the nearer of it and the next one is aimed at
   further : (done : List Target) (u t : Target) (b : Bool) → nat_le (apart there u) (apart there t) ≡ b → IsNearest there done u → IsAimedAt there (done ++ t ∷ []) (cond b (Some u) (Some t))
   further done u t true is found = record {
     front = found.front;
@@ -49,7 +41,7 @@ module _ (there : Pointing) where
     later = both_all (λ x. apart there u ≤ apart there x) found.behind (t ∷ []) found.later (leb-true (apart there u) (apart there t) is, tt);
   }
   further done u t false is found =
-      let nearer_than : apart there t < apart there u = above (apart there u) (apart there t) is in
+      let nearer_than : apart there t < apart there u = leb-false (apart there u) (apart there t) is in
       let front = map_all (λ x. apart there u < apart there x) (λ x. apart there t < apart there x) (λ x more. omega (arith, more, nearer_than)) found.front found.earlier in
       let behind = map_all (λ x. apart there u ≤ apart there x) (λ x. apart there t < apart there x) (λ x more. omega (arith, more, nearer_than)) found.behind found.later in
       record {
@@ -62,15 +54,17 @@ module _ (there : Pointing) where
         later = tt;
       }
 
-  -- one target more
+  -- what was found so far, and the next target: `nearer` gives which is aimed at
   step : (done : List Target) (o : Option Target) (t : Target) → IsAimedAt there done o → IsAimedAt there (done ++ t ∷ []) (nearer there o t)
   step done None t far = first done t (nat_le (apart there t) window) refl far
   step done (Some u) t found = further done u t (nat_le (apart there u) (apart there t)) refl found
 
-  -- all further targets
+  -- what was found so far, and all further targets: `nearest_of` gives which is aimed at
   walk : (done : List Target) (o : Option Target) (ts : List Target) → IsAimedAt there done o → IsAimedAt there (done ++ ts) (nearest_of there o ts)
   walk done o [] is = subst (λ (ds : List Target). IsAimedAt there ds o) (sym (append-nil done)) is
-  walk done o (t ∷ ts) is = subst (λ (ds : List Target). IsAimedAt there ds (nearest_of there (nearer there o t) ts)) (append_assoc done (t ∷ []) ts) (walk (done ++ t ∷ []) (nearer there o t) ts (step done o t is))
+  walk done o (t ∷ ts) is =
+      subst (λ (ds : List Target). IsAimedAt there ds (nearest_of there (nearer there o t) ts)) (append_assoc done (t ∷ []) ts)
+      (walk (done ++ t ∷ []) (nearer there o t) ts (step done o t is))
 
 -- what is aimed at is the nearest target, or each is too far off
 pub nearest_is_nearest : NearestIsNearest

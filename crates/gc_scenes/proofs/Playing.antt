@@ -19,7 +19,7 @@ use Rattle.gc_instrument.specs.Execution.{Executed}
 use Rattle.gc_instrument.specs.Replying.{refusal_line, reply_id}
 use Rattle.gc_scenes.specs.Appending.{AppendsGave, AppendsPlayed, AppendsReply}
 use Rattle.gc_scenes.specs.Rules.{fault_of, answer_of, noisy, noise_after}
-use Rattle.gc_scenes.specs.SceneExecution.{Played, plays, outcome, behind_call, beside, played_call, played_raw, unless_faulted_raw, scripted, counting, faulted}
+use Rattle.gc_scenes.specs.SceneExecution.{Played, plays, outcome, behind_call, replied_answer, played_call, played_raw, unless_faulted_raw, scripted, counting, faulted}
 use Rattle.gc_scenes.specs.SceneReplying.{IsPlayed, silent, answers, AnswersRequest, names_call, names_none, unreadable, again_for, again_or_played, handed_call, handed_raw, played_or_refused, holding, kept_behind, line_of}
 use Rattle.gc_scenes.specs.SceneServing.{PlaysFrame}
 use Rattle.gc_scenes.specs.SceneState.{SceneState}
@@ -30,13 +30,13 @@ use Rattle.gc_scenes.proofs.Acted.{outcome_sound}
 
 -- A request that isn't executed, or is.
 
--- the line that is sent again
+-- where a line is sent again for the id, and is appended, that is what the request gives
 pub gave_again : (s : SceneState) (id : Option ℕ) (p : Played) (line old new : List ℕ) → again_for s id ≡ Some line → new ≡ old ++ line
     → AppendsGave (again_or_played s id p (again_for s id)) s old new
 gave_again s id p line old new again appended =
     subst (λ (o : Option (List ℕ)). AppendsGave (again_or_played s id p o) s old new) (sym again) (record { state = refl; appended = appended })
 
--- its own reply, which is kept
+-- where no line is sent again for the id, and the request's own reply is appended and kept, that is what the request gives
 pub gave_played : (s : SceneState) (id : Option ℕ) (p : Played) (number : ℕ) (played after : SceneState) (line old new : List ℕ) → again_for s id ≡ None
     → number ≡ unwrap_or id 0 → played ≡ p.state → new ≡ old ++ line_of number p → line ≡ line_of number p → after ≡ holding (kept_behind played id line) played
     → AppendsGave (again_or_played s id p (again_for s id)) after old new
@@ -48,7 +48,7 @@ gave_played s id p number played after line old new none is state appended own k
       appended = appended ∙ ap (λ (l : List ℕ). old ++ l) one;
     })
 
--- what comes of a call, by what comes of the request
+-- what `again_or_played` makes of the call is what a request for it gives
 pub gave_call : (s after : SceneState) (rpc : ℕ) (id : Option ℕ) (call : Call) (old new : List ℕ) → AppendsGave (again_or_played s id (played_call s rpc call) (again_for s id)) after old new
     → AppendsGave (handed_call s rpc id call) after old new
 unfolding handed_call
@@ -56,17 +56,17 @@ gave_call s after rpc id call old new h = h
 
 -- what comes of a request of a procedure that isn't in the table, by what the scene has for it
 module _ (s after : SceneState) (rpc : ℕ) (id : Option ℕ) (old new : List ℕ) where
-  -- by what is played, if anything is
+  -- what `played_or_refused` makes of what comes of the request is what the request gives
   by_played : (o : Option Played) → played_raw s rpc ≡ o → AppendsGave (played_or_refused s rpc id o) after old new → AppendsGave (handed_raw s rpc id) after old new
   unfolding handed_raw
   by_played o is h = subst (λ (p : Option Played). AppendsGave (played_or_refused s rpc id p) after old new) (sym is) h
 
-  -- a fault has a code for it
+  -- where a fault answers the request, its code is the reply
   pub gave_fault : (code : ℕ) → Some code ≡ fault_of rpc s.faults → AppendsGave (again_or_played s id (record { state = counting rpc s; rc = code; params = [] }) (again_for s id)) after old new
       → AppendsGave (handed_raw s rpc id) after old new
   gave_fault code is h = by_played (Some (faulted (counting rpc s) code)) (ap (unless_faulted_raw (counting rpc s) rpc) (sym is)) h
 
-  -- no fault has one, and the scene has a reply
+  -- where no fault answers it, and the scene has a reply, that is the reply
   pub gave_scripted : (a : Scripted) → None ≡ fault_of rpc s.faults → Some a ≡ answer_of rpc s.answers
       → AppendsGave (again_or_played s id (record { state = counting rpc s; rc = a.rc; params = scripted_params a.with }) (again_for s id)) after old new
       → AppendsGave (handed_raw s rpc id) after old new
@@ -74,7 +74,7 @@ module _ (s after : SceneState) (rpc : ℕ) (id : Option ℕ) (old new : List �
       by_played (Some (record { state = counting rpc s; rc = a.rc; params = scripted_params a.with }))
       (ap (unless_faulted_raw (counting rpc s) rpc) (sym none) ∙ ap (scripted (counting rpc s)) (sym is)) h
 
-  -- there is neither
+  -- where no fault answers it, and the scene has no reply, it is refused
   pub gave_refusal : None ≡ fault_of rpc s.faults → None ≡ answer_of rpc s.answers → after ≡ counting rpc s → new ≡ old ++ refusal_line (unwrap_or id 0) Unknown
       → AppendsGave (handed_raw s rpc id) after old new
   gave_refusal none unknown state appended =
@@ -87,17 +87,17 @@ noise_of_none : (n : Option Noise) (a : Answer) → a ≡ answer.Nothing → noi
 noise_of_none None a is = is
 noise_of_none (Some n) a is = ap (noisy (Some n)) is
 
--- with a code that isn't 0 nothing is told
+-- with a return code other than 0 there is no answer, also with the noise
 pub refuses : (s t : SceneState) (call : Call) (code : ℕ) (said told : Answer) → outcome s call ≡ record { state = (outcome s call).state; rc = code; answer = said }
     → told ≡ noisy t.noise said → code ≢ 0 → told ≡ answer.Nothing
 refuses s t call code said told is noise some =
     noise ∙ noise_of_none t.noise said (sym (ap (λ (y : Executed). y.answer) is) ∙ (outcome_sound s call).refuses (λ none. some (sym (ap (λ (y : Executed). y.rc) is) ∙ none)))
 
--- what comes of an executed call
+-- executing a call, adding the noise and appending the reply is what `plays` says of the call
 pub executed : (s t u : SceneState) (call : Call) (number code : ℕ) (said told : Answer) (old new : List ℕ)
     → outcome s call ≡ record { state = (outcome s call).state; rc = code; answer = said }
     → t ≡ record (behind_call s call (outcome s call)) { noise = s.noise } → told ≡ noisy t.noise said → u ≡ record t { noise = noise_after t.noise said }
-    → new ≡ old ++ reply_line number code (beside u.ways.values u.base.pointing call code told) u.base.precision → AppendsPlayed number (plays s call) u old new
+    → new ≡ old ++ reply_line number code (replied_answer u.ways.values u.base.pointing call code told) u.base.precision → AppendsPlayed number (plays s call) u old new
 unfolding plays
 executed s t u call number code said told old new is state noise drawn appended =
     let x = outcome s call in
@@ -109,9 +109,9 @@ executed s t u call number code said told old new is state noise drawn appended 
     let said_is : told ≡ noisy s.noise x.answer = noise ∙ ap (λ (n : Option Noise). noisy n said) quiet ∙ ap (noisy s.noise) ans in
     record {
       state = after;
-      appended = appended ∙ ap (λ (y : SceneState). old ++ reply_line number code (beside y.ways.values y.base.pointing call code told) y.base.precision) after
-          ∙ ap (λ (c : ℕ). old ++ reply_line number c (beside s.ways.values x.state.pointing call c told) x.state.precision) rc
-          ∙ ap (λ (a : Answer). old ++ reply_line number x.rc (beside s.ways.values x.state.pointing call x.rc a) x.state.precision) said_is;
+      appended = appended ∙ ap (λ (y : SceneState). old ++ reply_line number code (replied_answer y.ways.values y.base.pointing call code told) y.base.precision) after
+          ∙ ap (λ (c : ℕ). old ++ reply_line number c (replied_answer s.ways.values x.state.pointing call c told) x.state.precision) rc
+          ∙ ap (λ (a : Answer). old ++ reply_line number x.rc (replied_answer s.ways.values x.state.pointing call x.rc a) x.state.precision) said_is;
     }
 
 -- Lines.
@@ -128,7 +128,7 @@ pub raw_reply : (before after : SceneState) (q : RequestFields) (old new : List 
 raw_reply before after q old new is h =
     record { text = (handed_raw before q.rpc q.id).reply; appended = h.appended; answers = names_none is (record { state = h.state; line = refl }) }
 
--- the refusal of parameters that don't read is the reply to the request
+-- the refusal of parameters that can't be read is the reply to the request
 pub unread_reply : (s : SceneState) (q : RequestFields) (e : ValueFault) (number : ℕ) (old new : List ℕ) → IsRefusal q.rpc q.params (Parameters e) → number ≡ reply_id q
     → new ≡ old ++ refusal_line number (Parameters e) → AppendsReply s q s old new
 unread_reply s q e number old new is same appended =

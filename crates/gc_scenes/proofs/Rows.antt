@@ -12,7 +12,7 @@ use Rattle.gc_instrument.specs.State.{State, KeptReply}
 use Rattle.gc_instrument.specs.Targets.{first_within}
 use Rattle.gc_instrument.specs.declared.target.Target.{Target}
 use Rattle.gc_instrument.proofs.Executions.{exec_outcome}
-use Rattle.gc_scenes.specs.Machine.{over, over_outcome, is_other, CarriesOut}
+use Rattle.gc_scenes.specs.Machine.{with_parts, outcome_with_parts, is_other, CarriesOut}
 
 -- what the table has for TMC_DoMeasure
 pub row_command : (s : State) (command mode : ℤ) → exec s (call.DoMeasure command mode) ≡ commanded s command
@@ -54,13 +54,14 @@ unfolding exec
 row_adjust s area_hz area_v dummy = refl
 
 -- setting a value is the same over any targets, distance and kept reply
-set_over : (targets : List Target) (d : Option Decimal) (kept : Option KeptReply) (b : Bool) (s t : State) → set_if b (over targets d kept s) (over targets d kept t) ≡ over_outcome targets d kept (set_if b s t)
+set_over : (targets : List Target) (d : Option Decimal) (kept : Option KeptReply) (b : Bool) (s t : State)
+    → set_if b (with_parts targets d kept s) (with_parts targets d kept t) ≡ outcome_with_parts targets d kept (set_if b s t)
 set_over targets d kept true s t = refl
 set_over targets d kept false s t = refl
 
 -- each other call is the same over any targets, distance and kept reply
 pub others : (targets : List Target) (d : Option Decimal) (kept : Option KeptReply) (s : State) (asked : Call) → is_other asked ≡ true
-    → exec (over targets d kept s) asked ≡ over_outcome targets d kept (exec s asked)
+    → exec (with_parts targets d kept s) asked ≡ outcome_with_parts targets d kept (exec s asked)
 unfolding exec
 others targets d kept s (call.SetPrecision n) is = set_over targets d kept _ _ _
 others targets d kept s (call.SetDate date) is = set_over targets d kept _ _ _
@@ -74,12 +75,12 @@ others targets d kept s (call.ChangeFace pos_mode atr_mode dummy) is = let never
 others targets d kept s (call.FineAdjust area_hz area_v dummy) is = let never : ⊥ = cc in absurd never
 others targets d kept s asked is = refl
 
--- a call that was passed on to an instrument is carried out over any targets
+-- another call that an instrument without targets carried out is carried out so over any targets
 pub passed : (targets : List Target) (d : Option Decimal) (kept : Option KeptReply) (before after : State) (asked : Call) (code : ℕ) (said : Answer) → is_other asked ≡ true
     → exec before asked ≡ record { state = after; rc = code; answer = said }
-    → CarriesOut targets (over before.scene d kept before) asked (over after.scene d kept after) code said
+    → CarriesOut targets (with_parts before.scene d kept before) asked (with_parts after.scene d kept after) code said
 passed targets d kept before after asked code said other does = record {
-  gives = others targets d kept before asked other ∙ ap (over_outcome targets d kept) does;
+  gives = others targets d kept before asked other ∙ ap (outcome_with_parts targets d kept) does;
   same = ap (λ (x : Executed). x.state.scene) (sym does) ∙ ap (λ (s : State). s.scene) (exec_outcome before asked).same;
 }
 

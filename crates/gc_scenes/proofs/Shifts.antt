@@ -1,36 +1,25 @@
 -- What the code of shifts computes, in whole numbers that 128 bits hold.
-use Rattle.std.proofs.Common.{◌≡◌, ℕ, ◌*◌, ◌^◌, ◌≤◌, Bool, true, false, nat_le, ℤ, pos, negsuc, ◌+ℤ◌, ◌*ℤ◌, unsigned_abs, to_z, of_z, refl, sym, ap, ◌∙◌, subst, arith}
-use mir.Syntax.{w128}
+use Rattle.std.proofs.Common.{◌≡◌, ℕ, ◌*◌, ◌^◌, ◌≤◌, Bool, true, false, nat_le, ℤ, pos, ◌+ℤ◌, ◌*ℤ◌, unsigned_abs, refl, sym, ap, ◌∙◌, subst, arith}
 use borrow.Author.Tests.{leb-true, le-leb}
-use Rattle.std.proofs.lemmas.Int.{ints, to_z-of_z, fits_signed_from_abs}
+use Rattle.std.proofs.lemmas.Bool.{false≢true}
+use Rattle.std.proofs.lemmas.Int.{ints}
 use Rattle.gc_values.specs.Decimals.{units}
 use Rattle.gc_values.specs.Fraction.{SameValue, IsInRange, Fraction, is_negative, signed}
 use Rattle.gc_values.specs.RoundedFacts.{stripped_is}
 use Rattle.gc_values.specs.Zeros.{stripped}
 use Rattle.gc_values.specs.declared.decimal.Decimal.{Decimal}
 use Rattle.gc_values.proofs.DecimalLaws.{rounding_unique}
+use Rattle.gc_values.proofs.NearLemmas.{as_i128, as_i128_same}
 use Rattle.gc_values.proofs.Rounded.{exact_rounds}
+use Rattle.gc_values.proofs.RoundedDecimals.{signed-unsigned_abs}
 use Rattle.gc_values.proofs.Signs.{signed-mul}
 use Rattle.gc_scenes.specs.Shifting.{of_units, shifted}
-
--- a number as 128 bits hold it
-abbrev pub held : ℤ → ℤ
-held x = to_z w128 (of_z w128 x)
-
--- 128 bits hold a number of at most 4 * 10^37
-pub held_is : (x : ℤ) → unsigned_abs x ≤ 4 * 10 ^ 37 → held x ≡ x
-held_is x small = to_z-of_z w128 x (fits_signed_from_abs w128 x (omega arith))
 
 -- decimals with the value of so many units are one
 one_decimal : (z : ℤ) (d e : Decimal) → SameValue d.digits d.scale z 24 → SameValue e.digits e.scale z 24 → d ≡ e
 one_decimal z d e x y =
     let q : Fraction = record { n = z; k = 24 } in
     rounding_unique q 24 d e (exact_rounds q 24 d.digits d.scale d.is_canonical d.has_few_places x) (exact_rounds q 24 e.digits e.scale e.is_canonical e.has_few_places y)
-
--- a number is its sign and its magnitude
-signed_whole : (z : ℤ) → signed (is_negative z) (unsigned_abs z) ≡ z
-signed_whole (pos n) = refl
-signed_whole (negsuc n) = refl
 
 -- where two products of naturals are one, so they are with a sign before their first factors
 signed_same : (b : Bool) (m n k j : ℕ) → n * k ≡ m * j → signed b n *ℤ pos k ≡ signed b m *ℤ pos j
@@ -41,30 +30,26 @@ units_value : (z : ℤ) (h : nat_le (unsigned_abs z) (10 ^ 13 * 10 ^ 24) ≡ tru
 units_value z h d =
     let m = unsigned_abs z in
     let w = stripped_is m 24 in
-    signed_same (is_negative z) m (stripped m 24).digits (10 ^ 24) (10 ^ (stripped m 24).places) (sym w.same) ∙ ap (λ (x : ℤ). x *ℤ pos (10 ^ (stripped m 24).places)) (signed_whole z)
+    signed_same (is_negative z) m (stripped m 24).digits (10 ^ 24) (10 ^ (stripped m 24).places) (sym w.same) ∙ ap (λ (x : ℤ). x *ℤ pos (10 ^ (stripped m 24).places)) (signed-unsigned_abs z)
 
--- false isn't true
-pub never_true : false ≡ true → ⊥
-never_true e = cc
-
--- where a decimal with the value of these units was made, it is the one of the definition
+-- a decimal with the value of so many units, which are in range, is the one that `of_units` gives
 made_by : (b : Bool) (z : ℤ) (h : nat_le (unsigned_abs z) (10 ^ 13 * 10 ^ 24) ≡ b) (d moved : Decimal) → SameValue moved.digits moved.scale z 24 → IsInRange z 24 → moved ≡ of_units b z h d
 made_by true z h d moved same within = one_decimal z moved (of_units true z h d) same (units_value z h d)
-made_by false z h d moved same within = absurd (never_true (sym h ∙ le-leb (unsigned_abs z) (10 ^ 13 * 10 ^ 24) within))
+made_by false z h d moved same within = absurd (false≢true (sym h ∙ le-leb (unsigned_abs z) (10 ^ 13 * 10 ^ 24) within))
 
--- where none could be made, it stays
+-- where so many units are out of range, `of_units` leaves the decimal as it is
 not_made : (b : Bool) (z : ℤ) (h : nat_le (unsigned_abs z) (10 ^ 13 * 10 ^ 24) ≡ b) (d : Decimal) → (IsInRange z 24 → ⊥) → d ≡ of_units b z h d
 not_made true z h d out = absurd (out (leb-true (unsigned_abs z) (10 ^ 13 * 10 ^ 24) h))
 not_made false z h d out = refl
 
--- a sum of a number of at most 10^37 and one of at most 3 * 10^37
+-- a number of at most 10^37 and one of at most 3 * 10^37, either way from 0, have a sum of at most 4 * 10^37
 sum_small : (x y : ℤ) → unsigned_abs x ≤ 10 ^ 37 → unsigned_abs y ≤ 3 * 10 ^ 37 → unsigned_abs (x +ℤ y) ≤ 4 * 10 ^ 37
 sum_small x y a b = omega (arith, ints, a, b)
 
--- what the code adds
-pub sum_is : (d : Decimal) (u by : ℤ) → u ≡ units d → unsigned_abs u ≤ 10 ^ 37 → unsigned_abs by ≤ 3 * 10 ^ 37 → held (held u +ℤ held by) ≡ units d +ℤ by
+-- the sum that the code computes in 128 bits is exact
+pub sum_is : (d : Decimal) (u by : ℤ) → u ≡ units d → unsigned_abs u ≤ 10 ^ 37 → unsigned_abs by ≤ 3 * 10 ^ 37 → as_i128 (as_i128 u +ℤ as_i128 by) ≡ units d +ℤ by
 sum_is d u by is a b =
-    ap (λ x. held (x +ℤ held by)) (held_is u (omega (arith, a))) ∙ ap (λ x. held (u +ℤ x)) (held_is by (omega (arith, b))) ∙ held_is (u +ℤ by) (sum_small u by a b) ∙ ap (λ x. x +ℤ by) is
+    ap (λ x. as_i128 (x +ℤ as_i128 by)) (as_i128_same u (omega (arith, a))) ∙ ap (λ x. as_i128 (u +ℤ x)) (as_i128_same by (omega (arith, b))) ∙ as_i128_same (u +ℤ by) (sum_small u by a b) ∙ ap (λ x. x +ℤ by) is
 
 -- a decimal with the value of the sum is the shifted one
 pub shifted_made : (d moved : Decimal) (by sum : ℤ) → sum ≡ units d +ℤ by → SameValue moved.digits moved.scale sum 24 → IsInRange sum 24 → moved ≡ shifted d by

@@ -23,7 +23,7 @@ pub delay_unread : (delays : List Delay) (line : List ℕ) (view : Request → R
     → ((q : RequestFields) → IsRequest line q → Gives view (Err fault) (Ok q)) → IsDelay delays line ms
 delay_unread delays line view fault ms only = λ q reads. let wrong : ◌≡◌ {A = Result RequestFields LineFault} (Ok q) (Err fault) = only q reads in cc
 
--- a line without a reply, where the state `now` is v
+-- where a line that was taken up gets no reply, `Hears` holds of it; v is the state `now`, field by field
 pub silent_heard : (v now : SlowState) → v ≡ now → (line : List ℕ) (at : ℕ) (then scene : SceneState) (old new : List ℕ) → IsTaken now at
     → then ≡ scene_then now at → AppendsAnswer (IsPlayed then line scene) old new false
     → AppendsAnswer (Hears now line at (record v { scene = scene })) old new false
@@ -34,7 +34,7 @@ silent_heard v now e line at then scene old new taken is h =
       h.1,
     )
 
--- a line with one
+-- where a line that was taken up gets a reply, `Hears` holds of it
 pub reply_heard : (v now : SlowState) → v ≡ now → (line : List ℕ) (at : ℕ) (then scene : SceneState) (ms due : ℕ) (old new : List ℕ) → IsTaken now at
     → IsDelay now.delays line ms → due ≡ later (taken_up now at) ms → then ≡ scene_then now at → AppendsAnswer (IsPlayed then line scene) old new true
     → AppendsAnswer (Hears now line at (record v { scene = scene; free_from = due })) old new true

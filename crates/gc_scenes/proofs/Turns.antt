@@ -12,11 +12,11 @@ use Rattle.gc_scenes.specs.Laws.{OneReply}
 use Rattle.gc_scenes.specs.SceneReplying.{silent, answers, AnswersRequest, names_call, names_none, unreadable, Gave, handed_call, handed_raw}
 use Rattle.gc_scenes.specs.SceneState.{SceneState}
 
--- one outcome has one state and one reply
+-- what a request gives has one state and one reply
 one_given : (h : Handed SceneState) (t u : SceneState) (x y : List ℕ) → Gave h t x → Gave h u y → (t ≡ u) × (x ≡ y)
 one_given h t u x y a b = (a.state ∙ sym b.state, a.line ∙ sym b.line)
 
--- an unknown procedure has no parameters that don't read
+-- the fault `Unknown` isn't a fault of parameters
 apart : (e : ValueFault) → ◌≡◌ {A = CallFault} Unknown (Parameters e) → ⊥
 apart e is = cc
 

@@ -1,5 +1,5 @@
--- What a call does to the instrument of a scene by the ways of real instruments that it has, over the targets of a state; what none of them
--- changes is the execution table's. This project's own, from memory.
+-- What a call does to the instrument of a scene by the ways of real instruments that it has, over the targets of a state. What no way
+-- changes is as in the execution table. This project's own, from memory.
 use Rattle.std.specs.Prelude.{◌≡◌, ℕ, pos, ◌&&◌, Bool, true, false, List, Option, Some, None, if◌then◌else◌}
 use Rattle.std.specs.Ordering.{int_eq}
 use Rattle.gc_catalogue.specs.declared.answer.Answer.{Answer}
@@ -14,14 +14,14 @@ use Rattle.gc_scenes.specs.Machine.{seeing}
 use Rattle.gc_scenes.specs.Ways.{nearest, other_hz, other_v, face_at}
 use Rattle.gc_scenes.specs.declared.ways.Ways.{Ways}
 
--- the date that the clock shows which runs, if one does, or that of the table
+-- the outcome of asking for the date: what the running clock shows, or the date of the execution table if no clock runs
 abbrev pub dated : Option DateTime → State → Executed
 dated (Some d) s = done s (answer.Date d)
 dated None s = done s (answer.Date s.date)
 
 -- what the call does but for the face. A positioning with target recognition (mode 1) aims at the nearest target within the window round
--- where it turns to; where there is none it stays there, with code 8710. A face change turns to the other face's angles. What tells the
--- distance takes it along
+-- where it turns to; if there is none it stays there, with code 8710. A face change turns to the other face's angles. TMC_GetSimpleMea
+-- clears the distance that it answers
 abbrev pub acting : Ways → Option DateTime → State → Call → Executed
 acting w now s (call.Position hz v pos_mode atr_mode dummy) =
     if w.aims && int_eq atr_mode (pos 1) then adjusted (pointed s hz v) (nearest (record { hz = hz; v = v }) s.scene)
@@ -33,12 +33,12 @@ acting w now s (call.SimpleMea wait mode) =
 acting w now s call.GetDate = dated now s
 acting w now s other = exec s other
 
--- the state in which the face is that of the vertical angle, where the instrument has both faces' angles
+-- the state with the face of its vertical angle if the instrument has both faces' angles (true), and else as it is
 abbrev pub faced : Bool → State → State
 faced true s = record s { face = face_at s.pointing.v }
 faced false s = s
 
--- what comes of the call by these ways
+-- the outcome of the call by these ways
 abbrev pub acted : Ways → Option DateTime → State → Call → Executed
 acted w now s asked = record { state = faced w.faces (acting w now s asked).state; rc = (acting w now s asked).rc; answer = (acting w now s asked).answer }
 

@@ -6,12 +6,12 @@ use Rattle.gc_scenes.specs.SceneExecution.{Played}
 use Rattle.gc_scenes.specs.SceneReplying.{AnswersRequest, line_of}
 use Rattle.gc_scenes.specs.SceneState.{SceneState}
 
--- this was given, and the reply appended
+-- the request gave what x says: the state after it is that of x, and the reply of x was appended
 pub record AppendsGave (x : Handed SceneState) (after : SceneState) (old new : List ℕ) : Type 0 where
   pub state : after ≡ x.state
   pub appended : new ≡ old ++ x.reply
 
--- this came of a request, and its line with the id was appended
+-- the request came out as p says: the state after it is that of p, and the line of p with this id was appended
 pub record AppendsPlayed (number : ℕ) (p : Played) (after : SceneState) (old new : List ℕ) : Type 0 where
   pub state : after ≡ p.state
   pub appended : new ≡ old ++ line_of number p

@@ -1,4 +1,4 @@
--- A clock that runs from where it was set: this project's own, by the Gregorian calendar.
+-- A clock that runs from the date that it was set to: this project's own, by the Gregorian calendar.
 use Rattle.std.specs.Prelude.{ℕ, ℤ, pos, suc, zero, ◌+◌, ◌-◌, ◌*◌, ◌/◌, ◌%◌, ◌==◌, ◌&&◌, ◌||◌, ◌+ℤ◌, not, Bool, true, false, Option, Some, None, nat_le, int_le, unsigned_abs, if◌then◌else◌}
 use Rattle.gc_catalogue.specs.declared.call.DateTime.{DateTime}
 use Rattle.gc_scenes.specs.declared.clock.Clock.{Clock}
@@ -13,33 +13,33 @@ days_in year month =
     if month == 2 then (if is_leap year then 29 else 28)
     else (if (month == 4) || ((month == 6) || ((month == 9) || (month == 11))) then 30 else 31)
 
--- the year after; the year 9999 is the last one, and comes again
+-- the next year; 9999 is followed by itself
 abbrev pub next_year : ℤ → ℤ
 next_year year = if int_le (pos 9999) year then year else year +ℤ pos 1
 
--- the same time of the day after. What is behind the end of its month is the last day of it
+-- the next day, at the same time of day. A day past the end of its month counts as its last
 abbrev pub next_day : DateTime → DateTime
 next_day d =
     if nat_le (d.day + 1) (days_in (unsigned_abs d.year) d.month) then record d { day = d.day + 1 }
     else (if nat_le (d.month + 1) 12 then record d { day = 1; month = d.month + 1 } else record d { day = 1; month = 1; year = next_year d.year })
 
--- the same time so many days later
+-- the date so many days later, at the same time of day
 abbrev pub days_on : ℕ → DateTime → DateTime
 days_on zero d = d
 days_on (suc n) d = next_day (days_on n d)
 
--- the second of the day
+-- the seconds since midnight
 abbrev pub second_of : DateTime → ℕ
 second_of d = d.hour * 3600 + d.minute * 60 + d.second
 
--- the same day, at this second of it
+-- the same day, so many seconds after midnight
 abbrev pub at_second : ℕ → DateTime → DateTime
 at_second s d = record d { hour = s / 3600; minute = s / 60 % 60; second = s % 60 }
 
--- so many seconds later: each 86,400 seconds behind the day's midnight are a day
+-- the date and time so many seconds later; a day has 86,400 seconds
 abbrev pub later : ℕ → DateTime → DateTime
 later n d = at_second ((second_of d + n) % 86400) (days_on ((second_of d + n) / 86400) d)
 
--- what a clock shows at this moment: where it was set, and the whole seconds since then
+-- what a clock shows at this moment: the date that it was set to, and the whole seconds since then later
 abbrev pub shown_at : ℕ → Clock → DateTime
 shown_at moment c = later ((moment - c.at) / 1000) c.set

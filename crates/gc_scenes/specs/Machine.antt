@@ -11,21 +11,21 @@ use Rattle.gc_scenes.specs.declared.machine.Held.{Held}
 use Rattle.gc_scenes.specs.declared.machine.Machine.TheInside.{Inside}
 
 -- the state with these targets, this distance and this kept reply
-abbrev pub over : List Target → Option Decimal → Option KeptReply → State → State
-over targets d kept s = record s { scene = targets; distance = d; kept = kept }
+abbrev pub with_parts : List Target → Option Decimal → Option KeptReply → State → State
+with_parts targets d kept s = record s { scene = targets; distance = d; kept = kept }
 
 -- the outcome with these targets, this distance and this kept reply
-abbrev pub over_outcome : List Target → Option Decimal → Option KeptReply → Executed → Executed
-over_outcome targets d kept x = record x { state = over targets d kept x.state }
+abbrev pub outcome_with_parts : List Target → Option Decimal → Option KeptReply → Executed → Executed
+outcome_with_parts targets d kept x = record x { state = with_parts targets d kept x.state }
 
--- what is kept
+-- the kept reply, as the table's state has it
 abbrev pub kept_of : Option Held → Option KeptReply
 kept_of None = None
 kept_of (Some h) = Some (record { id = h.id; line = h.line.items })
 
--- the state, of the parts
+-- the state of a machine: that of its base, with the machine's own distance and kept reply
 abbrev pub machine_of : Inside → State
-machine_of i = over i.base.scene i.distance (kept_of i.kept) i.base
+machine_of i = with_parts i.base.scene i.distance (kept_of i.kept) i.base
 
 -- the state with these targets
 abbrev pub seeing : List Target → State → State

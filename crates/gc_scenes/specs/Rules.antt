@@ -14,17 +14,17 @@ use Rattle.gc_scenes.specs.declared.rules.Fault.{Fault}
 use Rattle.gc_scenes.specs.declared.rules.Scripted.{Scripted}
 use Rattle.gc_scenes.specs.declared.rules.Noise.{Noise}
 
--- a count that stays at the greatest number of 32 bits
+-- one more, but at most the greatest number of 32 bits
 abbrev pub one_more : ℕ → ℕ
 one_more n = min (n + 1) 4294967295
 
 -- Targets.
 
--- whether the target can be seen in the look with this number, counted from 1
+-- whether the target isn't hidden in the look with this number, counted from 1
 abbrev pub is_clear : ℕ → Prism → Bool
 is_clear look p = not (nat_le p.from look && nat_le look p.to)
 
--- the targets that can be seen in this look, where the telescope has to point to meet them: turned over, or where they stand
+-- the targets that aren't hidden in this look, each in the direction in which the telescope meets it: in face II (true), or its own
 abbrev pub seen : Bool → ℕ → List Prism → List Target
 seen over look [] = []
 seen over look (p ∷ ps) = if is_clear look p then met over p.at ∷ seen over look ps else seen over look ps
@@ -42,7 +42,7 @@ moved_by (Some o) p = record p { at = offset o p.at }
 abbrev pub moved : Bool → ℕ → Pointing → Prism → Prism
 moved over look there p = if is_clear look p && is_at there (met over p.at) then moved_by p.drift p else p
 
--- the targets after a measurement
+-- the targets after a measurement in this look, with the telescope pointing there: those that were measured have moved
 abbrev pub drifted : Bool → ℕ → Pointing → List Prism → List Prism
 drifted over look there [] = []
 drifted over look there (p ∷ ps) = moved over look there p ∷ drifted over look there ps
@@ -74,7 +74,7 @@ answer_of rpc (a ∷ rest) = if a.rpc == rpc then Some a else answer_of rpc rest
 
 -- Answers.
 
--- what is measured, with three deviations in a row
+-- the answer with the three deviations of one measurement, if it is a measurement, and else as it is
 abbrev pub disturbed : Noise → Answer → Answer
 disturbed n (answer.Measured hz v d) =
     answer.Measured (shifted hz (deviation n.hz (next n.seed))) (shifted v (deviation n.v (next (next n.seed)))) (shifted d (deviation n.distance (next (next (next n.seed)))))
@@ -82,13 +82,13 @@ disturbed n (answer.MeasuredMode hz v d mode) =
     answer.MeasuredMode (shifted hz (deviation n.hz (next n.seed))) (shifted v (deviation n.v (next (next n.seed)))) (shifted d (deviation n.distance (next (next (next n.seed))))) mode
 disturbed n other = other
 
--- whether an answer tells a measurement
+-- whether an answer is a measurement, with angles and a distance
 abbrev pub is_measured : Answer → Bool
 is_measured (answer.Measured hz v d) = true
 is_measured (answer.MeasuredMode hz v d mode) = true
 is_measured other = false
 
--- the noise after an answer: three numbers on behind one that tells a measurement
+-- the noise after an answer: a measurement takes the generator's next three numbers, and another answer none
 abbrev pub spent : Noise → Answer → Noise
 spent n a = if is_measured a then record n { seed = next (next (next n.seed)) } else n
 

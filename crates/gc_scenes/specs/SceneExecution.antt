@@ -1,5 +1,5 @@
--- What a call does to the instrument of a scene: the execution table over the targets that can be seen, with the ways of real instruments
--- that it has, and what the scene's rules make of it. This project's own.
+-- What a call does to the instrument of a scene: the execution table over the targets that aren't hidden, with the instrument's ways of
+-- real instruments, and then the scene's rules. This project's own.
 use Rattle.std.specs.Prelude.{ℕ, pos, ◌==◌, ◌&&◌, Bool, true, false, List, [], Option, Some, None, unwrap_or, if◌then◌else◌}
 use Rattle.std.specs.Option.{option_map}
 use Rattle.std.specs.Ordering.{int_eq}
@@ -33,7 +33,7 @@ is_measurement call.QuickDist = true
 is_measurement (call.MeasDistance mode) = true
 is_measurement other = false
 
--- whether the call is a search: of an instrument that aims, a positioning with target recognition is one
+-- whether the call is a search: if the instrument aims (true), a positioning with target recognition is one, too
 abbrev pub is_search : Bool → Call → Bool
 is_search aims (call.FineAdjust area_hz area_v dummy) = true
 is_search aims (call.Position hz v pos_mode atr_mode dummy) = aims && int_eq atr_mode (pos 1)
@@ -48,27 +48,28 @@ abbrev pub heading : Pointing → Call → Pointing
 heading there (call.Position hz v pos_mode atr_mode dummy) = record { hz = hz; v = v }
 heading there other = there
 
--- whether the call meets targets turned over
+-- whether the telescope is in face II when the call looks for a target, on an instrument that has both faces' angles
 abbrev pub over_for : SceneState → Call → Bool
 over_for s asked = is_over s.ways (heading s.base.pointing asked)
 
--- the targets that can be seen in the look of this call
+-- the targets that aren't hidden in the look of this call
 abbrev pub seen_by : SceneState → Call → List Target
 seen_by s asked = seen (over_for s asked) (look_of s.ways.aims s.looks asked) s.prisms
 
--- what a clock shows at the state's moment, if one runs
+-- what the instrument's clock shows at the state's moment. `None`: no clock runs
 abbrev pub shown : SceneState → Option DateTime
 shown s = option_map (shown_at s.moment) s.clock
 
--- the outcome of the call, by the ways of the instrument, over the targets that can be seen in its look
+-- the outcome of the call, by the instrument's ways, over the targets that aren't hidden in its look
 abbrev pub outcome : SceneState → Call → Executed
 outcome s asked = acted s.ways (shown s) (seeing (seen_by s asked) s.base) asked
 
--- the clock behind a call at this moment with this code: it runs from where it is set, where the instrument has such a clock
-abbrev pub wound : Bool → ℕ → Call → ℕ → Option Clock → Option Clock
-wound false moment asked rc c = c
-wound true moment (call.SetDate d) rc c = if rc == 0 then Some (record { set = d; at = moment }) else c
-wound true moment other rc c = c
+-- the clock after a call at this moment that had this return code: if the instrument has a clock that runs (true), a date that was set
+-- starts it
+abbrev pub clock_after : Bool → ℕ → Call → ℕ → Option Clock → Option Clock
+clock_after false moment asked rc c = c
+clock_after true moment (call.SetDate d) rc c = if rc == 0 then Some (record { set = d; at = moment }) else c
+clock_after true moment other rc c = c
 
 -- what comes of a request: the state after it, the return code, and the parameters of the reply
 pub record Played : Type 0 where
@@ -76,55 +77,57 @@ pub record Played : Type 0 where
   pub rc : ℕ
   pub params : List ℕ
 
--- the state behind a call that has this outcome
+-- the state after a call that has this outcome
 abbrev pub behind_call : SceneState → Call → Executed → SceneState
 behind_call s asked x = record s {
   base = seeing s.base.scene x.state;
   prisms = if is_measurement asked then drifted (over_for s asked) (look_of s.ways.aims s.looks asked) s.base.pointing s.prisms else s.prisms;
   noise = noise_after s.noise x.answer;
   looks = look_of s.ways.aims s.looks asked;
-  clock = wound s.ways.clock s.moment asked x.rc s.clock;
+  clock = clock_after s.ways.clock s.moment asked x.rc s.clock;
 }
 
--- the values that a reply with this code tells of an answer: where they stand beside a warning, the angles, without a distance and without
--- noise
-abbrev pub beside : Bool → Pointing → Call → ℕ → Answer → Answer
-beside values there asked rc said = if values && is_warning rc then valued there asked zero else said
+-- the answer that the reply to an executed call has: its own; or, if the code is a warning and the instrument has values with warnings
+-- (true), the angles, without noise, and a distance of 0 if the call answers one
+abbrev pub replied_answer : Bool → Pointing → Call → ℕ → Answer → Answer
+replied_answer values there asked rc said = if values && is_warning rc then valued there asked zero else said
 
 -- the parameters of an answer, each double rounded to the places
 abbrev pub params_for : ℕ → Answer → List ℕ
 params_for places said = params_of (answer_fields (rounded_answer places said)).values
 
--- what comes of a call that has this outcome: its answer with the noise, each double rounded to the precision behind the call
+-- what comes of a call that has this outcome: its answer with the noise, each double rounded to the precision after the call
 abbrev pub told_of : SceneState → Call → Executed → Played
 told_of s asked x = record {
   state = behind_call s asked x;
   rc = x.rc;
-  params = params_for x.state.precision (beside s.ways.values x.state.pointing asked x.rc (noisy s.noise x.answer));
+  params = params_for x.state.precision (replied_answer s.ways.values x.state.pointing asked x.rc (noisy s.noise x.answer));
 }
 
 -- what comes of a call that no fault answers
 unfoldable pub plays : SceneState → Call → Played
 plays s asked = told_of s asked (outcome s asked)
 
--- the state behind one more request of this procedure
+-- the state after one more request of this procedure: the faults have counted it
 abbrev pub counting : ℕ → SceneState → SceneState
 counting rpc s = record s { faults = counted rpc s.faults }
 
--- the distance that is known to the call: the one that was measured, or that of the target which it would measure
+-- the distance that the call would answer: the one that was measured last, or that of the target which it would measure
 abbrev pub known : SceneState → Call → Option Decimal
 known s (call.SimpleMea wait mode) = s.base.distance
 known s asked = option_map (λ t. t.distance) (first_at s.base.pointing (seen_by s asked))
 
--- the distance that stands beside this code of a fault: the one that is known, where the code has one and one is known, and else 0
+-- the distance in the reply to a call that a fault answers with this code: the known one, if the code has a distance and one is known,
+-- and else 0
 abbrev pub distance_beside : SceneState → Call → ℕ → Decimal
 distance_beside s asked code = if has_distance code then unwrap_or (known s asked) zero else zero
 
--- what comes of a request that a fault answers with this code: nothing is done
+-- what comes of a request that a fault answers with this code: nothing is executed, and the reply has no values
 abbrev pub faulted : SceneState → ℕ → Played
 faulted s code = record { state = s; rc = code; params = [] }
 
--- what comes of a call that a fault answers with this code: nothing is done; where values stand beside a warning, it tells them
+-- what comes of a call that a fault answers with this code: nothing is executed, and the reply has values only if the code is a warning
+-- and the instrument has values with warnings
 abbrev pub warned : SceneState → Call → ℕ → Played
 warned s asked code = record {
   state = s;
@@ -132,7 +135,7 @@ warned s asked code = record {
   params = params_for s.base.precision (if s.ways.values && is_warning code then valued s.base.pointing asked (distance_beside s asked code) else answer.Nothing);
 }
 
--- what comes of a call, where a fault has this code for it, or none has
+-- what comes of a call that a fault answers with this code, or that no fault answers (`None`)
 abbrev pub unless_faulted : SceneState → Call → Option ℕ → Played
 unless_faulted s asked (Some code) = warned s asked code
 unless_faulted s asked None = plays s asked
@@ -141,12 +144,13 @@ unless_faulted s asked None = plays s asked
 abbrev pub played_call : SceneState → ℕ → Call → Played
 played_call s rpc asked = unless_faulted (counting rpc s) asked (fault_of rpc s.faults)
 
--- what comes of a request of a procedure that isn't in the table, where the scene has this reply, or none
+-- what comes of a request of a procedure that isn't in the table and for which the scene has this reply, or none
 abbrev pub scripted : SceneState → Option Scripted → Option Played
 scripted s (Some a) = Some (record { state = s; rc = a.rc; params = scripted_params a.with })
 scripted s None = None
 
--- the same, where a fault has this code for it, or none has
+-- what comes of a request of a procedure that isn't in the table: a fault answers it with this code, or none does (`None`) and the
+-- scene's reply is taken, if it has one
 abbrev pub unless_faulted_raw : SceneState → ℕ → Option ℕ → Option Played
 unless_faulted_raw s rpc (Some code) = Some (faulted s code)
 unless_faulted_raw s rpc None = scripted s (answer_of rpc s.answers)

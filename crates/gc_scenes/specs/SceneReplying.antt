@@ -11,7 +11,7 @@ use Rattle.gc_instrument.specs.State.{KeptReply}
 use Rattle.gc_scenes.specs.SceneExecution.{Played, played_call, played_raw, counting}
 use Rattle.gc_scenes.specs.SceneState.{SceneState}
 
--- the reply's line
+-- the line of a reply with this id to a request of which this comes
 abbrev pub line_of : ℕ → Played → List ℕ
 line_of number p = reply_text (record { rc_com = 0; id = Some number; rc = p.rc; params = p.params })
 
@@ -19,7 +19,7 @@ line_of number p = reply_text (record { rc_com = 0; id = Some number; rc = p.rc;
 abbrev pub again_for : SceneState → Option ℕ → Option (List ℕ)
 again_for s id = if s.repeats then kept_line s.base.kept id else None
 
--- what is kept behind a request that was dealt with: its id and its reply's line, as of the table; nothing where the instrument doesn't repeat
+-- what is kept after a request that was dealt with: its id and its reply's line, as in the table; nothing if the instrument doesn't repeat
 abbrev pub kept_behind : SceneState → Option ℕ → List ℕ → Option KeptReply
 kept_behind s id line = if s.repeats then kept_after s.base.kept id line else None
 
@@ -27,7 +27,8 @@ kept_behind s id line = if s.repeats then kept_after s.base.kept id line else No
 abbrev pub holding : Option KeptReply → SceneState → SceneState
 holding kept s = record s { base = with_kept kept s.base }
 
--- what a request gives, of which this comes: the line that is sent again for its id, and nothing is done; or its own reply, which is kept
+-- what a request gives: the line that is sent again for its id, and nothing is executed; or, without such a line, the reply to what comes
+-- of it, p, which is then kept
 abbrev pub again_or_played : SceneState → Option ℕ → Played → Option (List ℕ) → Handed SceneState
 again_or_played s id p (Some line) = record { state = s; reply = line; executed = false }
 again_or_played s id p None =
@@ -38,17 +39,17 @@ again_or_played s id p None =
 unfoldable pub handed_call : SceneState → ℕ → Option ℕ → Call → Handed SceneState
 handed_call s rpc id call = again_or_played s id (played_call s rpc call) (again_for s id)
 
--- what a request gives that is no call of the table, where this comes of it, or the scene has no reply: then it is refused, and counts for
--- the faults alone
+-- what a request gives whose procedure isn't in the table, by what comes of it, p. `None`: the scene has no reply, so the request is
+-- refused, and only the faults count it
 abbrev pub played_or_refused : SceneState → ℕ → Option ℕ → Option Played → Handed SceneState
 played_or_refused s rpc id (Some p) = again_or_played s id p (again_for s id)
 played_or_refused s rpc id None = record { state = counting rpc s; reply = refusal_line (unwrap_or id 0) Unknown; executed = true }
 
--- what a request of a procedure gives that isn't in the table
+-- what a request gives whose procedure isn't in the table
 unfoldable pub handed_raw : SceneState → ℕ → Option ℕ → Handed SceneState
 handed_raw s rpc id = played_or_refused s rpc id (played_raw s rpc)
 
--- this state and this reply are what a request gives
+-- this state and this reply are what the request gave, x
 pub record Gave (x : Handed SceneState) (after : SceneState) (reply : List ℕ) : Type 0 where
   pub state : after ≡ x.state
   pub line : reply ≡ x.reply
@@ -59,7 +60,7 @@ pub data AnswersRequest (before : SceneState) (q : RequestFields) (after : Scene
   names_call : (call : Call) → IsCall q.rpc q.params call → Gave (handed_call before q.rpc q.id call) after reply → AnswersRequest before q after reply
   -- its procedure isn't in the table
   names_none : IsRefusal q.rpc q.params Unknown → Gave (handed_raw before q.rpc q.id) after reply → AnswersRequest before q after reply
-  -- its parameters don't read: nothing changes
+  -- its parameters can't be read: nothing changes
   unreadable : (e : ValueFault) → IsRefusal q.rpc q.params (Parameters e) → after ≡ before → reply ≡ refusal_line (reply_id q) (Parameters e) → AnswersRequest before q after reply
 
 -- what the instrument does with a line, and its reply, if there is one

@@ -8,9 +8,9 @@ use Rattle.gc_scenes.specs.declared.rules.Noise.{Noise}
 use Rattle.gc_scenes.specs.declared.clock.Clock.{Clock}
 use Rattle.gc_scenes.specs.declared.ways.Ways.{Ways}
 
--- what a scene's instrument is. `base` is that of the execution table, without targets; `looks` counts the measurements and searches,
--- and a fault its requests; `clock` is the clock that runs, if one does, and `moment` the moment of the request that comes next, in
--- milliseconds, as the program's own clock has it
+-- what a scene's instrument is. `base` is the state of the execution table, without targets; `looks` counts the measurements and
+-- searches, and a fault its requests; `clock` is the clock that runs, if one does, and `moment` the moment of the next request, in
+-- milliseconds of the program's clock
 pub record SceneState : Type 0 where
   pub base : State
   pub prisms : List Prism
@@ -23,11 +23,11 @@ pub record SceneState : Type 0 where
   pub clock : Option Clock
   pub moment : ℕ
 
--- the state after a restart: the instrument's is that of the table. The scene goes on: its counts, its targets and its noise stay, and a
--- clock that runs goes on
+-- the state after a restart: the instrument restarts as in the table. The scene goes on: its counts, its targets and its noise stay, and
+-- a clock that runs goes on
 abbrev pub scene_restarted : SceneState → SceneState
 scene_restarted s = record s { base = restarted s.base }
 
--- the state at this moment
+-- the state in which this is the moment of the next request
 abbrev pub at : ℕ → SceneState → SceneState
 at moment s = record s { moment = moment }

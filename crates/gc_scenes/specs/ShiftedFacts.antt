@@ -1,4 +1,4 @@
--- No part of a promise: the facts of a decimal of so many units of 10^-24, which stand in the decimal itself.
+-- No part of a promise: the facts of a decimal of so many units of 10^-24, which are in the decimal itself.
 use Rattle.std.proofs.Common.{◌≡◌, ℕ, ◌*◌, ◌%◌, ◌^◌, ◌≤◌, Bool, true, nat_le, sym, ap, ◌∙◌, subst}
 use borrow.Author.Tests.{leb-true}
 use Rattle.gc_values.specs.Fraction.{signed, IsInRange, IsCanonical}

@@ -42,7 +42,7 @@ IsTaken s at = s.drops ≡ true → s.free_from ≤ at
 abbrev pub taken_up : SlowState → ℕ → ℕ
 taken_up s at = if nat_lt at s.free_from then s.free_from else at
 
--- the scene's instrument at the moment at which it takes up a line that came at this one: a clock that runs goes by it
+-- the scene's instrument at the moment at which it takes up a line that came at this one
 abbrev pub scene_then : SlowState → ℕ → SceneState
 scene_then s came = at (taken_up s came) s.scene
 
@@ -69,6 +69,6 @@ HearsFrame before Cleared at after text = (after ≡ before) × (text ≡ None)
 HearsFrame before Overlong at after text = (after ≡ before) × (text ≡ None)
 HearsFrame before More at after text = (after ≡ before) × (text ≡ None)
 
--- the same, at some moment
+-- what it does with a frame that came at some moment
 abbrev pub HearsSometime : SlowState → Frame → SlowState → Option (List ℕ) → Type 0
 HearsSometime before frame after text = (at : ℕ) × HearsFrame before frame at after text

@@ -37,7 +37,7 @@ with_way way.Real w = record { faces = true; aims = true; takes = true; values =
 abbrev pub is_second : Decimal → Bool
 is_second v = not (int_le (units v) half_turn)
 
--- the face in which the telescope stands at this vertical angle
+-- the face of the telescope at this vertical angle
 abbrev pub face_at : Decimal → Face
 face_at v = if is_second v then Turned else Normal
 
@@ -49,22 +49,22 @@ other_hz h = shifted h (signed (int_le half_turn (units h)) 31415926535897932384
 abbrev pub other_v : Decimal → Decimal
 other_v v = shifted v (turn -ℤ (units v +ℤ units v))
 
--- where the telescope has to point to meet the target: turned over (true), or as the target stands
+-- the direction in which the telescope meets the target: that of the other face if it is turned over (true), and else the target's own
 abbrev pub met : Bool → Target → Target
 met true t = record { hz = other_hz t.hz; v = other_v t.v; distance = t.distance }
 met false t = t
 
--- whether the telescope meets targets turned over, where it points there
+-- whether the telescope is in face II where it points there, on an instrument that has both faces' angles
 abbrev pub is_over : Ways → Pointing → Bool
 is_over w there = w.faces && is_second there.v
 
 -- Target recognition.
 
--- how far apart two directions are on the circle, of which this is the difference
+-- the angle between two directions with this difference, the shorter way round the circle
 abbrev pub on_circle : ℤ → ℕ
 on_circle z = min (unsigned_abs z % 6283185307179586476925286) (6283185307179586476925286 - unsigned_abs z % 6283185307179586476925286)
 
--- how far a target is from where the telescope points: the greater of the two differences
+-- how far a target is from where the telescope points: the greater of the differences of the two angles
 abbrev pub apart : Pointing → Target → ℕ
 apart there t = max (on_circle (units t.hz -ℤ units there.hz)) (unsigned_abs (units t.v -ℤ units there.v))
 
@@ -72,13 +72,13 @@ apart there t = max (on_circle (units t.hz -ℤ units there.hz)) (unsigned_abs (
 abbrev pub window : ℕ
 window = 13100000000000000000000
 
--- the nearer one of the target that was found so far, if one was, and this one, where that is within the window; of two that are
--- equally near the earlier one
+-- the nearer of the target found so far and this one, and of two that are equally near the earlier one; the first target found has to be
+-- within the window
 abbrev pub nearer : Pointing → Option Target → Target → Option Target
 nearer there None t = if nat_le (apart there t) window then Some t else None
 nearer there (Some u) t = if nat_le (apart there u) (apart there t) then Some u else Some t
 
--- the nearest of the target that was found so far and these
+-- the nearest of the target found so far and these
 abbrev pub nearest_of : Pointing → Option Target → List Target → Option Target
 nearest_of there found [] = found
 nearest_of there found (t ∷ ts) = nearest_of there (nearer there found t) ts
@@ -87,18 +87,18 @@ nearest_of there found (t ∷ ts) = nearest_of there (nearer there found t) ts
 abbrev pub nearest : Pointing → List Target → Option Target
 nearest there targets = nearest_of there None targets
 
--- Values beside a code.
+-- Values of a reply whose return code isn't 0.
 
--- whether values stand beside this code: measured without all corrections (1283), or without a guarantee of the accuracy (1284); angles
+-- whether this code is a warning, with which a reply may have values: measured without all corrections (1283), or without a guarantee of the accuracy (1284); angles
 -- alone (1285), without all corrections (1288), or without a guarantee (1289)
 abbrev pub is_warning : ℕ → Bool
 is_warning rc = (rc == 1283) || ((rc == 1284) || ((rc == 1285) || ((rc == 1288) || (rc == 1289))))
 
--- whether a distance is among them
+-- whether a distance is among the values of a reply with this code
 abbrev pub has_distance : ℕ → Bool
 has_distance rc = (rc == 1283) || (rc == 1284)
 
--- the angles as the call answers them, with this distance
+-- the call's answer with these angles and, if it has a distance, this one; a call that answers no angles has none
 abbrev pub valued : Pointing → Call → Decimal → Answer
 valued there (call.GetAngle mode) d = answer.Angles there.hz there.v
 valued there (call.SimpleMea wait mode) d = answer.Measured there.hz there.v d

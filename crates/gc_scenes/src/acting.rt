@@ -1,4 +1,4 @@
-//! What the instrument does by the ways of real instruments that it has, where the execution table has something else.
+//! What the instrument does by its ways of real instruments, where the execution table has something else.
 
 ghost use Rattle.std.specs.Prelude.{◌≡◌, List, true};
 ghost use Rattle.gc_instrument.specs.Execution.{Gives, done, told, adjusted, pointed, unmeasured};
@@ -30,7 +30,7 @@ impl Machine {
     {
         let rc = self.act_faceless(ways, now, call, targets, answer);
         if ways.faces {
-            self.face();
+            self.face_by_angle();
         }
         rc
     }
@@ -127,7 +127,7 @@ impl Machine {
         self.position(&other_hz(&there.hz), &other_v(&there.v))
     }
 
-    // Answers the angles and the distance, and takes it along. Where there is none, the code is 1285, without an answer.
+    // Answers the angles and the distance, and clears the distance. Where there is none, the code is 1285, without an answer.
     fn take_along(&mut self, answer: &mut Answer) -> u16
         requires { answer.old ≡ Nothing }
         ensures gives { (targets : List Target) → Gives (told (unmeasured (seeing targets self.old)) (λ d. Measured self.old.pointing.hz self.old.pointing.v d)
@@ -144,12 +144,12 @@ impl Machine {
         0
     }
 
-    // Gives the telescope the face of its vertical angle.
-    fn face(&mut self)
+    // Sets the telescope's face to that of its vertical angle.
+    fn face_by_angle(&mut self)
         ensures { self.new ≡ faced true self.old }
     {
         let there = self.pointing();
         let turned = is_second(&there.v);
-        self.turn_to(turned);
+        self.set_face(turned);
     }
 }

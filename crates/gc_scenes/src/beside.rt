@@ -1,4 +1,4 @@
-//! Replies with values beside the code of a warning.
+//! Replies that have values although their return code, a warning, isn't 0.
 
 ghost use Rattle.std.specs.Prelude.{◌≡◌, ◌<◌, ◌≤◌, ◌+◌, ◌++◌, ◌∷◌, [], length};
 ghost use Rattle.arrayvec.specs.ArrayVec.{array_vec_len};
@@ -53,8 +53,8 @@ fn push_measured<const N: usize>(
     push_value(out, distance, places);
 }
 
-/// Appends a reply with this code, beside which the angles are told as the call answers them, with this distance. Beside that of
-/// another call nothing is.
+/// Appends a reply with this code and, to a call that answers angles, the values that its answer has: the angles, rounded to the
+/// places, and this distance if a distance is among them. A reply to any other call has no values.
 pub(crate) fn push_valued<const N: usize>(
     out: &mut ArrayVec<u8, N>,
     id: u8,

@@ -1,4 +1,4 @@
-//! A clock that runs from where it was set, by the Gregorian calendar. All arithmetic on dates is here.
+//! A clock that runs from the date that it was set to, by the Gregorian calendar. All arithmetic on dates is here.
 
 ghost use Rattle.std.specs.Prelude.{◌≡◌, ◌≤◌, unsigned_abs};
 ghost use Rattle.gc_scenes.specs.Clocks.{is_leap, days_in, next_year, next_day, days_on, second_of, at_second, later, shown_at};
@@ -8,7 +8,7 @@ use gc_catalogue::DateTime;
 // The seconds of a day.
 const DAY: u64 = 86_400;
 
-/// A clock that runs: where it was set, and at which moment, in milliseconds of the program's own clock.
+/// A clock that runs: the date that it was set to, and the moment at which it was set, in milliseconds of the program's clock.
 #[derive(Clone, Copy, Debug, PartialEq, Eq)]
 pub struct Clock {
     pub set: DateTime,
@@ -16,7 +16,7 @@ pub struct Clock {
 }
 
 impl Clock {
-    /// What the clock shows at this moment.
+    /// What the clock shows at this moment: the date that it was set to, and the whole seconds since then later.
     pub(crate) fn shown_at(&self, moment: u64) -> DateTime
         ensures { result ≡ shown_at moment self.now }
     {
@@ -45,14 +45,14 @@ fn days_in(year: u16, month: u8) -> u8
     }
 }
 
-// The year after; the year 9999 is the last one.
+// The next year; 9999 is followed by itself.
 fn next_year(year: i16) -> i16
     ensures { result ≡ next_year year }
 {
     if 9999 <= year { year } else { year + 1 }
 }
 
-// The same time of the day after.
+// The next day, at the same time of day. A day past the end of its month counts as its last.
 fn next_day(date: DateTime) -> DateTime
     ensures { result ≡ next_day date }
 {
@@ -70,7 +70,7 @@ fn next_day(date: DateTime) -> DateTime
     after
 }
 
-// The same time so many days later.
+// The date so many days later, at the same time of day.
 fn days_on(days: u64, date: &DateTime) -> DateTime
     ensures { result ≡ days_on days date.now }
 {
@@ -81,7 +81,7 @@ fn days_on(days: u64, date: &DateTime) -> DateTime
     day
 }
 
-// The second of the day.
+// The seconds since midnight.
 fn second_of(date: &DateTime) -> u64
     ensures value { result ≡ second_of date.now }
     ensures few { result ≤ 1000000 }
@@ -89,7 +89,7 @@ fn second_of(date: &DateTime) -> u64
     u64::from(date.hour) * 3600 + u64::from(date.minute) * 60 + u64::from(date.second)
 }
 
-// The same day, at this second of it.
+// The same day, so many seconds after midnight.
 fn at_second(second: u64, date: DateTime) -> DateTime
     requires { second ≤ 86399 }
     ensures { result ≡ at_second second date }
@@ -104,7 +104,7 @@ fn at_second(second: u64, date: DateTime) -> DateTime
     }
 }
 
-// So many seconds later.
+// The date and time so many seconds later.
 fn later(seconds: u64, date: &DateTime) -> DateTime
     requires { seconds ≤ 18446744073709551 }
     ensures { result ≡ later seconds date.now }

@@ -5,17 +5,17 @@ ghost use Rattle.std.specs.Option.{option_map};
 ghost use Rattle.gc_instrument.specs.Targets.{first_at};
 ghost use Rattle.gc_instrument.specs.State.{opening};
 ghost use Rattle.gc_scenes.specs.Rules.{seen, drifted, counted, fault_of, answer_of, noisy, noise_after};
-ghost use Rattle.gc_scenes.specs.SceneExecution.{is_measurement, is_search, look_of, heading, over_for, outcome, behind_call, counting, shown, seen_by, wound, distance_beside, known};
+ghost use Rattle.gc_scenes.specs.SceneExecution.{is_measurement, is_search, look_of, heading, over_for, outcome, behind_call, counting, shown, seen_by, clock_after, distance_beside, known};
 ghost use Rattle.gc_scenes.specs.SceneState.{scene_restarted, at};
 ghost use Rattle.gc_catalogue.specs.declared.answer.Answer.TheVariants.{Nothing};
 
 use crate::clock::Clock;
-use crate::machine::{Machine, first_at};
+use crate::machine::Machine;
 use crate::rules::{Fault, Noise, Prism, Scripted};
 use crate::ways::{Ways, has_distance, met};
 use arrayvec::ArrayVec;
 use gc_catalogue::{Answer, Call, DateTime};
-use gc_instrument::{Pointing, Target};
+use gc_instrument::{Pointing, Target, first_at};
 use gc_values::{Decimal, Text};
 use std::marker::Model;
 
@@ -27,6 +27,7 @@ pub struct SceneInstrument {
     faults: ArrayVec<Fault, 32>,
     answers: ArrayVec<Scripted, 16>,
     noise: Option<Noise>,
+    // How many measurements and searches there were.
     looks: u32,
     pub(crate) repeats: bool,
     pub(crate) ways: Ways,
@@ -84,8 +85,8 @@ impl SceneInstrument {
         }
     }
 
-    /// Sets the moment of the request that comes next, in milliseconds of the program's own clock: a clock of the instrument that runs
-    /// goes by it.
+    /// Sets the moment of the next request, in milliseconds of the program's clock. What the instrument's own clock shows, if it runs, is
+    /// computed from it.
     pub fn at(&mut self, moment: u64)
         ensures { self.new ≡ at moment self.old }
     {
@@ -113,7 +114,7 @@ impl SceneInstrument {
         self.machine.kept_id()
     }
 
-    /// Restarts the instrument, as the simulator is. The scene goes on: its counts, its targets and its noise stay.
+    /// Restarts the instrument, as the simulator is restarted. The scene goes on: its counts, its targets and its noise stay.
     pub fn restart(&mut self)
         ensures { self.new ≡ scene_restarted self.old }
     {
@@ -141,7 +142,7 @@ impl SceneInstrument {
         self.faults = counted(rpc, self.faults.as_slice());
     }
 
-    // What a clock shows now, if one runs.
+    // What the instrument's clock shows at its moment. `None`: no clock runs.
     fn shown(&self) -> Option<DateTime>
         ensures { result ≡ shown self.now }
     {
@@ -151,14 +152,14 @@ impl SceneInstrument {
         }
     }
 
-    // Whether the call meets targets turned over.
+    // Whether the telescope is in face II when the call looks for a target, on an instrument that has both faces' angles.
     fn over_for(&self, call: &Call) -> bool
         ensures { result ≡ over_for self.now call.now }
     {
         self.ways.is_over(&heading(self.machine.pointing(), call))
     }
 
-    // The targets that can be seen in the look of this call.
+    // The targets that aren't hidden in the look of this call.
     fn seen_by(&self, call: &Call) -> ArrayVec<Target, 32>
         ensures { result.items ≡ seen_by self.now call.now }
     {
@@ -185,11 +186,11 @@ impl SceneInstrument {
             self.prisms = drifted(over, look, &there, self.prisms.as_slice());
         }
         self.looks = look;
-        self.clock = wound(self.ways.clock, self.moment, call, rc, self.clock);
+        self.clock = clock_after(self.ways.clock, self.moment, call, rc, self.clock);
         rc
     }
 
-    /// The distance that stands beside this code of a fault.
+    /// The distance in the reply to a call that a fault answers with this code: the known one, if the code has a distance, and else 0.
     pub(crate) fn distance_beside(&self, call: &Call, rc: u16) -> Decimal
         ensures { result ≡ distance_beside self.now call.now rc }
     {
@@ -199,7 +200,7 @@ impl SceneInstrument {
         self.known(call).unwrap_or(Decimal::zero())
     }
 
-    // The distance that is known to the call: the one that was measured, or that of the target which it would measure.
+    // The distance that the call would answer: the one that was measured last, or that of the target which it would measure.
     fn known(&self, call: &Call) -> Option<Decimal>
         ensures { result ≡ known self.now call.now }
     {
@@ -218,7 +219,7 @@ impl SceneInstrument {
         )
     }
 
-    /// Disturbs an answer by the noise, if there is one, which goes on by that.
+    /// Adds the noise, if there is one, to an answer, and advances its generator.
     pub(crate) fn disturb(&mut self, answer: &mut Answer)
         ensures said { answer.new ≡ noisy self.old.noise answer.old }
         ensures state { self.new ≡ record self.old { noise = noise_after self.old.noise answer.old } }
@@ -253,7 +254,7 @@ fn is_search(aims: bool, call: &Call) -> bool
     }
 }
 
-// Where the telescope points when the call looks for a target.
+// Where the telescope points when the call looks for a target: a positioning turns it first.
 fn heading(there: Pointing, call: &Call) -> Pointing
     ensures { result ≡ heading there call.now }
 {
@@ -263,9 +264,9 @@ fn heading(there: Pointing, call: &Call) -> Pointing
     }
 }
 
-// The clock behind a call at this moment with this code.
-fn wound(runs: bool, moment: u64, call: &Call, rc: u16, clock: Option<Clock>) -> Option<Clock>
-    ensures { result ≡ wound runs moment call.now rc clock }
+// The clock after a call at this moment that had this return code: a date that was set starts it.
+fn clock_after(runs: bool, moment: u64, call: &Call, rc: u16, clock: Option<Clock>) -> Option<Clock>
+    ensures { result ≡ clock_after runs moment call.now rc clock }
 {
     if !runs {
         return clock;
@@ -298,7 +299,7 @@ fn look_of(aims: bool, looks: u32, call: &Call) -> u32
     }
 }
 
-// The targets that can be seen in this look, where the telescope has to point to meet them.
+// The targets that aren't hidden in this look, each in the direction in which the telescope meets it: in face II if `over`.
 fn seen(over: bool, look: u32, prisms: &[Prism]) -> ArrayVec<Target, 32>
     requires { length prisms.now ≤ 32 }
     ensures { result.items ≡ seen over look prisms.now }
@@ -314,7 +315,7 @@ fn seen(over: bool, look: u32, prisms: &[Prism]) -> ArrayVec<Target, 32>
     targets
 }
 
-// The targets after a measurement in this look.
+// The targets after a measurement in this look: those that were measured have moved.
 fn drifted(over: bool, look: u32, there: &Pointing, prisms: &[Prism]) -> ArrayVec<Prism, 32>
     requires { length prisms.now ≤ 32 }
     ensures { result.items ≡ drifted over look there.now prisms.now }

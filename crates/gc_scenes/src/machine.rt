@@ -7,12 +7,11 @@ ghost use Rattle.gc_instrument.specs.Execution.{exec, Gives, done, told, command
 ghost use Rattle.gc_instrument.specs.declared.face.Face.TheVariants.{Normal, Turned};
 ghost use Rattle.gc_instrument.specs.Replying.{kept_line, kept_after, with_kept};
 ghost use Rattle.gc_instrument.specs.State.{restarted, opening};
-ghost use Rattle.gc_instrument.specs.Targets.{first_at, first_within, is_at, is_within_areas};
 ghost use Rattle.gc_instrument.specs.declared.target.Target.{Target};
 ghost use Rattle.gc_scenes.specs.Machine.{CarriesOut, is_other, seeing};
 
 use gc_catalogue::{Answer, Call};
-use gc_instrument::{Instrument, Pointing, Target};
+use gc_instrument::{Instrument, Pointing, Target, first_at, first_within};
 use gc_lines::Line;
 use gc_values::{Decimal, Text};
 use std::marker::Model;
@@ -107,9 +106,9 @@ impl Machine {
         self.distance = None;
     }
 
-    /// Gives the telescope this face: turned over, or normal.
+    /// Sets the telescope's face: turned over, or normal. Angles and distance stay.
     #[tactic(auto, unfolding(gc_instrument::specs::Execution::exec))]
-    pub(crate) fn turn_to(&mut self, turned: bool)
+    pub(crate) fn set_face(&mut self, turned: bool)
         ensures { self.new ≡ record self.old { face = if turned then Turned else Normal } }
     {
         let (_, said) = self.base.execute(&Call::GetFace);
@@ -320,40 +319,4 @@ impl Machine {
             None => NO_TARGET,
         }
     }
-}
-
-// Whether the target lies exactly where the telescope points.
-fn is_at(there: &Pointing, target: &Target) -> bool
-    ensures { result ≡ is_at there.now target.now }
-{
-    target.hz == there.hz && target.v == there.v
-}
-
-// The first of these targets that lies exactly where the telescope points.
-pub(crate) fn first_at(there: &Pointing, targets: &[Target]) -> Option<Target>
-    ensures { result ≡ first_at there.now targets.now }
-{
-    targets.iter().copied().find(|target| is_at(there, target))
-}
-
-// Whether the target lies within the areas round where the telescope points.
-fn is_within_areas(there: &Pointing, area_hz: &Decimal, area_v: &Decimal, target: &Target) -> bool
-    ensures { result ≡ is_within_areas there.now area_hz.now area_v.now target.now }
-{
-    target.hz.within(&there.hz, area_hz) && target.v.within(&there.v, area_v)
-}
-
-// The first of these targets within the areas.
-fn first_within(
-    there: &Pointing,
-    area_hz: &Decimal,
-    area_v: &Decimal,
-    targets: &[Target],
-) -> Option<Target>
-    ensures { result ≡ first_within there.now area_hz.now area_v.now targets.now }
-{
-    targets
-        .iter()
-        .copied()
-        .find(|target| is_within_areas(there, area_hz, area_v, target))
 }

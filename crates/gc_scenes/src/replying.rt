@@ -8,7 +8,7 @@ ghost use Rattle.gc_lines.specs.Requests.{request_seen};
 ghost use Rattle.gc_lines.specs.Replies.{reply_text};
 ghost use Rattle.gc_instrument.specs.Replying.{Handed};
 ghost use Rattle.gc_catalogue.specs.Texts.{reply_line};
-ghost use Rattle.gc_scenes.specs.SceneExecution.{Played, plays, unless_faulted, counting, warned, beside};
+ghost use Rattle.gc_scenes.specs.SceneExecution.{Played, plays, unless_faulted, counting, warned, replied_answer};
 ghost use Rattle.gc_scenes.specs.SceneReplying.{IsPlayed, AnswersRequest, Gave, again_for, handed_call, handed_raw, line_of, kept_behind, holding, again_or_played};
 ghost use Rattle.gc_scenes.specs.Appending.{AppendsGave, AppendsPlayed, AppendsReply};
 
@@ -23,11 +23,11 @@ use gc_values::Decimal;
 /// The communication code for a procedure that isn't in the catalogue.
 const UNKNOWN_PROCEDURE: u16 = 3081;
 
-/// The communication code for parameters that don't read.
+/// The communication code for parameters that can't be read.
 const WRONG_PARAMETERS: u16 = 3080;
 
-// The room of a line that is put together apart.
-const APART: usize = 1024;
+// The size of the buffer in which a line is put together before it is appended, in bytes.
+const BUFFER: usize = 1024;
 
 impl SceneInstrument {
     ghost use Rattle.gc_catalogue.specs.declared.call.Call.{Call};
@@ -35,7 +35,7 @@ impl SceneInstrument {
 
     /// The reply to a line, if it is a request. It is that of the simulator, but for what the scene's rules say: a request that a
     /// fault answers is not executed, a target that is hidden isn't met, and a procedure that isn't in the catalogue is answered
-    /// where the scene has a reply. Each of these is kept for a repeat as any other, where the instrument repeats.
+    /// if the scene has a reply. If the instrument repeats, each of these replies is kept for a repeat, as any other is.
     #[tactic(auto, using(crate::proofs::Playing::played_alone))]
     pub fn on_line(&mut self, line: &Line) -> Option<Line>
         ensures { IsPlayed self.old line.now.items self.new (option_map (λ r. r.items) result) }
@@ -92,7 +92,7 @@ impl SceneInstrument {
         }
     }
 
-    // Keeps a reply's line for the request's id, where the instrument repeats, and else nothing.
+    // Keeps a reply's line for the request's id if the instrument repeats, and else keeps nothing.
     fn keep(&mut self, id: Option<u8>, line: &[u8])
         requires { length line.now ≤ 512 }
         ensures { self.new ≡ holding (kept_behind self.old id line.now) self.old }
@@ -147,7 +147,7 @@ impl SceneInstrument {
         }
     }
 
-    // Appends the reply to a call that a fault answers with this code.
+    // Appends the reply to a call that a fault answers with this code: with values if the code is a warning and the instrument has them.
     fn warn_onto<const N: usize>(&self, id: u8, call: &Call, rc: u16, out: &mut ArrayVec<u8, N>)
         requires id { id < 8 }
         requires room { array_vec_len out.old + 512 ≤ N }
@@ -184,7 +184,7 @@ impl SceneInstrument {
         self.tell_onto(id, rc, call, &answer, out);
     }
 
-    // Appends the reply to an executed call: this code and this answer, or the values beside a warning.
+    // Appends the reply to an executed call: this code and this answer, or the values that a warning has.
     fn tell_onto<const N: usize>(
         &self,
         id: u8,
@@ -196,7 +196,7 @@ impl SceneInstrument {
         requires id { id < 8 }
         requires refused { rc ≢ 0 → answer.now ≡ Nothing }
         requires room { array_vec_len out.old + 512 ≤ N }
-        ensures line { out.new.items ≡ out.old.items ++ reply_line id rc (beside self.now.ways.values self.now.base.pointing call.now rc answer.now) self.now.base.precision }
+        ensures line { out.new.items ≡ out.old.items ++ reply_line id rc (replied_answer self.now.ways.values self.now.base.pointing call.now rc answer.now) self.now.base.precision }
         ensures bound { length out.new.items ≤ length out.old.items + 512 }
     {
         if self.ways.values && is_warning(rc) {
@@ -208,8 +208,9 @@ impl SceneInstrument {
         }
     }
 
-    // Appends the reply to an executed call with its answer. The line is put together in a room of its own size: so the simulator
-    // alone writes answers into the room of a served run, and LLVM puts that writing in place also in a program that serves scenes.
+    // Appends the reply to an executed call with its answer. The line is put together in a buffer of its own, of another size than
+    // that of a served run. So the simulator alone has the code that writes answers into the latter, and LLVM inlines it there, also
+    // in a program that serves scenes.
     fn answer_onto<const N: usize>(
         &self,
         id: u8,
@@ -223,7 +224,7 @@ impl SceneInstrument {
         ensures line { out.new.items ≡ out.old.items ++ reply_line id rc answer.now self.now.base.precision }
         ensures bound { length out.new.items ≤ length out.old.items + 512 }
     {
-        let mut line: ArrayVec<u8, APART> = ArrayVec::new();
+        let mut line: ArrayVec<u8, BUFFER> = ArrayVec::new();
         encode_answer_onto(&mut line, id, rc, answer, self.machine.precision());
         append(out, line.as_slice());
     }
@@ -270,13 +271,13 @@ impl SceneInstrument {
         }
         let start = out.len();
         self.count(rpc);
-        push_with(id.unwrap_or(0), rc, params, out);
+        push_reply_with(id.unwrap_or(0), rc, params, out);
         self.keep(id, &out[start..]);
     }
 }
 
 // Appends a reply with this code and these parameters.
-fn push_with<const N: usize>(id: u8, rc: u16, params: &[u8], out: &mut ArrayVec<u8, N>)
+fn push_reply_with<const N: usize>(id: u8, rc: u16, params: &[u8], out: &mut ArrayVec<u8, N>)
     requires id { id < 8 }
     requires few { length params.now ≤ 490 }
     requires room { array_vec_len out.old + 512 ≤ N }

@@ -7,7 +7,7 @@ use gc_catalogue::RawCall;
 use gc_instrument::Target;
 use gc_values::Decimal;
 
-/// So much is added to a target: to its direction and its angle in radians, to its distance in metres.
+/// What is added to a target: to its horizontal direction and its vertical angle, in radians, and to its distance, in metres.
 #[derive(Clone, Copy, Debug, PartialEq, Eq)]
 pub struct Offset {
     pub hz: Decimal,
@@ -15,8 +15,8 @@ pub struct Offset {
     pub distance: Decimal,
 }
 
-/// A target of a scene: where it stands, what each measurement of it adds (`None`: nothing), and the looks in which it can't be
-/// seen, from the one to the other, counted from 1 (1 and 0: it can be seen in each).
+/// A target of a scene: where it is, what each measurement of it adds (`None`: nothing), and the looks in which it is hidden, `from`
+/// to `to`, counted from 1. A target that is never hidden has 1 and 0.
 #[derive(Clone, Copy, Debug, PartialEq, Eq)]
 pub struct Prism {
     pub at: Target,
@@ -25,7 +25,7 @@ pub struct Prism {
     pub to: u32,
 }
 
-/// A procedure that is answered with a return code, and does nothing: `times` times, behind the first `after` requests of it.
+/// A procedure that is answered with a return code, and does nothing: `times` times, after the first `after` requests of it.
 /// `met` counts its requests.
 #[derive(Clone, Copy, Debug, PartialEq, Eq)]
 pub struct Fault {
@@ -37,8 +37,8 @@ pub struct Fault {
     pub ghost fits: { rc < 65536 },
 }
 
-/// The reply to a procedure that isn't in the table: its number, the return code, and parameters of at most 490 bytes, which stand
-/// in a request of that procedure.
+/// The reply to a procedure that isn't in the table: its number, the return code, and parameters of at most 490 bytes, which are
+/// those of a request `with` of that procedure (`None`: it has none).
 #[derive(Clone, Copy, Debug, PartialEq, Eq)]
 pub struct Scripted {
     pub rpc: u16,
@@ -48,7 +48,7 @@ pub struct Scripted {
     pub ghost short: { length (scripted_params with) ≤ 490 },
 }
 
-/// The most by which a measurement deviates, either way, in radians and metres, and where the generator stands.
+/// The most by which a measurement deviates, either way, in radians and metres, and the generator's last number.
 #[derive(Clone, Copy, Debug, PartialEq, Eq)]
 pub struct Noise {
     pub hz: Decimal,

@@ -15,7 +15,7 @@ use gc_instrument::{Pointing, Target};
 use gc_values::Decimal;
 
 impl Fault {
-    /// A fault of which no request was made yet.
+    /// A fault of whose procedure no request came yet.
     pub fn new(rpc: u16, rc: u16, after: u32, times: u32) -> Fault
         ensures rpc { result.rpc ≡ rpc }
         ensures rc { result.rc ≡ rc }
@@ -175,7 +175,7 @@ impl Offset {
 }
 
 impl Noise {
-    // The three deviations of one measurement are by three numbers of the generator in a row.
+    // The generator's next three numbers, which the three deviations of one measurement take.
     fn numbers(&self) -> (u32, u32, u32)
         ensures first { result.0 ≡ next self.now.seed }
         ensures second { result.1 ≡ next (next self.now.seed) }
@@ -186,7 +186,7 @@ impl Noise {
         (first, second, next(second))
     }
 
-    /// What is measured, with three deviations in a row. Other answers stay as they are.
+    /// Adds the three deviations of one measurement to what was measured. Other answers stay as they are.
     pub(crate) fn disturb(&self, answer: &mut Answer)
         ensures { answer.new ≡ disturbed self.now answer.old }
     {
@@ -213,7 +213,7 @@ impl Noise {
         }
     }
 
-    // A direction, an angle and a distance with three deviations in a row.
+    // A direction, an angle and a distance, each with its deviation by one of the generator's next three numbers.
     fn deviated(&self, hz: Decimal, v: Decimal, distance: Decimal) -> (Decimal, Decimal, Decimal)
         ensures hz { result.0 ≡ shifted hz (deviation self.now.hz (next self.now.seed)) }
         ensures v { result.1 ≡ shifted v (deviation self.now.v (next (next self.now.seed))) }
@@ -226,7 +226,7 @@ impl Noise {
         (hz, v, distance)
     }
 
-    /// The noise after an answer: three numbers on behind one that tells a measurement.
+    /// The noise after an answer: a measurement takes the generator's next three numbers, and another answer none.
     pub(crate) fn spent(&self, answer: &Answer) -> Noise
         ensures { result ≡ spent self.now answer.now }
     {
@@ -244,7 +244,7 @@ impl Noise {
     }
 }
 
-// Whether an answer tells a measurement.
+// Whether an answer is a measurement, with angles and a distance.
 fn is_measured(answer: &Answer) -> bool
     ensures { result ≡ is_measured answer.now }
 {

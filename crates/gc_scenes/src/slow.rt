@@ -1,5 +1,5 @@
-//! An instrument whose replies take time. It doesn't wait, and has no clock: it is told when each line came, and says when the reply
-//! goes out. Who serves with it waits until then.
+//! An instrument whose replies take time. It doesn't wait, and has no clock: its caller says when each line came, learns when the reply
+//! goes out, and waits until then.
 
 ghost use Rattle.std.specs.Prelude.{◌≡◌, ◌+◌, ◌<◌, ◌≤◌, length, true, IsTrue, IsFalse};
 ghost use Rattle.arrayvec.specs.ArrayVec.{array_vec_len};
@@ -12,8 +12,8 @@ use arrayvec::ArrayVec;
 use gc_lines::read_request;
 use std::marker::Model;
 
-/// The instrument of a scene, whose replies to some procedures take time. While one is awaited it is busy: what comes then waits in
-/// order, or is dropped. Moments are milliseconds on one clock.
+/// The instrument of a scene, whose replies to some procedures take time. Until a reply goes out it is busy: lines that come then wait in
+/// order, or are discarded. Moments are milliseconds on one clock.
 #[derive(Debug, Drop)]
 pub struct SlowInstrument {
     scene: SceneInstrument,
@@ -31,7 +31,7 @@ impl Model for SlowInstrument {
 }
 
 impl SlowInstrument {
-    /// The instrument with these delays, of which the last of a procedure counts. With `drops` it drops what comes while it is busy.
+    /// The instrument with these delays; of two of one procedure the later one counts. With `drops` it discards what comes while it is busy.
     pub fn new(scene: SceneInstrument, delays: ArrayVec<Delay, 32>, drops: bool) -> SlowInstrument
         ensures { result ≡ record { scene = scene; delays = delays.items; drops = drops; free_from = 0 } }
     {
@@ -43,7 +43,7 @@ impl SlowInstrument {
         }
     }
 
-    /// Whether it drops what comes while it is busy.
+    /// Whether it discards what comes while it is busy.
     pub fn drops(&self) -> bool
         ensures { result ≡ self.now.drops }
     {
@@ -65,13 +65,13 @@ impl SlowInstrument {
     }
 
     /// Deals with a line whose last byte came at this moment, and appends the reply to `out`, if there is one. It goes out at
-    /// `free_from`. A line that comes while the instrument is busy is dropped, where it drops such lines: nothing is executed.
+    /// `free_from`. A line that comes while the instrument is busy is discarded, if it discards such lines: nothing is executed.
     pub fn hear<const N: usize>(&mut self, line: &[u8], at: u64, out: &mut ArrayVec<u8, N>) -> bool
         requires { array_vec_len out.old + 512 ≤ N }
         ensures heard { AppendsAnswer (Hears self.old line.now at self.new) out.old.items out.new.items result }
         ensures bound { length out.new.items ≤ length out.old.items + 512 }
     {
-        if self.is_busy(at) {
+        if self.drops_at(at) {
             return false;
         }
         let from = self.taken_up(at);
@@ -84,15 +84,15 @@ impl SlowInstrument {
         true
     }
 
-    // Whether a line that comes at this moment is dropped.
-    fn is_busy(&self, at: u64) -> bool
+    // Whether a line that comes at this moment is discarded.
+    fn drops_at(&self, at: u64) -> bool
         ensures busy { IsTrue result → (self.now.drops ≡ true) × (at < self.now.free_from) }
         ensures taken { IsFalse result → IsTaken self.now at }
     {
         self.drops && at < self.free_from
     }
 
-    // The moment at which a line is taken up that came at this one.
+    // The moment at which the instrument takes up a line that came at this one: at once, or once it isn't busy.
     fn taken_up(&self, at: u64) -> u64
         ensures { result ≡ taken_up self.now at }
     {
@@ -103,7 +103,7 @@ impl SlowInstrument {
         }
     }
 
-    // How long the reply to a line takes, where the line is a request.
+    // How long the reply to a line takes, in milliseconds, if the line is a request.
     fn delay_of_line(&self, line: &[u8]) -> u32
         ensures { IsDelay self.now.delays line.now result }
     {
@@ -121,7 +121,7 @@ fn later(at: u64, ms: u32) -> u64
     at.saturating_add(u64::from(ms))
 }
 
-// How long the reply to a request of this procedure takes: as the last delay of it says.
+// How long the reply to a request of this procedure takes, in milliseconds, by the last delay of that procedure; 0 without one.
 fn delay_of(rpc: u16, delays: &[Delay]) -> u32
     ensures { result ≡ delay_of rpc delays.now }
 {

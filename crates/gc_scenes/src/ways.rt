@@ -9,13 +9,13 @@ use crate::shifting::shifted;
 use gc_instrument::{Pointing, Target};
 use gc_values::Decimal;
 
-// Half a turn, pi to 24 places, in units of 10^-24 radians: the number by which a station looks whether a direction is near.
+// Half a turn, pi to 24 places, in units of 10^-24 radians: the same number as a station's test for nearness has.
 const HALF_TURN: i128 = 3_141_592_653_589_793_238_462_643;
 
-// A whole turn.
+// A whole turn, in the same units.
 const TURN: i128 = 6_283_185_307_179_586_476_925_286;
 
-// The window of target recognition, each way: 0.0131 radians, three quarters of a degree.
+// The window of target recognition, each way, in the same units: 0.0131 radians, three quarters of a degree.
 const WINDOW: u128 = 13_100_000_000_000_000_000_000;
 
 /// Which ways of real instruments a scene's instrument has.
@@ -25,11 +25,11 @@ pub struct Ways {
     pub faces: bool,
     /// A positioning with target recognition aims at a target.
     pub aims: bool,
-    /// TMC_GetSimpleMea takes the distance along.
+    /// TMC_GetSimpleMea clears the distance that it answers.
     pub takes: bool,
-    /// Values stand beside warnings.
+    /// Replies whose return code is a warning have values.
     pub values: bool,
-    /// The clock runs from where it is set.
+    /// The clock runs from the date that it is set to.
     pub clock: bool,
 }
 
@@ -41,6 +41,7 @@ pub enum Way {
     Takes,
     Values,
     Clock,
+    /// All of them.
     Real,
 }
 
@@ -82,7 +83,7 @@ impl Ways {
         ways
     }
 
-    /// Whether the telescope meets targets turned over, where it points there.
+    /// Whether the telescope is in face II where it points there, on an instrument that has both faces' angles.
     pub(crate) fn is_over(&self, there: &Pointing) -> bool
         ensures { result ≡ is_over self.now there.now }
     {
@@ -117,7 +118,7 @@ pub(crate) fn other_v(v: &Decimal) -> Decimal
     shifted(v, TURN - (units + units))
 }
 
-/// Where the telescope has to point to meet the target: turned over, or as the target stands.
+/// The direction in which the telescope meets the target: its own, or that of the other face if the telescope is turned over.
 pub(crate) fn met(over: bool, target: &Target) -> Target
     ensures { result ≡ met over target.now }
 {
@@ -132,7 +133,7 @@ pub(crate) fn met(over: bool, target: &Target) -> Target
     }
 }
 
-// How far apart two directions are on the circle, of which this is the difference.
+// The angle between two directions with this difference, the shorter way round the circle.
 fn on_circle(difference: i128) -> u128
     ensures { result ≡ on_circle difference }
 {
@@ -148,7 +149,7 @@ fn difference(one: &Decimal, other: &Decimal) -> i128
     one.units() - other.units()
 }
 
-// How far a target is from where the telescope points: the greater of the two differences.
+// How far a target is from where the telescope points: the greater of the differences of the two angles.
 fn apart(there: &Pointing, target: &Target) -> u128
     ensures { result ≡ apart there.now target.now }
 {
@@ -157,7 +158,7 @@ fn apart(there: &Pointing, target: &Target) -> u128
     hz.max(v)
 }
 
-// The nearer one of the target that was found so far, if one was, and this one, where that is within the window.
+// The nearer of the target found so far and this one; the first target found has to be within the window.
 fn nearer(there: &Pointing, found: Option<Target>, target: &Target) -> Option<Target>
     ensures { result ≡ nearer there.now found target.now }
 {
@@ -190,14 +191,14 @@ pub(crate) fn nearest(there: &Pointing, targets: &[Target]) -> Option<Target>
     found
 }
 
-/// Whether values stand beside this return code.
+/// Whether this return code is a warning, with which a reply may have values.
 pub(crate) fn is_warning(rc: u16) -> bool
     ensures { result ≡ is_warning rc }
 {
     rc == 1283 || rc == 1284 || rc == 1285 || rc == 1288 || rc == 1289
 }
 
-/// Whether a distance is among them.
+/// Whether a distance is among the values of a reply with this return code.
 pub(crate) fn has_distance(rc: u16) -> bool
     ensures { result ≡ has_distance rc }
 {

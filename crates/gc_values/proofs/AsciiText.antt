@@ -4,7 +4,7 @@ use Rattle.std.specs.Str.{IsAscii, IsUtf8}
 use Rattle.std.proofs.lemmas.Str.{IsUtf8-from_ascii}
 use Rattle.gc_values.specs.Digits.{AreDigits}
 use Rattle.gc_values.specs.Written.{minus_text, whole_text, behind_text, written}
-use Rattle.gc_values.proofs.WrittenSpells.{writes_whole, behind}
+use Rattle.gc_values.proofs.WrittenSpells.{writes_whole, is_fraction_text}
 
 -- the empty list is ASCII
 ascii_none : IsAscii []
@@ -37,4 +37,4 @@ utf8_written m s =
     IsUtf8-from_ascii (written m s)
     (ascii-append (minus_text m) (whole_text (n / 10 ^ s) ++ (46 ∷ behind_text s (n % 10 ^ s))) (ascii_minus m)
     (ascii-append (whole_text (n / 10 ^ s)) (46 ∷ behind_text s (n % 10 ^ s)) (ascii_digits (whole_text (n / 10 ^ s)) (writes_whole (n / 10 ^ s)).digits)
-    (ascii_more 46 (behind_text s (n % 10 ^ s)) (lit< tt) (ascii_digits (behind_text s (n % 10 ^ s)) (behind n s).digits))))
+    (ascii_more 46 (behind_text s (n % 10 ^ s)) (lit< tt) (ascii_digits (behind_text s (n % 10 ^ s)) (is_fraction_text n s).digits))))

@@ -5,7 +5,7 @@ use Rattle.std.proofs.lemmas.Nat.{pow-add}
 use Rattle.std.proofs.lemmas.List.{drop_more, length-take-le, take-append-drop}
 use Rattle.gc_values.specs.Digits.{AreDigits, IsDigit, number}
 use Rattle.gc_values.specs.Nearest.{MadeOf}
-use Rattle.gc_values.specs.Plainly.{CountsDigits, CutsPlain, CutsDecimal, CutsNumber, Stands}
+use Rattle.gc_values.specs.Plainly.{CountsDigits, CutsPlain, CutsDecimal, CutsNumber, IsItemAndRest}
 use Rattle.gc_values.specs.Spelling.{Absent, Spells}
 use Rattle.gc_values.specs.declared.decimal.Decimal.{Decimal}
 use Rattle.gc_values.proofs.Kept.{AreDigits-append, AreDigits-take_more, followed_more, number-append, number-lt}
@@ -44,7 +44,7 @@ counts_room text most value i c few =
     omega (arith, most, power)
 
 -- digits, a point and digits, and then the end or a comma, are cut off as an item
-front_cut : (text w f tail : List ℕ) (rest : Option (List ℕ)) → text ≡ w ++ 46 ∷ (f ++ tail) → AreDigits w → AreDigits f → Stands tail [] rest → CutsPlain text (w ++ 46 ∷ f) rest
+front_cut : (text w f tail : List ℕ) (rest : Option (List ℕ)) → text ≡ w ++ 46 ∷ (f ++ tail) → AreDigits w → AreDigits f → IsItemAndRest tail [] rest → CutsPlain text (w ++ 46 ∷ f) rest
 front_cut text w f tail rest e is_w is_f stands = record {
   text_is = item_before_comma rest stands;
   param = bare_param (w ++ 46 ∷ f) (AreBare-append w (46 ∷ f) (bare_digits w is_w) (bare_above 46 (omega arith), bare_digits f is_f));
@@ -52,7 +52,7 @@ front_cut text w f tail rest e is_w is_f stands = record {
 }
   where
     -- where the end or a comma follows the number, the text is the number as an item, and what follows its comma
-    item_before_comma : (r : Option (List ℕ)) → Stands tail [] r → Stands text (w ++ 46 ∷ f) r
+    item_before_comma : (r : Option (List ℕ)) → IsItemAndRest tail [] r → IsItemAndRest text (w ++ 46 ∷ f) r
     item_before_comma None h = e ∙ ap (λ t. w ++ 46 ∷ (f ++ t)) h ∙ ap (λ t. w ++ 46 ∷ t) (append-nil f)
     item_before_comma (Some behind) h = e ∙ ap (λ t. w ++ 46 ∷ (f ++ t)) h ∙ sym (append_assoc w (46 ∷ f) (44 ∷ behind))
 
@@ -82,7 +82,7 @@ front_spells w f units m s is_w is_f some short few e made =
 -- where digits, a point and digits were counted, and the end or a comma follows them, a decimal was cut off
 pub front_found : (text behind tail : List ℕ) (at places whole value : ℕ) (rest : Option (List ℕ)) (d : Decimal) → CountsDigits 0 text 13 whole at → 0 < at
     → at < length text → get_or text at 0 ≡ 46 → behind ≡ drop (at + 1) text
-    → CountsDigits whole behind (18 - at) value places → tail ≡ drop places behind → Stands tail [] rest → MadeOf false value places d.digits d.scale → CutsDecimal text d rest
+    → CountsDigits whole behind (18 - at) value places → tail ≡ drop places behind → IsItemAndRest tail [] rest → MadeOf false value places d.digits d.scale → CutsDecimal text d rest
 front_found text behind tail at places whole value rest d a some inside point behind_is b tail_is stands made =
     let w : List ℕ = take at text in
     let f : List ℕ = take places behind in
@@ -115,7 +115,7 @@ front_range text behind at places whole value a b =
     omega (arith, b.value_is, small_b, ap (λ k. 10 ^ k) long_f, all)
 
 -- where digits were counted, and the end or a comma follows them, a whole number was cut off
-pub number_found : (text tail : List ℕ) (count n : ℕ) (rest : Option (List ℕ)) → CountsDigits 0 text 18 n count → 0 < count → tail ≡ drop count text → Stands tail [] rest → CutsNumber text n rest
+pub number_found : (text tail : List ℕ) (count n : ℕ) (rest : Option (List ℕ)) → CountsDigits 0 text 18 n count → 0 < count → tail ≡ drop count text → IsItemAndRest tail [] rest → CutsNumber text n rest
 number_found text tail count n rest c some tail_is stands =
     let ds : List ℕ = take count text in
     let size : length ds ≡ count = length-take-le count text c.within in
@@ -131,6 +131,6 @@ number_found text tail count n rest c some tail_is stands =
     }
   where
     -- where the end or a comma follows the number, the text is the number as an item, and what follows its comma
-    item_before_comma : (r : Option (List ℕ)) → Stands tail [] r → text ≡ take count text ++ tail → Stands text (take count text) r
+    item_before_comma : (r : Option (List ℕ)) → IsItemAndRest tail [] r → text ≡ take count text ++ tail → IsItemAndRest text (take count text) r
     item_before_comma None h e = e ∙ ap (λ t. take count text ++ t) h ∙ append-nil (take count text)
     item_before_comma (Some behind) h e = e ∙ ap (λ t. take count text ++ t) h

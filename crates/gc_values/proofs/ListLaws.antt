@@ -58,15 +58,11 @@ one_items_fault ks items e f (faulty_item n s x) (too_many b m) = absurd (omega 
 one_items_fault ks items e f (faulty_item n s x) (wrong_count b m d) = absurd (d s)
 one_items_fault ks items e f (faulty_item n s x) (faulty_item m t y) = one_first_fault ks items e f x y
 
--- no number is odd and even
-odd_even : (n : ℕ) → n % 2 ≡ 1 → n % 2 ≡ 0 → ⊥
-odd_even n a b = omega arith
-
 -- a list has at most one fault for kinds
 pub one_list_fault : (ks : List Kind) (params : List ℕ) (e f : ValueFault) → IsListFault ks params e → IsListFault ks params f → e ≡ f
 one_list_fault ks params e f (open_quote a o) (open_quote b p) = a ∙ sym b
-one_list_fault ks params e f (open_quote a o) (faulty_items items s y) = absurd (odd_even (quotes params) o (splitting.params_even params items s))
-one_list_fault ks params e f (faulty_items items s x) (open_quote b p) = absurd (odd_even (quotes params) p (splitting.params_even params items s))
+one_list_fault ks params e f (open_quote a o) (faulty_items items s y) = absurd (splitting.even_not_odd (quotes params) (splitting.params_even params items s) o)
+one_list_fault ks params e f (faulty_items items s x) (open_quote b p) = absurd (splitting.even_not_odd (quotes params) (splitting.params_even params items s) p)
 one_list_fault ks params e f (faulty_items items s x) (faulty_items others t y) = one_items_fault ks items e f x (subst (λ i. IsItemsFault ks i f) (splitting.one_list params others items t s) y)
 
 -- a parameter list is read as at most one list of values of given kinds
@@ -86,7 +82,7 @@ no_items_fault vs items e few x (faulty_item m s y) = no_first_fault vs items e 
 
 -- a list that is read as at most six values has no fault for the kinds of these values
 pub no_list_fault : (vs : List Value) (params : List ℕ) (e : ValueFault) → length vs ≤ 6 → AreParams params vs → IsListFault (kinds_of vs) params e → ⊥
-no_list_fault vs params e few x (open_quote a o) = odd_even (quotes params) o (splitting.params_even params x.items x.split)
+no_list_fault vs params e few x (open_quote a o) = splitting.even_not_odd (quotes params) (splitting.params_even params x.items x.split) o
 no_list_fault vs params e few x (faulty_items items s y) = no_items_fault vs items e few (subst (λ i. AreItems i vs) (splitting.one_list params x.items items x.split s) x.read) y
 
 -- the texts of values are read as the values

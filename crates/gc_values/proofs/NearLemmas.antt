@@ -1,5 +1,5 @@
 -- What the code of directions computes, in whole numbers that 128 bits hold.
-use Rattle.std.proofs.Common.{◌≡◌, zero, suc, ◌*◌, ◌^◌, ◌≤◌, ◌&&◌, ◌||◌, ◌⊎◌, inl, inr, T, Bool, true, false, ℤ, pos, negsuc, ◌+ℤ◌, ◌-ℤ◌, ◌*ℤ◌, ◌≤ℤ◌, int_le, unsigned_abs, FitsSigned, to_z, of_z, refl, sym, ap, ◌∙◌, arith}
+use Rattle.std.proofs.Common.{◌≡◌, zero, suc, ◌*◌, ◌^◌, ◌≤◌, ◌&&◌, ◌||◌, ◌⊎◌, inl, inr, Bool, true, false, ℤ, pos, negsuc, ◌+ℤ◌, ◌-ℤ◌, ◌*ℤ◌, unsigned_abs, FitsSigned, to_z, of_z, refl, sym, ap, ◌∙◌, arith}
 use Rattle.std.proofs.lemmas.Bool.{and_parts, or_left, or_right}
 use mir.Syntax.{w128}
 use Rattle.std.proofs.lemmas.Int.{ints, to_z-of_z, fits_signed_from_abs, unsigned_abs-mul}
@@ -7,13 +7,14 @@ use Rattle.gc_values.specs.Decimals.{units}
 use Rattle.gc_values.specs.Directions.{turn, v_of, hz_of, is_close, is_close_turned, is_close_on_circle, is_near, NearIsWithinTheTolerance}
 use Rattle.gc_values.specs.declared.decimal.Decimal.{Decimal}
 use Rattle.gc_values.specs.declared.direction.Direction.{Direction}
+use Rattle.gc_values.proofs.WithinLemmas.{int_le_is}
 
 -- a number as 128 bits hold it
-abbrev as_i128 : ℤ → ℤ
+abbrev pub as_i128 : ℤ → ℤ
 as_i128 x = to_z w128 (of_z w128 x)
 
 -- 128 bits hold a number of at most 4 * 10^37
-as_i128_same : (x : ℤ) → unsigned_abs x ≤ 4 * 10 ^ 37 → as_i128 x ≡ x
+pub as_i128_same : (x : ℤ) → unsigned_abs x ≤ 4 * 10 ^ 37 → as_i128 x ≡ x
 as_i128_same x small = to_z-of_z w128 x (fits_signed_from_abs w128 x (omega arith))
 
 -- at most two turns are at most 10^37 units
@@ -45,24 +46,6 @@ pub near_is : (d place : Direction) (tolerance : Decimal) (v hz : Bool) → v �
     → hz ≡ is_close_on_circle (units tolerance) (hz_of d) (units place.hz) → (v && hz) ≡ is_near d place tolerance
 unfolding is_near
 near_is d place tolerance v hz e f = ap (λ b. b && hz) e ∙ ap (λ b. is_close (units tolerance) (v_of d) (units place.v) && b) f
-
--- a test that is true holds
-test_passes : (b : Bool) → b ≡ true → T b
-test_passes true h = tt
-test_passes false h = cc
-
--- a test that holds is true
-passes_test : (b : Bool) → T b → b ≡ true
-passes_test true h = refl
-passes_test false h = absurd h
-
--- numbers that pass the test of an order are in order
-int_le_sound : (x y : ℤ) → int_le x y ≡ true → x ≤ℤ y
-int_le_sound x y h = record { le = test_passes (int_le x y) h }
-
--- numbers in order pass the test
-int_le_complete : (x y : ℤ) → x ≤ℤ y → int_le x y ≡ true
-int_le_complete x y h = passes_test (int_le x y) h.le
 
 -- where one of two tests holds, the first or the second does
 or_true : (a b : Bool) → (a || b) ≡ true → (a ≡ true) ⊎ (b ≡ true)
@@ -143,12 +126,12 @@ near_is_within d place tolerance = (
       record {
         turns = some.0;
         few = some.1;
-        v_near = int_le_sound (pos (unsigned_abs (v_of d -ℤ units place.v))) (units tolerance) parts.0;
-        hz_near = int_le_sound (pos (unsigned_abs (hz_of d +ℤ some.0 *ℤ turn -ℤ units place.hz))) (units tolerance) some.2;
+        v_near = (int_le_is (pos (unsigned_abs (v_of d -ℤ units place.v))) (units tolerance)).0 parts.0;
+        hz_near = (int_le_is (pos (unsigned_abs (hz_of d +ℤ some.0 *ℤ turn -ℤ units place.hz))) (units tolerance)).0 some.2;
       }),
   (λ is.
-      let v = int_le_complete (pos (unsigned_abs (v_of d -ℤ units place.v))) (units tolerance) is.v_near in
-      let hz = int_le_complete (pos (unsigned_abs (hz_of d +ℤ is.turns *ℤ turn -ℤ units place.hz))) (units tolerance) is.hz_near in
+      let v : is_close (units tolerance) (v_of d) (units place.v) ≡ true = (int_le_is (pos (unsigned_abs (v_of d -ℤ units place.v))) (units tolerance)).1 is.v_near in
+      let hz = (int_le_is (pos (unsigned_abs (hz_of d +ℤ is.turns *ℤ turn -ℤ units place.hz))) (units tolerance)).1 is.hz_near in
       ap (λ b. b && is_close_on_circle (units tolerance) (hz_of d) (units place.hz)) v
       ∙ on_circle (units tolerance) (hz_of d) (units place.hz) is.turns is.few hz),
 )

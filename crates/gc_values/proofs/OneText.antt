@@ -23,7 +23,7 @@ use Rattle.gc_values.proofs.Trimming.{last_same}
 use Rattle.gc_values.proofs.WholeLemmas.{one_whole}
 use Rattle.gc_values.proofs.WholeText.{signed_reads}
 use Rattle.gc_values.proofs.WrittenLemmas.{length-last_digits, last_over}
-use Rattle.gc_values.proofs.WrittenSpells.{writes_whole, AreDigits-last_digits, number-last_digits, behind, written_spells}
+use Rattle.gc_values.proofs.WrittenSpells.{writes_whole, AreDigits-last_digits, number-last_digits, is_fraction_text, written_spells}
 
 -- a number is made of a multiple of p and a rest below p in one way
 quotient_unique : (a b p m n : ℕ) → m < p → n < p → a * p + m ≡ b * p + n → (a ≡ b) × (m ≡ n)
@@ -296,7 +296,7 @@ decimal_form_of negative a s few canonical some = record {
   -- where a is above 0, so is the number that the digits before and after the point write
   above_zero : 0 < a → 0 < number (whole_text (a / 10 ^ s) ++ behind_text s (a % 10 ^ s))
   above_zero h =
-      let b = behind a s in
+      let b = is_fraction_text a s in
       let ds : List ℕ = behind_text s (a % 10 ^ s) in
       let all : number (whole_text (a / 10 ^ s) ++ ds) ≡ a / 10 ^ s * 10 ^ length ds + number ds =
       number-append (whole_text (a / 10 ^ s)) ds ∙ ap (λ n. n * 10 ^ length ds + number ds) (writes_whole (a / 10 ^ s)).number_is in

@@ -67,24 +67,24 @@ less_at_other_scale b m c n a a' d d' p some e f h =
     less_over b (m * d) c (n * a) (a' * d') (subst (λ x. signed_less b x c (n * a * (a' * d'))) left (subst (λ y. signed_less b (m * a' * p) c y) right (less_times b (m * a') c (n * d') p some h)))
 
 -- the same as `less_at_other_scale`, of integers that are made of a sign and a magnitude: where m * a' is below n * d', m * d is below n * a
-moved_signed : (b : Bool) (m : ℕ) (c : Bool) (n a a' d d' p : ℕ) → 0 < p → a * a' ≡ p → d * d' ≡ p → (signed b m *ℤ pos a') <ℤ (signed c n *ℤ pos d') → (signed b m *ℤ pos d) <ℤ (signed c n *ℤ pos a)
-moved_signed b m c n a a' d d' p some e f h =
+less_at_other_scale_signed : (b : Bool) (m : ℕ) (c : Bool) (n a a' d d' p : ℕ) → 0 < p → a * a' ≡ p → d * d' ≡ p → (signed b m *ℤ pos a') <ℤ (signed c n *ℤ pos d') → (signed b m *ℤ pos d) <ℤ (signed c n *ℤ pos a)
+less_at_other_scale_signed b m c n a a' d d' p some e f h =
     let there = less_from b (m * a') c (n * d') (subst (λ x. x <ℤ signed c (n * d')) (signed-mul b m a') (subst (λ y. (signed b m *ℤ pos a') <ℤ y) (signed-mul c n d') h)) in
     subst (λ x. x <ℤ (signed c n *ℤ pos a)) (sym (signed-mul b m d)) (subst (λ y. signed b (m * d) <ℤ y) (sym (signed-mul c n a))
     (less_to b (m * d) c (n * a) (less_at_other_scale b m c n a a' d d' p some e f there)))
 
 -- the same as `less_at_other_scale`, of integers: where z * a' is below w * d', z * d is below w * a
-moved_whole : (z w : ℤ) (a a' d d' p : ℕ) → 0 < p → a * a' ≡ p → d * d' ≡ p → (z *ℤ pos a') <ℤ (w *ℤ pos d') → (z *ℤ pos d) <ℤ (w *ℤ pos a)
-moved_whole z w a a' d d' p some e f =
+less_at_other_scale_whole : (z w : ℤ) (a a' d d' p : ℕ) → 0 < p → a * a' ≡ p → d * d' ≡ p → (z *ℤ pos a') <ℤ (w *ℤ pos d') → (z *ℤ pos d) <ℤ (w *ℤ pos a)
+less_at_other_scale_whole z w a a' d d' p some e f =
     let x = has_sign z in
     let y = has_sign w in
     subst (λ z. (z *ℤ pos a') <ℤ (w *ℤ pos d') → (z *ℤ pos d) <ℤ (w *ℤ pos a)) (sym x.2)
-    (subst (λ w. (signed x.0 x.1 *ℤ pos a') <ℤ (w *ℤ pos d') → (signed x.0 x.1 *ℤ pos d) <ℤ (w *ℤ pos a)) (sym y.2) (moved_signed x.0 x.1 y.0 y.1 a a' d d' p some e f))
+    (subst (λ w. (signed x.0 x.1 *ℤ pos a') <ℤ (w *ℤ pos d') → (signed x.0 x.1 *ℤ pos d) <ℤ (w *ℤ pos a)) (sym y.2) (less_at_other_scale_signed x.0 x.1 y.0 y.1 a a' d d' p some e f))
 
 -- a decimal of fewer units has a smaller value
 pub below_from_units : (a b : Decimal) → units a <ℤ units b → IsBelow (fraction a) (fraction b)
 below_from_units a b =
-    moved_whole a.digits b.digits (10 ^ a.scale) (10 ^ (24 - a.scale)) (10 ^ b.scale) (10 ^ (24 - b.scale)) (10 ^ 24) (omega arith)
+    less_at_other_scale_whole a.digits b.digits (10 ^ a.scale) (10 ^ (24 - a.scale)) (10 ^ b.scale) (10 ^ (24 - b.scale)) (10 ^ 24) (omega arith)
     (whole_place a.scale a.has_few_places) (whole_place b.scale b.has_few_places)
 
 -- where an ordering says P, Q or R by its three cases, and P', Q' and R' follow from them, it says P', Q' or R'

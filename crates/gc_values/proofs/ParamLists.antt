@@ -45,9 +45,9 @@ joined-append (p ∷ []) q qs = refl
 joined-append (p ∷ r ∷ rs) q qs = ap (λ xs. p ++ 44 ∷ xs) (joined-append (r ∷ rs) q qs)
 
 -- `each_with_comma` of the pieces ps and then p, and a rest, is `each_with_comma` of ps, and then p, a comma and the rest
-pub led-push : (ps : List (List ℕ)) (p rest : List ℕ) → each_with_comma (ps ++ p ∷ []) rest ≡ each_with_comma ps (p ++ 44 ∷ rest)
-led-push [] p rest = refl
-led-push (q ∷ qs) p rest = ap (λ xs. q ++ 44 ∷ xs) (led-push qs p rest)
+pub each_with_comma-push : (ps : List (List ℕ)) (p rest : List ℕ) → each_with_comma (ps ++ p ∷ []) rest ≡ each_with_comma ps (p ++ 44 ∷ rest)
+each_with_comma-push [] p rest = refl
+each_with_comma-push (q ∷ qs) p rest = ap (λ xs. q ++ 44 ∷ xs) (each_with_comma-push qs p rest)
 
 -- a comma adds no quote
 quotes-comma : (xs ys : List ℕ) → quotes (xs ++ 44 ∷ ys) ≡ quotes xs + quotes ys
@@ -139,6 +139,10 @@ more_pieces piece rest keeps even r =
 even_behind : (xs ys : List ℕ) → quotes xs % 2 ≡ 0 → quotes (xs ++ 44 ∷ ys) % 2 ≡ 0 → quotes ys % 2 ≡ 0
 even_behind xs ys first both = let sum = quotes-comma xs ys in omega (arith, first, both, sum)
 
+-- no number is even and odd
+pub even_not_odd : (n : ℕ) → n % 2 ≡ 0 → n % 2 ≡ 1 → ⊥
+even_not_odd n e o = omega arith
+
 -- a number that isn't even is odd
 pub odd_or : (n : ℕ) → (n % 2 ≡ 0 → ⊥) → n % 2 ≡ 1
 odd_or n h = omega (arith, h)
@@ -176,7 +180,7 @@ pub split_more : (text rest piece next item : List ℕ) (items : List (List ℕ)
     → IsTrimmed piece item → SplitSoFar text (items ++ item ∷ []) next
 split_more text rest piece next item items s cut t = record {
   pieces = s.pieces ++ piece ∷ [];
-  text_is = s.text_is ∙ ap (each_with_comma s.pieces) cut.0 ∙ sym (led-push s.pieces piece next);
+  text_is = s.text_is ∙ ap (each_with_comma s.pieces) cut.0 ∙ sym (each_with_comma-push s.pieces piece next);
   are = ArePieces-append s.pieces items (piece ∷ []) (item ∷ []) s.are (t.padded, trimmed_is_param piece item t cut.1 cut.2, tt);
   even = even_behind piece next cut.2 (ap (λ xs. quotes xs % 2) (sym cut.0) ∙ s.even);
 }

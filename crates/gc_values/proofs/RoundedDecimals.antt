@@ -41,7 +41,7 @@ pub rounded_to_rounds : (b : Bool) (m s p : ℕ) → IsRounded (record { n = sig
 rounded_to_rounds b m s p = elim (cases_lt p s) [ inl fewer ↦ rounded_at_fewer_places b m s p fewer | inr own ↦ rounded_at_enough_places b m s p own ]
 
 -- a number is its magnitude with its sign
-signed-unsigned_abs : (z : ℤ) → signed (is_negative z) (unsigned_abs z) ≡ z
+pub signed-unsigned_abs : (z : ℤ) → signed (is_negative z) (unsigned_abs z) ≡ z
 signed-unsigned_abs (pos n) = refl
 signed-unsigned_abs (negsuc n) = refl
 

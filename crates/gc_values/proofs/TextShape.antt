@@ -22,7 +22,7 @@ use Rattle.gc_values.proofs.Trimming.{last_same}
 use Rattle.gc_values.proofs.WholeText.{length-whole_text, length-minus_text, length-long, length-short}
 use Rattle.gc_values.proofs.WrittenLemmas.{length-behind_text}
 use Rattle.gc_values.proofs.ParamLists.{joined_params}
-use Rattle.gc_values.proofs.WrittenSpells.{writes_whole, behind}
+use Rattle.gc_values.proofs.WrittenSpells.{writes_whole, is_fraction_text}
 
 -- a byte of a number or of a byte parameter: no space, double quote, comma, CR or LF
 pub record IsBare (b : ℕ) : Type 0 where
@@ -114,7 +114,7 @@ bare_written : (m : ℤ) (s : ℕ) → AreBare (written m s)
 bare_written m s =
     let n = unsigned_abs m in
     AreBare-append (minus_text m) (whole_text (n / 10 ^ s) ++ (46 ∷ behind_text s (n % 10 ^ s))) (bare_minus m)
-    (AreBare-append (whole_text (n / 10 ^ s)) (46 ∷ behind_text s (n % 10 ^ s)) (bare_whole (n / 10 ^ s)) (bare_above 46 (lit< tt), bare_digits (behind_text s (n % 10 ^ s)) (behind n s).digits))
+    (AreBare-append (whole_text (n / 10 ^ s)) (46 ∷ behind_text s (n % 10 ^ s)) (bare_whole (n / 10 ^ s)) (bare_above 46 (lit< tt), bare_digits (behind_text s (n % 10 ^ s)) (is_fraction_text n s).digits))
 
 -- a hexadecimal digit is above 44
 digit_above : (d : ℕ) → d < 16 → 44 < slice_index lower_digits d

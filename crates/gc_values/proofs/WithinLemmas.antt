@@ -30,46 +30,46 @@ signed_distance-mul true m false n k = omega arith
 signed_distance-mul true m true n k = gap-mul m n k
 
 -- the distance of two numbers with signs is their `signed_distance`
-abs_spread : (b : Bool) (m : ℕ) (c : Bool) (n : ℕ) → unsigned_abs (signed b m -ℤ signed c n) ≡ signed_distance b m c n
-abs_spread false m false n = gap_signed false m n
-abs_spread false m true n = abs_pos_neg m n
-abs_spread true m false n = abs_neg_pos m n
-abs_spread true m true n = gap_signed true m n
+abs_is_signed_distance : (b : Bool) (m : ℕ) (c : Bool) (n : ℕ) → unsigned_abs (signed b m -ℤ signed c n) ≡ signed_distance b m c n
+abs_is_signed_distance false m false n = gap_signed false m n
+abs_is_signed_distance false m true n = abs_pos_neg m n
+abs_is_signed_distance true m false n = abs_neg_pos m n
+abs_is_signed_distance true m true n = gap_signed true m n
 
 -- how far z * k and w * l are apart
 abbrev scaled_distance : ℤ → ℕ → ℤ → ℕ → ℕ
 scaled_distance z k w l = unsigned_abs (z *ℤ pos k -ℤ w *ℤ pos l)
 
 -- multiples of numbers with signs are as far apart as the `signed_distance` of the products
-apart_signed : (b : Bool) (m k : ℕ) (c : Bool) (n l : ℕ) → scaled_distance (signed b m) k (signed c n) l ≡ signed_distance b (m * k) c (n * l)
-apart_signed b m k c n l =
+scaled_distance_signed : (b : Bool) (m k : ℕ) (c : Bool) (n l : ℕ) → scaled_distance (signed b m) k (signed c n) l ≡ signed_distance b (m * k) c (n * l)
+scaled_distance_signed b m k c n l =
     ap (λ x. unsigned_abs (x -ℤ signed c n *ℤ pos l)) (signed-mul b m k)
     ∙ ap (λ x. unsigned_abs (signed b (m * k) -ℤ x)) (signed-mul c n l)
-    ∙ abs_spread b (m * k) c (n * l)
+    ∙ abs_is_signed_distance b (m * k) c (n * l)
 
 -- where k and l are both multiplied by p, the two products are p times as far apart; the numbers are given as signs and
 -- magnitudes
-apart-mul_signed : (b : Bool) (m k : ℕ) (c : Bool) (n l p : ℕ) → scaled_distance (signed b m) k (signed c n) l * p ≡ scaled_distance (signed b m) (k * p) (signed c n) (l * p)
-apart-mul_signed b m k c n l p =
+scaled_distance-mul_signed : (b : Bool) (m k : ℕ) (c : Bool) (n l p : ℕ) → scaled_distance (signed b m) k (signed c n) l * p ≡ scaled_distance (signed b m) (k * p) (signed c n) (l * p)
+scaled_distance-mul_signed b m k c n l p =
     let left : m * k * p ≡ m * (k * p) = omega arith in
     let right : n * l * p ≡ n * (l * p) = omega arith in
-    ap (λ x. x * p) (apart_signed b m k c n l) ∙ sym (signed_distance-mul b (m * k) c (n * l) p)
-    ∙ ap (λ x. signed_distance b x c (n * l * p)) left ∙ ap (signed_distance b (m * (k * p)) c) right ∙ sym (apart_signed b m (k * p) c n (l * p))
+    ap (λ x. x * p) (scaled_distance_signed b m k c n l) ∙ sym (signed_distance-mul b (m * k) c (n * l) p)
+    ∙ ap (λ x. signed_distance b x c (n * l * p)) left ∙ ap (signed_distance b (m * (k * p)) c) right ∙ sym (scaled_distance_signed b m (k * p) c n (l * p))
 
 -- where k and l are both multiplied by p, z * k and w * l are p times as far apart
-apart-mul : (z : ℤ) (k : ℕ) (w : ℤ) (l p : ℕ) → scaled_distance z k w l * p ≡ scaled_distance z (k * p) w (l * p)
-apart-mul z k w l p =
+scaled_distance-mul : (z : ℤ) (k : ℕ) (w : ℤ) (l p : ℕ) → scaled_distance z k w l * p ≡ scaled_distance z (k * p) w (l * p)
+scaled_distance-mul z k w l p =
     let x = has_sign z in
     let y = has_sign w in
     subst (λ z. scaled_distance z k w l * p ≡ scaled_distance z (k * p) w (l * p)) (sym x.2)
-    (subst (λ w. scaled_distance (signed x.0 x.1) k w l * p ≡ scaled_distance (signed x.0 x.1) (k * p) w (l * p)) (sym y.2) (apart-mul_signed x.0 x.1 k y.0 y.1 l p))
+    (subst (λ w. scaled_distance (signed x.0 x.1) k w l * p ≡ scaled_distance (signed x.0 x.1) (k * p) w (l * p)) (sym y.2) (scaled_distance-mul_signed x.0 x.1 k y.0 y.1 l p))
 
 -- the distance of z / a and w / b in units of 1 / p, which are z * a' and w * b', is the distance that is multiplied out
 in_units : (z : ℤ) (a a' : ℕ) (w : ℤ) (b b' p : ℕ) → a * a' ≡ p → b * b' ≡ p → scaled_distance z a' w b' * (a * b) ≡ scaled_distance z b w a * p
 in_units z a a' w b b' p e f =
     let left : a' * (a * b) ≡ b * p = omega (arith, ap (λ x. x * b) e) in
     let right : b' * (a * b) ≡ a * p = omega (arith, ap (λ x. x * a) f) in
-    apart-mul z a' w b' (a * b) ∙ ap (λ x. scaled_distance z x w (b' * (a * b))) left ∙ ap (λ x. scaled_distance z (b * p) w x) right ∙ sym (apart-mul z b w a p)
+    scaled_distance-mul z a' w b' (a * b) ∙ ap (λ x. scaled_distance z x w (b' * (a * b))) left ∙ ap (λ x. scaled_distance z (b * p) w x) right ∙ sym (scaled_distance-mul z b w a p)
 
 -- where the distance is at most the area, both in units, it is at most the area multiplied out, too
 within_to : (x y ab n c c' p : ℕ) → 0 < p → x * ab ≡ y * p → c * c' ≡ p → x ≤ n * c' → y * c ≤ n * ab
@@ -137,7 +137,7 @@ passes_test true h = refl
 passes_test false h = absurd h
 
 -- the test of an order of whole numbers holds exactly where they are in order
-int_le_is : (x y : ℤ) → IsTrue (int_le x y) ↔ (x ≤ℤ y)
+pub int_le_is : (x y : ℤ) → IsTrue (int_le x y) ↔ (x ≤ℤ y)
 int_le_is x y = (λ h. record { le = test_passes (int_le x y) h }, λ h. passes_test (int_le x y) h.le)
 
 -- `is_within` holds exactly where the values are at most the area apart

@@ -104,8 +104,8 @@ fraction_text_some a s some =
     }
 
 -- what is written after the point of a / 10^s is allowed there, as `IsFractionText` has it
-pub behind : (a s : ℕ) → IsFractionText a s (behind_text s (a % 10 ^ s))
-behind a s = elim (eqb_tells s 0) [
+pub is_fraction_text : (a s : ℕ) → IsFractionText a s (behind_text s (a % 10 ^ s))
+is_fraction_text a s = elim (eqb_tells s 0) [
   | inl none ↦ subst (λ xs. IsFractionText a s xs) (ap (λ b. cond b (48 ∷ []) (last_digits s (a % 10 ^ s))) (sym none.0))
       (subst (λ t. IsFractionText a t (48 ∷ [])) (sym none.1) (fraction_text_none a))
   | inr some ↦ subst (λ xs. IsFractionText a s xs) (ap (λ b. cond b (48 ∷ []) (last_digits s (a % 10 ^ s))) (sym some.0)) (fraction_text_some a s (pos_of_ne-zero some.1))
@@ -116,7 +116,7 @@ with_sign : (sign : Sign) (m : ℤ) (s : ℕ) (a : ℕ) → m ≡ signed (is_min
     Spells (sign_text sign ++ (whole_text (a / 10 ^ s) ++ (46 ∷ behind_text s (a % 10 ^ s)))) m s
 with_sign sign m s a m_is canonical places =
     let w = writes_whole (a / 10 ^ s) in
-    let b = behind a s in
+    let b = is_fraction_text a s in
     let whole : List ℕ = whole_text (a / 10 ^ s) in
     let frac : List ℕ = behind_text s (a % 10 ^ s) in
     let parts : Parts = record { sign = sign; whole = whole; fraction = Some frac; exponent = None } in

@@ -1,5 +1,4 @@
--- No part of a promise: parameters in the common spelling, cut from the left: each has at least one byte, and no spaces stand
--- round it.
+-- No part of a promise: parameters in the common spelling, cut from the left: each has at least one byte, and no spaces are round it.
 use Rattle.std.specs.Prelude.{◌≡◌, ◌+◌, ◌*◌, ◌^◌, ◌<◌, ◌≤◌, ℕ, Bool, true, List, [], ◌∷◌, ◌++◌, length, take, Option, Some, None, pos}
 use Rattle.std.specs.List.{AllByRecursion}
 use Rattle.gc_values.specs.Digits.{AreDigits, number}
@@ -11,13 +10,13 @@ use Rattle.gc_values.specs.declared.decimal.Decimal.{Decimal}
 use Rattle.gc_values.specs.declared.value.Value.{Value}
 
 -- the text is an item with nothing round it, and what follows its comma, if there is one
-abbrev pub Stands : List ℕ → List ℕ → Option (List ℕ) → Type 0
-Stands text item None = text ≡ item
-Stands text item (Some rest) = text ≡ item ++ 44 ∷ rest
+abbrev pub IsItemAndRest : List ℕ → List ℕ → Option (List ℕ) → Type 0
+IsItemAndRest text item None = text ≡ item
+IsItemAndRest text item (Some rest) = text ≡ item ++ 44 ∷ rest
 
--- the text is an item and what follows its comma, as `Stands` has it, and the item is a parameter of at least one byte
+-- the text is an item and what follows its comma, as `IsItemAndRest` has it, and the item is a parameter of at least one byte
 pub record CutsPlain (text item : List ℕ) (rest : Option (List ℕ)) : Type 0 where
-  pub text_is : Stands text item rest
+  pub text_is : IsItemAndRest text item rest
   pub param : IsParam item
   pub some : 0 < length item
 

@@ -3,7 +3,7 @@
 
 ghost use Rattle.std.specs.Prelude.{◌≡◌, ◌+◌, ◌*◌, ◌^◌, ◌≤◌, [], IfSome};
 ghost use Rattle.std.specs.Option.{option_copied};
-ghost use Rattle.gc_values.specs.Plainly.{CountsDigits, CutsDecimal, CutsNumber, Stands};
+ghost use Rattle.gc_values.specs.Plainly.{CountsDigits, CutsDecimal, CutsNumber, IsItemAndRest};
 
 use crate::decimal::Decimal;
 
@@ -34,7 +34,7 @@ fn counted(front: u64, text: &[u8], most: usize) -> (u64, usize)
 /// bytes after a comma. `None`: neither the end nor a comma follows the item.
 #[inline]
 fn behind_item(text: &[u8]) -> Option<Option<&[u8]>>
-    ensures { IfSome result (λ rest. Stands text.now [] (option_copied rest)) }
+    ensures { IfSome result (λ rest. IsItemAndRest text.now [] (option_copied rest)) }
 {
     match text {
         [] => Some(None),

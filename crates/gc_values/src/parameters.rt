@@ -17,7 +17,7 @@ use crate::items::{Items, split};
 use crate::text::Text;
 use crate::value::{Kind, Value};
 
-/// Parameters that are asked for one after the other, from the left. Where one is missing or doesn't read, a zero of
+/// Parameters that are asked for one after the other, from the left. Where one is missing or can't be read, a zero of
 /// its kind is given (false, or an empty string), and the next one can be asked for all the same.
 ///
 /// The clauses of each call go from the state after it to the state before: what is then left is read as `vs` only where what was
@@ -67,7 +67,7 @@ pub struct Listed<'a> {
     items: Result<Items<'a>, ValueFault>,
     // How many items were asked for; at most one more than there are.
     place: usize,
-    // The fault of the first item that didn't read.
+    // The fault of the first item that couldn't be read.
     fault: Option<ValueFault>,
 }
 
@@ -106,7 +106,7 @@ impl<'a> Listed<'a> {
         }
     }
 
-    /// The next item as a value of the kind. `None`: there is no next item, or it doesn't read, and its fault is noted if it is the first.
+    /// The next item as a value of the kind. `None`: there is no next item, or it can't be read, and its fault is noted if it is the first.
     fn take(&mut self, kind: Kind) -> Option<Value>
         ensures reads { (vs : List Value) → ReadsFrom self.new.items self.new.place self.new.fault vs
             → MatchOption result ⊥ (λ v. (kind_of v ≡ kind) × ReadsFrom self.old.items self.old.place self.old.fault (v ∷ vs)) }
@@ -134,7 +134,7 @@ impl<'a> Listed<'a> {
     }
 }
 
-// Each call takes the next item as a value of its kind, or gives a zero where there is none or it doesn't read.
+// Each call takes the next item as a value of its kind, or gives a zero where there is none or it can't be read.
 impl<'a> Parameters for Listed<'a> {
     ghost reads = { λ c vs. ReadsFrom c.items c.place c.fault vs };
 

@@ -18,7 +18,7 @@ use gc_lines::{Line, Request, append, push_reply, read_request};
 /// The communication code for a procedure that isn't in the catalogue.
 const UNKNOWN_PROCEDURE: u16 = 3081;
 
-/// The communication code for parameters that don't read.
+/// The communication code for parameters that can't be read.
 const WRONG_PARAMETERS: u16 = 3080;
 
 impl Instrument {
@@ -28,7 +28,7 @@ impl Instrument {
     ///
     /// The call is carried out, and its reply has the request's id, or 0, and doubles with the precision that is in force
     /// after the call. A procedure that isn't in the catalogue is answered with the communication code 3081, and parameters
-    /// that don't read with 3080; then nothing changes, as with a line that is no request.
+    /// that can't be read with 3080; then nothing changes, as with a line that is no request.
     ///
     /// The id and the reply of the last request that carried an id and was carried out are kept. A
     /// request that names a call and carries that id is a repeat of it: it gets the kept line, and

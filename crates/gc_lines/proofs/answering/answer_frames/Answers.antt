@@ -1,13 +1,9 @@
-use Rattle.std.proofs.Common.{◌≡◌, ℕ, ◌≤◌, length, take, arith, sym, ◌∙◌, eqb, false, rules}
-use Rattle.std.proofs.lemmas.Bool.Decides.{nat_tests}
+use Rattle.std.proofs.Common.{◌≤◌, length, take, arith, sym, ◌∙◌, rules}
+use Rattle.std.proofs.lemmas.Bool.{ne_eqb}
 use Rattle.std.proofs.lemmas.List.{length-take}
 use Rattle.gc_lines.proofs.Exactly.{ended_exactly}
 use Rattle.gc_lines.proofs.Given.{given_more, given_part, given_end}
 use Rattle.gc_lines.proofs.answering.answer_frames.Goals as goal
-
--- a number that isn't 0 fails the test for 0
-not_zero : (n : ℕ) → (n ≡ 0 → ⊥) → eqb n 0 ≡ false
-not_zero n h = grind (arith, nat_tests)
 
 pub loop-preserved : goal.loop-preserved
 loop-preserved g c =
@@ -16,7 +12,7 @@ loop-preserved g c =
       so = given_more _ _ (g.S.Source.remaining c.loop.source) _ _ _ _ c.loop.session.assembler _ _ _ _ c.loop.counter c.loop.session.replies _ _
           c.loop.invariant.so c.in-Ok.ensures.bytes.1 short c.in_default.ensures.ok;
       reads = omega (arith, c.loop.invariant.reads, c.in-Ok.ensures.counts.0);
-      going = λ _. c.in-Ok.ensures.counts.1 ∙ not_zero c.in-Ok.n c.in-Ok.n-test.1;
+      going = λ _. c.in-Ok.ensures.counts.1 ∙ ne_eqb c.in-Ok.n 0 c.in-Ok.n-test.1;
       source = c.in-Ok.ensures.fails.1 ∙ sym c.in-Ok.ensures.fails.0 ∙ c.loop.invariant.source;
       sink = c.in_default.ensures.failed ∙ c.loop.invariant.sink;
       few = omega (arith, c.loop.invariant.few, short, c.in_default.ensures.bound);

@@ -1,5 +1,6 @@
 use Rattle.std.proofs.Common.{refl, lit≤}
-use Rattle.gc_scenes.proofs.Shifts.{sum_is, shifted_made, shifted_kept, never_true}
+use Rattle.std.proofs.lemmas.Bool.{false≢true}
+use Rattle.gc_scenes.proofs.Shifts.{sum_is, shifted_made, shifted_kept}
 use Rattle.gc_scenes.proofs.shifting.shifted.Goals as goal
 
 pub returns-in-Ok : goal.returns-in-Ok
@@ -10,4 +11,4 @@ returns-in-Ok c =
 pub returns-in-Err : goal.returns-in-Err
 returns-in-Err c =
     shifted_kept c.args.d.now c.args.by _ (sum_is c.args.d.now c.units.result c.args.by c.units.ensures.value c.units.ensures.bound c.requires)
-    (λ within. never_true (c.in-Err.ensures.exact.1 (lit≤ tt, within)))
+    (λ within. false≢true (c.in-Err.ensures.exact.1 (lit≤ tt, within)))

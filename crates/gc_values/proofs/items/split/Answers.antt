@@ -1,19 +1,15 @@
-use Rattle.std.proofs.Common.{◌≡◌, ◌<◌, ◌≤◌, ◌%◌, ◌++◌, ◌∷◌, [], List, ℕ, map, length, Ok, Bor, Some, None, refl, sym, ap, ◌∙◌, subst, arith, rules}
+use Rattle.std.proofs.Common.{◌≡◌, ◌<◌, ◌≤◌, ◌++◌, ◌∷◌, [], List, ℕ, map, length, Ok, Bor, Some, None, refl, sym, ap, ◌∙◌, subst, arith, rules}
 use Rattle.std.specs.Option.{option_copied}
 use Rattle.std.proofs.lemmas.List.{length-map, map-append}
 use Rattle.gc_values.specs.Params.{AreSpaces, IsParams}
 use Rattle.gc_values.specs.Pieces.{CutsPiece}
-use Rattle.gc_values.proofs.ParamLists.{SplitSoFar, split_more, split_last, split_longer, one_list, params_even}
+use Rattle.gc_values.proofs.ParamLists.{SplitSoFar, split_more, split_last, split_longer, one_list, params_even, even_not_odd}
 use Rattle.gc_values.proofs.Trimming.{front_not_spaces}
 use Rattle.gc_values.proofs.items.split.Goals as goal
 
 -- what contracts see of slices with one more is what they see of the others, and that one's bytes
 nows_push : (old : List (Bor (List ℕ))) (r : Bor (List ℕ)) → map (λ r. r.now) (old ++ r ∷ []) ≡ map (λ r. r.now) old ++ r.now ∷ []
 nows_push old r = map-append (λ r. r.now) old (r ∷ [])
-
--- no number is even and odd
-even_not_odd : (n : ℕ) → n % 2 ≡ 0 → n % 2 ≡ 1 → ⊥
-even_not_odd n e o = omega arith
 
 -- a list of at most 16 items has no more than 16
 longer_not_few : (xs ys : List (List ℕ)) → xs ≡ ys → length xs ≤ 16 → 16 < length ys → ⊥

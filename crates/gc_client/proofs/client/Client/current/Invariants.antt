@@ -2,7 +2,7 @@ use Rattle.std.proofs.Common.{◌≡◌, ◌≤◌, take, length}
 use Rattle.gc_client.specs.Rule.{deadlines}
 use Rattle.gc_client.proofs.client.Client.current.Given as goal
 
--- how many of the first k have a deadline
+-- `current` counts those of the first k requests that haven't timed out
 abbrev pub invariant-loop-k : goal.invariant-loop-k
 invariant-loop-k g l = record {
   counted : l.current ≡ length (deadlines (take l.k l.self.ids.waiting));

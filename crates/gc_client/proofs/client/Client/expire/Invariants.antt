@@ -3,7 +3,7 @@ use Rattle.gc_client.specs.Rule.{expiring}
 use Rattle.gc_client.proofs.Expiry.{expired_up_to}
 use Rattle.gc_client.proofs.client.Client.expire.Given as goal
 
--- the first k have seen the moment, and the others have not
+-- the first k requests have timed out where their deadlines were reached, and the others are as they were
 abbrev pub invariant-loop-k : goal.invariant-loop-k
 invariant-loop-k g l =
     let pendings = g.W.Window.pendings in

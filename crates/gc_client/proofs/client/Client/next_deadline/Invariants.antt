@@ -2,6 +2,6 @@ use Rattle.std.proofs.Common.{take}
 use Rattle.gc_client.specs.Rule.{deadlines, IsEarliest}
 use Rattle.gc_client.proofs.client.Client.next_deadline.Given as goal
 
--- the earliest of the first k
+-- `earliest` is the earliest deadline of the first k requests
 abbrev pub invariant-loop-k : goal.invariant-loop-k
 invariant-loop-k g l = IsEarliest (deadlines (take l.k l.self.ids.waiting)) l.earliest

@@ -15,7 +15,7 @@ invariant_of-self g c =
     let next = sym c.lose.ensures.left ∙ c.take_first-p.ensures in
     (c.self.invariant.0, fewer_left _ _ _ _ _ next c.self.invariant.1, c.self.invariant.2)
 
--- the first k are lost, and the one at place k is met
+-- the first k requests are settled as lost, and the one at place k by the reply
 pub returns-clause-settled : goal.returns-clause-settled
 returns-clause-settled g c =
     let says = g.W.Asked.Asking.says in
@@ -29,9 +29,9 @@ returns-clause-settled g c =
     let ruled = map lost (take k ws) ++ met p line ∷ [] in
     elim c.match-get_mut.branch [
       | in-Some w ↦
-          let s = w.meet.new.settlement in
+          let s = w.set_replied.new.settlement in
           let all = take_all (k + 1) (set old k s) (omega (arith, places, length-set old k s)) in
-          let are = subst (λ ss. AreSettledBy says ss ruled) all (one_written says old k (map lost (take k ws)) s (met p line) lt c.lose.ensures.settled w.meet.ensures) in
+          let are = subst (λ ss. AreSettledBy says ss ruled) all (one_written says old k (map lost (take k ws)) s (met p line) lt c.lose.ensures.settled w.set_replied.ensures) in
           let by_rule = subst (λ rs. AreSettledBy says (set old k s) rs)
           (sym (settle_is k line ws p _ (sym c.lose.ensures.left ∙ c.take_first-p.ensures))
           ∙ ap (λ (d : Windowed _). settle k line d.ids.waiting) c.self.view_is) are in
@@ -39,7 +39,7 @@ returns-clause-settled g c =
       | in_default w ↦ absurd (none_there c.get_mut.result w.in_default.is (c.get_mut.ensures.variant.1 lt))
     ]
 
--- those after it are left
+-- the requests after place k still wait
 pub returns-clause-client : goal.returns-clause-client
 returns-clause-client g c =
     let ws = g.W.Window.pendings c.self.inside.window in

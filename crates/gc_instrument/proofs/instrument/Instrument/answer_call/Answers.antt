@@ -3,13 +3,13 @@ use Rattle.std.specs.Option.{option_map}
 use Rattle.gc_instrument.specs.Replying.{AppendsExecuted, kept_after, kept_line}
 use Rattle.gc_instrument.specs.Seen.{state_of}
 use Rattle.gc_instrument.specs.State.{State}
-use Rattle.gc_instrument.proofs.Keeping.{behind, sound_keeping, kept_anew}
+use Rattle.gc_instrument.proofs.Keeping.{appended_bytes, sound_keeping, kept_anew}
 use Rattle.gc_instrument.proofs.instrument.Instrument.answer_call.Goals as goal
 
 pub invariant_of-self : goal.invariant_of-self
 invariant_of-self g c =
     let h = c.carry_out_onto.ensures.replies in
-    let line : _ ≡ h.text = behind c.args.out.now.items c.carry_out_onto.new.out.items c.deref.result.now h.text c.len-start.result c.deref.ensures.0 h.appended c.len-start.ensures.value in
+    let line : _ ≡ h.text = appended_bytes c.args.out.now.items c.carry_out_onto.new.out.items c.deref.result.now h.text c.len-start.result c.deref.ensures.0 h.appended c.len-start.ensures.value in
     let kept : c.keep.new.self ≡ kept_after c.self-2.inside.kept c.args.id h.text = c.keep.ensures ∙ ap (kept_after c.self-2.inside.kept c.args.id) line in
     sound_keeping (state_of c.self-2.inside) c.args.id c.keep.new.self c.unwrap_or.result h.text h.says.fields c.self-2.invariant.0 c.self-2.invariant.1 kept
     c.unwrap_or.ensures h.says.is_reply h.says.same_id h.plain
@@ -23,7 +23,7 @@ returns-clause-replies g c =
     let after : State = state_of c.self-2.inside in
     let h : AppendsExecuted c.args.self.now c.unwrap_or.result call after old new =
     subst (λ (s : State). AppendsExecuted c.args.self.now c.unwrap_or.result call s old new) (sym c.self-2.view_is) c.carry_out_onto.ensures.replies in
-    let line : _ ≡ h.text = behind old new c.deref.result.now h.text c.len-start.result c.deref.ensures.0 h.appended c.len-start.ensures.value in
+    let line : _ ≡ h.text = appended_bytes old new c.deref.result.now h.text c.len-start.result c.deref.ensures.0 h.appended c.len-start.ensures.value in
     let none : kept_line c.self.inside.kept id ≡ None = sym c.line_of.ensures.line ∙ ap (option_map (λ r. r.now)) c.in_default.is in
     let own : c.self.inside.kept ≡ c.args.self.now.kept = ap (λ (s : State). s.kept) c.self.view_is in
     kept_anew c.args.self.now after id c.unwrap_or.result call old new _ c.keep.new.self c.unwrap_or.ensures (ap (λ k. kept_line k id) (sym own) ∙ none) h line c.keep.ensures

@@ -1,6 +1,6 @@
 use Rattle.std.proofs.Common.{◌≡◌, Option, sym, ap, ◌∙◌, subst, ℕ, None}
 use Rattle.std.specs.Option.{option_map}
-use Rattle.gc_instrument.proofs.Keeping.{behind}
+use Rattle.gc_instrument.proofs.Keeping.{appended_bytes}
 use Rattle.gc_scenes.specs.Appending.{AppendsPlayed}
 use Rattle.gc_scenes.specs.Rules.{fault_of}
 use Rattle.gc_scenes.specs.SceneExecution.{played_call, unless_faulted}
@@ -27,6 +27,6 @@ returns-clause-gave g c =
     subst (λ (t : SceneState). AppendsPlayed n (unless_faulted t call (fault_of c.args.rpc s.faults)) c.play_onto.new.self old new) c.count.ensures
     (subst (λ (f : Option ℕ). AppendsPlayed n (unless_faulted c.count.new.self call f) c.play_onto.new.self old new) c.fault_of-fault.ensures.code c.play_onto.ensures.played) in
     let none : again_for s c.args.id ≡ None = sym c.again_for.ensures.line ∙ ap (option_map (λ r. r.now)) c.in_default.is in
-    let own = behind old new c.deref.result.now (line_of n p) c.len-start.result c.deref.ensures.0 h.appended c.len-start.ensures.value in
+    let own = appended_bytes old new c.deref.result.now (line_of n p) c.len-start.result c.deref.ensures.0 h.appended c.len-start.ensures.value in
     gave_call s c.keep.new.self c.args.rpc c.args.id call old new
     (gave_played s c.args.id p n c.play_onto.new.self c.keep.new.self _ old new none c.unwrap_or.ensures h.state h.appended own c.keep.ensures)

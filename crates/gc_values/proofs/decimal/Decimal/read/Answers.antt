@@ -1,7 +1,5 @@
 use Rattle.std.proofs.Common.{subst, sym}
 use Rattle.gc_values.specs.Spelling.{Spells}
-use Rattle.gc_values.specs.Written.{written}
-use Rattle.gc_values.specs.declared.decimal.Decimal.{Decimal}
 use Rattle.gc_values.proofs.DecimalLaws.{written_spells_decimal}
 use Rattle.gc_values.proofs.Reading.{IsReading, reads_parts}
 use Rattle.gc_values.proofs.decimal.Decimal.read.Goals as goal
@@ -27,14 +25,10 @@ returns-clause-spelling c = (reading c).spelling
 pub returns-clause-faults : goal.returns-clause-faults
 returns-clause-faults c = (reading c).faults
 
--- a decimal's written text spells it
-spelled : (d : Decimal) → Spells (written d.digits d.scale) d.digits d.scale
-spelled = written_spells_decimal
-
 pub returns-clause-again : goal.returns-clause-again
-returns-clause-again c d e = (reading c).only d (subst (λ xs. Spells xs d.digits d.scale) (sym e) (spelled d))
+returns-clause-again c d e = (reading c).only d (subst (λ xs. Spells xs d.digits d.scale) (sym e) (written_spells_decimal d))
 
 pub returns-in_default-clause-again : goal.returns-in_default-clause-again
 returns-in_default-clause-again c d e =
-    let s = subst (λ xs. Spells xs d.digits d.scale) (sym e) (spelled d) in
+    let s = subst (λ xs. Spells xs d.digits d.scale) (sym e) (written_spells_decimal d) in
     absurd (c.in_default.ensures.none s.1.0 s.1.1 s.1.2)

@@ -1,5 +1,5 @@
 use Rattle.std.proofs.Common.{refl, ◌∙◌}
-use Rattle.gc_catalogue.proofs.replies.read_by_the_book.Goals as goal
+use Rattle.gc_catalogue.proofs.replies.read_any_spelling.Goals as goal
 
 pub returns-in-Err : goal.returns-in-Err
 returns-in-Err c =

@@ -1,5 +1,5 @@
 use Rattle.std.proofs.Common.{◌≡◌, true, rules}
-use Rattle.gc_catalogue.proofs.requests.read_by_the_book.Goals as goal
+use Rattle.gc_catalogue.proofs.requests.read_any_spelling.Goals as goal
 
 pub returns-in-Err-clause-fault : goal.returns-in-Err-clause-fault
 returns-in-Err-clause-fault c =

@@ -1,6 +1,6 @@
 use Rattle.gc_lines.specs.Replies.{reply_seen}
 use Rattle.gc_client.proofs.Ends.{answered_is}
-use Rattle.gc_client.proofs.ending.meet.Goals as goal
+use Rattle.gc_client.proofs.ending.set_replied.Goals as goal
 
 -- a request that hadn't timed out is settled as answered by the line
 pub returns-else-p : goal.returns-else-p
