@@ -2,13 +2,13 @@
 use Rattle.std.proofs.Common.{◌≡◌, ℕ, ◌+◌, ◌<◌, ◌≤◌, List, [], ◌∷◌, ◌++◌, length, Option, None, Some, refl, ap, sym, subst, ◌∙◌, arith, append_assoc, append-nil, length-append, get_or}
 use Rattle.gc_texts.specs.Cuts.{Cuts}
 use Rattle.gc_texts.specs.LineForms.{text_lines, without_cr, line_at}
-use Rattle.gc_fates.proofs.TextLines.{lines_left, much_left, lines-cut}
+use Rattle.gc_texts.proofs.TextLines.{lines_left, much_left, lines-cut}
 use Rattle.gc_fates.specs.Rules.{no_rules, Leads, LeadAll, AreRules, IsIll, IsFirstIll, said_part}
 use Rattle.gc_fates.specs.Spaced.{IsBlank}
 use Rattle.gc_fates.specs.declared.rules.Rules.{Rules}
 use Rattle.gc_fates.specs.declared.saying.Ill.{Ill}
 
--- one more line leads on behind those before it
+-- where lines lead from `old` to `mid`, and one more line from `mid` to `new`, all of them lead from `old` to `new`
 lead_more : (old mid new : Rules) (lines : List (List ℕ)) (line : List ℕ) → LeadAll old lines mid → Leads mid line new → LeadAll old (lines ++ line ∷ []) new
 lead_more old mid new [] line all leads = (new, subst (λ r. Leads r line new) all leads, refl)
 lead_more old mid new (first ∷ lines) line all leads = (all.0, all.1, lead_more all.0 mid new lines line all.2 leads)

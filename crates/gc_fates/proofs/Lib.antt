@@ -1,3 +1,2 @@
-mod TextLines
 mod ShareForms
 mod Leading

@@ -48,7 +48,8 @@ one_places digits m n x y =
     one_count (length digits) y.0 m n (subst (λ k. AreThousandths (length digits) k m) same x.2) y.2
 
 -- a word above 100 is no percentage
-pub too_much : (whole : List ℕ) (places : Option (List ℕ)) (digits : List ℕ) (w t n : ℕ) → places ≡ Some digits → IsNumber whole w 100 → IsPlaces digits t → 100000 < w * 1000 + t → IsParts whole places n → ⊥
+pub too_much : (whole : List ℕ) (places : Option (List ℕ)) (digits : List ℕ) (w t n : ℕ) → places ≡ Some digits → IsNumber whole w 100
+    → IsPlaces digits t → 100000 < w * 1000 + t → IsParts whole places n → ⊥
 too_much whole places digits w t n cut number are above is =
     let parts : IsParts whole (Some digits) n = subst (λ p. IsParts whole p n) cut is in
     let same : parts.0 ≡ w = one_number whole parts.0 w 100 parts.2 number in

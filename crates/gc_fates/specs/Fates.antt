@@ -7,12 +7,12 @@ use Rattle.gc_fates.specs.declared.fate.Fate.{Fate}
 use Rattle.gc_fates.specs.declared.rules.Rules.{Rules}
 use Rattle.gc_fates.specs.declared.saying.Word.TheVariants.{Delay, Lose, Repeat, Hold, Close, Refuse, Restart}
 
--- whether something happens by a draw; what the text doesn't have never happens
+-- whether something happens by a draw. What the text doesn't name never happens
 abbrev pub hits : Option Chance → ℕ → Bool
 hits None draw = false
 hits (Some chance) draw = happens draw chance.share
 
--- the number that is drawn; 0 of what the text doesn't have
+-- the number that is drawn; 0 for what the text doesn't name
 abbrev pub drawn : Option Chance → ℕ → ℕ
 drawn None draw = 0
 drawn (Some chance) draw = among draw chance.least chance.most
@@ -21,11 +21,11 @@ drawn (Some chance) draw = among draw chance.least chance.most
 abbrev pub drawn_if : Bool → Option Chance → ℕ → ℕ
 drawn_if happens chance draw = if happens then drawn chance draw else 0
 
--- a line is lost by its first draw
+-- a line is lost, by its first draw
 abbrev pub loses : Rules → ℕ → ℕ → Bool
 loses rules start line = hits (chance_of rules Lose) (draw_at start line 1)
 
--- the connection ends in place of a line that isn't lost by its fifth draw
+-- the connection ends in place of a line, by the line's fifth draw, if the line isn't lost
 abbrev pub ends : Rules → ℕ → ℕ → Bool
 ends rules start line = not (loses rules start line) && hits (chance_of rules Close) (draw_at start line 5)
 

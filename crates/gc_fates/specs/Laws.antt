@@ -1,4 +1,4 @@
--- What is proved of the definitions of draws: examples that are computed.
+-- Examples of draws, computed from the definitions.
 use Rattle.std.specs.Prelude.{◌≡◌, ℕ, [], ◌∷◌, map}
 use Rattle.gc_fates.specs.Draws.{start_of, draw_at, among}
 use Rattle.gc_fates.specs.declared.draw.Way.TheVariants.{Up, Down}

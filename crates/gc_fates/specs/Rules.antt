@@ -28,7 +28,7 @@ with_saying rules saying = record { chances = slice_set rules.chances (place_of 
 abbrev pub said_part : List ℕ → List ℕ
 said_part line = before 35 line
 
--- behind the rules `old` a line leads to the rules `new`: it has no word, or a word that no earlier line has
+-- a line leads from the rules `old` of the lines before it to the rules `new`: it has no word, or a word that no earlier line has
 abbrev pub Leads : Rules → List ℕ → Rules → Type 0
 Leads old line new = (IsBlank (said_part line) × (new ≡ old))
     ⊎ ((saying : Saying) × IsSaid (said_part line) saying × (chance_of old saying.word ≡ None) × (new ≡ with_saying old saying))
@@ -42,7 +42,7 @@ LeadAll old (line ∷ lines) new = (between : Rules) × Leads old line between �
 abbrev pub AreRules : List ℕ → Rules → Type 0
 AreRules text rules = LeadAll no_rules (text_lines text) rules
 
--- what is wrong with a line behind these rules: it has a word that was said already, or says nothing
+-- what is wrong with a line, where the lines before it say these rules: its word was said already, or the line has no form
 abbrev pub IsIll : Rules → List ℕ → Ill → Type 0
 IsIll rules line (Again word) = (saying : Saying) × IsSaid (said_part line) saying × (saying.word ≡ word) × (chance_of rules word ≡ None → ⊥)
 IsIll rules line ill = IsIllSaid (said_part line) ill

@@ -12,7 +12,7 @@ use Rattle.gc_fates.specs.declared.saying.Shape.TheVariants.{Share, Lasting, Spa
 use Rattle.gc_fates.specs.declared.saying.Word.{Word}
 use Rattle.gc_fates.specs.declared.saying.Word.TheVariants.{Delay, Lose, Repeat, Hold, Close, Refuse, Restart, Kill}
 
--- the words
+-- a word as it is written
 abbrev pub name_of : Word → List ℕ
 name_of Delay = codes "delay"
 name_of Lose = codes "lose"
@@ -23,7 +23,7 @@ name_of Refuse = codes "refuse"
 name_of Restart = codes "restart"
 name_of Kill = codes "kill"
 
--- what follows each
+-- the shape of what follows a word
 abbrev pub shape_of : Word → Shape
 shape_of Delay = Span
 shape_of Lose = Share
@@ -34,7 +34,7 @@ shape_of Refuse = Lasting
 shape_of Restart = Share
 shape_of Kill = Times
 
--- the place of each among all, counted from 0
+-- the place of a word among all words, counted from 0
 abbrev pub place_of : Word → ℕ
 place_of Delay = 0
 place_of Lose = 1

@@ -1,9 +1,10 @@
-//! Draws: the generator splitmix64, by places. What is drawn for a line depends on the seed, the line's direction and its number
-//! alone, whatever came before it. All arithmetic on seeds is here.
+//! Draws: the outputs of the generator splitmix64, each found by its place. What is drawn for a line depends on the seed, the line's
+//! direction and its number alone, whatever came before it. All arithmetic on seeds is here.
 
 ghost use Rattle.std.specs.Prelude.{◌≡◌, ◌<◌, ◌≤◌, ◌^◌};
 ghost use Rattle.gc_fates.specs.Draws.{word_at, start_of, start_of_kills, draw_at, happens, among};
 
+use crate::share::WHOLE;
 use rand_core::{Rng, SeedableRng};
 use rand_xoshiro::SplitMix64;
 
@@ -12,9 +13,6 @@ const GOLDEN: u64 = 0x9e37_79b9_7f4a_7c15;
 
 // How many draws a line has.
 const DRAWS: u64 = 16;
-
-// A share of all lines, in thousandths of a percent.
-const WHOLE: u64 = 100_000;
 
 /// A direction of the line.
 #[derive(Clone, Copy, Debug, PartialEq, Eq)]
@@ -25,7 +23,7 @@ pub enum Way {
     Down,
 }
 
-/// What splitmix64 gives next at a state.
+/// What splitmix64 gives next in this state.
 pub fn word_of_state(state: u64) -> u64
     ensures { result ≡ word_at state }
 {
@@ -36,7 +34,7 @@ pub fn word_of_state(state: u64) -> u64
 /// The draws of a seed for the lines of one direction.
 #[derive(Clone, Copy, Debug, PartialEq, Eq)]
 pub struct Draws {
-    /// Where they start.
+    /// The state of splitmix64 before the first of them.
     pub start: u64,
 }
 

@@ -4,8 +4,8 @@ use crate::saying::{Ill, Word};
 use std::io::{self, Write};
 
 impl Ill {
-    /// Writes what is wrong with a line, and a line feed: the words that there are, the form and the range of what follows the line's word,
-    /// or that an earlier line has it.
+    /// Writes what is wrong with a line, and a line feed: which words there are, what has to follow the line's word, or that an earlier
+    /// line has the word.
     pub fn tell<E: Write>(self, messages: &mut E) -> io::Result<()> {
         match self {
             Ill::NoWord => writeln!(
@@ -18,7 +18,7 @@ impl Ill {
     }
 }
 
-// Writes what follows a word, and a line feed.
+// Writes what has to follow a word, and a line feed.
 fn tell_form<E: Write>(word: Word, messages: &mut E) -> io::Result<()> {
     match word {
         Word::Delay => writeln!(

@@ -21,7 +21,7 @@ pub enum Refusal {
     Line { line: u32, ill: Ill },
 }
 
-// Reads one line behind `rules`. `Err`: what is wrong with it.
+// Reads the line after those that say `rules`, and returns the rules with what it says. `Err`: what is wrong with it.
 fn read_line(rules: &Rules, line: &[u8]) -> Result<Rules, Ill>
     ensures found { IfOk result (λ new. Leads rules.now line.now new) }
     ensures fault { IfErr result (λ ill. IsIll rules.now line.now ill × (IsBlank (said_part line.now) → ⊥)) }

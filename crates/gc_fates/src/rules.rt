@@ -9,12 +9,12 @@ use crate::saying::{Saying, WORDS, Word};
 /// What a text says: for each word how often it applies and among which numbers it draws, if the text has it.
 #[derive(Clone, Copy, Debug, PartialEq, Eq)]
 pub struct Rules {
-    // By the words' places.
+    // What is said of each word, at the word's place.
     pub(crate) chances: [Option<Chance>; WORDS],
 }
 
 impl Rules {
-    /// The rules of a good line: nothing happens to its lines.
+    /// Rules without a word: nothing happens to any line.
     pub fn none() -> Rules
         ensures { result ≡ no_rules }
     {

@@ -1,11 +1,11 @@
-//! Percentages: 0 to 100 with at most three decimals, as thousandths.
+//! Percentages: 0 to 100 with at most three decimals, in thousandths of a percent.
 
 ghost use Rattle.std.specs.Prelude.{◌≡◌, ◌≤◌, ◌*◌, ℕ, MatchOption};
 ghost use Rattle.gc_fates.specs.Shares.{IsShare, IsPlaces};
 
 use gc_texts::{cut_at, number_of};
 
-// A percentage of 100, in thousandths.
+// 100 percent, in thousandths of a percent.
 pub(crate) const WHOLE: u64 = 100_000;
 
 // Reads one to three decimals as thousandths. `None`: they are fewer or more, or no digits.

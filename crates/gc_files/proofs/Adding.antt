@@ -9,7 +9,7 @@ use Rattle.gc_files.specs.Sinks.{known_content}
 use Rattle.gc_files.proofs.Moments.{behind_two}
 use Rattle.gc_files.specs.Files.{Step, Append, Cut, Sync, Life, has_sync, content, later_by, Adds}
 use Rattle.gc_files.specs.Runs.{synced}
-use Rattle.gc_files.specs.Rows.{whole, is_none, mended, cuts_none, appended, Ran, IsFront, Opens, OpensInPart, PutsAll}
+use Rattle.gc_files.specs.Rows.{whole, is_empty, mended, cuts_none, appended, Ran, IsFront, Opens, OpensInPart, PutsAll}
 
 -- adding the steps `xs` to a life, and then `ys`, is adding `xs ++ ys`
 pub later_two : (xs ys : List Step) (life : Life) → later_by ys (later_by xs life) ≡ later_by (xs ++ ys) life
@@ -74,12 +74,12 @@ mend_all old mid new known end len less is ends cut sync =
     subst (λ (steps : List Step). Adds old new steps) (sym (is_cut (content known) end len less is ends)) (adds_two old mid new (Cut end ∷ []) (Sync ∷ []) cut sync)
 
 -- after whole rows no head is written
-start_by : (head l : List ℕ) → 0 < length l → (if is_none l then head else []) ≡ []
+start_by : (head l : List ℕ) → 0 < length l → (if is_empty l then head else []) ≡ []
 start_by head [] more = absurd (omega (arith, more))
 start_by head (b ∷ l) more = refl
 
 -- where no row is whole the head is written
-start_at : (head l : List ℕ) → length l ≡ 0 → (if is_none l then head else []) ≡ head
+start_at : (head l : List ℕ) → length l ≡ 0 → (if is_empty l then head else []) ≡ head
 start_at head [] none = refl
 start_at head (b ∷ l) none = absurd (omega (arith, none))
 

@@ -4,7 +4,7 @@
 use Rattle.std.proofs.Common.{◌≡◌, inl, inr, ℕ, Bool, true, false, List, [], ◌∷◌, ◌++◌, refl, sym, ◌∙◌, ap, subst, append_assoc, if◌then◌else◌}
 use Rattle.std.proofs.lemmas.List.{append-nil}
 use Rattle.gc_files.specs.Files.{Life, content, later_by}
-use Rattle.gc_files.specs.Rows.{has_feed, table, is_none}
+use Rattle.gc_files.specs.Rows.{has_feed, table, is_empty}
 use Rattle.gc_files.specs.Runs.{Run, IsHead, IsRun, HasRows}
 use Rattle.gc_files.specs.Failing.{Sides, settled, one, done_by, Loses, Event, Ran, Failed, Copied, Crashed, sides_after, Occur, runs_of, is_trusted, IsFound}
 use Rattle.gc_files.proofs.Whole.{whole_front}
@@ -20,7 +20,7 @@ record Good (head before : List ℕ) (runs : List Run) (sides : Sides) (doubted 
 
 -- bytes at the end that end no row are no part of the table
 hole_is_none : (head front hole : List ℕ) → has_feed hole ≡ false → table head (front ++ hole) ≡ table head front
-hole_is_none head front hole none = ap (λ (l : List ℕ). l ++ (if is_none l then head else [])) (whole_front front hole none)
+hole_is_none head front hole none = ap (λ (l : List ℕ). l ++ (if is_empty l then head else [])) (whole_front front hole none)
 
 -- where a file that holds `held` has the rows of these runs, a file that holds `left` and has the same table has these rows,
 -- too

@@ -1,7 +1,7 @@
 -- Runs that a kill ends, and what the calls of a run do.
 use Rattle.std.proofs.Common.{◌≡◌, inl, inr, ℕ, ◌≤◌, true, false, List, [], ◌∷◌, ◌++◌, length, take, refl, sym, ◌∙◌, ap, subst, arith, append_assoc, Option}
 use Rattle.std.proofs.lemmas.List.{append-nil}
-use Rattle.gc_files.specs.Files.{Step, Append, Cut, Sync, Life, has_sync, behind, content, later_by}
+use Rattle.gc_files.specs.Files.{Step, Append, Cut, Sync, Life, has_sync, held_after, content, later_by}
 use Rattle.gc_files.specs.Rows.{table, start_of, mended, cuts_none, appended, Puts, Ran, IsFront, ComesTo}
 use Rattle.gc_files.specs.Runs.{synced, Run, lines, AreRows, IsHead, WereKept, IsRun, life_after, lived, HasRows, IsKilled, AreKilled}
 use Rattle.gc_files.proofs.Adding.{cuts_two, appended_two}
@@ -70,9 +70,9 @@ abbrev synced_run : Run → Run
 synced_run run = record run { steps = run.steps ++ Sync ∷ [] }
 
 -- a file after a run that ended by itself or by a kill has the run's rows, at least all that went out whole
-killed_has : (head held : List ℕ) (run : Run) → IsHead head → IsKilled head held run → RunHas head held run (behind held run.steps)
+killed_has : (head held : List ℕ) (run : Run) → IsHead head → IsKilled head held run → RunHas head held run (held_after held run.steps)
 killed_has head held run heads one = elim one.written [
-  | inl none ↦ run_moments head held run (behind held run.steps) heads (record { rows = one.rows; steps = one.steps; few = one.few; kept = inl none }) (may_stay held run.steps)
+  | inl none ↦ run_moments head held run (held_after held run.steps) heads (record { rows = one.rows; steps = one.steps; few = one.few; kept = inl none }) (may_stay held run.steps)
   | inr whole ↦
       let bytes = whole.0 in
       let ran = whole.1 in
@@ -94,8 +94,8 @@ killed_has head held run heads one = elim one.written [
         few = one.few;
         kept = inr (subst (λ (all : List ℕ). IsFront (start_of head held ++ lines (take run.kept run.rows)) all) (sym (ran_synced held run.steps bytes ran)) whole.3);
       } in
-      let same : behind held with.steps ≡ behind held run.steps = behind_two held run.steps (Sync ∷ []) in
-      let has = run_moments head held with (behind held with.steps) heads is (may_stay held with.steps) in
+      let same : held_after held with.steps ≡ held_after held run.steps = behind_two held run.steps (Sync ∷ []) in
+      let has = run_moments head held with (held_after held with.steps) heads is (may_stay held with.steps) in
       record {
         count = has.count;
         least = has.least;
@@ -105,7 +105,7 @@ killed_has head held run heads one = elim one.written [
 ]
 
 -- after a run, a file holds what the run's steps make of what it held before
-left_by : (life : Life) (run : Run) → content (later_by run.steps life) ≡ behind (content life) run.steps
+left_by : (life : Life) (run : Run) → content (later_by run.steps life) ≡ held_after (content life) run.steps
 left_by life run = behind_two life.start life.steps run.steps
 
 -- runs that end by themselves or by a kill add their rows, one after the other

@@ -3,8 +3,8 @@
 use Rattle.std.proofs.Common.{◌≡◌, ◌⊎◌, inl, inr, ℕ, zero, suc, ◌≤◌, Bool, true, false, List, [], ◌∷◌, ◌++◌, length, take, refl, sym, ◌∙◌, ap, subst, arith, append_assoc, length-append, if◌then◌else◌, Option, Some, None}
 use Rattle.std.proofs.lemmas.Bool.{cases_Bool, cases_lt}
 use Rattle.std.proofs.lemmas.List.{append-nil, take_all, take_at, take-append-le}
-use Rattle.gc_files.specs.Files.{Step, Append, Cut, Sync, Life, has_sync, content, later_by, MayLeave}
-use Rattle.gc_files.specs.Rows.{whole, line, is_none, start_of, table, mended, appended, Ran, IsFront}
+use Rattle.gc_files.specs.Files.{Step, Append, Cut, Sync, Life, settled, has_sync, content, later_by, MayLeave}
+use Rattle.gc_files.specs.Rows.{whole, line, is_empty, start_of, table, mended, appended, Ran, IsFront}
 use Rattle.gc_files.specs.Runs.{synced, Run, lines, AreRows, IsHead, IsRun, lived, Ended, Happen, life_after, rows_of, Counts, HasRows}
 use Rattle.gc_files.proofs.Whole.{whole_whole, whole_more, within}
 use Rattle.gc_files.proofs.Moments.{may_stay, leaves_two, no_sync, mends, mend_moments, two_steps, mend_synced, put_moments}
@@ -17,8 +17,8 @@ pub record Has (head held : List ℕ) (rows : List (List ℕ)) (k : ℕ) (left :
   pub least : (m : ℕ) → m ≤ length rows → length (start_of head held ++ lines (take m rows)) ≤ k → m ≤ count
 
 -- a file's table is its whole rows, or the head where there are none
-table_by : (head left : List ℕ) (rows : List ℕ) → whole left ≡ rows → table head left ≡ rows ++ (if is_none rows then head else [])
-table_by head left rows is = ap (λ (l : List ℕ). l ++ (if is_none l then head else [])) is
+table_by : (head left : List ℕ) (rows : List ℕ) → whole left ≡ rows → table head left ≡ rows ++ (if is_empty rows then head else [])
+table_by head left rows is = ap (λ (l : List ℕ). l ++ (if is_empty l then head else [])) is
 
 -- a file whose table is as it was before a run has what `Has` asks for 0 bytes: none of the run's rows, as none ends within 0
 -- bytes
@@ -46,7 +46,7 @@ behind_rows : (head held : List ℕ) (b : ℕ) (bs : List ℕ) (rows : List (Lis
     → left ≡ whole held ++ take k (start_of head held ++ lines rows) → Has head held rows k left
 behind_rows head held b bs rows k left are some is =
     let w = within rows k are in
-    let start : start_of head held ≡ [] = ap (λ (l : List ℕ). if is_none l then head else []) some in
+    let start : start_of head held ≡ [] = ap (λ (l : List ℕ). if is_empty l then head else []) some in
     let at : left ≡ whole held ++ take k (lines rows) = is ∙ ap (λ (l : List ℕ). whole held ++ take k (l ++ lines rows)) start in
     let whole_at : whole left ≡ whole held ++ lines (take w.count rows) = ap whole at ∙ whole_more (whole held) (take k (lines rows)) (whole_whole held) ∙ ap (λ (l : List ℕ). whole held ++ l) w.is in
     let first : whole left ≡ b ∷ (bs ++ lines (take w.count rows)) = whole_at ∙ ap (λ (l : List ℕ). l ++ lines (take w.count rows)) some in
@@ -63,7 +63,7 @@ behind_nothing : (held : List ℕ) (rows : List (List ℕ)) (k : ℕ) (left : Li
     → left ≡ whole held ++ take k (start_of [] held ++ lines rows) → Has [] held rows k left
 behind_nothing held rows k left are none is =
     let w = within rows k are in
-    let start : start_of [] held ≡ [] = ap (λ (l : List ℕ). if is_none l then [] else []) none in
+    let start : start_of [] held ≡ [] = ap (λ (l : List ℕ). if is_empty l then [] else []) none in
     let at : left ≡ take k (lines rows) = is ∙ ap (λ (l : List ℕ). l ++ take k (start_of [] held ++ lines rows)) none ∙ ap (λ (l : List ℕ). take k (l ++ lines rows)) start in
     record {
       count = w.count;
@@ -79,14 +79,14 @@ behind_nothing held rows k left are none is =
 
     -- without a head, a file's table is its whole rows
     plain : (l : List ℕ) → table [] l ≡ whole l
-    plain l = ap (λ (e : List ℕ). whole l ++ e) (either_same [] (is_none (whole l))) ∙ append-nil (whole l)
+    plain l = ap (λ (e : List ℕ). whole l ++ e) (either_same [] (is_empty (whole l))) ∙ append-nil (whole l)
 
 -- in a file without a whole row, where the run first writes a head, which is the line `row`: where the file has the first
 -- `count` of the lines of head and rows, at least all that end within k bytes, it has the rows that end within k bytes (`Has`)
 head_first : (row held : List ℕ) (rows : List (List ℕ)) (k : ℕ) (left : List ℕ) → whole held ≡ [] → (count : ℕ) → count ≤ length (row ∷ rows) → whole left ≡ lines (take count (row ∷ rows))
     → ((m : ℕ) → m ≤ length (row ∷ rows) → length (lines (take m (row ∷ rows))) ≤ k → m ≤ count) → Has (line row) held rows k left
 head_first row held rows k left none zero few is least =
-    let start : start_of (line row) held ≡ line row = ap (λ (l : List ℕ). if is_none l then line row else []) none in
+    let start : start_of (line row) held ≡ line row = ap (λ (l : List ℕ). if is_empty l then line row else []) none in
     record {
       count = 0;
       few = omega arith;
@@ -94,7 +94,7 @@ head_first row held rows k left none zero few is least =
       least = λ m few le. absurd (omega (arith, least (suc m) (omega (arith, few)) (subst (λ (l : List ℕ). length (l ++ lines (take m rows)) ≤ k) start le)));
     }
 head_first row held rows k left none (suc n) few is least =
-    let start : start_of (line row) held ≡ line row = ap (λ (l : List ℕ). if is_none l then line row else []) none in
+    let start : start_of (line row) held ≡ line row = ap (λ (l : List ℕ). if is_empty l then line row else []) none in
     let f = line_first row in
     let first : whole left ≡ f.0 ∷ (f.1 ++ lines (take n rows)) = is ∙ ap (λ (l : List ℕ). l ++ lines (take n rows)) f.2 in
     record {
@@ -120,7 +120,7 @@ reached head held rows k left heads are is = elim (list_cases (whole held)) [
     | inr one ↦
         let row = one.0 in
         let w = within (row ∷ rows) k (one.1, are) in
-        let start : start_of head held ≡ line row = ap (λ (l : List ℕ). if is_none l then head else []) none ∙ one.2 in
+        let start : start_of head held ≡ line row = ap (λ (l : List ℕ). if is_empty l then head else []) none ∙ one.2 in
         let at : left ≡ take k (lines (row ∷ rows)) = is ∙ ap (λ (l : List ℕ). l ++ take k (start_of head held ++ lines rows)) none ∙ ap (λ (l : List ℕ). take k (l ++ lines rows)) start in
         subst (λ (h : List ℕ). Has h held rows k left) (sym one.2) (head_first row held rows k left none w.count w.few (ap whole at ∙ w.is) w.least)
   ]
@@ -169,7 +169,7 @@ none_of head held run left one nothing =
 
 -- files with the same whole rows have the same table
 same_table : (head left held : List ℕ) → whole left ≡ whole held → table head left ≡ table head held
-same_table head left held same = ap (λ (l : List ℕ). l ++ (if is_none l then head else [])) same
+same_table head left held same = ap (λ (l : List ℕ). l ++ (if is_empty l then head else [])) same
 
 -- the first k bytes of a front are the first `count` bytes of the whole, and `count` is at least k or at least the front's
 -- length
@@ -281,8 +281,8 @@ module _ (head before : List ℕ) (heads : IsHead head) where
       (all_runs (earlier ++ run ∷ []) runs (lived life run run.left) (ended earlier life run run.left lasts happen.0 happen.1) happen.2)
 
 -- the law: over any runs and crashes the table lasts
-pub tables_last : (head held : List ℕ) → IsHead head → (runs : List Run) → Happen head (record { start = held; steps = [] }) runs
-    → Lasts head (table head held) runs (life_after (record { start = held; steps = [] }) runs)
+pub tables_last : (head held : List ℕ) → IsHead head → (runs : List Run) → Happen head (settled held) runs
+    → Lasts head (table head held) runs (life_after (settled held) runs)
 tables_last head held heads runs happen =
-    all_runs head (table head held) heads [] runs (record { start = held; steps = [] })
+    all_runs head (table head held) heads [] runs (settled held)
     (λ left may. ([], tt, ap (table head) may ∙ sym (append-nil (table head held)))) happen

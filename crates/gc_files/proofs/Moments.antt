@@ -3,18 +3,18 @@ use Rattle.std.proofs.Common.{◌≡◌, ◌⊎◌, inl, inr, ℕ, zero, suc, �
 use Rattle.std.proofs.Math.Seq.{take-append-add}
 use Rattle.std.proofs.lemmas.Bool.{cases_Bool, cases_lt, eqb-true}
 use Rattle.std.proofs.lemmas.List.{append-nil, take_all, take_at, take-append-le}
-use Rattle.gc_files.specs.Files.{Step, Append, Cut, Sync, stepped, behind, has_sync, MayLeave}
+use Rattle.gc_files.specs.Files.{Step, Append, Cut, Sync, stepped, held_after, has_sync, MayLeave}
 use Rattle.gc_files.specs.Rows.{whole, mended, cuts_none, appended}
 use Rattle.gc_files.specs.Runs.{synced}
 use Rattle.gc_files.proofs.Whole.{Torn, torn_of, whole_take}
 
 -- what is there now is among what a crash may leave
-pub may_stay : (held : List ℕ) (steps : List Step) → MayLeave held steps (behind held steps)
+pub may_stay : (held : List ℕ) (steps : List Step) → MayLeave held steps (held_after held steps)
 may_stay held [] = refl
 may_stay held (step ∷ steps) = inr (may_stay (stepped held step) steps)
 
 -- after the steps `xs ++ ys`, a file holds what `ys` make of what it holds after `xs`
-pub behind_two : (held : List ℕ) (xs ys : List Step) → behind held (xs ++ ys) ≡ behind (behind held xs) ys
+pub behind_two : (held : List ℕ) (xs ys : List Step) → held_after held (xs ++ ys) ≡ held_after (held_after held xs) ys
 behind_two held [] ys = refl
 behind_two held (step ∷ xs) ys = behind_two (stepped held step) xs ys
 
@@ -35,7 +35,7 @@ sync_two (Sync ∷ xs) ys none = absurd (is_not none)
 
 -- what a crash may leave after the steps `xs ++ ys` is what it may leave after `xs` alone, where `ys` have no sync, or what it
 -- may leave after `ys` of the file that `xs` made
-pub leaves_two : (held : List ℕ) (xs ys : List Step) (left : List ℕ) → MayLeave held (xs ++ ys) left → ((has_sync ys ≡ false) × MayLeave held xs left) ⊎ MayLeave (behind held xs) ys left
+pub leaves_two : (held : List ℕ) (xs ys : List Step) (left : List ℕ) → MayLeave held (xs ++ ys) left → ((has_sync ys ≡ false) × MayLeave held xs left) ⊎ MayLeave (held_after held xs) ys left
 leaves_two held [] ys left may = inr may
 leaves_two held (step ∷ xs) ys left (inl now) =
     let two = sync_two (step ∷ xs) ys now.0 in
@@ -53,16 +53,16 @@ no_sync (Cut size ∷ steps) none = no_sync steps none
 no_sync (Sync ∷ steps) none = absurd (is_not none)
 
 -- mending a file leaves its whole rows
-pub mends : (held : List ℕ) → behind held (mended held) ≡ whole held
+pub mends : (held : List ℕ) → held_after held (mended held) ≡ whole held
 mends held = elim (cases_Bool (length (whole held) == length held)) [
   | inl same ↦
       let t = torn_of held in
       let none : mended held ≡ [] = rw (same) refl in
-      ap (behind held) none ∙ all held t (eq_of same)
+      ap (held_after held) none ∙ all held t (eq_of same)
   | inr less ↦
       let two : mended held ≡ Cut (length (whole held)) ∷ Sync ∷ [] = rw (less) refl in
       let t = torn_of held in
-      ap (behind held) two ∙ ap (take (length (whole held))) t.split ∙ take_at (whole held) t.torn (length (whole held)) refl
+      ap (held_after held) two ∙ ap (take (length (whole held))) t.split ∙ take_at (whole held) t.torn (length (whole held)) refl
 ]
   where
     -- numbers that test as equal are equal

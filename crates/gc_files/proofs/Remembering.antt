@@ -3,7 +3,7 @@
 use Rattle.std.proofs.Common.{◌≡◌, inl, inr, ℕ, true, false, List, [], ◌∷◌, ◌++◌, refl, sym, ◌∙◌, ap, Option, None, Some, subst, Result, Ok, Err, OnOk}
 use Rattle.gc_files.specs.declared.memory_file.Call.{Call}
 use Rattle.gc_files.specs.Calls.{step_of, steps_of, life_by}
-use Rattle.gc_files.specs.Files.{Step, Sync, Life, stepped, behind, content, MayLeave, IsKept, later_by, Adds, Makes}
+use Rattle.gc_files.specs.Files.{Step, Sync, Life, stepped, held_after, content, MayLeave, IsKept, later_by, Adds, Makes}
 use Rattle.gc_files.proofs.Moments.{behind_two, leaves_two}
 
 -- the steps of `calls` and then c are those of `calls`, and then that of c
@@ -37,7 +37,7 @@ noted_step start calls new c is life same =
     after (Some l) = Some (later_by (step_of c ∷ []) l)
 
 -- after a sync a crash leaves what is there
-sync_keeps : (start : List ℕ) (steps : List Step) (left : List ℕ) → MayLeave start (steps ++ Sync ∷ []) left → left ≡ behind start (steps ++ Sync ∷ [])
+sync_keeps : (start : List ℕ) (steps : List Step) (left : List ℕ) → MayLeave start (steps ++ Sync ∷ []) left → left ≡ held_after start (steps ++ Sync ∷ [])
 sync_keeps start steps left may = elim (leaves_two start steps (Sync ∷ []) left may) [
   | inl old ↦ absurd (is_not old.0)
   | inr new ↦ last new
@@ -48,7 +48,7 @@ sync_keeps start steps left may = elim (leaves_two start steps (Sync ∷ []) lef
     is_not e = cc
 
     -- what a crash leaves after the last sync is what the file holds
-    last : MayLeave (behind start steps) (Sync ∷ []) left → left ≡ behind start (steps ++ Sync ∷ [])
+    last : MayLeave (held_after start steps) (Sync ∷ []) left → left ≡ held_after start (steps ++ Sync ∷ [])
     last (inl now) = absurd (is_not now.0)
     last (inr rest) = rest ∙ sym (behind_two start steps (Sync ∷ []))
 

@@ -1,6 +1,7 @@
 -- Files in which a sync failed: what the system may have lost of them, and what becomes of their rows. This project's own.
 use Rattle.std.specs.Prelude.{◌≡◌, ◌⊎◌, ℕ, Bool, true, false, List, [], ◌∷◌, ◌++◌, ◌+◌, ◌==◌, if◌then◌else◌}
 use Rattle.gc_files.specs.Files.{Step, Life, content, later_by, MayLeave}
+pub use Rattle.gc_files.specs.Files.{settled}
 use Rattle.gc_files.specs.Rows.{has_feed, table}
 use Rattle.gc_files.specs.Runs.{Run, IsHead, IsRun, HasRows}
 
@@ -18,10 +19,6 @@ feeds (b ∷ bs) = feed_of b + feeds bs
 pub record Sides : Type 0 where
   pub read : Life
   pub disk : Life
-
--- the life of a file that holds this, all of it on the disk
-abbrev pub settled : List ℕ → Life
-settled held = record { start = held; steps = [] }
 
 -- both sides of a file in which no sync failed: this life
 abbrev pub one : Life → Sides

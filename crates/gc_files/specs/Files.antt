@@ -13,6 +13,10 @@ pub record Life : Type 0 where
   pub start : List ℕ
   pub steps : List Step
 
+-- the life of a file that holds this, all of it on the disk
+abbrev pub settled : List ℕ → Life
+settled held = record { start = held; steps = [] }
+
 -- what a file holds after a step
 abbrev pub stepped : List ℕ → Step → List ℕ
 stepped held (Append bytes) = held ++ bytes
@@ -20,9 +24,9 @@ stepped held (Cut size) = take size held
 stepped held Sync = held
 
 -- what a file that held `held` holds after these steps
-abbrev pub behind : List ℕ → List Step → List ℕ
-behind held [] = held
-behind held (step ∷ steps) = behind (stepped held step) steps
+abbrev pub held_after : List ℕ → List Step → List ℕ
+held_after held [] = held
+held_after held (step ∷ steps) = held_after (stepped held step) steps
 
 -- what a crash in the course of a step finds: what the file held with a front of what is appended; at a cut, a front of what the file held,
 -- of at least `size` bytes; at a sync, what the file held
@@ -47,7 +51,7 @@ MayLeave held (step ∷ steps) left = ((has_sync (step ∷ steps) ≡ false) × 
 
 -- what a read returns
 abbrev pub content : Life → List ℕ
-content life = behind life.start life.steps
+content life = held_after life.start life.steps
 
 -- a crash leaves what a read returns, and nothing else
 abbrev pub IsKept : Life → Type 0

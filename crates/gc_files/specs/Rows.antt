@@ -17,20 +17,20 @@ whole (b ∷ bs) = if has_feed (b ∷ bs) then b ∷ whole bs else []
 abbrev pub line : List ℕ → List ℕ
 line row = row ++ 10 ∷ []
 
--- whether one list begins with the other: as far as both go, they are the same
+-- whether a file holds the sign at its front, or a front of the sign alone
 abbrev pub fits : List ℕ → List ℕ → Bool
 fits [] held = true
 fits (a ∷ sign) [] = true
 fits (a ∷ sign) (b ∷ held) = (a == b) && fits sign held
 
 -- whether a list is empty
-abbrev pub is_none : List ℕ → Bool
-is_none [] = true
-is_none (b ∷ bs) = false
+abbrev pub is_empty : List ℕ → Bool
+is_empty [] = true
+is_empty (b ∷ bs) = false
 
 -- what an opening writes: the head, where no whole row is there
 abbrev pub start_of : List ℕ → List ℕ → List ℕ
-start_of head held = if is_none (whole held) then head else []
+start_of head held = if is_empty (whole held) then head else []
 
 -- what is in a file once it is opened: its whole rows, or the head where there are none
 abbrev pub table : List ℕ → List ℕ → List ℕ

@@ -1,7 +1,7 @@
 -- The runs of programs over one file, each ended by itself, by a kill or by a crash of the machine. This project's own.
 use Rattle.std.specs.Prelude.{◌≡◌, ◌⊎◌, ℕ, ◌≤◌, false, List, [], ◌∷◌, ◌++◌, length, take, Option, Some, None, if◌then◌else◌}
 use Rattle.std.specs.List.{AllByRecursion}
-use Rattle.gc_files.specs.Files.{Step, Append, Cut, Sync, Life, has_sync, content, later_by, MayLeave}
+use Rattle.gc_files.specs.Files.{Step, Append, Cut, Sync, Life, settled, has_sync, content, later_by, MayLeave}
 use Rattle.gc_files.specs.Rows.{has_feed, line, table, start_of, Puts, Ran, IsFront, ComesTo}
 
 -- what was appended before the last sync
@@ -48,7 +48,7 @@ pub record IsRun (head held : List ℕ) (run : Run) : Type 0 where
 -- that starts with what the crash left
 abbrev pub lived : Life → Run → Option (List ℕ) → Life
 lived life run None = later_by run.steps life
-lived life run (Some left) = record { start = left; steps = [] }
+lived life run (Some left) = settled left
 
 -- where a crash of the machine ended the run, what the crash left (`left`) is what one may leave of the file then
 abbrev pub Ended : Life → Run → Option (List ℕ) → Type 0
@@ -86,8 +86,8 @@ HasRows head before runs held = (counts : List ℕ) × Counts runs counts × (ta
 -- Over any runs and crashes the table stays: whatever a crash at any moment leaves, and what a read returns, the next opening
 -- makes of it the table that was there before, and the rows of the runs.
 abbrev pub TablesLast : Type 0
-TablesLast = (head held : List ℕ) → IsHead head → (runs : List Run) → Happen head (record { start = held; steps = [] }) runs
-    → (left : List ℕ) → MayLeave (life_after (record { start = held; steps = [] }) runs).start (life_after (record { start = held; steps = [] }) runs).steps left
+TablesLast = (head held : List ℕ) → IsHead head → (runs : List Run) → Happen head (settled held) runs
+    → (left : List ℕ) → MayLeave (life_after (settled held) runs).start (life_after (settled held) runs).steps left
     → HasRows head (table head held) runs left
 
 -- the first `count` rows of a run went out whole: what was appended after the mending begins with the head, where the run

@@ -71,8 +71,12 @@ impl Beside {
         let _ = fs::remove_file(rt, self.mark.as_str());
     }
 
-    // Gives back the file that was opened, set in doubt where the mark is there.
-    fn look<R: Files<File = File>>(&self, rt: &R, file: SystemFile) -> Result<SystemFile, Unfit> {
+    // The file that was opened, in doubt where the mark is there.
+    fn doubted_if_marked<R: Files<File = File>>(
+        &self,
+        rt: &R,
+        file: SystemFile,
+    ) -> Result<SystemFile, Unfit> {
         if self.is_marked(rt)? {
             return Ok(file.doubt());
         }
@@ -154,7 +158,7 @@ fn sync_link<R: Files<File = File>>(rt: &R, path: &str) -> Result<(), Unfit> {
 
 // Whether the last row of a file is torn: bytes follow the last line feed. `Foreign`: the file neither begins with the sign
 // nor is a front of it.
-fn look<F: Appending>(file: &F, sign: &[u8]) -> Result<bool, Refused>
+fn has_torn_row<F: Appending>(file: &F, sign: &[u8]) -> Result<bool, Refused>
     ensures taken { OnOk result ((known : Life) → F.life file.now ≡ Some known → fits sign.now (content known) ≡ true) }
     ensures why { IsErrOf result Refused.Foreign → (known : Life) → F.life file.now ≡ Some known → fits sign.now (content known) ≡ false }
 {
@@ -209,9 +213,9 @@ pub fn open_at<R: Files<File = File>>(
     if !file.is_at(rt, path) {
         return Err(Unfit::Held);
     }
-    let is_torn = look(&file, sign)?;
+    let is_torn = has_torn_row(&file, sign)?;
     let beside = Beside::of(rt, alloc, path)?;
-    let file = beside.look(rt, file)?;
+    let file = beside.doubted_if_marked(rt, file)?;
     // Where a row is torn, the opening cuts it off and syncs that: so this counts as a sync to come.
     let is_marked = sync || is_torn || file.is_doubted();
     let (file, lines) = beside.trusted(rt, file)?;

@@ -134,7 +134,7 @@ fn use_rows(rows: &mut RowsFile<MemoryFile>, word: &str, bytes: &[u8], came: &mu
     }
 }
 
-// Syncs what was written, and returns whether that succeeded.
+// Syncs what was written, and reports whether that succeeded.
 fn keep(rows: &mut RowsFile<MemoryFile>, came: &mut Told) {
     came.either(rows.sync().is_ok(), "kept", "failed");
 }

@@ -119,7 +119,7 @@ fn target_of(words: &str) -> Option<Target> {
 
 /// Hands in a line, and reports the reply and the id that is kept then.
 pub fn hand_in(instrument: &mut Instrument, bytes: &[u8], came: &mut Told) {
-    push_reply(instrument, bytes, came);
+    tell_reply(instrument, bytes, came);
     match instrument.kept_id() {
         Some(id) => came.titled(", kept ", &id),
         None => came.text(", none kept"),
@@ -127,7 +127,7 @@ pub fn hand_in(instrument: &mut Instrument, bytes: &[u8], came: &mut Told) {
 }
 
 // Hands in a line, and reports the reply.
-fn push_reply(instrument: &mut Instrument, bytes: &[u8], came: &mut Told) {
+fn tell_reply(instrument: &mut Instrument, bytes: &[u8], came: &mut Told) {
     let mut line = Line::new();
     if line.try_extend_from_slice(bytes).is_err() {
         return came.text("more bytes than a line has");

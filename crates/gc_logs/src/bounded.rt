@@ -81,19 +81,19 @@ fn full_line(line: &[u8]) -> ArrayVec<u8, 100>
 }
 
 // Writes the line that replaces `line`. `Err(n)`: the sink took the first n bytes of it, which aren't all, and failed.
-fn put_full<K: Sink>(sink: &mut K, line: &[u8]) -> Result<(), usize>
+fn write_full_line<K: Sink>(sink: &mut K, line: &[u8]) -> Result<(), usize>
     ensures ok { OnOk result (Appends (K.taken sink.old) (K.taken sink.new) (full_line line.now)) }
     ensures err { IfErr result (λ n. TakesFront (K.taken sink.old) (K.taken sink.new) n (full_line line.now)) }
 {
     write_whole(sink, &full_line(line))
 }
 
-// Writes the line that says that the log is full, as far as the sink takes it. A part of that line is cut off when the log is
-// next opened.
-fn write_full<K: Sink>(sink: &mut K, line: &[u8])
+// Notes in the log that it is full: writes the line that says so, as far as the sink takes it. A part of that line is cut off
+// when the log is next opened.
+fn note_full<K: Sink>(sink: &mut K, line: &[u8])
     ensures { TakesFull (K.taken sink.old) (K.taken sink.new) line.now }
 {
-    let _ = put_full(sink, line);
+    let _ = write_full_line(sink, line);
 }
 
 impl<K: Sink> Sink for Bounded<K> {
@@ -117,7 +117,7 @@ impl<K: Sink> Sink for Bounded<K> {
         }
         if self.left < bytes.len() as u64 {
             self.is_ended = true;
-            write_full(&mut self.sink, bytes);
+            note_full(&mut self.sink, bytes);
             return Err(PortFailed);
         }
         match self.sink.write(bytes) {

@@ -9,7 +9,7 @@ use Rattle.gc_rehearsal.specs.Carrying.{Lines, Happening, Call, Reaches, Restart
 use Rattle.gc_rehearsal.specs.Queues.{texts, MayAddLine, MayRepeat, Answers}
 use Rattle.gc_rehearsal.specs.declared.flight.Flight.{Flight}
 
--- what leads on behind what has led here
+-- where `hs` lead from `l` to `m`, and one thing more from `m` to `n`, all of it leads from `l` to `n`
 lead_on : (hs : List Happening) (h : Happening) (l m n : Lines) → LeadAll l hs m → Leads m h n → LeadAll l (hs ++ h ∷ []) n
 lead_on [] h l m n all one = (n, subst (λ x. Leads x h n) all one, refl)
 lead_on (g ∷ hs) h l m n all one = (all.0, all.1, lead_on hs h all.0 m n all.2 one)
@@ -31,9 +31,9 @@ acts_on (Loses_front ∷ hs) h = acts_on hs h
 abbrev pub lines : List (List ℕ) → List (List ℕ) → SceneState → Lines
 lines up down state = record { up = up; down = down; state = state }
 
--- one thing more has happened
-come_on : (acts : List Act) (h : Happening) (l m : Lines) → HasComeTo acts l → Leads l h m → HasComeTo (acts ++ acts_of (h ∷ [])) m
-come_on acts h l m c one = record {
+-- one thing more has happened, and the acts are those before and its own
+one_more_happened : (acts : List Act) (h : Happening) (l m : Lines) → HasComeTo acts l → Leads l h m → HasComeTo (acts ++ acts_of (h ∷ [])) m
+one_more_happened acts h l m c one = record {
   start = c.start;
   happened = c.happened ++ h ∷ [];
   none = c.none;
@@ -41,9 +41,9 @@ come_on acts h l m c one = record {
   leads = lead_on c.happened h (lines [] [] c.start) l m c.leads one;
 }
 
--- one thing more has happened, which is no act
-come_by : (acts : List Act) (h : Happening) (l m : Lines) → acts_of (h ∷ []) ≡ [] → HasComeTo acts l → Leads l h m → HasComeTo acts m
-come_by acts h l m none c one = subst (λ x. HasComeTo x m) (ap (λ x. acts ++ x) none ∙ append-nil acts) (come_on acts h l m c one)
+-- one thing more has happened, which is no act, so that the acts are the same
+one_more_unseen : (acts : List Act) (h : Happening) (l m : Lines) → acts_of (h ∷ []) ≡ [] → HasComeTo acts l → Leads l h m → HasComeTo acts m
+one_more_unseen acts h l m none c one = subst (λ x. HasComeTo x m) (ap (λ x. acts ++ x) none ∙ append-nil acts) (one_more_happened acts h l m c one)
 
 -- nothing has happened
 pub nothing_happened : (state : SceneState) → state.base.kept ≡ None → HasComeTo [] (lines [] [] state)
@@ -57,11 +57,11 @@ quiet_does act l q = refl
 
 -- a quiet act was made
 pub noted : (acts : List Act) (act : Act) (l : Lines) → IsQuiet act → HasComeTo acts l → HasComeTo (acts ++ act ∷ []) l
-noted acts act l q c = come_on acts (Call act) l l c (quiet_does act l q)
+noted acts act l q c = one_more_happened acts (Call act) l l c (quiet_does act l q)
 
 -- bytes were put that don't arrive
 pub put_lost : (acts : List Act) (bytes : List ℕ) (l : Lines) → HasComeTo acts l → HasComeTo (acts ++ Put bytes ∷ []) l
-put_lost acts bytes l c = come_on acts (Call (Put bytes)) l l c (inl refl)
+put_lost acts bytes l c = one_more_happened acts (Call (Put bytes)) l l c (inl refl)
 
 -- the lines of a queue with one more behind
 pub texts_on : (flights : List Flight) (flight : Flight) → texts (flights ++ flight ∷ []) ≡ texts flights ++ flight.line.items ∷ []
@@ -75,35 +75,36 @@ put_may acts bytes up up' down state (inl same) c =
 put_may acts bytes up up' down state (inr x) c =
     let l = lines (texts up) down state in
     let new = ap texts x.2 ∙ texts_on up x.0 in
-    come_on acts (Call (Put bytes)) l (lines (texts up') down state) c (inr (x.0.line.items, x.1, ap (λ q. lines q down state) new))
+    one_more_happened acts (Call (Put bytes)) l (lines (texts up') down state) c (inr (x.0.line.items, x.1, ap (λ q. lines q down state) new))
 
 -- the request that set out last may come twice
 pub repeats_up : (acts : List Act) (up up' : List Flight) (down : List (List ℕ)) (state : SceneState) → MayRepeat up up'
     → HasComeTo acts (lines (texts up) down state) → HasComeTo acts (lines (texts up') down state)
 repeats_up acts up up' down state (inl same) c = subst (λ x. HasComeTo acts (lines (texts x) down state)) (sym same) c
-repeats_up acts up up' down state (inr x) c = come_by acts Repeats_up (lines (texts up) down state) (lines (texts up') down state) refl c (texts up', x, refl)
+repeats_up acts up up' down state (inr x) c = one_more_unseen acts Repeats_up (lines (texts up) down state) (lines (texts up') down state) refl c (texts up', x, refl)
 
 -- the reply that set out last may come twice
 pub repeats_down : (acts : List Act) (up : List (List ℕ)) (down down' : List Flight) (state : SceneState) → MayRepeat down down'
     → HasComeTo acts (lines up (texts down) state) → HasComeTo acts (lines up (texts down') state)
 repeats_down acts up down down' state (inl same) c = subst (λ x. HasComeTo acts (lines up (texts x) state)) (sym same) c
-repeats_down acts up down down' state (inr x) c = come_by acts Repeats_down (lines up (texts down) state) (lines up (texts down') state) refl c (texts down', x, refl)
+repeats_down acts up down down' state (inr x) c = one_more_unseen acts Repeats_down (lines up (texts down) state) (lines up (texts down') state) refl c (texts down', x, refl)
 
 -- all requests are lost
 pub loses_up : (acts : List Act) (up up' : List (List ℕ)) (down : List (List ℕ)) (state : SceneState) → up' ≡ [] → HasComeTo acts (lines up down state) → HasComeTo acts (lines up' down state)
-loses_up acts up up' down state none c = come_by acts Loses_up (lines up down state) (lines up' down state) refl c (ap (λ q. lines q down state) none)
+loses_up acts up up' down state none c = one_more_unseen acts Loses_up (lines up down state) (lines up' down state) refl c (ap (λ q. lines q down state) none)
 
 -- all replies are lost
 pub loses_down : (acts : List Act) (up down down' : List (List ℕ)) (state : SceneState) → down' ≡ [] → HasComeTo acts (lines up down state) → HasComeTo acts (lines up down' state)
-loses_down acts up down down' state none c = come_by acts Loses_down (lines up down state) (lines up down' state) refl c (ap (λ q. lines up q state) none)
+loses_down acts up down down' state none c = one_more_unseen acts Loses_down (lines up down state) (lines up down' state) refl c (ap (λ q. lines up q state) none)
 
 -- the instrument starts anew
 pub restarts : (acts : List Act) (up down : List (List ℕ)) (state state' : SceneState) → state' ≡ scene_restarted state → HasComeTo acts (lines up down state) → HasComeTo acts (lines up down state')
-restarts acts up down state state' is c = come_by acts Restarts (lines up down state) (lines up down state') refl c (ap (λ s. lines up down s) is)
+restarts acts up down state state' is c = one_more_unseen acts Restarts (lines up down state) (lines up down state') refl c (ap (λ s. lines up down s) is)
 
 -- the instrument's clock comes to a moment
-pub passes : (acts : List Act) (moment : ℕ) (up down : List (List ℕ)) (state state' : SceneState) → state' ≡ at moment state → HasComeTo acts (lines up down state) → HasComeTo acts (lines up down state')
-passes acts moment up down state state' is c = come_by acts (Passes moment) (lines up down state) (lines up down state') refl c (ap (λ s. lines up down s) is)
+pub passes : (acts : List Act) (moment : ℕ) (up down : List (List ℕ)) (state state' : SceneState) → state' ≡ at moment state
+    → HasComeTo acts (lines up down state) → HasComeTo acts (lines up down state')
+passes acts moment up down state state' is c = one_more_unseen acts (Passes moment) (lines up down state) (lines up down state') refl c (ap (λ s. lines up down s) is)
 
 -- a request may be handed to the instrument
 pub reaches : (acts : List Act) (up down up' down' : List Flight) (state state' : SceneState) → Answers state up down state' up' down'
@@ -112,17 +113,17 @@ reaches acts up down up' down' state state' (inl same) c =
     subst (λ s. HasComeTo acts (lines (texts up') (texts down') s)) (sym same.0)
     (subst (λ q. HasComeTo acts (lines (texts q) (texts down') state)) (sym same.1) (subst (λ q. HasComeTo acts (lines (texts up) (texts q) state)) (sym same.2) c))
 reaches acts up down up' down' state state' (inr x) c =
-    come_by acts Reaches (lines (texts up) (texts down) state) (lines (texts up') (texts down') state') refl c
+    one_more_unseen acts Reaches (lines (texts up) (texts down) state) (lines (texts up') (texts down') state') refl c
     (record { line = x.0.line.items; reply = x.2.reply; front = ap texts x.1; played = x.2.played; sends = x.2.sends })
 
 -- the reply in front is lost
 pub loses_front : (acts : List Act) (up : List (List ℕ)) (down down' : List Flight) (flight : Flight) (state : SceneState) → down ≡ flight ∷ down'
     → HasComeTo acts (lines up (texts down) state) → HasComeTo acts (lines up (texts down') state)
 loses_front acts up down down' flight state front c =
-    come_by acts Loses_front (lines up (texts down) state) (lines up (texts down') state) refl c (flight.line.items, ap texts front, refl)
+    one_more_unseen acts Loses_front (lines up (texts down) state) (lines up (texts down') state) refl c (flight.line.items, ap texts front, refl)
 
 -- the reply in front was read
 pub gives : (acts : List Act) (bytes : List ℕ) (moment : Moment) (up : List (List ℕ)) (down down' : List Flight) (flight : Flight) (state : SceneState) → down ≡ flight ∷ down'
     → bytes ≡ with_end flight.line.items → HasComeTo acts (lines up (texts down) state) → HasComeTo (acts ++ Gave bytes moment ∷ []) (lines up (texts down') state)
 gives acts bytes moment up down down' flight state front is c =
-    come_on acts (Call (Gave bytes moment)) (lines up (texts down) state) (lines up (texts down') state) c (flight.line.items, texts down', ap texts front, is, refl)
+    one_more_happened acts (Call (Gave bytes moment)) (lines up (texts down) state) (lines up (texts down') state) c (flight.line.items, texts down', ap texts front, is, refl)

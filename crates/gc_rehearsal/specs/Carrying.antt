@@ -19,7 +19,7 @@ pub data Happening : Type 0 where
   Call : (act : Act) → Happening
   -- the request in front is handed to the instrument; its reply, if there is one, sets out or is lost
   Reaches : Happening
-  -- the instrument starts anew
+  -- the instrument restarts
   Restarts : Happening
   -- the instrument's clock comes to this moment
   Passes : (moment : ℕ) → Happening
@@ -32,7 +32,7 @@ pub data Happening : Type 0 where
   -- the reply in front is lost
   Loses_front : Happening
 
--- bytes were put: nothing of them arrives, or they are a line, which sets out
+-- bytes were put: nothing of them arrives, or they are a line with its CR LF, which sets out
 abbrev pub IsPut : Lines → List ℕ → Lines → Type 0
 IsPut l bytes m = (m ≡ l) ⊎ ((line : List ℕ) × (bytes ≡ with_end line) × (m ≡ record l { up = l.up ++ line ∷ [] }))
 
@@ -40,7 +40,7 @@ IsPut l bytes m = (m ≡ l) ⊎ ((line : List ℕ) × (bytes ≡ with_end line) 
 abbrev pub IsGiven : Lines → List ℕ → Lines → Type 0
 IsGiven l bytes m = (line : List ℕ) × (rest : List (List ℕ)) × (l.down ≡ line ∷ rest) × (bytes ≡ with_end line) × (m ≡ record l { down = rest })
 
--- what a call does to the lines: of those calls that carry nothing, nothing
+-- what an act of the link does to the lines: a put and a given piece as above, and any other act nothing
 abbrev pub Does : Lines → Act → Lines → Type 0
 Does l (Put bytes) m = IsPut l bytes m
 Does l (Gave bytes moment) m = IsGiven l bytes m
@@ -54,7 +54,7 @@ Does l Closed m = m ≡ l
 Does l Opened m = m ≡ l
 Does l Unopened m = m ≡ l
 
--- an act that carries no bytes whole
+-- an act that changes nothing on the line: no bytes were put whole, and none were given
 abbrev pub IsQuiet : Act → Type 0
 IsQuiet (Put bytes) = ⊥
 IsQuiet (Gave bytes moment) = ⊥
@@ -68,7 +68,8 @@ IsQuiet Closed = Unit {0}
 IsQuiet Opened = Unit {0}
 IsQuiet Unopened = Unit {0}
 
--- these replies are those, or one more behind them: `reply`, if there is one, which is one line
+-- the replies under way, once the instrument gave `reply`, or none: as before, or with the reply at the back, if it is one line of
+-- at most 512 bytes
 abbrev pub MaySendOut : List (List ℕ) → Option (List ℕ) → List (List ℕ) → Type 0
 MaySendOut down None new = new ≡ down
 MaySendOut down (Some line) new = (new ≡ down) ⊎ (IsPlain line × (length line ≤ 512) × (new ≡ down ++ line ∷ []))
@@ -81,11 +82,11 @@ pub record HasReached (l m : Lines) : Type 0 where
   pub played : IsPlayed l.state line m.state reply
   pub sends : MaySendOut l.down reply m.down
 
--- the line at the back comes twice
+-- the same lines with the last one twice
 abbrev pub IsRepeated : List (List ℕ) → List (List ℕ) → Type 0
 IsRepeated lines new = (front : List (List ℕ)) × (line : List ℕ) × (lines ≡ front ++ line ∷ []) × (new ≡ lines ++ line ∷ [])
 
--- what happens leads from these lines to those
+-- what happens leads from the lines `l` to the lines `m`
 abbrev pub Leads : Lines → Happening → Lines → Type 0
 Leads l (Call act) m = Does l act m
 Leads l Reaches m = HasReached l m

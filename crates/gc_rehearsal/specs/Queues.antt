@@ -10,29 +10,29 @@ use Rattle.gc_rehearsal.specs.declared.flight.Flight.{Flight}
 abbrev pub texts : List Flight → List (List ℕ)
 texts flights = map (λ f. f.line.items) flights
 
--- a queue may have this one behind
+-- the queue is the same, or has this line at its back
 abbrev pub MayAdd : List Flight → Flight → List Flight → Type 0
 MayAdd old flight new = (new ≡ old) ⊎ (new ≡ old ++ flight ∷ [])
 
--- a queue may have one more line behind, where these bytes are that line with its CR LF
+-- the queue is the same, or has one more line at its back, and these bytes are that line with its CR LF
 abbrev pub MayAddLine : List Flight → List ℕ → List Flight → Type 0
 MayAddLine old bytes new = (new ≡ old) ⊎ ((flight : Flight) × (bytes ≡ with_end flight.line.items) × (new ≡ old ++ flight ∷ []))
 
--- a queue may have its last line twice
+-- the queue is the same, or has its last line twice
 abbrev pub MayRepeat : List Flight → List Flight → Type 0
 MayRepeat old new = (new ≡ old) ⊎ IsRepeated (texts old) (texts new)
 
--- a queue may have this reply behind, which is one line
+-- the queue is the same, or has this reply at its back, if it is one line of at most 512 bytes
 abbrev pub Sends : List Flight → List ℕ → List Flight → Type 0
 Sends old reply new = MaySendOut (texts old) (Some reply) (texts new)
 
--- a request was in front and was handed to the instrument; or there was none, and nothing changes
+-- this request was handed to the instrument. Its reply, if there is one, is at the back of the queue down, or lost
 pub record Handed (request : Flight) (state : SceneState) (down : List Flight) (state' : SceneState) (down' : List Flight) : Type 0 where
   pub reply : Option (List ℕ)
   pub played : IsPlayed state request.line.items state' reply
   pub sends : MaySendOut (texts down) reply (texts down')
 
--- what becomes of the queue up, from `up` to `up'`, of the instrument and of the queue down
+-- nothing changes; or the request in front of the queue up is taken from it, and handed to the instrument
 abbrev pub Answers : SceneState → List Flight → List Flight → SceneState → List Flight → List Flight → Type 0
 Answers state up down state' up' down' =
     ((state' ≡ state) × (up' ≡ up) × (down' ≡ down))

@@ -16,8 +16,8 @@ use std::alloc::Global;
 use std::collections::VecDeque;
 use std::marker::Model;
 
-/// The requests and the replies under way, the one that set out first in front, and the instrument. To contracts it is the acts
-/// of its link: what the calls came to.
+/// The requests and the replies under way, the one that set out first in front, and the instrument. Contracts see it as the acts of
+/// its link: what its calls came to, in order.
 #[derive(Drop)]
 pub(crate) struct Carried {
     instrument: SceneInstrument,
@@ -69,6 +69,7 @@ impl Carried {
     pub fn is_of_line(&self)
         ensures { IsOfLine self.now }
     {
+        // Something of it has to be read for its invariant to be known.
         let _ = &self.history;
     }
 
@@ -82,7 +83,7 @@ impl Carried {
         due(&self.down)
     }
 
-    /// A call came to this, which is nothing to the lines.
+    /// A call of the link came to this. It changes nothing on the line.
     pub fn note(&mut self, note: &Note<'_>)
         requires { IsQuiet (act_of note.now) }
         ensures { self.new ≡ self.old ++ act_of note.now ∷ [] }
@@ -90,7 +91,7 @@ impl Carried {
         self.history = self.history.then(note);
     }
 
-    /// These bytes were put, and are lost, or are no line.
+    /// These bytes were put, and nothing of them arrives: they are lost, or no line.
     pub fn put_nothing(&mut self, bytes: &[u8])
         ensures { self.new ≡ self.old ++ Put bytes.now ∷ [] }
     {
@@ -133,7 +134,7 @@ impl Carried {
         self.down.clear();
     }
 
-    /// The instrument starts anew.
+    /// The instrument restarts.
     pub fn restart(&mut self)
         ensures { self.new ≡ self.old }
     {
@@ -141,7 +142,7 @@ impl Carried {
         self.made = Line::new();
     }
 
-    /// The instrument's clock comes to this moment.
+    /// The instrument's clock goes on to this moment, in milliseconds since the line was made.
     pub fn pass(&mut self, moment: u64)
         ensures { self.new ≡ self.old }
     {

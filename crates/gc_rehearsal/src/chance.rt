@@ -1,4 +1,4 @@
-//! What decides: all that happens on a rehearsed line by chance is asked for here.
+//! What happens by chance on a rehearsed line: a `Chance` is asked, and decides.
 
 /// What becomes of a line that sets out: a request once it is put, or a reply once the instrument has answered.
 #[derive(Clone, Copy, Debug, PartialEq, Eq)]
@@ -18,7 +18,8 @@ pub struct Fate {
 
 /// What decides what happens on a line. No law depends on what it answers.
 pub trait Chance {
-    /// What becomes of the next line that sets out. It is asked once for each request that is put, and for each reply that is made.
+    /// What becomes of the next line that sets out. It is asked once for each request that is put, and once for each request that reaches
+    /// the instrument, of its reply.
     fn fate(&mut self) -> Fate;
 
     /// How many bytes of a request go out whose connection closes at it. As many as it has, or more, count as all but one.
@@ -31,6 +32,6 @@ pub trait Chance {
     /// For how many milliseconds from now on no connection can be made. It is asked when a connection is wanted. 0: it is made.
     fn refusal(&mut self) -> u64;
 
-    /// Whether the instrument starts anew before the next request reaches it. It is asked once for each request that does.
+    /// Whether the instrument restarts before the next request reaches it. It is asked once for each request that does.
     fn restarts(&mut self) -> bool;
 }

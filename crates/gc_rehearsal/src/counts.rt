@@ -1,27 +1,27 @@
-//! How often what happened on a line.
+//! Counts of what happened on a line.
 
-/// How often what happened since a line was made. Each count stays at the greatest `u64` once it is there.
+/// How often each of these happened since a line was made. A count that has reached the greatest `u64` stays there.
 #[derive(Clone, Copy, Debug, PartialEq, Eq)]
 pub struct Counts {
     /// Requests that were put whole.
     pub requests: u64,
     /// Requests of which only a part went out.
     pub cut: u64,
-    /// Requests that reached the instrument and were answered. One that arrives twice counts twice.
+    /// Requests that reached the instrument. One that arrives twice counts twice.
     pub executed: u64,
     /// Replies that reads gave.
     pub replies: u64,
-    /// Lines that were lost alone, each way. Those that a close loses aren't counted.
+    /// Lines that were lost one by one, in either direction. Those that a close loses aren't counted.
     pub lost: u64,
-    /// Lines that came twice, each way.
+    /// Lines that came twice, in either direction.
     pub repeated: u64,
-    /// How often the line held everything.
+    /// How often the line held up what set out after.
     pub holds: u64,
     /// Connections that the line closed.
     pub closes: u64,
     /// Connections that were refused.
     pub refusals: u64,
-    /// Starts of the instrument.
+    /// Restarts of the instrument.
     pub restarts: u64,
 }
 

@@ -1,4 +1,4 @@
-//! What a rehearsed line keeps beside what it carries: its clock, its connection, when lines arrive, and what is told of all of it.
+//! What a rehearsed line keeps beside what it carries: its clock, its connection, when lines arrive, its counts, and the truths.
 
 use crate::chance::Fate;
 use crate::counts::Counts;
@@ -20,12 +20,14 @@ pub(crate) enum Next {
     Nothing,
 }
 
-/// The clock of a line, its connection, and what is told of it. Moments are in milliseconds since the line was made.
+/// The clock of a line, its connection, its counts and the truths. Moments are in milliseconds since the line was made.
 #[derive(Debug, Drop)]
 pub(crate) struct Course {
     pub now: u64,
     // Milliseconds between 1970 and the moment 0.
     start: u64,
+    // When the present run began: from there its deadlines count.
+    began: u64,
     // Whether there is a connection, and when the other end closes it.
     is_open: bool,
     ends: Option<u64>,
@@ -46,6 +48,7 @@ impl Course {
         Course {
             now: 0,
             start: utc,
+            began: 0,
             is_open: false,
             ends: None,
             refused: 0,
@@ -58,21 +61,27 @@ impl Course {
         }
     }
 
-    /// The moment now.
+    /// A run begins now.
+    pub fn begin(&mut self) {
+        self.began = self.now;
+        self.truths.clear();
+    }
+
+    /// The moment now, counted from the beginning of the run.
     pub fn moment(&self) -> Moment {
         Moment {
-            elapsed: self.now,
+            elapsed: self.now.saturating_sub(self.began),
             utc: self.start.saturating_add(self.now),
             stops: false,
         }
     }
 
     /// The moment so many milliseconds from now.
-    pub fn behind(&self, millis: u64) -> u64 {
+    pub fn from_now(&self, millis: u64) -> u64 {
         self.now.saturating_add(millis)
     }
 
-    /// It is this moment now, or later.
+    /// The clock goes on to this moment, if it isn't later already.
     pub fn come_to(&mut self, moment: u64) {
         self.now = self.now.max(moment);
     }
@@ -85,8 +94,8 @@ impl Course {
         }
     }
 
-    /// What comes next up to the moment `limit`, where the next request and the next reply arrive at these moments. Of what comes at one
-    /// moment, a request is first, and then the end. A reply arrives over a connection alone.
+    /// What comes next up to the moment `limit`, where the next request and the next reply arrive at these moments. Of what comes at the
+    /// same moment, a request is first, then the end, and then a reply. Replies and the end come only while there is a connection.
     pub fn next(&self, request: Option<u64>, reply: Option<u64>, limit: u64) -> Next {
         let mut at = limit;
         let mut next = Next::Nothing;
@@ -116,14 +125,14 @@ impl Course {
     fn arrival(&mut self, fate: Fate, last: u64) -> u64 {
         if fate.hold > 0 {
             self.counts.holds = self.counts.holds.saturating_add(1);
-            self.held = self.held.max(self.behind(fate.hold));
+            self.held = self.held.max(self.from_now(fate.hold));
         }
         if fate.lost {
             self.counts.lost = self.counts.lost.saturating_add(1);
         } else if fate.repeated {
             self.counts.repeated = self.counts.repeated.saturating_add(1);
         }
-        self.behind(fate.delay).max(last).max(self.held)
+        self.from_now(fate.delay).max(last).max(self.held)
     }
 
     /// When a request arrives that sets out now. It counts as put.
@@ -136,7 +145,7 @@ impl Course {
         arrives
     }
 
-    /// When a reply arrives that sets out now.
+    /// When a reply arrives that sets out now. Its request counts as executed.
     pub fn reply_arrives(&mut self, fate: Fate) -> u64 {
         let arrives = self.arrival(fate, self.last_reply);
         if !fate.lost {
@@ -155,7 +164,7 @@ impl Course {
         self.end_at(self.now);
     }
 
-    // The other end closes the connection at this moment, if it doesn't before.
+    // The other end closes the connection at this moment, unless it closes it earlier.
     fn end_at(&mut self, moment: u64) {
         if !self.is_open {
             return;
@@ -186,11 +195,11 @@ impl Course {
 
     /// No connection can be made for so many milliseconds from now on.
     pub fn refuse(&mut self, millis: u64) {
-        self.refused = self.behind(millis);
+        self.refused = self.from_now(millis);
         self.counts.refusals = self.counts.refusals.saturating_add(1);
     }
 
-    /// The instrument was started anew.
+    /// The instrument restarted.
     pub fn count_restart(&mut self) {
         self.counts.restarts = self.counts.restarts.saturating_add(1);
     }
@@ -200,8 +209,8 @@ impl Course {
         self.counts.lost = self.counts.lost.saturating_add(1);
     }
 
-    /// A reply was given now. Its truth is kept, where memory is granted.
-    pub fn tell(&mut self, flight: Flight) {
+    /// A reply was given now. Its truth is kept, if memory is granted; else it counts as untold.
+    pub fn keep_truth(&mut self, flight: Flight) {
         self.counts.replies = self.counts.replies.saturating_add(1);
         let Flight {
             line,

@@ -1,4 +1,4 @@
-//! The line of a rehearsal as a link: what its chance decides, and what comes of each call.
+//! The line of a rehearsal as a link: what its chance is asked, and what each call returns.
 
 ghost use Rattle.std.specs.Prelude.{◌≡◌, ◌<◌, ◌++◌, ◌∷◌, [], length};
 ghost use Rattle.gc_links.specs.Acts.{Cut, IsPart, Put, put_as};
@@ -22,7 +22,7 @@ use std::alloc::Global;
 /// 512 bytes.
 #[derive(Drop)]
 pub struct Rehearsed<C> {
-    /// What decides.
+    /// What decides what becomes of each line.
     pub chance: C,
     carried: Carried,
     course: Course,
@@ -53,21 +53,21 @@ impl<C> Rehearsed<C> {
         self.course.now
     }
 
-    /// How often what happened.
+    /// How often each thing happened.
     pub fn counts(&self) -> Counts {
         self.course.counts
     }
 
-    /// The truth of each reply that reads gave since they were forgotten last, in their order.
+    /// The truth of each reply that reads gave since the run began, in their order.
     pub fn truths(&self) -> &[Truth] {
         self.course.truths.as_slice()
     }
 
-    /// Forgets the truths so far.
-    pub fn forget(&mut self)
+    /// A run begins now: the moments that it reads are counted from here, and the truths so far are forgotten.
+    pub fn begin(&mut self)
         ensures { self.new.carried ≡ self.old.carried }
     {
-        self.course.truths.clear();
+        self.course.begin();
     }
 
     /// How many truths couldn't be kept, because memory was refused.
@@ -82,7 +82,7 @@ impl<C> Rehearsed<C> {
         self.course.next(request, reply, limit)
     }
 
-    // Nothing comes until the moment `limit`.
+    // Nothing comes until the moment `limit`. `buf` is there for the clause alone.
     fn be_silent(&mut self, limit: u64, buf: &[u8]) -> Came
         ensures { Reads self.old.carried self.new.carried result buf.now }
     {
@@ -93,7 +93,7 @@ impl<C> Rehearsed<C> {
         Came::Silence(moment)
     }
 
-    // The other end closes the connection at this moment.
+    // The other end closes the connection at this moment. `buf` is there for the clause alone.
     fn end(&mut self, moment: u64, buf: &[u8]) -> Came
         ensures { Reads self.old.carried self.new.carried result buf.now }
     {
@@ -114,7 +114,7 @@ impl<C> Rehearsed<C> {
             return None;
         };
         let n = flight.line.len() + 2;
-        self.course.tell(flight);
+        self.course.keep_truth(flight);
         Some(Came::Bytes(n, moment))
     }
 }
@@ -125,7 +125,7 @@ impl<C: Chance> Rehearsed<C> {
     pub fn wait(&mut self, millis: u64)
         ensures { self.new.carried ≡ self.old.carried }
     {
-        let limit = self.course.behind(millis);
+        let limit = self.course.from_now(millis);
         for _ in 0..u64::MAX {
             match self.carried.request_due() {
                 Some(moment) if moment <= limit => self.reach(moment),
@@ -135,7 +135,7 @@ impl<C: Chance> Rehearsed<C> {
         self.course.come_to(limit);
     }
 
-    // The instrument starts anew, where the chance says so.
+    // The instrument restarts, if the chance says so.
     fn restart(&mut self)
         ensures { self.new.carried ≡ self.old.carried }
     {
@@ -160,7 +160,7 @@ impl<C: Chance> Rehearsed<C> {
         }
     }
 
-    // What comes next up to the moment `limit` happens. `None`: it is nothing to the reader.
+    // What comes next up to the moment `limit` happens. `None`: the read goes on.
     fn step(&mut self, limit: u64, buf: &mut [u8]) -> Option<Came>
         ensures { MayRead self.old.carried self.new.carried result buf.new }
     {
@@ -258,7 +258,7 @@ impl<C: Chance> Link for Rehearsed<C> {
 
     // Gives the next reply, whole. Where there is no connection, it only waits. It waits for a millisecond at least.
     fn read(&mut self, buf: &mut [u8], millis: u64) -> Came {
-        let limit = self.course.behind(millis.max(1));
+        let limit = self.course.from_now(millis.max(1));
         for _ in 0..u64::MAX {
             if let Some(came) = self.step(limit, buf) {
                 return came;

@@ -104,7 +104,7 @@ walked quoted (b ∷ bs) rest keeps =
     ap (λ z. cond z ([] ∷ pieces false (bs ++ rest)) (onto b (pieces (turned b quoted) (bs ++ rest)))) (no_end b quoted keeps.0)
     ∙ ap (onto b) (walked (turned b quoted) bs rest keeps.1)
 
--- a byte more turns whether the number of double quotes is odd as `turned` has it
+-- one more byte changes whether the number of double quotes is odd exactly as `turned` says
 odd_more : (quoted : Bool) (front : List ℕ) (b : ℕ) → IsOdd quoted (quotes front) → IsOdd (turned b quoted) (quotes (front ++ b ∷ []))
 odd_more quoted front b odd = is quoted (b == 34) odd (quotes-append front (b ∷ []) ∙ ap (λ n. quotes front + n) (quotes-cons b [])) where
   -- the same, where `z` says whether the byte is a double quote

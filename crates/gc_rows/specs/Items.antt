@@ -9,7 +9,7 @@ abbrev pub without_front : List ℕ → List ℕ
 without_front [] = []
 without_front (b ∷ bs) = if b == 32 then without_front bs else b ∷ bs
 
--- a byte before a text; a space before nothing is left out
+-- a byte and the text after it; a space with nothing after it is left out
 abbrev pub before_text : ℕ → List ℕ → List ℕ
 before_text b [] = if b == 32 then [] else b ∷ []
 before_text b (x ∷ xs) = b ∷ x ∷ xs
@@ -23,7 +23,7 @@ without_end (b ∷ bs) = before_text b (without_end bs)
 abbrev pub trimmed : List ℕ → List ℕ
 trimmed text = without_end (without_front text)
 
--- a byte at the front of the first piece
+-- these pieces with a byte put at the front of the first
 abbrev pub onto : ℕ → List (List ℕ) → List (List ℕ)
 onto b [] = []
 onto b (piece ∷ pieces) = (b ∷ piece) ∷ pieces

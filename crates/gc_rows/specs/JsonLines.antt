@@ -22,7 +22,7 @@ use Rattle.gc_texts.specs.Cuts.{before, behind}
 use Rattle.gc_rows.specs.Rows.{com_of, code_of, values_of, procedure_of}
 use Rattle.gc_texts.specs.Stamps.{stamp_text}
 
--- a byte of a string: a double quote or a backslash, after a backslash
+-- a printable byte as it is written in a string: a double quote and a backslash after a backslash, any other unchanged
 abbrev pub behind_backslash : ℕ → List ℕ
 behind_backslash b = if (b == 34) || (b == 92) then 92 ∷ b ∷ [] else b ∷ []
 
@@ -53,7 +53,7 @@ text_member name bytes = named name ++ string_text bytes
 abbrev pub number_member : List ℕ → List ℕ → List ℕ
 number_member name digits = named name ++ digits
 
--- a comma if one is wanted
+-- a comma, where one is wanted, or nothing
 abbrev pub comma_where : Bool → List ℕ
 comma_where true = codes ","
 comma_where false = []
@@ -154,7 +154,7 @@ abbrev pub quantity_members : Asked → End → List Member
 quantity_members asked (Answered quality (Some answer) line) = answer_members asked answer line
 quantity_members asked _ = []
 
--- a member for the word of a quality; none if the word is empty
+-- the member `quality`, which holds this word; none if the word is empty
 abbrev pub worded_members : List ℕ → List Member
 worded_members [] = []
 worded_members (b ∷ bs) = Text (codes "quality") (b ∷ bs) ∷ []

@@ -99,7 +99,8 @@ abbrev pub IsAnswerOfBytes : Answer → Type 0
 IsAnswerOfBytes (answers.Name bytes) = IsFittingAnswer (answers.Name bytes) × All (λ b. b < 256) bytes
 IsAnswerOfBytes answer = IsFittingAnswer answer
 
--- how a command can end: a line, if it ended with one, is of bytes and reads as a reply, and an answer's numbers and text fit
+-- how a command can end: its line, if it ended with one, has bytes alone and reads as a reply, and its answer, if there is one, is
+-- one of bytes
 abbrev pub IsEnd : End → Type 0
 IsEnd (Answered quality (Some answer) line) = IsReplyOfBytes line × IsAnswerOfBytes answer
 IsEnd (Answered quality None line) = IsReplyOfBytes line

@@ -53,7 +53,7 @@ quantities_told rpc =
     else (if rpc == 17017 then measured ++ codes "mode" ∷ []
     else []))))))))))))
 
--- the names of the columns in which values are, the first of them in this one
+-- the names of the columns from number `column` on, one for each of these values
 abbrev pub names_from : ℕ → List Value → List (List ℕ)
 names_from column [] = []
 names_from column (v ∷ vs) = quantity_name column ∷ names_from (column + 1) vs

@@ -142,7 +142,7 @@ fn append_when<const N: usize>(line: &mut ArrayVec<u8, N>, when: &When)
 }
 
 // Appends a target's name, if it has one.
-fn append_called<const N: usize>(line: &mut ArrayVec<u8, N>, name: &[u8])
+fn append_target_name<const N: usize>(line: &mut ArrayVec<u8, N>, name: &[u8])
     requires short { length name.now ≤ 64 }
     requires room { array_vec_len line.old + 640 ≤ N }
     ensures text { line.new.items ≡ line.old.items ++ members_text (name_members name.now) }
@@ -162,7 +162,7 @@ fn append_what<const N: usize>(line: &mut ArrayVec<u8, N>, command: &Wish, name:
 {
     let mut digits = Buffer::new();
     append_number(line, b"target", digits.format(command.target).as_bytes());
-    append_called(line, name);
+    append_target_name(line, name);
     append_number(
         line,
         b"procedure",

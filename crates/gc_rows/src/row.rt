@@ -286,7 +286,7 @@ fn append_last<const N: usize>(row: &mut ArrayVec<u8, N>, when: &When, ending: E
 }
 
 // Appends the quantities of a command's answer, each in its column, and after them the last fields.
-fn append_both<const N: usize>(
+fn append_quantities_and_last<const N: usize>(
     row: &mut ArrayVec<u8, N>,
     when: &When,
     asked: &Asked,
@@ -314,7 +314,7 @@ fn append_more<const N: usize>(
     ensures room { array_vec_len row.new ≤ array_vec_len row.old + MORE_ROOM }
 {
     if columns {
-        append_both(row, when, asked, ending);
+        append_quantities_and_last(row, when, asked, ending);
     } else {
         append_last(row, when, ending);
     }

@@ -22,22 +22,11 @@ use Rattle.gc_scenes.specs.SceneState.{SceneState}
 use Rattle.gc_scenes.specs.declared.rules.Fault.{Fault}
 use Rattle.gc_scene_world.specs.SceneRuns.{scene_handed, scene_ends}
 use Rattle.gc_world.specs.Exchange.{IsExchange}
-
--- equal numbers within `Some` are equal
-some_number : (a b : ℕ) → Some a ≡ Some b → a ≡ b
-some_number a b e = cc
-
--- equal texts within `Some` are equal
-some_text : (a b : List ℕ) → Some a ≡ Some b → a ≡ b
-some_text a b e = cc
-
--- `None` is no `Some`
-none_is_not : (a : List ℕ) → None ≡ Some a → ⊥
-none_is_not a e = cc
+use Rattle.gc_world.proofs.Options.{some_is, none_is_not}
 
 -- The reply to a request line.
 
--- what is said of a call is what the instrument does with its line
+-- the instrument does with the request line of a call what `scene_handed` says of the call
 plays_line : (s : SceneState) (id : ℕ) (call : Call) → id < 8 → IsFitting call
     → IsPlayed s (request_line (Some id) call) (scene_handed s id call).state (Some (scene_handed s id call).reply)
 plays_line s id call small fits =
@@ -50,13 +39,14 @@ pub record IsExchanged (before : SceneState) (id : ℕ) (call : Call) (after : S
   pub state : after ≡ (scene_handed before id call).state
   pub line : reply ≡ (scene_handed before id call).reply
 
--- where the reply to the request line of a call was appended to the empty text, if there is one, the line was exchanged
+-- where the instrument got the request line of a call, and its reply, if there is one, was appended to the empty text, the line was handed over
+-- as `IsExchanged` has it
 pub exchanged : (s : SceneState) (line : List ℕ) (after : SceneState) (old new : List ℕ) (b : Bool) (id : ℕ) (call : Call) → id < 8 → IsFitting call → line ≡ request_line (Some id) call → old ≡ []
     → AppendsAnswer (IsPlayed s line after) old new b → IsExchanged s id call after new
 exchanged s line after old new true id call small fits is empty h =
     let one = one_reply s after (scene_handed s id call).state line (Some h.0) (Some (scene_handed s id call).reply) h.1
     (subst (λ l. IsPlayed s l (scene_handed s id call).state (Some (scene_handed s id call).reply)) (sym is) (plays_line s id call small fits)) in
-    record { state = one.0; line = h.2 ∙ ap (λ l. l ++ h.0) empty ∙ some_text h.0 (scene_handed s id call).reply one.1 }
+    record { state = one.0; line = h.2 ∙ ap (λ l. l ++ h.0) empty ∙ some_is h.0 (scene_handed s id call).reply one.1 }
 exchanged s line after old new false id call small fits is empty h =
     let one = one_reply s after (scene_handed s id call).state line None (Some (scene_handed s id call).reply) h.0
     (subst (λ l. IsPlayed s l (scene_handed s id call).state (Some (scene_handed s id call).reply)) (sym is) (plays_line s id call small fits)) in
@@ -78,15 +68,15 @@ kept_own : (k : Option KeptReply) (id : ℕ) (line : List ℕ) → kept_line k (
 kept_own None id line e = absurd (none_is_not line e)
 kept_own (Some k) id line e = chosen (eqb k.id id) refl e where
   chosen : (b : Bool) → eqb k.id id ≡ b → cond b (Some k.line) None ≡ Some line → Some k ≡ Some (record { id = id; line = line })
-  chosen true t e = ap (λ i. Some (record { id = i; line = k.line })) (eqb-true k.id id t) ∙ ap (λ l. Some (record { id = id; line = l })) (some_text k.line line e)
+  chosen true t e = ap (λ i. Some (record { id = i; line = k.line })) (eqb-true k.id id t) ∙ ap (λ l. Some (record { id = id; line = l })) (some_is k.line line e)
   chosen false t e = absurd (none_is_not line e)
 
--- what is sent again is what is kept
+-- where a line is sent again for an id, it is the line that is kept, with that id
 again_kept : (b : Bool) (k : Option KeptReply) (id : ℕ) (line : List ℕ) → cond b (kept_line k (Some id)) None ≡ Some line → k ≡ Some (record { id = id; line = line })
 again_kept true k id line e = kept_own k id line e
 again_kept false k id line e = absurd (none_is_not line e)
 
--- what a request gives: a reply with its id, and a state in which what is kept reads as one
+-- where what is kept reads as a reply with its id, the request's reply has the request's id, and what is kept after it reads so, too
 record Does (s : SceneState) (id : ℕ) (h : Handed SceneState) : Type 0 where
   reads : IsHeard s.base.kept → heard h.reply ≡ Some id
   good : IsHeard s.base.kept → IsHeard h.state.base.kept
@@ -95,12 +85,12 @@ record Does (s : SceneState) (id : ℕ) (h : Handed SceneState) : Type 0 where
 line_heard : (id : ℕ) (p : Played) → id < 8 → p.rc < 65536 → heard (line_of id p) ≡ Some id
 line_heard id p small code = ap id_in (reply_back (record { rc_com = 0; id = Some id; rc = p.rc; params = p.params }) (record { rc_com = lit< tt; id = small; rc = code }))
 
--- what is kept behind a request is heard
+-- what is kept after a request reads as a reply with its id
 kept_heard : (b : Bool) (id : ℕ) (line : List ℕ) (k : Option KeptReply) → heard line ≡ Some id → IsHeard (cond b (kept_after k (Some id) line) None)
 kept_heard true id line k h = h
 kept_heard false id line k h = tt
 
--- what a request gives of which this comes
+-- `Does` holds of a request that is answered by the line sent again (`o`), if there is one, or else by what was played
 played_does : (s : SceneState) (id : ℕ) (p : Played) (o : Option (List ℕ)) → again_for s (Some id) ≡ o → id < 8 → p.rc < 65536 → Does s id (again_or_played s (Some id) p o)
 played_does s id p (Some line) again small code =
     record { reads = λ good. subst IsHeard (again_kept s.repeats s.base.kept id line again) good; good = λ good. good }
@@ -108,23 +98,23 @@ played_does s id p None again small code =
     let line = line_of id p in
     record { reads = λ good. line_heard id p small code; good = λ good. kept_heard p.state.repeats id line p.state.base.kept (line_heard id p small code) }
 
--- the code of a fault that is due, or of a later one, is a code
+-- where the code of each later fault is below 65536, so is the code of this fault or a later one
 fault_by : (f : Fault) (b : Bool) (later : Option ℕ) (code : ℕ) → (later ≡ Some code → code < 65536) → cond b (Some f.rc) later ≡ Some code → code < 65536
-fault_by f true later code rest e = subst (λ (c : ℕ). c < 65536) (some_number f.rc code e) f.fits
+fault_by f true later code rest e = subst (λ (c : ℕ). c < 65536) (some_is f.rc code e) f.fits
 fault_by f false later code rest e = rest e
 
--- a fault's code is a code
+-- the code of the fault that is due at a procedure is below 65536
 fault_bound : (rpc : ℕ) (fs : List Fault) (code : ℕ) → fault_of rpc fs ≡ Some code → code < 65536
 fault_bound rpc [] code e = let wrong : ⊥ = cc in absurd wrong
 fault_bound rpc (f ∷ fs) code e = fault_by f (is_due rpc f) (fault_of rpc fs) code (fault_bound rpc fs code) e
 
--- the code of a call is a code
+-- where the code of a fault is below 65536, so is the return code of a call, with a fault or without
 call_bound : (s : SceneState) (call : Call) (o : Option ℕ) → ((code : ℕ) → o ≡ Some code → code < 65536) → (unless_faulted s call o).rc < 65536
 unfolding plays
 call_bound s call (Some code) is = is code refl
 call_bound s call None is = (outcome_sound s call).code
 
--- what a request for a call gives
+-- `Does` holds of a request for a call
 call_does : (s : SceneState) (id : ℕ) (call : Call) → id < 8 → Does s id (scene_handed s id call)
 unfolding handed_call
 call_does s id call small =
@@ -161,11 +151,11 @@ same_repeats s rpc call None = refl
 other_id : (k : Option KeptReply) (id : ℕ) → kept_line k (Some id) ≡ None → id_of k ≡ Some id → ⊥
 other_id None id e is = cc
 other_id (Some k) id e is =
-    let same : k.id ≡ id = some_number k.id id is in
+    let same : k.id ≡ id = some_is k.id id is in
     let yes : eqb k.id id ≡ true = eq-eqb k.id id same in
     none_is_not k.line (sym e ∙ ap (λ b. cond b (Some k.line) None) yes)
 
--- what comes of it that a number was counted by the kept ids, by what is sent again
+-- as `counted`, by the line that is sent again for the id (`o`), if there is one
 counted_by : (s : SceneState) (id : ℕ) (p : Played) (o : Option (List ℕ)) (after : SceneState) (old new : ℕ) (xs : List ℕ) (n : ℕ) → again_for s (Some id) ≡ o → p.state.repeats ≡ s.repeats
     → after ≡ (again_or_played s (Some id) p o).state → Notes s.repeats (id_of s.base.kept) (id_of after.base.kept) old new → old ≡ length xs
     → new ≡ length (cond (again_or_played s (Some id) p o).executed (xs ++ n ∷ []) xs)
@@ -184,7 +174,7 @@ counted_by s id p None after old new xs n again same is h count = by_repeats s.r
         ap (λ (t : SceneState). id_of t.base.kept) is ∙ ap (λ b. id_of (cond b (kept_after p.state.base.kept (Some id) (line_of id p)) None)) (same ∙ e) in
         h.another (λ equal. other_id s.base.kept id none (equal ∙ kept))
 
--- where a number was counted by the kept ids, it was counted exactly if the request was executed
+-- where executions are counted as `Notes` says, a request is counted exactly if it was executed
 pub counted : (s : SceneState) (id : ℕ) (call : Call) (after : SceneState) (old new : ℕ) (xs : List ℕ) (n : ℕ) → after ≡ (scene_handed s id call).state
     → Notes s.repeats (id_of s.base.kept) (id_of after.base.kept) old new → old ≡ length xs → new ≡ length (cond (scene_handed s id call).executed (xs ++ n ∷ []) xs)
 unfolding handed_call
@@ -192,7 +182,7 @@ counted s id call after old new xs n is h count =
     let rpc = (call_fields call).number in
     counted_by s id (played_call s rpc call) (again_for s (Some id)) after old new xs n refl (same_repeats s rpc call (fault_of rpc s.faults)) is h count
 
--- an execution was counted by values that are these
+-- `Notes` holds also of equal values
 pub notes_are : (r repeats : Bool) (b before a after : Option ℕ) (old new : ℕ) → r ≡ repeats → b ≡ before → a ≡ after → Notes r b a old new → Notes repeats before after old new
 notes_are r repeats b before a after old new er eb ea h =
     subst (λ (x : Bool). Notes x before after old new) er (subst (λ (x : Option ℕ). Notes r x after old new) eb (subst (λ (x : Option ℕ). Notes r b x old new) ea h))

@@ -1,9 +1,8 @@
 -- For the loop that hands over n bytes of a direction, one completed line after the other: at each turn, handing over the bytes that are left leads to
 -- the same streams as handing over all n bytes at the start.
-use Rattle.std.proofs.Common.{◌≡◌, ℕ, zero, suc, ◌+◌, ◌-◌, ◌<◌, ◌≤◌, Bool, true, false, cond, ◌⊎◌, inl, inr, List, [], ◌∷◌, ◌++◌, length, map, drop, refl, sym, ◌∙◌, ap, subst, arith}
+use Rattle.std.proofs.Common.{◌≡◌, ℕ, zero, suc, ◌+◌, ◌-◌, ◌<◌, ◌≤◌, Bool, true, false, cond, List, [], ◌∷◌, ◌++◌, length, map, drop, refl, sym, ◌∙◌, ap, subst, arith}
 use mathlib.Core.Path.{ap₂}
-use Rattle.std.specs.Prelude.{replicate, IsTrue, ◌↔◌}
-use Rattle.std.proofs.lemmas.Bool.{cases_lt, le-ltb}
+use Rattle.std.specs.Prelude.{replicate}
 use Rattle.std.proofs.lemmas.List.{length_push}
 use Rattle.gc_lines.specs.Lines.{with_end}
 use Rattle.gc_catalogue.specs.declared.call.Call.{Call}
@@ -18,20 +17,11 @@ use Rattle.gc_world.specs.declared.direction.Direction.TheVariants.{Up, Down}
 use Rattle.gc_world.specs.Clients.{by_ids}
 use Rattle.gc_world.specs.Directions.{deliver, delivery, bytes, texts, lines, gone, reaches}
 use Rattle.gc_world.specs.Sides.{IsPart}
-use Rattle.gc_world.specs.Streams.{Streams, Cut, one_more, cut, up_texts, down_texts, remaining}
+use Rattle.gc_world.specs.Streams.{Streams, one_more, cut, up_texts, down_texts, remaining}
 use Rattle.gc_world.specs.World.{Request, Numbered, Wire, World, up_delivered, down_delivered, happens, run}
 use Rattle.gc_world.proofs.Directions.{gone_reached, reaches_again, reaches_same, delivered, passing, bytes_pass, to, one_less, not_idle}
+use Rattle.gc_world.proofs.Handed.{cut_long, in_front}
 use Rattle.gc_world.proofs.Streaming.{cut_short}
-
--- where n bytes complete the front line, the cut at n bytes is the cut of the lines behind that line at the bytes that are left, with one more
--- completed line
-cut_long : (line : List ℕ) (lines : List (List ℕ)) (n : ℕ) → length line ≤ n → cut (line ∷ lines) n ≡ one_more (cut lines (n - length line))
-cut_long line lines n le = ap (λ b. cond {A = Cut} b (record { lines = 0; gone = n }) (one_more (cut lines (n - length line)))) (le-ltb n (length line) le)
-
--- a line is in flight where bytes remain of it
-in_front : (gone : ℕ) (texts : List (List ℕ)) → 0 < remaining gone (map with_end texts) → (t : List ℕ) × (ts : List (List ℕ)) × (texts ≡ t ∷ ts)
-in_front gone [] some = absurd (omega (arith, some))
-in_front gone (t ∷ ts) some = (t, ts, refl)
 
 -- where no byte of the front line remains, no line is in flight
 none_in_flight : (gone : ℕ) (lines : List (List ℕ)) → IsPart gone lines → remaining gone lines ≡ 0 → (lines ≡ []) × (gone ≡ 0)
@@ -50,7 +40,7 @@ up_executes w (x ∷ rest) e =
     let up : length w.up ≡ suc (length rest) = ap length e in
     omega (arith, up, executes w.executed x.number (length rest) (scene_ends.handed w.state x.line.id x.line.call).executed)
 
--- nor do replies made and requests in flight
+-- replies made and requests in flight together don't grow by a delivery upward, either
 up_makes : (w : Wire SceneState) (q : List (Numbered Request)) → w.up ≡ q → length (up_delivered scene_ends w q).made + length (up_delivered scene_ends w q).up ≤ length w.made + length w.up
 up_makes w [] e = omega arith
 up_makes w (x ∷ rest) e =
@@ -58,13 +48,13 @@ up_makes w (x ∷ rest) e =
     let m : Numbered (List ℕ) = record { number = x.number; line = (scene_ends.handed w.state x.line.id x.line.call).reply } in
     omega (arith, up, length_push w.made m)
 
--- executions, replies made and requests in flight after a delivery downward
+-- two wires have the same executions, replies made and requests in flight
 record Stays (old new : Wire SceneState) : Type 0 where
   executed : new.executed ≡ old.executed
   made : new.made ≡ old.made
   up : new.up ≡ old.up
 
--- a delivery downward leaves them
+-- a delivery downward leaves executions, replies made and requests in flight as they are
 down_leaves : (width : ℕ) (w : World (ById Call) SceneState) (q : List (Numbered (List ℕ))) → Stays w.wire (down_delivered (by_ids width scene_ends) w q).wire
 down_leaves width w [] = record { executed = refl; made = refl; up = refl }
 down_leaves width w (x ∷ rest) = record { executed = refl; made = refl; up = refl }
@@ -74,7 +64,7 @@ pub record IsNoMore (old new : Wire SceneState) : Type 0 where
   pub executed : length new.executed + length new.up ≤ length old.executed + length old.up
   pub made : length new.made + length new.up ≤ length old.made + length old.up
 
--- by a delivery they don't grow
+-- a delivery in either direction keeps to `IsNoMore`
 no_more : (width : ℕ) (d : world.Direction) (w : World (ById Call) SceneState) → IsNoMore w.wire (happens scene_ends (by_ids width scene_ends) w (deliver d)).wire
 no_more width Up w = record { executed = up_executes w.wire w.wire.up refl; made = up_makes w.wire w.wire.up refl }
 no_more width Down w =
@@ -82,7 +72,8 @@ no_more width Down w =
     record { executed = omega (arith, ap length s.executed, ap length s.up); made = omega (arith, ap length s.made, ap length s.up) }
 
 -- a delivery as an event leaves the wire of the delivery as a step
-delivered_wire : (width : ℕ) (d : world.Direction) (v : Streams (ById Call) SceneState) → (goes_on width v (delivery d)).world.wire ≡ (happens scene_ends (by_ids width scene_ends) v.world (deliver d)).wire
+delivered_wire : (width : ℕ) (d : world.Direction) (v : Streams (ById Call) SceneState)
+    → (goes_on width v (delivery d)).world.wire ≡ (happens scene_ends (by_ids width scene_ends) v.world (deliver d)).wire
 delivered_wire width Up v = refl
 delivered_wire width Down v = refl
 
@@ -175,22 +166,6 @@ module _ (width : ℕ) (d : Direction) (s : Seen) (v : Streams (ById Call) Scene
   pub runs_dry : (r : ℕ) → IsLeft (way d) h.now r → r ≡ 0 → AreStreamsOf width s (handed width d v n)
   runs_dry r is e = subst (λ x. AreStreamsOf width s x) (sym (ended width d h.now left is.part (sym is.left ∙ e)) ∙ h.same) h.shows
 
--- no truth value is both true and false
-pub is_not : (b : Bool) → b ≡ true → b ≡ false → ⊥
-is_not b t f = let wrong : true ≡ false = sym t ∙ f in cc
-
--- where l bytes don't complete a line of which r bytes remain (b is the test for that), and aren't fewer than r either, r is 0
-pub runs_out : (b : Bool) (r l : ℕ) → IsTrue b ↔ ((0 < r) × (r ≤ l)) → b ≡ false → (l < r → ⊥) → r ≡ 0
-runs_out b zero l iff e le = refl
-runs_out b (suc r) l iff e le = absurd (is_not b (iff.1 (omega arith, least (suc r) l le)) e)
-  where
-    least : (a d : ℕ) → (d < a → ⊥) → a ≤ d
-    least a d no_less = by_either (cases_lt d a)
-      where
-        by_either : (d < a) ⊎ (a ≤ d) → a ≤ d
-        by_either (inl lt) = absurd (no_less lt)
-        by_either (inr le1) = le1
-
 -- an event of n bytes leads to the streams that `handed` gives, where n isn't 0 and bytes are in flight
 pub in_flight : (width : ℕ) (d : Direction) (v : Streams (ById Call) SceneState) (n r : ℕ) → r ≡ remaining (gone (way d) v) (lines (way d) v.world.wire) → (n ≡ 0 → ⊥) → (r ≡ 0 → ⊥)
     → goes_on width v (bytes (way d) n) ≡ handed width d v n
@@ -205,8 +180,11 @@ in_flight width d v n r e not none = bytes_pass scene_ends (by_ids width scene_e
 -- Bytes that complete no line.
 
 -- once n bytes of the upward front line were handed over that don't complete it, the streams with n more gone are shown
-pub begins_up : (width : ℕ) (s : Seen) (v : Streams (ById Call) SceneState) (n : ℕ) (lane : Flight) → AreStreamsOf width s v → n < remaining v.up_gone (map with_end (up_texts v.world.wire)) → lane ≡ further s.up n
-    → AreStreamsOf width (record s { up = lane }) (reaches Up v (run scene_ends (by_ids width scene_ends) (replicate (cut (lines Up v.world.wire) (v.up_gone + n)).lines (deliver Up)) v.world) (cut (lines Up v.world.wire) (v.up_gone + n)).gone)
+pub begins_up : (width : ℕ) (s : Seen) (v : Streams (ById Call) SceneState) (n : ℕ) (lane : Flight) → AreStreamsOf width s v
+    → n < remaining v.up_gone (map with_end (up_texts v.world.wire)) → lane ≡ further s.up n
+    → AreStreamsOf width (record s { up = lane })
+    (reaches Up v (run scene_ends (by_ids width scene_ends) (replicate (cut (lines Up v.world.wire) (v.up_gone + n)).lines (deliver Up)) v.world)
+    (cut (lines Up v.world.wire) (v.up_gone + n)).gone)
 begins_up width s v n lane h lt is =
     subst (λ c. AreStreamsOf width (record s { up = lane }) (to scene_ends (by_ids width scene_ends) Up v c)) (sym (cut_short (lines Up v.world.wire) v.up_gone n lt)) (record {
       client = h.client;
@@ -219,9 +197,12 @@ begins_up width s v n lane h lt is =
       counts = h.counts;
     })
 
--- the same downward
-pub begins_down : (width : ℕ) (s : Seen) (v : Streams (ById Call) SceneState) (n : ℕ) (lane : Flight) → AreStreamsOf width s v → n < remaining v.down_gone (map with_end (down_texts v.world.wire)) → lane ≡ further s.down n
-    → AreStreamsOf width (record s { down = lane }) (reaches Down v (run scene_ends (by_ids width scene_ends) (replicate (cut (lines Down v.world.wire) (v.down_gone + n)).lines (deliver Down)) v.world) (cut (lines Down v.world.wire) (v.down_gone + n)).gone)
+-- once n bytes of the downward front line were handed over that don't complete it, the streams with n more gone are shown
+pub begins_down : (width : ℕ) (s : Seen) (v : Streams (ById Call) SceneState) (n : ℕ) (lane : Flight) → AreStreamsOf width s v
+    → n < remaining v.down_gone (map with_end (down_texts v.world.wire)) → lane ≡ further s.down n
+    → AreStreamsOf width (record s { down = lane })
+    (reaches Down v (run scene_ends (by_ids width scene_ends) (replicate (cut (lines Down v.world.wire) (v.down_gone + n)).lines (deliver Down)) v.world)
+    (cut (lines Down v.world.wire) (v.down_gone + n)).gone)
 begins_down width s v n lane h lt is =
     subst (λ c. AreStreamsOf width (record s { down = lane }) (to scene_ends (by_ids width scene_ends) Down v c)) (sym (cut_short (lines Down v.world.wire) v.down_gone n lt)) (record {
       client = h.client;

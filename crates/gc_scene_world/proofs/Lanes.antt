@@ -12,7 +12,7 @@ use Rattle.gc_world.specs.World.{without, doubled}
 use Rattle.gc_world.proofs.Pieces.{end_length}
 use Rattle.gc_world.proofs.Queues.{without_map, doubled_past}
 
--- lines in flight with these texts, of which so many bytes have gone
+-- a lane with these texts and this many bytes gone is the record of both
 pub flight : (f : Flight) (texts : List (List ℕ)) (gone : ℕ) → f.texts ≡ texts → f.gone ≡ gone → f ≡ record { texts = texts; gone = gone }
 flight f texts gone e1 e2 = ap₂ {C = Flight} (λ (t : List (List ℕ)) n. record { texts = t; gone = n }) e1 e2
 
@@ -20,7 +20,7 @@ flight f texts gone e1 e2 = ap₂ {C = Flight} (λ (t : List (List ℕ)) n. reco
 not_begun : (gone : ℕ) → is_begun 0 gone ≡ false → gone ≡ 0
 not_begun gone e = let le : gone ≤ 0 = ltb-false 0 gone e in omega (arith, le)
 
--- of any lines no bytes at all are a part
+-- 0 bytes are a part of the front line, never all of it
 pub part_none : (texts : List (List ℕ)) → IsPart 0 (map with_end texts)
 part_none [] = refl
 part_none (t ∷ ts) = omega (arith, end_length t)
@@ -63,7 +63,7 @@ module _ {A : Type 0} (f : A → List ℕ) where
   part_lost k gone old new whole is h =
       subst (λ q. IsPart gone (map with_end q)) (without_map f k old ∙ sym (ap (map f) is)) (part_without k gone (map f old) whole h)
 
-  -- a loss is `losing`
+  -- once line k was taken out of the lines, the lane is what `losing` says
   pub lost_is : (k gone : ℕ) (old new : List A) → is_begun k gone ≡ false → new ≡ without k old
       → ◌≡◌ {A = Flight} (record { texts = map f new; gone = gone }) (losing k (record { texts = map f old; gone = gone }))
   lost_is k gone old new whole is =
@@ -88,7 +88,7 @@ module _ {A : Type 0} (f : A → List ℕ) where
   doubled_text (z ∷ zs) zero x y lt e same = ap (λ t. t ∷ f z ∷ map f zs) (same ∙ ap f e)
   doubled_text (z ∷ zs) (suc k) x y lt e same = ap (λ l. f z ∷ l) (doubled_text zs k x y (omega (arith, lt)) e same)
 
-  -- a repeat is `repeating`
+  -- once line k was put in once more, the lane is what `repeating` says
   pub repeat_is : (k gone : ℕ) (old new : List A) (x y : A) → is_begun k gone ≡ false → k < length old → x ≡ get_or old k x → f y ≡ f x → new ≡ insert old k y
       → ◌≡◌ {A = Flight} (record { texts = map f new; gone = gone }) (repeating k (record { texts = map f old; gone = gone }))
   repeat_is k gone old new x y whole lt at same is =

@@ -1,11 +1,10 @@
 -- For the proofs of `stage.rt`. The parts of a stage *show* streams where they are those of the streams (`AreStreamsOf`). Each lemma says: where they
 -- show streams, and a function has done to them what its contract says, they show the streams after that event. Variables such as `up` and
 -- `settled` are the values that the function left; the premises are what its contract says of them.
-use Rattle.std.proofs.Common.{◌≡◌, ℕ, zero, suc, ◌+◌, ◌<◌, ◌≤◌, ◌⊎◌, inl, inr, Bool, true, false, cond, List, [], ◌∷◌, ◌++◌, length, map, Option, Some, None, refl, sym, ◌∙◌, ap, subst, ltb, eqb, arith}
+use Rattle.std.proofs.Common.{◌≡◌, ℕ, zero, suc, ◌+◌, ◌<◌, ◌≤◌, ◌⊎◌, inl, inr, Bool, true, false, cond, List, [], ◌∷◌, ◌++◌, length, map, Some, None, refl, sym, ◌∙◌, ap, subst, ltb, arith}
 use mathlib.Core.Path.{ap₂}
 use Rattle.std.specs.Prelude.{IsTrue, ◌↔◌}
 use Rattle.std.proofs.lemmas.List.{map-append, length-map, length_push}
-use Rattle.std.proofs.lemmas.List.Elements.{All-append}
 use Rattle.std.proofs.lemmas.Bool.{ltb-false}
 use Rattle.gc_lines.specs.Answering.{AppendsAnswer}
 use Rattle.gc_catalogue.specs.declared.call.Call.{Call}
@@ -13,9 +12,8 @@ use Rattle.gc_catalogue.specs.Calls.{IsFitting}
 use Rattle.gc_catalogue.specs.Texts.{request_line}
 use Rattle.gc_client.specs.declared.window.TheConstants.{IDS}
 use Rattle.gc_client.specs.declared.settlement.Settlement.{Settlement}
-use Rattle.gc_client.specs.Rule.{ById, Windowed, Sending, Settled, heard, hears, place_in, id_settled, id_send, sends, expires, restarts}
-use Rattle.gc_client.specs.Rule
-use Rattle.gc_client.specs.Settlements.{AreSettlements, settlement_seen, IsWellRead}
+use Rattle.gc_client.specs.Rule.{ById, Windowed, Sending, Settled, heard, hears, sends, expires, restarts}
+use Rattle.gc_client.specs.Settlements.{AreSettlements}
 use Rattle.gc_scenes.specs.SceneReplying.{IsPlayed}
 use Rattle.gc_scenes.specs.SceneState.{SceneState, scene_restarted}
 use Rattle.gc_scene_world.specs.declared.report.Counts.{Counts}
@@ -35,7 +33,7 @@ use Rattle.gc_world.specs.Sides.{IsPart}
 use Rattle.gc_world.specs.Streams.{Streams, up_texts, down_texts, is_begun, at_line, remaining}
 use Rattle.gc_world.specs.World.{Request, Numbered, Wire, World, Step, Up_lose, Up_repeat, Down_lose, Down_repeat, Nothing, without, doubled, idle, up_delivered, with_up, with_down, on_wire, requested, down_delivered, client_restarted, instrument_restarted, happens}
 use Rattle.gc_world.proofs.Directions.{passing, bytes_pass}
-use Rattle.gc_world.proofs.Options.{some_is, none_is_not}
+use Rattle.gc_world.proofs.Showing.{are_more, hears_next, sends_next}
 use Rattle.gc_world.proofs.Queues.{without_map, doubled_map, without_past, doubled_past}
 use Rattle.gc_world.proofs.Rows.{each_append, each_without, each_doubled}
 
@@ -53,33 +51,7 @@ map_none : {A B : Type 0} (f : A → B) (xs : List A) → map f xs ≡ [] → xs
 map_none f [] e = refl
 map_none f (x ∷ xs) e = cc
 
--- what was settled, and behind it more, is what the rule settled, and more
-are_more : (xs ys : List (Settlement Call)) (us vs : List (Rule.Settlement Call)) → AreSettlements xs us → AreSettlements ys vs → AreSettlements (xs ++ ys) (us ++ vs)
-are_more xs ys us vs h g =
-    record {
-      seen = map-append settlement_seen xs ys ∙ ap₂ (λ (a b : List (Rule.Settlement Call)). a ++ b) h.seen g.seen;
-      read = All-append (λ (s : Settlement Call). IsWellRead s.call s.outcome) xs ys h.read g.read;
-    }
-
--- settling doesn't change the next id
-settled_next : (c : ById Call) (line : List ℕ) (k : ℕ) (b : Bool) → (id_settled c line k b).client.next ≡ c.next
-settled_next c line k false = refl
-settled_next c line k true = refl
-
--- a line doesn't change the next id
-hears_next : (c : ById Call) (line : List ℕ) (o : Option ℕ) → (hears c line o).client.next ≡ c.next
-hears_next c line None = refl
-hears_next c line (Some id) = settled_next c line (place_in c id) (ltb (place_in c id) (length c.waiting))
-
--- a send leaves a next id that is a digit below 8
-sends_next : (width : ℕ) (c : ById Call) (target : ℕ) (call : Call) (deadline : ℕ) (x : Sending (ById Call)) → sends width c target call deadline ≡ Some x → x.client.next < IDS
-sends_next width c target call deadline x e = by_room (eqb (length c.waiting) width) e
-  where
-    by_room : (full : Bool) → id_send c target call deadline full ≡ Some x → x.client.next < IDS
-    by_room true e = absurd (none_is_not x e)
-    by_room false e = subst (λ (y : Sending (ById Call)). y.client.next < IDS) (some_is _ x e) (omega arith)
-
--- an event that is not possible is counted by both
+-- an event that is not possible is counted in the stage as in the wire
 counts_idle : (c : Counts) (w : Wire SceneState) → AreCounts c w → AreCounts (tallied false c) (idle w)
 counts_idle c w h = record { sent = h.sent; executed = h.executed; made = h.made; refused = h.refused; idle = ap (λ n. n + 1) h.idle }
 
@@ -120,7 +92,8 @@ module _ (width : ℕ) (s : Seen) (v : Streams (ById Call) SceneState) (h : AreS
       → AreStreamsOf width (record s { client = client; counts = record s.counts { refused_sends = s.counts.refused_sends + 1 } }) (goes_on width v (event.Send target call deadline))
   streams_refused target call deadline client none same =
       let ruled : sends width v.world.client target call deadline ≡ None = ap (λ (k : Windowed Call). sends k.width k.ids target call deadline) (sym h.client) ∙ none in
-      subst (λ o. AreStreamsOf width (record s { client = client; counts = record s.counts { refused_sends = s.counts.refused_sends + 1 } }) (with_world (requested v.world target call o))) (sym ruled) (record {
+      subst (λ o. AreStreamsOf width (record s { client = client; counts = record s.counts { refused_sends = s.counts.refused_sends + 1 } }) (with_world (requested v.world target call o)))
+      (sym ruled) (record {
         client = same ∙ h.client;
         next = h.next;
         instrument = h.instrument;
@@ -141,11 +114,13 @@ module _ (width : ℕ) (s : Seen) (v : Streams (ById Call) SceneState) (h : AreS
       let request : Numbered Request = record { number = length v.world.wire.sent; line = record { id = s.client.ids.next; call = call } } in
       let ruled : sends width v.world.client target call deadline ≡ Some x = ap (λ (k : Windowed Call). sends k.width k.ids target call deadline) (sym h.client) ∙ sends_is in
       let digit : s.client.ids.next < IDS = subst (λ (k : Windowed Call). k.ids.next < IDS) (sym h.client) h.next in
-      subst (λ o. AreStreamsOf width (record s { client = client; up = up; counts = record s.counts { sent = s.counts.sent + 1 } }) (with_world (requested v.world target call o))) (sym ruled) (record {
+      subst (λ o. AreStreamsOf width (record s { client = client; up = up; counts = record s.counts { sent = s.counts.sent + 1 } }) (with_world (requested v.world target call o)))
+      (sym ruled) (record {
         client = ap (λ n. record { width = n; ids = client.ids }) (wide ∙ ap (λ (k : Windowed Call). k.width) h.client);
         next = sends_next s.client.width s.client.ids target call deadline x sends_is;
         instrument = h.instrument;
-        up = up_is ∙ ap₂ {C = Flight} (λ (f : Flight) (l : List ℕ). pushed f l) h.up line_is ∙ ap (λ (t : List (List ℕ)). record { texts = t; gone = v.up_gone }) (sym (map-append bytes_of v.world.wire.up (request ∷ [])));
+        up = up_is ∙ ap₂ {C = Flight} (λ (f : Flight) (l : List ℕ). pushed f l) h.up line_is
+            ∙ ap (λ (t : List (List ℕ)). record { texts = t; gone = v.up_gone }) (sym (map-append bytes_of v.world.wire.up (request ∷ [])));
         down = h.down;
         requests = each_append IsAsked v.world.wire.up (request ∷ []) h.requests ((digit, fits), tt);
         settled = h.settled;
@@ -164,7 +139,8 @@ module _ (width : ℕ) (s : Seen) (v : Streams (ById Call) SceneState) (h : AreS
   pub streams_up_none : (up : Flight) → s.up.texts ≡ [] → up.texts ≡ [] → up.gone ≡ 0 → AreStreamsOf width (record s { up = up; counts = tallied false s.counts }) (goes_on width v event.UpDeliver)
   streams_up_none up none empty start =
       let none_up = no_up none in
-      subst (λ q. AreStreamsOf width (record s { up = up; counts = tallied false s.counts }) (record { world = on_wire v.world (up_delivered scene_ends v.world.wire q); up_gone = 0; down_gone = v.down_gone })) (sym none_up) (record {
+      subst (λ q. AreStreamsOf width (record s { up = up; counts = tallied false s.counts })
+      (record { world = on_wire v.world (up_delivered scene_ends v.world.wire q); up_gone = 0; down_gone = v.down_gone })) (sym none_up) (record {
         client = h.client;
         next = h.next;
         instrument = h.instrument;
@@ -176,7 +152,8 @@ module _ (width : ℕ) (s : Seen) (v : Streams (ById Call) SceneState) (h : AreS
       })
 
   -- once the front request was delivered, and its reply put behind the others, the streams after that event are shown
-  pub streams_up_deliver : (request : List ℕ) (up : Flight) (instrument : SceneState) (old reply : List ℕ) (b : Bool) (executed : ℕ) (down : Flight) → s.up.texts ≡ request ∷ up.texts → up.gone ≡ 0 → old ≡ []
+  pub streams_up_deliver : (request : List ℕ) (up : Flight) (instrument : SceneState) (old reply : List ℕ) (b : Bool) (executed : ℕ) (down : Flight)
+      → s.up.texts ≡ request ∷ up.texts → up.gone ≡ 0 → old ≡ []
       → AppendsAnswer (IsPlayed s.instrument request instrument) old reply b → Notes s.instrument.repeats (id_of s.instrument.base.kept) (id_of instrument.base.kept) s.counts.executed executed
       → down ≡ pushed s.down reply
       → AreStreamsOf width (record s { instrument = instrument; up = up; down = down; counts = record s.counts { executed = executed; made = s.counts.made + 1 } }) (goes_on width v event.UpDeliver)
@@ -219,7 +196,8 @@ module _ (width : ℕ) (s : Seen) (v : Streams (ById Call) SceneState) (h : AreS
       → AreStreamsOf width (record s { down = down; counts = tallied false s.counts }) (goes_on width v event.DownDeliver)
   streams_down_none down none empty start =
       let none_down = no_down none in
-      subst (λ q. AreStreamsOf width (record s { down = down; counts = tallied false s.counts }) (record { world = down_delivered (by_ids width scene_ends) v.world q; up_gone = v.up_gone; down_gone = 0 })) (sym none_down) (record {
+      subst (λ q. AreStreamsOf width (record s { down = down; counts = tallied false s.counts })
+      (record { world = down_delivered (by_ids width scene_ends) v.world q; up_gone = v.up_gone; down_gone = 0 })) (sym none_down) (record {
         client = h.client;
         next = h.next;
         instrument = h.instrument;
@@ -243,7 +221,8 @@ module _ (width : ℕ) (s : Seen) (v : Streams (ById Call) SceneState) (h : AreS
           let texts : line ∷ down.texts ≡ x.line ∷ map (λ (y : Numbered (List ℕ)). y.line) rest = sym e ∙ ap (λ (f : Flight). f.texts) h.down ∙ ap (map (λ y. y.line)) q_is in
           let line_is : line ≡ x.line = cc in
           let rest_is : down.texts ≡ map (λ (y : Numbered (List ℕ)). y.line) rest = cc in
-          let same : hears s.client.ids line (heard line) ≡ hears v.world.client x.line (heard x.line) = ap₂ {C = Settled Call (ById Call)} (λ (k : Windowed Call) (l : List ℕ). hears k.ids l (heard l)) h.client line_is in
+          let same : hears s.client.ids line (heard line) ≡ hears v.world.client x.line (heard x.line) =
+          ap₂ {C = Settled Call (ById Call)} (λ (k : Windowed Call) (l : List ℕ). hears k.ids l (heard l)) h.client line_is in
           let are : AreSettlements more (hears v.world.client x.line (heard x.line)).settlements = subst (λ (t : Settled Call (ById Call)). AreSettlements more t.settlements) same more_are in
           record {
             client = client_is ∙ ap₂ (λ n (t : Settled Call (ById Call)). let d : Windowed Call = record { width = n; ids = t.client } in d) (ap (λ (k : Windowed Call). k.width) h.client) same;
@@ -268,8 +247,8 @@ module _ (width : ℕ) (s : Seen) (v : Streams (ById Call) SceneState) (h : AreS
   same_down = ap (λ (f : Flight). length f.texts) h.down ∙ length-map v.world.wire.down (λ x. x.line)
 
   -- once the upward lane has these texts, if the step is possible (b), or else the event was counted, the streams after the step are shown
-  up_changed : (k : ℕ) (texts : List (List ℕ)) (us : List (Numbered Request)) (step : Step) (b : Bool) (up : Flight) → b ≡ is_whole k s.up → up ≡ cond (is_begun k s.up.gone) s.up (record s.up { texts = texts })
-      → texts ≡ map bytes_of us → (length s.up.texts ≤ k → texts ≡ s.up.texts) → Each IsAsked us
+  up_changed : (k : ℕ) (texts : List (List ℕ)) (us : List (Numbered Request)) (step : Step) (b : Bool) (up : Flight) → b ≡ is_whole k s.up
+      → up ≡ cond (is_begun k s.up.gone) s.up (record s.up { texts = texts }) → texts ≡ map bytes_of us → (length s.up.texts ≤ k → texts ≡ s.up.texts) → Each IsAsked us
       → happens scene_ends (by_ids width scene_ends) v.world step ≡ on_wire v.world (with_up v.world.wire us (ltb k (length v.world.wire.up)))
       → AreStreamsOf width (record s { up = up; counts = tallied b s.counts }) (with_world (happens scene_ends (by_ids width scene_ends) v.world (at_line k v.up_gone step)))
   up_changed k texts us step b up b_is up_is texts_are past asked step_is = by_begun (is_begun k v.up_gone) refl
@@ -324,7 +303,7 @@ module _ (width : ℕ) (s : Seen) (v : Streams (ById Call) SceneState) (h : AreS
           subst (λ (w : World (ById Call) SceneState). AreStreamsOf width (record s { up = up; counts = tallied b s.counts }) (with_world w)) (sym step_is)
           (by_there (ltb k (length v.world.wire.up)) (same_gone ∙ e) (ap (ltb k) same_up))
 
-  -- the same of the downward lane
+  -- once the downward lane has these texts, if the step is possible (b), or else the event was counted, the streams after the step are shown
   down_changed : (k : ℕ) (texts : List (List ℕ)) (ds : List (Numbered (List ℕ))) (step : Step) (b : Bool) (down : Flight) → b ≡ is_whole k s.down
       → down ≡ cond (is_begun k s.down.gone) s.down (record s.down { texts = texts }) → texts ≡ map (λ x. x.line) ds → (length s.down.texts ≤ k → texts ≡ s.down.texts)
       → happens scene_ends (by_ids width scene_ends) v.world step ≡ on_wire v.world (with_down v.world.wire ds (ltb k (length v.world.wire.down)))
@@ -417,7 +396,8 @@ module _ (width : ℕ) (s : Seen) (v : Streams (ById Call) SceneState) (h : AreS
   -- Moments and restarts.
 
   -- once the client got a moment, the streams after that event are shown
-  pub streams_expire : (now : ℕ) (client : Windowed Call) → client ≡ record s.client { ids = expires s.client.ids now } → AreStreamsOf width (record s { client = client }) (goes_on width v (event.Expire now))
+  pub streams_expire : (now : ℕ) (client : Windowed Call) → client ≡ record s.client { ids = expires s.client.ids now }
+      → AreStreamsOf width (record s { client = client }) (goes_on width v (event.Expire now))
   streams_expire now client client_is = record {
     client = client_is ∙ ap (λ (k : Windowed Call). record k { ids = expires k.ids now }) h.client;
     next = h.next;
@@ -431,8 +411,8 @@ module _ (width : ℕ) (s : Seen) (v : Streams (ById Call) SceneState) (h : AreS
 
   -- once both ends were restarted, while no line is in flight, the streams after that event are shown
   pub streams_restart_client : (more settled : List (Settlement Call)) (client : Windowed Call) (instrument : SceneState) → s.up.texts ≡ [] → s.down.texts ≡ []
-      → AreSettlements more (restarts s.client.ids).settlements → client ≡ record s.client { ids = (restarts s.client.ids).client } → settled ≡ s.settled ++ more → instrument ≡ scene_restarted s.instrument
-      → AreStreamsOf width (record s { client = client; instrument = instrument; settled = settled }) (goes_on width v event.RestartClient)
+      → AreSettlements more (restarts s.client.ids).settlements → client ≡ record s.client { ids = (restarts s.client.ids).client } → settled ≡ s.settled ++ more
+      → instrument ≡ scene_restarted s.instrument → AreStreamsOf width (record s { client = client; instrument = instrument; settled = settled }) (goes_on width v event.RestartClient)
   streams_restart_client more settled client instrument eu ed more_are client_is settled_is instrument_is =
       let are : AreSettlements more (restarts v.world.client).settlements = subst (λ (k : Windowed Call). AreSettlements more (restarts k.ids).settlements) h.client more_are in
       let after = record s { client = client; instrument = instrument; settled = settled } in

@@ -27,11 +27,13 @@ played_within width opening events =
     { sent = omega arith; executed = omega arith; made = omega arith; starts = omega arith; refused = omega arith; idle = omega arith }))
 
 -- after i of so many events as a slice has, the counts have room for one event more
-pub has_room : (width : ℕ) (opening : SceneState) (events : List Event) (i : ℕ) (s : Seen) → i < length events → length events < 2 ^ 64 → AreStreamsOf width s (scene_streamed width opening (take i events)) → HasRoom s
+pub has_room : (width : ℕ) (opening : SceneState) (events : List Event) (i : ℕ) (s : Seen) → i < length events → length events < 2 ^ 64
+    → AreStreamsOf width s (scene_streamed width opening (take i events)) → HasRoom s
 has_room width opening events i s lt few h =
     let w = played_within width opening (take i events) in
     let n = length-take i events in
-    let up : length s.up.texts ≡ length (scene_played width opening (take i events)).wire.up = ap (λ (f : Flight). length f.texts) h.up ∙ length-map (scene_played width opening (take i events)).wire.up bytes_of in
+    let up : length s.up.texts ≡ length (scene_played width opening (take i events)).wire.up =
+    ap (λ (f : Flight). length f.texts) h.up ∙ length-map (scene_played width opening (take i events)).wire.up bytes_of in
     record {
       sent = omega (arith, h.counts.sent, w.sent, n, lt, few);
       executed = omega (arith, h.counts.executed, w.executed, n, lt, few, up);

@@ -1,7 +1,7 @@
--- What holds of a command in a station's text, by the lines before it. The mode at a line is the deadline there, the return
--- codes that are accepted there, whether commands are chained there, and the target of the row that a command may continue
--- there. A row is a run of commands for one target, which a line `chained` or `unchained` ends. `Says` says that a mode is
--- what these lines say.
+-- What holds of a command in a station's text, by the lines before it. The mode at a line is what these lines make hold there:
+-- the deadline, the accepted return codes, the retry, whether commands are chained, and the target of the row that a command may
+-- continue. A row is a run of commands for one target, which a line `chained`, `unchained`, `retry`, `at start` or `each cycle`
+-- ends. `Says` says that a mode is what these lines say.
 use Rattle.std.proofs.Common.{◌≡◌, inl, inr, ◌+◌, ◌≤◌, nat_lt, if◌then◌else◌, arith, ℕ, ◌&&◌, Bool, true, false, List, [], ◌∷◌, ◌++◌, length, map, Option, Some, None, refl, sym, ap, ◌∙◌, subst, append_assoc, append-nil}
 use Rattle.std.specs.List.{AllByRecursion}
 use Rattle.std.proofs.lemmas.Bool.{eq-eqb, and_parts, and_from}
@@ -37,13 +37,15 @@ mode_after_both mode (x ∷ xs) ys = mode_after_both (mode_after mode x) xs ys
 setup_both : (mode : Mode) (xs ys : List TaskLine) → setup_of mode (xs ++ ys) ≡ setup_of mode xs ++ setup_of (mode_after_lines mode xs) ys
 setup_both mode [] ys = refl
 setup_both mode (x ∷ xs) ys =
-    ap (λ ts. setup_at mode x ++ ts) (setup_both (mode_after mode x) xs ys) ∙ sym (append_assoc (setup_at mode x) (setup_of (mode_after mode x) xs) (setup_of (mode_after_lines (mode_after mode x) xs) ys))
+    ap (λ ts. setup_at mode x ++ ts) (setup_both (mode_after mode x) xs ys)
+    ∙ sym (append_assoc (setup_at mode x) (setup_of (mode_after mode x) xs) (setup_of (mode_after_lines (mode_after mode x) xs) ys))
 
 -- the cycle's commands of `xs` and then `ys` are those of `xs`, and then those of `ys`
 planned_both : (mode : Mode) (xs ys : List TaskLine) → planned_of mode (xs ++ ys) ≡ planned_of mode xs ++ planned_of (mode_after_lines mode xs) ys
 planned_both mode [] ys = refl
 planned_both mode (x ∷ xs) ys =
-    ap (λ ts. planned_at mode x ++ ts) (planned_both (mode_after mode x) xs ys) ∙ sym (append_assoc (planned_at mode x) (planned_of (mode_after mode x) xs) (planned_of (mode_after_lines (mode_after mode x) xs) ys))
+    ap (λ ts. planned_at mode x ++ ts) (planned_both (mode_after mode x) xs ys)
+    ∙ sym (append_assoc (planned_at mode x) (planned_of (mode_after mode x) xs) (planned_of (mode_after_lines (mode_after mode x) xs) ys))
 
 -- the section after lines is the mode's
 section_is : (mode : Mode) (lines : List TaskLine) → (mode_after_lines mode lines).setup ≡ section_after mode.setup lines
@@ -124,9 +126,9 @@ all_more : (P : TaskLine → Type 0) (xs : List TaskLine) (line : TaskLine) → 
 all_more P [] line all here = (here, tt)
 all_more P (x ∷ xs) line all here = (all.0, all_more P xs line all.1 here)
 
--- `mode` is what these lines say. Its deadline, its accepted codes and whether commands are chained are as the last line that
--- sets them says; where none does, they are `deadline`, none, and `chained`. Where the mode has a row, the row's target is that
--- of the last command
+-- `mode` is what these lines say. Its deadline, its accepted codes, its retry and whether commands are chained are as the last
+-- line that sets them says; where none does, they are `deadline`, none, none, and `chained`. Where the mode has a row, the row's
+-- target is that of the last command
 record Says (deadline : ℕ) (chained : Bool) (lines : List TaskLine) (mode : Mode) : Type 0 where
   deadline_is : IsDeadlineAfter deadline lines mode.deadline
   mode_is : IsChainingAfter chained lines mode.chained
@@ -158,8 +160,8 @@ more_mode chained b lines line none (inl given) = inl (all_more SaysNoChaining l
 more_mode chained b lines line none (inr (before, between, at, without)) =
     inr (before, between ++ line ∷ [], ap (λ xs. xs ++ line ∷ []) at ∙ append_assoc before (chaining_line b ∷ between) (line ∷ []), all_more SaysNoChaining between line without none)
 
--- where the last command of some lines is for a target, with no line `chained` or `unchained` after it, the same holds after
--- one more line that is neither, and no command (`KeepsRow`)
+-- where the last command of some lines is for a target, and only lines that keep its row (`KeepsRow`) follow it, the same holds
+-- with one more line that keeps the row
 more_row : (lines : List TaskLine) (line : TaskLine) (target : ℕ) → KeepsRow line → EndsInRowOf lines target → EndsInRowOf (lines ++ line ∷ []) target
 more_row lines line target keeps (before, command, now, between, at, all, same) = (
   before,
@@ -182,7 +184,8 @@ some_injective a b e = cc
 
 -- where `mode` is what `lines` say (`Says`), the mode after one more line is what all of them say. `deadline` and `chained`
 -- are what holds before all lines
-says_more : (deadline : ℕ) (chained : Bool) (lines : List TaskLine) (mode : Mode) (line : TaskLine) → Says deadline chained lines mode → Says deadline chained (lines ++ line ∷ []) (mode_after mode line)
+says_more : (deadline : ℕ) (chained : Bool) (lines : List TaskLine) (mode : Mode) (line : TaskLine) → Says deadline chained lines mode
+    → Says deadline chained (lines ++ line ∷ []) (mode_after mode line)
 says_more deadline chained lines mode (says.Command c now) h = record {
   deadline_is = more_deadline deadline mode.deadline lines (says.Command c now) tt h.deadline_is;
   mode_is = more_mode chained mode.chained lines (says.Command c now) tt h.mode_is;
@@ -280,8 +283,8 @@ row_stays mode (says.Retrying r ∷ later) keeps = absurd keeps.0
 row_stays mode (says.AtStart ∷ later) keeps = absurd keeps.0
 row_stays mode (says.EachCycle ∷ later) keeps = absurd keeps.0
 
--- where the last command of lines is for a target, with neither `chained` nor `unchained` after it, the row after them is of
--- that target
+-- where the last command of lines is for a target, and only lines that keep its row (`KeepsRow`) follow it, the row after them
+-- is of that target
 row_of : (mode : Mode) (lines : List TaskLine) (target : ℕ) → EndsInRowOf lines target → (mode_after_lines mode lines).row ≡ Some target
 row_of mode lines target (before, command, now, between, at, keeps, same) =
     ap (λ xs. (mode_after_lines mode xs).row) at ∙ ap (λ (m : Mode). m.row) (mode_after_both mode before (says.Command command now ∷ between))
@@ -318,7 +321,7 @@ mode_of mode lines b (inr (before, between, at, none)) =
 row_continued : (row : Option ℕ) (target : ℕ) → row ≡ Some target → continues_row row target ≡ true
 row_continued row target e = ap (λ r. continues_row r target) e ∙ eq-eqb target target refl
 
--- what a command of the cycle is chained by
+-- a command of the cycle is chained where the mode chains commands and the command continues the row
 cycle_joined : (mode : Mode) (target : ℕ) → mode.setup ≡ false → is_chained mode target ≡ (mode.chained && continues_row mode.row target)
 cycle_joined mode target e = ap (λ b. if b then nat_lt 0 mode.begun else mode.chained && continues_row mode.row target) e
 

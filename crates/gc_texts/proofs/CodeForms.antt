@@ -132,7 +132,8 @@ module _ (text now word : List ℕ) (left rest : Option (List ℕ)) (old : Codes
       omega (arith, long, is.few, full, f.3)
 
   -- where the next word is a code, and a place is free, one more code is read and is in that place
-  pub code_reads : (code : ℕ) (new : Codes) → IsCode word code → count < 16 → ((listed : List ℕ) → length listed ≡ count → old.codes ≡ padded_codes listed → new.codes ≡ padded_codes (listed ++ code ∷ []))
+  pub code_reads : (code : ℕ) (new : Codes) → IsCode word code → count < 16
+      → ((listed : List ℕ) → length listed ≡ count → old.codes ≡ padded_codes listed → new.codes ≡ padded_codes (listed ++ code ∷ []))
       → Fills text rest new (count + 1)
   code_reads code new is room more =
       let read = f.0 in
@@ -159,7 +160,8 @@ codes_are text left codes count (read, r, is, n) e =
     record { listed = read; are = subst (AreCodes text) (append-nil read) (r.found [] (subst (λ o. AreLeft o []) (sym e) refl)); few = r.few; filled_are = is }
 
 -- where `old` has the codes `listed` in its first `count` places, `new`, with the code in the next place, has one more
-pub one_filled_more : (old new listed : List ℕ) (count code : ℕ) → count < 16 → new ≡ slice_set old count code → length listed ≡ count → old ≡ padded_codes listed → new ≡ padded_codes (listed ++ code ∷ [])
+pub one_filled_more : (old new listed : List ℕ) (count code : ℕ) → count < 16 → new ≡ slice_set old count code → length listed ≡ count → old ≡ padded_codes listed
+    → new ≡ padded_codes (listed ++ code ∷ [])
 one_filled_more old new listed count code room set n is =
     let some : 16 - length listed ≡ suc (15 - length listed) = omega (arith, n, room) in
     let less : 16 - length (listed ++ code ∷ []) ≡ 15 - length listed = omega (arith, length_push listed code) in

@@ -16,7 +16,7 @@ pub record HasFirstAttempt (p : Planned) (tasks : List Task) : Type 0 where
   pub others : List Task
   pub are : tasks ≡ earlier ++ in_attempt 1 again commands p ∷ others
 
--- tasks that have it have it with other tasks before them, too
+-- where tasks have the first attempt of a command, they have it with other tasks in front, too
 has_first_after : (p : Planned) (front tasks : List Task) → HasFirstAttempt p tasks → HasFirstAttempt p (front ++ tasks)
 has_first_after p front tasks h =
     record {
@@ -28,7 +28,7 @@ has_first_after p front tasks h =
           ∙ sym (append_assoc front h.earlier (in_attempt 1 h.again h.commands p ∷ h.others));
     }
 
--- tasks that have it have it with other tasks after them, too
+-- where tasks have the first attempt of a command, they have it with other tasks after them, too
 has_first_before : (p : Planned) (tasks later : List Task) → HasFirstAttempt p tasks → HasFirstAttempt p (tasks ++ later)
 has_first_before p tasks later h =
     record {
@@ -49,7 +49,8 @@ first_attempt_has again commands c d p =
 attempts_have_first : (times : ℕ) (again : Again) (c d : List Planned) (p : Planned) → HasFirstAttempt p (attempts_from 1 times again (c ++ p ∷ d))
 attempts_have_first zero again c d p = first_attempt_has no_again (length (c ++ p ∷ d)) c d p
 attempts_have_first (suc n) again c d p =
-    has_first_before p (map (in_attempt 1 again (length (c ++ p ∷ d) * suc (suc n))) (c ++ p ∷ d)) (attempts_from 2 n again (c ++ p ∷ d)) (first_attempt_has again (length (c ++ p ∷ d) * suc (suc n)) c d p)
+    has_first_before p (map (in_attempt 1 again (length (c ++ p ∷ d) * suc (suc n))) (c ++ p ∷ d)) (attempts_from 2 n again (c ++ p ∷ d))
+    (first_attempt_has again (length (c ++ p ∷ d) * suc (suc n)) c d p)
 
 -- the chains have the first attempt of each command of the chain that was begun
 chain_has_first : (retry : Retry) (c d later : List Planned) (p : Planned) → HasFirstAttempt p (laid_from retry (c ++ p ∷ d) later)

@@ -2,7 +2,7 @@ pub mod Cutting
 pub mod Fronts
 pub mod Procedures
 mod LineEnds
-mod TextLines
+pub mod TextLines
 mod LinePlaces
 pub mod OneReading
 mod CommandForms

@@ -85,7 +85,7 @@ same_rules mode retry (says.AtStart ∷ later) h = same_rules (mode_after mode s
 same_rules mode retry (says.EachCycle ∷ later) h = same_rules (mode_after mode says.EachCycle) retry later (inr (inl refl))
 
 module _ (nears : List Near) where
-  -- the task of a command, with its place
+  -- the task of a command, with the place of its target
   abbrev own : Planned → Task
   own p = placed nears p.task
 
@@ -101,7 +101,7 @@ module _ (nears : List Near) where
       ∙ ap (λ k. record p.task { near = near; turn = record { place = p.task.turn.place; attempt = k; link = p.task.turn.link }; others = 0 }) (sym h.attempt)
       ∙ ap (λ k. record p.task { near = near; others = k }) (sym h.others)
 
-  -- the same of all tasks of an attempt
+  -- without these fields, all tasks of an attempt are the commands'
   said_all : (attempt : ℕ) (again : Again) (n : ℕ) (ps : List Planned) → AllByRecursion IsAsItsLineSays ps → map as_said (made attempt again n ps) ≡ map own ps
   said_all attempt again n [] all = refl
   said_all attempt again n (p ∷ ps) all = ap (λ t. t ∷ map as_said (made attempt again n ps)) (said_one attempt again n p all.0) ∙ ap (λ ts. own p ∷ ts) (said_all attempt again n ps all.1)
@@ -116,11 +116,11 @@ module _ (nears : List Near) where
   all_ruled attempt again n [] = tt
   all_ruled attempt again n (p ∷ ps) = (refl, all_ruled attempt again n ps)
 
-  -- an attempt is one
+  -- the tasks of an attempt are an attempt of the commands (`IsAttempt`)
   attempt_is : (attempt : ℕ) (again : Again) (n : ℕ) (ps : List Planned) → AllByRecursion IsAsItsLineSays ps → IsAttempt attempt again (map own ps) (made attempt again n ps)
   attempt_is attempt again n ps all = record { same = said_all attempt again n ps all; numbered = all_numbered attempt again n ps; ruled = all_ruled attempt again n ps }
 
-  -- the attempts of a chain are its attempts
+  -- the tasks of all attempts of a chain are attempts of its commands (`AreAttempts`)
   attempts_are : (attempt left : ℕ) (again : Again) (ps : List Planned) → AllByRecursion IsAsItsLineSays ps
       → AreAttempts attempt left again (map own ps) (map (placed nears) (attempts_from attempt left again ps))
   attempts_are attempt zero again ps all = attempt_is attempt no_again (length ps) ps all
@@ -132,18 +132,18 @@ module _ (nears : List Near) where
     attempts_are (attempt + 1) left again ps all,
   )
 
-  -- one more of these
+  -- with one more command that is as its line says it, all commands are
   said_more : (ps : List Planned) (p : Planned) → AllByRecursion IsAsItsLineSays ps → IsAsItsLineSays p → AllByRecursion IsAsItsLineSays (ps ++ p ∷ [])
   said_more [] p all is = (is, tt)
   said_more (q ∷ ps) p all is = (all.0, said_more ps p all.1 is)
 
-  -- one more chained command
+  -- with one more chained command, all commands are chained
   chained_more : (ps : List Planned) (p : Planned) → AllByRecursion (λ task. task.chained ≡ true) (map own ps) → p.task.chained ≡ true
       → AllByRecursion (λ task. task.chained ≡ true) (map own (ps ++ p ∷ []))
   chained_more [] p all is = (is, tt)
   chained_more (q ∷ ps) p all is = (all.0, chained_more ps p all.1 is)
 
-  -- a command with its place
+  -- a command with the place of its target
   abbrev own_planned : Planned → Planned
   own_planned p = record { task = own p; retry = p.retry }
 
@@ -151,25 +151,25 @@ module _ (nears : List Near) where
   abbrev with_retry : Retry → Task → Planned
   with_retry retry task = record { task = task; retry = retry }
 
-  -- these tasks are the attempts of chains that have these commands
+  -- these tasks are the attempts of some chains, and the chains' commands, in order, are these
   abbrev Laid : List Task → List Planned → Type 0
   Laid tasks planned = (chains : List Chain) × AreLaidOut chains tasks × (flat_map {A = Planned} (λ (chain : Chain). map (with_retry chain.retry) chain.commands) chains ≡ map own_planned planned)
 
-  -- commands of one retry
+  -- each of these commands has this retry
   abbrev HaveRetry : Retry → List Planned → Type 0
   HaveRetry retry ps = AllByRecursion (λ p. p.retry ≡ retry) ps
 
-  -- with their retry they are themselves
+  -- where commands have one retry, their tasks with that retry are the commands
   retries_are : (retry : Retry) (ps : List Planned) → HaveRetry retry ps → map (with_retry retry) (map own ps) ≡ map own_planned ps
   retries_are retry [] have = refl
   retries_are retry (p ∷ ps) have = ap (λ r. record { task = own p; retry = r } ∷ map (with_retry retry) (map own ps)) (sym have.0) ∙ ap (λ l. own_planned p ∷ l) (retries_are retry ps have.1)
 
-  -- one more of this retry
+  -- with one more command of this retry, all commands have it
   retry_more : (retry : Retry) (ps : List Planned) (p : Planned) → HaveRetry retry ps → p.retry ≡ retry → HaveRetry retry (ps ++ p ∷ [])
   retry_more retry [] p have is = (is, tt)
   retry_more retry (q ∷ ps) p have is = (have.0, retry_more retry ps p have.1 is)
 
-  -- a chain before chains
+  -- the attempts of one more chain, in front of those of other chains
   one_more : (retry : Retry) (chain later : List Planned) (tasks : List Task) → IsOneChain (map own chain) → AllByRecursion IsAsItsLineSays chain → HaveRetry retry chain → Laid tasks later
       → Laid (map (placed nears) (attempts retry chain) ++ tasks) (chain ++ later)
   one_more retry chain later tasks one all have (chains, laid, are) = (
@@ -178,13 +178,13 @@ module _ (nears : List Near) where
     ap (λ ps. map (with_retry retry) (map own chain) ++ ps) are ∙ ap (λ ps. ps ++ map own_planned later) (retries_are retry chain have) ∙ sym (map-append own_planned chain later),
   )
 
-  -- no chain
+  -- without tasks there is no chain
   none : Laid [] []
   none = ([], refl, refl)
 
   -- the attempts of a chain that was begun, and of those after it
-  laid_are : (retry : Retry) (first : Planned) (chain later : List Planned) → IsOneChain (map own (first ∷ chain)) → AllByRecursion IsAsItsLineSays (first ∷ chain) → AllByRecursion IsAsItsLineSays later
-      → HaveRetry retry (first ∷ chain) → SameRules retry later
+  laid_are : (retry : Retry) (first : Planned) (chain later : List Planned) → IsOneChain (map own (first ∷ chain)) → AllByRecursion IsAsItsLineSays (first ∷ chain)
+      → AllByRecursion IsAsItsLineSays later → HaveRetry retry (first ∷ chain) → SameRules retry later
       → Laid (map (placed nears) (laid_from retry (first ∷ chain) later)) ((first ∷ chain) ++ later)
   laid_are retry first chain [] one all rest have follow =
       subst (λ ts. Laid ts ((first ∷ chain) ++ [])) (append-nil (map (placed nears) (attempts retry (first ∷ chain)))) (one_more retry (first ∷ chain) [] [] one all have none)

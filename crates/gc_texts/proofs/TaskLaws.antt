@@ -1,6 +1,6 @@
 -- Laws of a station's text: it has one reading; a command text (lines of commands alone) is one; and chains stay within rows,
--- which are runs of commands for one target with no line `chained` or `unchained` between them. The mode at a line is the
--- deadline, the accepted codes, whether commands are chained, and the target of the row there.
+-- which are runs of commands for one target with no line `chained`, `unchained`, `retry`, `at start` or `each cycle` between them.
+-- The mode at a line is what the lines before it make hold there.
 use Rattle.std.proofs.Common.{arith, subst, length, ◌+◌, ◌*◌, zero, suc, nat_lt, if◌then◌else◌, append_assoc, append-nil, ◌≡◌, ℕ, List, [], ◌∷◌, ◌++◌, map, Option, Some, None, Bool, true, false, ◌&&◌, ◌⊎◌, inl, inr, refl, ap, sym, ◌∙◌}
 use Rattle.std.specs.Prelude.{filter}
 use Rattle.std.specs.List.{AllByRecursion}

@@ -1,6 +1,5 @@
 -- The tasks, names and places of lines that follow one another, and how far the reading of a station's text has come
--- (`ReadsTasks`). The mode at a line is the deadline, the accepted codes, whether commands are chained, and the target of
--- the row there.
+-- (`ReadsTasks`). The mode at a line is what the lines before it make hold there.
 use Rattle.std.proofs.lemmas.List.{length-append}
 use Rattle.std.proofs.Common.{◌⊎◌, inl, inr, ◌<◌, map, None, cond, arith, if◌then◌else◌, ◌≡◌, ◌+◌, ◌≤◌, ℕ, List, [], ◌∷◌, ◌++◌, length, Option, Some, Bool, true, false, refl, ap, subst, sym, ◌∙◌, append_assoc, append-nil}
 use Rattle.std.specs.Prelude.{not, filter}

@@ -9,13 +9,13 @@ use Rattle.gc_texts.specs.declared.codes.Codes.{Codes}
 abbrev pub no_again : Again
 no_again = record { codes = no_codes; unreadable = false; elsewhere = false; late = false; lost = false; skipped = false }
 
--- whether a reply's return code other than 0, if it has one, is among these
+-- whether a reply's return code is among these; `None` stands for return code 0, which never is
 abbrev pub has_code : Codes → Option ℕ → Bool
 has_code listed None = false
 has_code listed (Some code) = are_accepted listed code
 
--- whether a command that ended so is named: one that was answered by its return code other than 0, if it has one, and any other by
--- how it ended. One whose cycle was missed never is
+-- whether `again` names this ending of a command. Of one that was answered it names return codes: `code` is the reply's, or `None`
+-- where that is 0. Of any other it names the outcome, but a missed cycle never
 abbrev pub is_named : Again → Option ℕ → End → Bool
 is_named again code (Answered quality answer line) = has_code again.codes code
 is_named again code (Unreadable line fault) = again.unreadable

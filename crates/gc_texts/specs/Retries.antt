@@ -34,12 +34,12 @@ abbrev pub has_room : ℕ → Reason → Bool
 has_room count (Code code) = nat_lt count 16
 has_room count _ = true
 
--- how many codes there are with one word more
+-- how many codes there are with one more word, where there were `count` before it
 abbrev pub count_with : ℕ → Reason → ℕ
 count_with count (Code code) = count + 1
 count_with count _ = count
 
--- what is named with one word more: a code is in the place after the `count` codes so far, and an outcome is named
+-- what is named with one more word: a code goes into the place after the `count` codes so far, and of an outcome the flag is set
 abbrev pub again_with : Again → ℕ → Reason → Again
 again_with again count (Code code) = record again { codes = record { codes = slice_set again.codes.codes count code } }
 again_with again count Unreadable = record again { unreadable = true }
@@ -48,12 +48,12 @@ again_with again count Late = record again { late = true }
 again_with again count Lost = record again { lost = true }
 again_with again count Skipped = record again { skipped = true }
 
--- how many of these words are codes, with `count` others
+-- how many codes there are with these words, where there were `count` before them
 abbrev pub codes_with : ℕ → List Reason → ℕ
 codes_with count [] = count
 codes_with count (reason ∷ others) = codes_with (count_with count reason) others
 
--- what is named with these words more
+-- what is named with these words as well, where there were `count` codes before them
 abbrev pub named_with : Again → ℕ → List Reason → Again
 named_with again count [] = again
 named_with again count (reason ∷ others) = named_with (again_with again count reason) (count_with count reason) others

@@ -39,7 +39,7 @@ impl Again {
         }
     }
 
-    // Whether a reply's return code other than 0, if it has one, is among the codes.
+    // Whether a reply's return code is among the codes. `None` stands for return code 0, which never is.
     fn has_code(&self, code: Option<u16>) -> bool
         ensures { result ≡ has_code self.now.codes code }
     {
@@ -49,7 +49,8 @@ impl Again {
         }
     }
 
-    /// Whether a command that ended so is named here. `code` is its reply's return code, where that is another than 0.
+    /// Whether this names the ending of a command: by `code`, its reply's return code other than 0, if it was answered, and else by
+    /// the outcome.
     pub fn names(&self, code: Option<u16>, ending: Ending<'_>) -> bool
         ensures { result ≡ is_named self.now code (ending_seen ending.entry) }
     {

@@ -80,7 +80,7 @@ fn has_room(count: usize, reason: Reason) -> bool
     }
 }
 
-// How many codes there are with one word more.
+// How many codes there are with one more word, where there were `count` before it.
 fn count_with(count: usize, reason: Reason) -> usize
     requires { count < 4294967296 }
     ensures { result ≡ count_with count reason }
@@ -91,7 +91,7 @@ fn count_with(count: usize, reason: Reason) -> usize
     }
 }
 
-// What is named by one word more, where `count` codes are named so far.
+// What is named with one more word, where `count` codes are named so far.
 fn again_with(again: Again, count: usize, reason: Reason) -> Again
     requires { has_room count reason ≡ true }
     ensures { result ≡ again_with again count reason }

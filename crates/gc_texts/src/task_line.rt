@@ -10,7 +10,7 @@ ghost use Rattle.gc_texts.specs.declared.wish.Wish.{Wish};
 ghost use Rattle.gc_texts.specs.declared.task_line.TaskLine.{TaskLine};
 
 use crate::codes::{Codes, read_codes};
-use crate::cuts::{before as words_before, behind as words_behind, cut_at, is_word};
+use crate::cuts::{before, behind, cut_at, is_word};
 use crate::name::{Name, is_name, named_target};
 use crate::near::{Near, read_near};
 use crate::procedure::{TARGET_MAX, number_of};
@@ -48,7 +48,7 @@ pub(crate) enum TaskLine {
 }
 
 // What follows a word at the front of a line. `None`: the line doesn't begin with the word.
-fn behind<'a>(word: &[u8], line: &'a [u8]) -> Option<&'a [u8]>
+fn after_word<'a>(word: &[u8], line: &'a [u8]) -> Option<&'a [u8]>
     ensures { MatchOption result ((rest : List ℕ) → line.now ≡ word.now ++ rest → ⊥) (λ rest. line.now ≡ word.now ++ rest.now) }
 {
     line.strip_prefix(word)
@@ -58,7 +58,7 @@ fn behind<'a>(word: &[u8], line: &'a [u8]) -> Option<&'a [u8]>
 fn read_deadline(line: &[u8]) -> Option<u64>
     ensures { MatchOption result ((deadline : ℕ) → IsDeadline line.now deadline → ⊥) (λ deadline. IsDeadline line.now deadline) }
 {
-    let Some(digits) = behind(b"deadline ", line) else {
+    let Some(digits) = after_word(b"deadline ", line) else {
         return None
     };
     let Some(deadline) = number_of(digits, DEADLINE_MAX) else {
@@ -74,7 +74,7 @@ fn read_deadline(line: &[u8]) -> Option<u64>
 fn read_naming(line: &[u8]) -> Option<Name>
     ensures { MatchOption result ((name : Name) → IsNameLine line.now name → ⊥) (λ name. IsNameLine line.now name) }
 {
-    let Some(rest) = behind(b"name ", line) else {
+    let Some(rest) = after_word(b"name ", line) else {
         return None
     };
     let (target, text) = cut_at(b' ', rest);
@@ -92,7 +92,7 @@ fn read_naming(line: &[u8]) -> Option<Name>
 fn read_standing(line: &[u8]) -> Option<Near>
     ensures { MatchOption result ((near : Near) → IsNearLine line.now near → ⊥) (λ near. IsNearLine line.now near) }
 {
-    match behind(b"near ", line) {
+    match after_word(b"near ", line) {
         Some(rest) => read_near(rest),
         None => None,
     }
@@ -106,7 +106,7 @@ fn read_accepting(line: &[u8]) -> Option<Codes>
     if is_word(b"accept", line) {
         return Some(Codes::none());
     }
-    match behind(b"accept ", line) {
+    match after_word(b"accept ", line) {
         Some(rest) => read_codes(rest),
         None => None,
     }
@@ -119,7 +119,7 @@ fn read_retrying(line: &[u8]) -> Option<Retry>
     if is_word(b"retry 0", line) {
         return Some(Retry::none());
     }
-    match behind(b"retry ", line) {
+    match after_word(b"retry ", line) {
         Some(rest) => read_rule(rest),
         None => None,
     }
@@ -130,10 +130,10 @@ fn read_retrying(line: &[u8]) -> Option<Retry>
 fn read_clock(line: &[u8]) -> Option<Wish>
     ensures { MatchOption result ((wish : Wish) → SetsClock line.now wish → ⊥) (λ wish. SetsClock line.now wish) }
 {
-    if !is_word(b"5007 now", words_behind(b' ', line)) {
+    if !is_word(b"5007 now", behind(b' ', line)) {
         return None;
     }
-    match number_of(words_before(b' ', line), TARGET_MAX) {
+    match number_of(before(b' ', line), TARGET_MAX) {
         Some(target) => Some(Wish {
             target: target as u32,
             call: Asked::Table(Call::SetDate(FIRST_MOMENT)),

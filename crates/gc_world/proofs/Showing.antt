@@ -96,7 +96,7 @@ reports_queues r w up down h =
     record { sent = h.sent; executed = h.executed; made = h.made; settled = h.settled; starts = h.starts; instrument = h.instrument; refused = h.refused; idle = h.idle }
 
 -- where the settlements xs are us of the client's rule, and ys are vs of it, xs followed by ys are us followed by vs
-are_more : (xs ys : List (Settlement Call)) (us vs : List (Rule.Settlement Call)) → AreSettlements xs us → AreSettlements ys vs → AreSettlements (xs ++ ys) (us ++ vs)
+pub are_more : (xs ys : List (Settlement Call)) (us vs : List (Rule.Settlement Call)) → AreSettlements xs us → AreSettlements ys vs → AreSettlements (xs ++ ys) (us ++ vs)
 are_more xs ys us vs h g =
     record {
       seen = map-append settlement_seen xs ys ∙ ap₂ (λ (a b : List (Rule.Settlement Call)). a ++ b) h.seen g.seen;
@@ -109,12 +109,12 @@ settled_next c line k false = refl
 settled_next c line k true = refl
 
 -- a line doesn't change the next id
-hears_next : (c : ById Call) (line : List ℕ) (o : Option ℕ) → (hears c line o).client.next ≡ c.next
+pub hears_next : (c : ById Call) (line : List ℕ) (o : Option ℕ) → (hears c line o).client.next ≡ c.next
 hears_next c line None = refl
 hears_next c line (Some id) = settled_next c line (place_in c id) (ltb (place_in c id) (length c.waiting))
 
 -- a send leaves a next id that is a digit below 8
-sends_next : (width : ℕ) (c : ById Call) (target : ℕ) (call : Call) (deadline : ℕ) (x : Sending (ById Call)) → sends width c target call deadline ≡ Some x → x.client.next < IDS
+pub sends_next : (width : ℕ) (c : ById Call) (target : ℕ) (call : Call) (deadline : ℕ) (x : Sending (ById Call)) → sends width c target call deadline ≡ Some x → x.client.next < IDS
 sends_next width c target call deadline x e = by_room (eqb (length c.waiting) width) e
   where
     by_room : (full : Bool) → id_send c target call deadline full ≡ Some x → x.client.next < IDS

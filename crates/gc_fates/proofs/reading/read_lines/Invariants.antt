@@ -1,5 +1,5 @@
 use Rattle.std.specs.Option.{option_copied}
-use Rattle.gc_fates.proofs.TextLines.{much_left}
+use Rattle.gc_texts.proofs.TextLines.{much_left}
 use Rattle.gc_fates.proofs.Leading.{Comes}
 use Rattle.gc_fates.proofs.reading.read_lines.Given as goal
 

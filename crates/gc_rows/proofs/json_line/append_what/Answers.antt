@@ -14,6 +14,6 @@ returns-clause-text g c =
     let procedure = decimal (procedure_of command.call) in
     let name = name_members c.args.name.now in
     let first : c.append_number.new.line.items ≡ old ++ number_member (codes "target") target = search rules in
-    let last : c.append_number-2.new.line.items ≡ c.append_called.new.line.items ++ number_member (codes "procedure") procedure = search rules in
-    last ∙ ap (λ l. l ++ number_member (codes "procedure") procedure) (c.append_called.ensures.text ∙ ap (λ l. l ++ members_text name) first)
+    let last : c.append_number-2.new.line.items ≡ c.append_target_name.new.line.items ++ number_member (codes "procedure") procedure = search rules in
+    last ∙ ap (λ l. l ++ number_member (codes "procedure") procedure) (c.append_target_name.ensures.text ∙ ap (λ l. l ++ members_text name) first)
     ∙ what_text old target procedure name

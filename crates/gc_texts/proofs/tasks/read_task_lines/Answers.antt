@@ -7,8 +7,8 @@ use Rattle.gc_texts.proofs.tasks.read_task_lines.Goals as goal
 pub overflow_add-number : goal.overflow_add-number
 overflow_add-number c =
     let few : c.loop-left.number ≤ 65537 =
-    tasks_few c.args.text.now (opening c.args.deadline c.args.chained) (option_copied c.loop-left.left) c.loop-left.number c.loop-left.tasks.items c.loop-left.cycle.items c.loop-left.names.items c.loop-left.nears.items
-    c.loop-left.mode c.requires c.loop-left.invariant in
+    tasks_few c.args.text.now (opening c.args.deadline c.args.chained) (option_copied c.loop-left.left) c.loop-left.number
+    c.loop-left.tasks.items c.loop-left.cycle.items c.loop-left.names.items c.loop-left.nears.items c.loop-left.mode c.requires c.loop-left.invariant in
     omega (arith, few)
 
 pub loop-left-preserved-then-is_skipped : goal.loop-left-preserved-then-is_skipped
@@ -22,7 +22,8 @@ loop-left-preserved-then-is_skipped c =
 pub returns-in_default-read_task_line-clause-fault : goal.returns-in_default-read_task_line-clause-fault
 returns-in_default-read_task_line-clause-fault c = (
   c.requires,
-  task_fails c.args.text.now (opening c.args.deadline c.args.chained) (option_copied c.loop-left.left) c.in-Some.text.now c.cut_at.result.0.now c.without_cr-line.result.now (option_copied c.cut_at.result.1) c.loop-left.number
+  task_fails c.args.text.now (opening c.args.deadline c.args.chained) (option_copied c.loop-left.left) c.in-Some.text.now c.cut_at.result.0.now c.without_cr-line.result.now
+      (option_copied c.cut_at.result.1) c.loop-left.number
       c.loop-left.tasks.items c.loop-left.cycle.items c.loop-left.names.items c.loop-left.nears.items c.loop-left.mode c.is_skipped.result c.loop-left.invariant
       (ap option_copied c.in-Some.is) c.cut_at.ensures c.without_cr-line.ensures c.is_skipped.ensures
       c.if-is_skipped.false c.in_default-read_task_line.ensures,
@@ -42,7 +43,8 @@ returns-then-not-may_follow-clause-fault c = (
 pub returns-then-is_err-clause-fault : goal.returns-then-is_err-clause-fault
 returns-then-is_err-clause-fault c = (
   c.requires,
-  task_wants c.args.text.now (opening c.args.deadline c.args.chained) (option_copied c.loop-left.left) c.in-Some.text.now c.cut_at.result.0.now c.without_cr-line.result.now (option_copied c.cut_at.result.1) c.loop-left.number
+  task_wants c.args.text.now (opening c.args.deadline c.args.chained) (option_copied c.loop-left.left) c.in-Some.text.now c.cut_at.result.0.now c.without_cr-line.result.now
+      (option_copied c.cut_at.result.1) c.loop-left.number
       c.loop-left.tasks.items c.loop-left.cycle.items c.loop-left.names.items c.loop-left.nears.items c.loop-left.mode c.is_skipped.result c.loop-left.invariant
       (ap option_copied c.in-Some.is) c.cut_at.ensures c.without_cr-line.ensures c.is_skipped.ensures
       c.in-Some-read_task_line.said c.may_follow.result c.if-is_skipped.false c.in-Some-read_task_line.ensures

@@ -15,4 +15,5 @@ invariant_of-self-2 c =
     let down = c.pop_front.new.self.items in
     let is = ap (λ n. take n c.write_into.new.buf) c.room_of-n.ensures ∙ c.write_into.ensures.bytes in
     subst (λ acts. HasComeTo acts (lines (texts i.up.items) (texts down) i.instrument)) (sym c.then-self-inside.ensures)
-    (gives i.history.acts (take c.room_of-n.result c.write_into.new.buf) c.args.moment (texts i.up.items) i.down.items down c.in_ok-flight.flight i.instrument c.in_ok-flight.ensures.items is c.self.invariant)
+    (gives i.history.acts (take c.room_of-n.result c.write_into.new.buf) c.args.moment (texts i.up.items) i.down.items down c.in_ok-flight.flight i.instrument
+    c.in_ok-flight.ensures.items is c.self.invariant)

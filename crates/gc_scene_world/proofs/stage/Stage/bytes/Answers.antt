@@ -4,7 +4,8 @@ use Rattle.gc_client.specs.Rule.{ById}
 use Rattle.gc_scenes.specs.SceneState.{SceneState}
 use Rattle.gc_scene_world.specs.SceneStages.{seen, way, AreStreamsOf}
 use Rattle.gc_world.specs.Streams.{Streams}
-use Rattle.gc_scene_world.proofs.Handed.{reached, reaches_next, reaches_end, runs_dry, in_flight, runs_out}
+use Rattle.gc_scene_world.proofs.Handed.{reached, reaches_next, reaches_end, runs_dry, in_flight}
+use Rattle.gc_world.proofs.Handed.{runs_out}
 use Rattle.gc_scene_world.proofs.Shown.{streams_idle_bytes, up_count}
 use Rattle.gc_scene_world.proofs.stage.Stage.bytes.Goals as goal
 use Rattle.gc_scene_world.proofs.stage.Stage.bytes.Goals.{then-n-eq0-via-then-n-eq0, then-n-eq0-via-else-n-eq0+then-remaining-eq0}
@@ -29,7 +30,15 @@ pub deliver-requires-clause-executed : goal.deliver-requires-clause-executed
 deliver-requires-clause-executed c =
     let (width, v, h) = c.requires.shown in
     let at = c.loop-left.invariant.follows width v h in
-    omega (arith, c.requires.room.executed, at.shows.counts.executed, h.counts.executed, at.room.executed, up_count width (seen c.loop-left.self) at.now at.shows, up_count width (seen c.args.self.now) v h)
+    omega (
+      arith,
+      c.requires.room.executed,
+      at.shows.counts.executed,
+      h.counts.executed,
+      at.room.executed,
+      up_count width (seen c.loop-left.self) at.now at.shows,
+      up_count width (seen c.args.self.now) v h,
+    )
 
 pub deliver-requires-clause-made : goal.deliver-requires-clause-made
 deliver-requires-clause-made c =
@@ -82,7 +91,8 @@ returns-then-left-remaining c =
     let first = c.remaining-remaining in
     λ width v h.
     let at = c.loop-left.invariant.follows width v h in
-    subst (λ (x : Streams (ById Call) SceneState). AreStreamsOf width u x) (sym (in_flight width c.args.direction v c.args.n first.result (first.ensures width v h).left c.if-n-eq0.false c.if-remaining-eq0.false))
+    subst (λ (x : Streams (ById Call) SceneState). AreStreamsOf width u x)
+    (sym (in_flight width c.args.direction v c.args.n first.result (first.ensures width v h).left c.if-n-eq0.false c.if-remaining-eq0.false))
     (reaches_end width c.args.direction t v c.args.n c.loop-left.left at u (c.begin.ensures width at.now at.shows))
 
 pub returns-else-left-remaining : goal.returns-else-left-remaining
@@ -91,6 +101,7 @@ returns-else-left-remaining c =
     let first = c.remaining-remaining in
     λ width v h.
     let at = c.loop-left.invariant.follows width v h in
-    subst (λ (x : Streams (ById Call) SceneState). AreStreamsOf width t x) (sym (in_flight width c.args.direction v c.args.n first.result (first.ensures width v h).left c.if-n-eq0.false c.if-remaining-eq0.false))
+    subst (λ (x : Streams (ById Call) SceneState). AreStreamsOf width t x)
+    (sym (in_flight width c.args.direction v c.args.n first.result (first.ensures width v h).left c.if-n-eq0.false c.if-remaining-eq0.false))
     (runs_dry width c.args.direction t v c.args.n c.loop-left.left at c.loop-left.remaining (c.loop-left.invariant.remaining width at.now at.shows)
     (runs_out c.completes.result c.loop-left.remaining c.loop-left.left c.completes.ensures c.loop-left-test.false (λ lt. omega (arith, lt, c.if-left-remaining.false))))

@@ -2,7 +2,7 @@ use Rattle.std.proofs.Common.{◌≡◌, ◌++◌, ap, sym, rules, append_assoc,
 use Rattle.std.proofs.lemmas.Grind.{flat_map-append}
 use Rattle.gc_texts.specs.Endings.{ending_seen}
 use Rattle.gc_rows.specs.Rows.{behind_comma, behind_commas, quantity_fields, last_fields}
-use Rattle.gc_rows.proofs.row.append_both.Goals as goal
+use Rattle.gc_rows.proofs.row.append_quantities_and_last.Goals as goal
 
 pub returns-clause-text : goal.returns-clause-text
 returns-clause-text g c =
